@@ -1,0 +1,5 @@
+-- The definitions that the contracts cite.
+pub mod Octets
+pub mod Pieces
+pub mod Places
+pub mod Tokens

@@ -1,0 +1,7 @@
+//! The tokens of a packetdrill script.
+#![tactic(auto)]
+
+mod scan;
+mod token;
+
+pub use token::{Lexed, Place, Span, Token, TokenKind};
