@@ -1,6 +1,7 @@
 //! The tokens of a packetdrill script.
 #![tactic(auto)]
 
+mod ending;
 mod scan;
 mod token;
 
