@@ -1,0 +1,4 @@
+-- The lemmas that the proofs cite.
+pub mod InLine
+pub mod Endings
+pub mod Rests
