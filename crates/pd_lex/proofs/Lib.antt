@@ -2,3 +2,4 @@
 pub mod InLine
 pub mod Endings
 pub mod Rests
+pub mod Fronts
