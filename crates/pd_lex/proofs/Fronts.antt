@@ -87,6 +87,10 @@ point_within b s =
     let no_dots = choose (b ∷ s) (nat_lt 0 f) (Whole Decimal f) (Whole Symbol 1) (λ h. record { some = positive f h; fits = fits }) (λ _. symbol_within b s) in
     choose (b ∷ s) (starts_with nat_eq (b ∷ s) (46 ∷ 46 ∷ 46 ∷ [])) (Whole Dots 3) (cond (nat_lt 0 f) (Whole Decimal f) (Whole Symbol 1)) (λ h. record { some = omega arith; fits = begins_three (b ∷ s) 46 46 46 h }) (λ _. no_dots)
 
+first_of : (t u : Bool) → (t && u) ≡ true → t ≡ true
+first_of true u h = refl
+first_of false u h = absurd cc
+
 dash_within : (b : ℕ) (s : List ℕ) → IsWithin (b ∷ s) (dash_piece (b ∷ s))
 unfolding dash_piece
 dash_within b s =
@@ -97,10 +101,6 @@ dash_within b s =
     let dashes : starts_with nat_eq (b ∷ s) (45 ∷ 45 ∷ []) ≡ true → 2 ≤ length (b ∷ s) = begins_two (b ∷ s) 45 45 in
     let two = length-drop 2 (b ∷ s) in
     choose (b ∷ s) (starts_with nat_eq (b ∷ s) (45 ∷ 45 ∷ []) && nat_lt 0 name) (Whole Opt (2 + name + value_len (drop name (drop 2 (b ∷ s))))) (Whole Symbol 1) (λ h. let le = dashes (first_of _ _ h) in record { some = omega arith; fits = omega arith }) (λ _. symbol_within b s)
-  where
-    first_of : (t u : Bool) → (t && u) ≡ true → t ≡ true
-    first_of true u h = refl
-    first_of false u h = absurd cc
 
 -- the tests that the octets of a symbol fail
 pub record IsOther (b : ℕ) (s : List ℕ) : Type 0 where
@@ -149,3 +149,77 @@ shaped b s =
     shaped_by b s (starts_with nat_eq (b ∷ s) (37 ∷ 123 ∷ [])) _ _ (λ t. at_opener Brace t) (λ h9.
     let other : IsOther b s = record { word = h2; blank = h1; point = h3; dash = h4; line_comment = h5; comment = h6; quote = h7; backquote = h8; brace = h9 } in
     shaped_by b s (is_printable b) _ _ (at_symbol other) (at_stray other))))))))))
+
+opener_within : (o : Opener) (b : ℕ) (s : List ℕ) → starts_with nat_eq (b ∷ s) (opener_text o) ≡ true → IsWithin (b ∷ s) (Open o)
+opener_within Comment b s h = record { some = omega arith; fits = begins_two (b ∷ s) 47 42 h }
+opener_within Quote b s h = record { some = omega arith; fits = omega arith }
+opener_within Backquote b s h = record { some = omega arith; fits = omega arith }
+opener_within Brace b s h = record { some = omega arith; fits = begins_two (b ∷ s) 37 123 h }
+
+line_comment_within : (b : ℕ) (s : List ℕ) → starts_with nat_eq (b ∷ s) (47 ∷ 47 ∷ []) ≡ true → IsWithin (b ∷ s) (Blank (prefix_len is_inside_line (b ∷ s)))
+line_comment_within b s h =
+    let slash : nat_eq 47 b ≡ true = first_of (nat_eq 47 b) _ h in
+    let e : b ≡ 47 = grind (arith, nat_tests) in
+    record { some = run_begins is_inside_line b s (rw e refl); fits = prefix_len-le-length is_inside_line (b ∷ s) }
+
+within_shape : (b : ℕ) (s : List ℕ) (p : Piece) → IsShaped b s p → IsWithin (b ∷ s) p
+within_shape b s p (at_blank h) = record { some = omega arith; fits = omega arith }
+within_shape b s p (at_word h) = word_within b s h
+within_shape b s p (at_point h) = point_within b s
+within_shape b s p (at_dash h) = dash_within b s
+within_shape b s p (at_line_comment h) = line_comment_within b s h
+within_shape b s p (at_opener o h) = opener_within o b s h
+within_shape b s p (at_symbol other h) = symbol_within b s
+within_shape b s p (at_stray other h) = record { some = omega arith; fits = omega arith }
+
+pub piece_within : (b : ℕ) (s : List ℕ) → IsWithin (b ∷ s) (piece (b ∷ s))
+piece_within b s = within_shape b s (piece (b ∷ s)) (shaped b s)
+
+-- what is left behind some octets, one at least
+pub record IsRest (s rest : List ℕ) : Type 0 where
+  pub taken : ℕ
+  pub some : 0 < taken
+  pub fits : taken ≤ length s
+  pub left : rest ≡ drop taken s
+
+pub IsRest-before : (s rest : List ℕ) (h : IsRest s rest) → before s rest ≡ take h.taken s
+IsRest-before s rest h =
+    let n : length s - length rest ≡ h.taken = omega (arith, h.fits, ap length h.left, length-drop h.taken s) in
+    rw n refl
+
+pub IsRest-cut : (s rest : List ℕ) → IsRest s rest → s ≡ before s rest ++ rest
+IsRest-cut s rest h = rw (IsRest-before s rest h, h.left) (sym (take-append-drop h.taken s))
+
+pub IsRest-shorter : (s rest : List ℕ) → IsRest s rest → length rest < length s
+IsRest-shorter s rest h = omega (arith, h.some, h.fits, ap length h.left, length-drop h.taken s)
+
+-- each piece leaves a rest
+abbrev pub LeavesRest : List ℕ → Front → Type 0
+LeavesRest s nothing = Unit {0}
+LeavesRest s (gap rest) = IsRest s rest
+LeavesRest s (token kind rest) = IsRest s rest
+LeavesRest s stray = Unit {0}
+
+closed_leaves : (s : List ℕ) (o : Opener) (r : Option (List ℕ)) → ((rest : List ℕ) → r ≡ Some rest → IsRest s rest) → LeavesRest s (closed o r)
+closed_leaves s o None h = tt
+closed_leaves s Comment (Some rest) h = h rest refl
+closed_leaves s Quote (Some rest) h = h rest refl
+closed_leaves s Backquote (Some rest) h = h rest refl
+closed_leaves s Brace (Some rest) h = h rest refl
+
+rest_behind_end : (s : List ℕ) (o : Opener) → IsWithin s (Open o) → (rest : List ℕ) → after_end o (drop (opener_len o) s) ≡ Some rest → IsRest s rest
+rest_behind_end s o h rest e =
+    let last = end_suffix o (drop (opener_len o) s) rest e in
+    let n = length-drop (opener_len o) s in
+    record { taken = opener_len o + last.0; some = omega (arith, h.some); fits = omega (arith, h.fits, last.1, n); left = last.2 ∙ rw drop-drop refl }
+
+parted_leaves : (s : List ℕ) (p : Piece) → IsWithin s p → LeavesRest s (parted s p)
+parted_leaves s (Blank n) h = record { taken = n; some = h.some; fits = h.fits; left = refl }
+parted_leaves s (Whole kind n) h = record { taken = n; some = h.some; fits = h.fits; left = refl }
+parted_leaves s (Open o) h = closed_leaves s o (after_end o (drop (opener_len o) s)) (rest_behind_end s o h)
+parted_leaves s Stray h = tt
+
+pub front_leaves : (s : List ℕ) → LeavesRest s (front s)
+unfolding front
+front_leaves [] = tt
+front_leaves (b ∷ s) = parted_leaves (b ∷ s) (piece (b ∷ s)) (piece_within b s)

@@ -3,3 +3,4 @@ pub mod InLine
 pub mod Endings
 pub mod Rests
 pub mod Fronts
+pub mod Items

@@ -1,4 +1,5 @@
 -- The definitions that the contracts cite.
+pub mod Kinds
 pub mod Octets
 pub mod Pieces
 pub mod Scanned

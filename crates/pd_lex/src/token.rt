@@ -1,5 +1,6 @@
 //! Tokens, their places, and what the lexer answers.
-ghost use Rattle.std.specs.Prelude.{◌≡◌};
+ghost use Rattle.std.specs.Prelude.{◌≡◌, true};
+ghost use Rattle.pd_lex.specs.Kinds.{stays_in_line};
 ghost use Rattle.pd_lex.specs.Places.{first_place};
 
 /// What a token is, in packetdrill's grammar.
@@ -57,6 +58,8 @@ pub struct Token {
     pub kind: TokenKind,
     pub span: Span,
     pub line: usize,
+    ghost line_is: { line ≡ span.from.line },
+    ghost in_line: { stays_in_line kind ≡ true → span.to.line ≡ span.from.line },
 }
 
 /// What stands at a place, once blanks and comments are passed over.
