@@ -4,3 +4,4 @@ pub mod Endings
 pub mod Rests
 pub mod Fronts
 pub mod Items
+pub mod Steps

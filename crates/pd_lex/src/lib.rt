@@ -3,6 +3,7 @@
 
 mod ending;
 mod scan;
+mod step;
 mod token;
 
 pub use token::{Lexed, Place, Span, Token, TokenKind};
