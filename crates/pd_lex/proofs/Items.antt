@@ -8,7 +8,7 @@ use Rattle.pd_lex.specs.Places.{standing, octets_from, place_after, before}
 use Rattle.pd_lex.specs.Pieces.{Front, nothing, gap, token, stray, front}
 use Rattle.pd_lex.specs.Tokens.{Lexeme, Item, lexeme, ending, bad, followed, items_within, items}
 use Rattle.pd_lex.specs.Scanned.{IsPlace, IsLeftAt}
-use Rattle.pd_lex.proofs.Rests.{standing_place, advance, same_place}
+use Rattle.pd_lex.proofs.Rests.{standing_place, octets_past, advance, same_place}
 use Rattle.pd_lex.proofs.Fronts.{IsRest, IsRest-cut, IsRest-shorter, LeavesRest, front_leaves}
 
 -- the items of less are the same with more pieces allowed
@@ -41,6 +41,14 @@ module _ (lines : List (List ℕ)) (plain : list_all is_line lines ≡ true) whe
   unfolding items
   items_at p h = rw (standing_place lines p h) refl
 
+  pub items_from : (p q : Place) → IsPlace lines q → q ≡ standing lines p → items lines p ≡ items lines q
+  unfolding items octets_from
+  items_from p q h e = rw (← e, standing_place lines q h) refl
+
+  pub items_past : (p : Place) → length lines < p.line → items lines p ≡ ending (max 1 (length lines)) ∷ []
+  unfolding items items_within
+  items_past p h = rw (octets_past lines p h) refl
+
   -- the place behind a piece
   behind : (p q : Place) → IsPlace lines p → IsPlace lines q → IsRest (octets_from lines p) (octets_from lines q) → place_after p (before (octets_from lines p) (octets_from lines q)) ≡ q
   behind p q h g r =
@@ -53,6 +61,9 @@ module _ (lines : List (List ℕ)) (plain : list_all is_line lines ≡ true) whe
   rest_of_token : (s r : List ℕ) (kind : TokenKind) → front s ≡ token kind r → IsRest s r
   rest_of_token s r kind e = subst (LeavesRest s) e (front_leaves s)
 
+  pub gap_shorter : (p q : Place) → front (octets_from lines p) ≡ gap (octets_from lines q) → length (octets_from lines q) < length (octets_from lines p)
+  gap_shorter p q e = IsRest-shorter (octets_from lines p) (octets_from lines q) (rest_of_gap (octets_from lines p) (octets_from lines q) e)
+
   pub items_over_gap : (p q : Place) → IsPlace lines p → IsPlace lines q → front (octets_from lines p) ≡ gap (octets_from lines q) → items lines p ≡ items lines q
   items_over_gap p q h g e =
       let there = behind p q h g (rest_of_gap (octets_from lines p) (octets_from lines q) e) in
@@ -63,8 +74,9 @@ module _ (lines : List (List ℕ)) (plain : list_all is_line lines ≡ true) whe
       let there = behind p q h g (rest_of_token (octets_from lines p) (octets_from lines q) kind e) in
       items_at p h ∙ one_piece (max 1 (length lines)) p (octets_from lines p) ∙ rw (e, there, items_at q g) refl
 
-  pub items_at_end : (p : Place) → IsPlace lines p → front (octets_from lines p) ≡ nothing → items lines p ≡ ending (max 1 (length lines)) ∷ []
-  items_at_end p h e = items_at p h ∙ one_piece (max 1 (length lines)) p (octets_from lines p) ∙ rw e refl
+  pub items_at_end : (p : Place) → IsPlace lines p → octets_from lines p ≡ [] → items lines p ≡ ending (max 1 (length lines)) ∷ []
+  unfolding items_within
+  items_at_end p h e = items_at p h ∙ rw e refl
 
   pub items_at_stray : (p : Place) → IsPlace lines p → front (octets_from lines p) ≡ stray → items lines p ≡ bad p.line ∷ []
   items_at_stray p h e = items_at p h ∙ one_piece (max 1 (length lines)) p (octets_from lines p) ∙ rw e refl

@@ -20,6 +20,10 @@ pub standing_place : (lines : List (List ℕ)) (p : Place) → IsPlace lines p �
 unfolding standing
 standing_place lines p h = rw (not_zero p.line h.from_one, min_within p.at (length (line_at lines p.line)) h.at) refl
 
+pub standing_first : (lines : List (List ℕ)) (p : Place) → p.line ≡ 0 → standing lines p ≡ first_place
+unfolding standing
+standing_first lines p e = rw e refl
+
 pub octets_at : (lines : List (List ℕ)) (p : Place) → IsPlace lines p → octets_from lines p ≡ drop p.at (joined (drop (p.line - 1) lines))
 unfolding octets_from
 octets_at lines p h = rw (standing_place lines p h) refl

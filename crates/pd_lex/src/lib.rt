@@ -2,8 +2,10 @@
 #![tactic(auto)]
 
 mod ending;
+mod next;
 mod scan;
 mod step;
 mod token;
 
+pub use next::next_token;
 pub use token::{Lexed, Place, Span, Token, TokenKind};

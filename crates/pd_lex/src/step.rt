@@ -27,6 +27,7 @@ fn rest_of_line<'a>(lines: &'a Lines, place: Place) -> Option<&'a [u8]>
     requires { IsPlace lines.now place }
     ensures rest { IfSome result (λ r. r.now ≡ drop place.at (line_at lines.now place.line)) }
     ensures line { IfSome result (λ r. place.line ≤ length lines.now) }
+    ensures few { length lines.now ≤ 4096 }
     ensures small { length (line_at lines.now place.line) < 2 ^ 64 }
     ensures past { IfNone result (length lines.now < place.line) }
 {
