@@ -6,3 +6,4 @@ pub mod Fronts
 pub mod Items
 pub mod Steps
 pub mod Texts
+pub mod Bounds
