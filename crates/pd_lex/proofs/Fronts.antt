@@ -53,7 +53,7 @@ pub value_fits : (s : List ℕ) → value_len s ≤ length s
 value_fits [] = omega arith
 value_fits (b ∷ s) = let run = prefix_len-le-length is_solid s in grind (arith, nat_tests)
 
-run_begins : (p : ℕ → Bool) (b : ℕ) (s : List ℕ) → p b ≡ true → 0 < prefix_len p (b ∷ s)
+pub run_begins : (p : ℕ → Bool) (b : ℕ) (s : List ℕ) → p b ≡ true → 0 < prefix_len p (b ∷ s)
 run_begins p b s h = rw h (omega arith)
 
 word_within : (b : ℕ) (s : List ℕ) → is_word b ≡ true → IsWithin (b ∷ s) (word_piece (b ∷ s))
@@ -76,7 +76,7 @@ word_within b s h =
 pub symbol_within : (b : ℕ) (s : List ℕ) → IsWithin (b ∷ s) (Whole Symbol 1)
 symbol_within b s = record { some = omega arith; fits = omega arith }
 
-positive : (n : ℕ) → nat_lt 0 n ≡ true → 0 < n
+pub positive : (n : ℕ) → nat_lt 0 n ≡ true → 0 < n
 positive n h = grind (arith, nat_tests)
 
 point_within : (b : ℕ) (s : List ℕ) → IsWithin (b ∷ s) (point_piece (b ∷ s))

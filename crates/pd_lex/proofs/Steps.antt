@@ -10,9 +10,9 @@ use Rattle.pd_lex.specs.declared.scan.Piece.{Piece}
 use Rattle.pd_lex.specs.declared.scan.Piece.TheVariants.{Blank, Whole, Open, Stray}
 use Rattle.pd_lex.specs.declared.step.Step.{Step}
 use Rattle.pd_lex.specs.declared.step.Step.TheVariants as steps
-use Rattle.pd_lex.specs.Places.{joined, line_at, octets_from}
+use Rattle.pd_lex.specs.Places.{joined, line_at, octets_from, IsPlace}
 use Rattle.pd_lex.specs.Pieces.{piece, after_end, opener_len, Front, nothing, gap, token, stray, closed, parted, front}
-use Rattle.pd_lex.specs.Scanned.{piece_len, IsPlace, IsLeftAt, IsClosed, IsStep, closing_step}
+use Rattle.pd_lex.specs.Scanned.{piece_len, IsLeftAt, IsClosed, IsStep, closing_step}
 use Rattle.pd_lex.proofs.InLine.{piece_in_line}
 use Rattle.pd_lex.proofs.Endings.{end_in_line, end_past_line, end_suffix, end_of_nothing}
 use Rattle.pd_lex.proofs.Rests.{octets_in_line, octets_past, further_in_line, next_line}

@@ -11,7 +11,7 @@ use Rattle.pd_lex.specs.Octets.{is_digit, is_hex_digit, is_word, is_blank, is_so
 
 -- `0x` and one or more hexadecimal digits
 abbrev pub is_hex : List ℕ → Bool
-is_hex s = starts_with nat_eq s (48 ∷ 120 ∷ []) && nat_lt 0 (prefix_len is_hex_digit (drop 2 s)) && list_all is_hex_digit (drop 2 s)
+is_hex s = starts_with nat_eq s (48 ∷ 120 ∷ []) && nat_lt 2 (length s) && list_all is_hex_digit (drop 2 s)
 
 -- the length of a point with one or more digits, or 0
 abbrev pub fraction_len : List ℕ → ℕ

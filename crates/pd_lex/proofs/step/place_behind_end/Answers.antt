@@ -2,9 +2,9 @@
 use Rattle.std.proofs.Common.{◌≡◌, ◌∙◌, ◌+◌, ap, sym, length, drop, Some, None, arith}
 use Rattle.std.specs.Option.{option_copied}
 use Rattle.std.proofs.lemmas.List.{length-drop}
-use Rattle.pd_lex.specs.Places.{line_at, octets_from}
+use Rattle.pd_lex.specs.Places.{line_at, octets_from, IsPlace}
 use Rattle.pd_lex.specs.Pieces.{after_end}
-use Rattle.pd_lex.specs.Scanned.{IsPlace, IsClosed}
+use Rattle.pd_lex.specs.Scanned.{IsClosed}
 use Rattle.pd_lex.proofs.Endings.{end_suffix}
 use Rattle.pd_lex.proofs.Steps.{closed_at, not_closed_at, not_closed}
 use Rattle.pd_lex.proofs.step.place_behind_end.Goals as goal

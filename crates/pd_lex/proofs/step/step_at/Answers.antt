@@ -3,9 +3,9 @@ use Rattle.std.proofs.Common.{◌≡◌, ◌∙◌, sym, ap, ◌+◌, ◌≤◌,
 use Rattle.std.proofs.lemmas.Bool.Decides.{nat_tests}
 use Rattle.std.proofs.lemmas.List.{nil_from_length}
 use Rattle.pd_lex.specs.declared.scan.Piece.TheVariants.{Blank, Whole, Open, Stray}
-use Rattle.pd_lex.specs.Places.{line_at, octets_from}
+use Rattle.pd_lex.specs.Places.{line_at, octets_from, IsPlace}
 use Rattle.pd_lex.specs.Pieces.{piece, opener_len}
-use Rattle.pd_lex.specs.Scanned.{IsPlace, IsStep}
+use Rattle.pd_lex.specs.Scanned.{IsStep}
 use Rattle.pd_lex.proofs.Rests.{octets_past}
 use Rattle.pd_lex.proofs.Steps.{inside_place, step_newline, step_blank, step_whole, step_stray, step_closed, step_open}
 use Rattle.pd_lex.proofs.step.step_at.Goals as goal
