@@ -1,8 +1,7 @@
 -- No piece that the text begins with is longer than the one that is cut.
-use Rattle.std.proofs.Common.{◌≡◌, ◌≢◌, ℕ, zero, suc, ◌+◌, ◌-◌, ◌<◌, ◌≤◌, Bool, true, false, ◌&&◌, not, cond, nat_lt, nat_eq, eqb, ◌==◌, List, [], ◌∷◌, ◌++◌, length, get_or, take, drop, Option, Some, None, refl, sym, ap, subst, ◌∙◌, arith, zero-add, append_assoc, append-nil, length-append, ◌⊎◌, inl, inr}
+use Rattle.std.proofs.Common.{◌≡◌, ◌≢◌, ℕ, ◌+◌, ◌<◌, ◌≤◌, Bool, true, false, ◌&&◌, not, cond, nat_lt, nat_eq, eqb, ◌==◌, List, [], ◌∷◌, ◌++◌, length, take, drop, Option, Some, None, refl, sym, ap, ◌∙◌, arith, zero-add, append_assoc, append-nil, length-append, ◌⊎◌, inl, inr}
 use Rattle.std.specs.List.{prefix_len, list_all, starts_with}
-use Rattle.std.proofs.lemmas.List.{drop-drop, length-drop, take_at, drop_at}
-use Rattle.std.proofs.lemmas.List.Sums.{prefix_len-le-length}
+use Rattle.std.proofs.lemmas.List.{length-drop, take_at, drop_at}
 use Rattle.std.proofs.lemmas.Bool.Decides.{nat_tests, eqb_tells}
 use Rattle.pd_lex.specs.declared.token.TokenKind.{TokenKind}
 use Rattle.pd_lex.specs.declared.token.TokenKind.TheVariants.{Int, Hex, Word, Decimal, Dots, Opt, Str, Cmd, Code, Symbol}
@@ -13,8 +12,8 @@ use Rattle.pd_lex.specs.declared.scan.Opener.TheVariants.{Comment, Quote, Backqu
 use Rattle.pd_lex.specs.Octets.{is_digit, is_hex_digit, is_word, is_blank, is_solid, is_inside_line, is_no_backquote, is_printable}
 use Rattle.pd_lex.specs.Pieces.{is_hex, fraction_len, value_len, word_piece, point_piece, dash_piece, piece, after_pair, after_quote, after_backquote, after_end, opener_text, opener_len, Front, nothing, gap, token, stray, closed, parted, front}
 use Rattle.pd_lex.specs.Scanned.{piece_len}
-use Rattle.pd_lex.specs.Spellings.{AreAll, AreSome, IsHex, IsWord, IsDecimal, IsValue, IsOpt, IsQuoted, empty, plain, escaped, IsStr, IsCmd, HasNoPair, IsCode, IsSymbol, IsSpelled, IsBlank, IsLineComment, IsBlockComment, IsPiece, IsOpened, Fits}
-use Rattle.pd_lex.proofs.Fronts.{IsWithin, piece_within, IsOther, IsShaped, at_blank, at_word, at_point, at_dash, at_line_comment, at_opener, at_symbol, at_stray, shaped, run_begins, positive}
+use Rattle.pd_lex.specs.Spellings.{IsValue, IsQuoted, empty, plain, escaped, HasNoPair, IsSpelled, IsPiece, IsOpened, Fits}
+use Rattle.pd_lex.proofs.Fronts.{IsWithin, piece_within, IsShaped, at_blank, at_word, at_point, at_dash, at_line_comment, at_opener, at_symbol, at_stray, shaped, run_begins, positive}
 use Rattle.pd_lex.proofs.Rests.{and_first, and_second}
 
 -- a front that takes so many octets at least

@@ -1,13 +1,12 @@
 -- The items from a place on, one piece at a time.
-use Rattle.std.proofs.Common.{◌≡◌, ℕ, zero, suc, ◌+◌, ◌-◌, ◌<◌, ◌≤◌, Bool, true, false, List, [], ◌∷◌, ◌++◌, length, max, refl, sym, ap, subst, ◌∙◌, arith, ◌⊎◌, inl, inr}
+use Rattle.std.proofs.Common.{◌≡◌, ℕ, zero, suc, ◌<◌, ◌≤◌, true, List, [], ◌∷◌, length, max, refl, sym, ap, subst, ◌∙◌, arith, ◌⊎◌, inl, inr}
 use Rattle.std.specs.List.{list_all}
 use Rattle.pd_text.specs.Text.{is_line}
 use Rattle.pd_lex.specs.declared.token.TokenKind.{TokenKind}
 use Rattle.pd_lex.specs.declared.token.Place.{Place}
 use Rattle.pd_lex.specs.Places.{standing, octets_from, place_after, before, IsPlace}
 use Rattle.pd_lex.specs.Pieces.{Front, nothing, gap, token, stray, front}
-use Rattle.pd_lex.specs.Tokens.{Lexeme, Item, lexeme, ending, bad, followed, items_within, items}
-use Rattle.pd_lex.specs.Scanned.{IsLeftAt}
+use Rattle.pd_lex.specs.Tokens.{Item, lexeme, ending, bad, followed, items_within, items}
 use Rattle.pd_lex.specs.Spellings.{IsStuck}
 use Rattle.std.proofs.lemmas.Bool.{cases_lt}
 use Rattle.pd_lex.proofs.Rests.{standing_place, octets_past, advance, same_place}

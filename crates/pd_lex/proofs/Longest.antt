@@ -1,9 +1,9 @@
 -- What is cut is the longest of all pieces that the text begins with.
-use Rattle.std.proofs.Common.{◌≡◌, ℕ, ◌+◌, ◌-◌, ◌<◌, ◌≤◌, List, [], ◌∷◌, ◌++◌, length, Option, Some, None, refl, sym, ap, subst, ◌∙◌, arith, length-append}
+use Rattle.std.proofs.Common.{◌≡◌, ℕ, ◌+◌, ◌<◌, ◌≤◌, List, [], ◌∷◌, length, Option, Some, None, ap, subst, ◌∙◌, arith, length-append}
 use Rattle.pd_lex.specs.declared.token.TokenKind.{TokenKind}
 use Rattle.pd_lex.specs.declared.token.TokenKind.TheVariants.{Symbol}
 use Rattle.pd_lex.specs.Places.{before}
-use Rattle.pd_lex.specs.Pieces.{Front, nothing, gap, token, stray, front}
+use Rattle.pd_lex.specs.Pieces.{gap, token, stray, front}
 use Rattle.pd_lex.specs.Spellings.{IsPiece, IsOpened, Fits, IsLongest, IsStuck, Skips, here, past}
 use Rattle.pd_lex.proofs.Fronts.{IsRest, IsRest-cut, LeavesRest, front_leaves}
 use Rattle.pd_lex.proofs.Bounds.{Takes, bound}
@@ -16,7 +16,7 @@ longest_by s rest kind left spelled unopened bounded =
     record {
       cut = cut;
       fits = record { more = rest; cut = cut; spelled = spelled; unopened = unopened };
-      longest = λ other prefix fits. omega (arith, sum, bounded other prefix fits)
+      longest = λ other prefix fits. omega (arith, sum, bounded other prefix fits);
     }
 
 pub longest_gap : (s rest : List ℕ) → front s ≡ gap rest → IsLongest s None (before s rest) rest
@@ -39,7 +39,7 @@ not_empty (b ∷ s) e = omega arith
 pub stuck_at : (s : List ℕ) → front s ≡ stray → IsStuck s
 stuck_at s e = record {
   some = not_empty s e;
-  none = λ kind text fits. subst (Takes s (length text)) e (bound s kind text fits)
+  none = λ kind text fits. subst (Takes s (length text)) e (bound s kind text fits);
 }
 
 -- one more blank or comment

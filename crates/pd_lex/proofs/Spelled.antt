@@ -1,23 +1,22 @@
 -- What is cut is spelled as its kind says.
-use Rattle.std.proofs.Common.{◌≡◌, ◌≢◌, ℕ, zero, suc, ◌+◌, ◌-◌, ◌<◌, ◌≤◌, Bool, true, false, ◌&&◌, not, cond, nat_lt, nat_eq, eqb, ◌==◌, List, [], ◌∷◌, ◌++◌, length, get_or, take, drop, Option, Some, None, refl, sym, ap, subst, ◌∙◌, arith, add-one, append_assoc, length-append, ◌⊎◌, inl, inr}
+use Rattle.std.proofs.Common.{◌≡◌, ◌≢◌, ℕ, suc, ◌+◌, ◌-◌, ◌<◌, ◌≤◌, Bool, true, false, ◌&&◌, cond, nat_lt, nat_eq, eqb, ◌==◌, List, [], ◌∷◌, ◌++◌, length, get_or, take, drop, Option, Some, None, refl, sym, ap, ◌∙◌, arith, add-one, append_assoc, length-append, ◌⊎◌, inl, inr}
 use Rattle.std.specs.List.{prefix_len, list_all, starts_with}
 use Rattle.std.proofs.Math.Numerals.{one-add}
-use Rattle.std.proofs.lemmas.List.{drop-drop, length-drop, take_at, drop_at, take-append-drop, length-take-le}
+use Rattle.std.proofs.lemmas.List.{length-drop, take_at, take-append-drop, length-take-le}
 use Rattle.std.proofs.Math.Seq.{take-append-add}
 use Rattle.std.proofs.lemmas.List.Sums.{prefix_len-le-length}
 use Rattle.std.proofs.lemmas.List.Folds.{length-prefix_len}
 use Rattle.std.proofs.lemmas.Bool.Decides.{nat_tests, eqb_tells}
 use Rattle.pd_lex.specs.declared.token.TokenKind.{TokenKind}
-use Rattle.pd_lex.specs.declared.token.TokenKind.TheVariants.{Int, Hex, Word, Decimal, Dots, Opt, Str, Cmd, Code, Symbol}
+use Rattle.pd_lex.specs.declared.token.TokenKind.TheVariants.{Int, Hex, Word, Decimal, Dots, Opt, Symbol}
 use Rattle.pd_lex.specs.declared.scan.Piece.{Piece}
 use Rattle.pd_lex.specs.declared.scan.Piece.TheVariants.{Blank, Whole, Open, Stray}
 use Rattle.pd_lex.specs.declared.scan.Opener.{Opener}
 use Rattle.pd_lex.specs.declared.scan.Opener.TheVariants.{Comment, Quote, Backquote, Brace}
-use Rattle.pd_lex.specs.Octets.{is_digit, is_hex_digit, is_word, is_blank, is_solid, is_inside_line, is_no_backquote, is_printable}
+use Rattle.pd_lex.specs.Octets.{is_digit, is_hex_digit, is_word, is_solid, is_inside_line, is_no_backquote, is_printable}
 use Rattle.pd_lex.specs.Places.{before}
 use Rattle.pd_lex.specs.Pieces.{is_hex, fraction_len, value_len, word_piece, point_piece, dash_piece, piece, after_pair, after_quote, after_backquote, after_end, opener_text, opener_len, Front, nothing, gap, token, stray, closed, parted, front}
-use Rattle.pd_lex.specs.Scanned.{piece_len}
-use Rattle.pd_lex.specs.Spellings.{AreAll, AreSome, IsHex, IsWord, IsDecimal, IsValue, IsOpt, IsQuoted, empty, plain, escaped, IsStr, IsCmd, HasNoPair, IsCode, IsSymbol, IsSpelled, IsBlank, IsLineComment, IsBlockComment, IsPiece, IsOpened, Fits}
+use Rattle.pd_lex.specs.Spellings.{AreAll, AreSome, IsHex, IsValue, IsOpt, IsQuoted, empty, plain, escaped, IsStr, IsCmd, HasNoPair, IsCode, IsSpelled, IsLineComment, IsBlockComment, IsPiece, IsOpened}
 use Rattle.pd_lex.proofs.Fronts.{IsWithin, piece_within, IsOther, IsShaped, at_blank, at_word, at_point, at_dash, at_line_comment, at_opener, at_symbol, at_stray, shaped, run_begins, positive}
 use Rattle.pd_lex.proofs.Bounds.{begins_pair, begins_one, same_octet}
 use Rattle.pd_lex.proofs.Rests.{and_first, and_second}
@@ -109,8 +108,8 @@ word_sound b s h =
     let run = take n (b ∷ s) in
     let some : 0 < length run = omega (arith, run_length is_word (b ∷ s), run_begins is_word b s h) in
     sound_either (b ∷ s) (list_all is_digit run) (cond (nat_lt 0 f) (Whole Decimal (n + f)) (Whole Int n)) (cond (is_hex run) (Whole Hex n) (Whole Word n))
-        (λ digits. sound_either (b ∷ s) (nat_lt 0 f) (Whole Decimal (n + f)) (Whole Int n) (λ more. no_symbol (b ∷ s) Decimal (n + f) (λ e. cc) (let part = fraction_spelled (drop n (b ∷ s)) (positive f more) in (run, part.0, take_sum n f (b ∷ s) (prefix_len-le-length is_word (b ∷ s)) ∙ rw part.1 refl, digits, part.2))) (λ _. no_symbol (b ∷ s) Int n (λ e. cc) (some, digits)))
-        (λ others. sound_either (b ∷ s) (is_hex run) (Whole Hex n) (Whole Word n) (λ hex. no_symbol (b ∷ s) Hex n (λ e. cc) (hex_is run hex)) (λ fails. no_symbol (b ∷ s) Word n (λ e. cc) ((some, run_passes is_word (b ∷ s)), λ digits. (let e : true ≡ false = sym digits ∙ others in cc), no_hex run fails)))
+    (λ digits. sound_either (b ∷ s) (nat_lt 0 f) (Whole Decimal (n + f)) (Whole Int n) (λ more. no_symbol (b ∷ s) Decimal (n + f) (λ e. cc) (let part = fraction_spelled (drop n (b ∷ s)) (positive f more) in (run, part.0, take_sum n f (b ∷ s) (prefix_len-le-length is_word (b ∷ s)) ∙ rw part.1 refl, digits, part.2))) (λ _. no_symbol (b ∷ s) Int n (λ e. cc) (some, digits)))
+    (λ others. sound_either (b ∷ s) (is_hex run) (Whole Hex n) (Whole Word n) (λ hex. no_symbol (b ∷ s) Hex n (λ e. cc) (hex_is run hex)) (λ fails. no_symbol (b ∷ s) Word n (λ e. cc) ((some, run_passes is_word (b ∷ s)), λ digits. (let e : true ≡ false = sym digits ∙ others in cc), no_hex run fails)))
 
 -- the octets that open nothing
 not_opened : (b : ℕ) (s : List ℕ) → b ≢ 47 → b ≢ 34 → b ≢ 96 → b ≢ 37 → ¬ IsOpened (b ∷ s)
@@ -131,8 +130,8 @@ unfolding point_piece
 point_sound s =
     let f = fraction_len (46 ∷ s) in
     sound_either (46 ∷ s) (starts_with nat_eq (46 ∷ s) (46 ∷ 46 ∷ 46 ∷ [])) (Whole Dots 3) (cond (nat_lt 0 f) (Whole Decimal f) (Whole Symbol 1))
-        (λ h. no_symbol (46 ∷ s) Dots 3 (λ e. cc) (dots_are s h))
-        (λ _. sound_either (46 ∷ s) (nat_lt 0 f) (Whole Decimal f) (Whole Symbol 1) (λ h. no_symbol (46 ∷ s) Decimal f (λ e. cc) (let part = fraction_spelled (46 ∷ s) (positive f h) in ([], part.0, part.1, refl, part.2))) (λ _. point_symbol s))
+    (λ h. no_symbol (46 ∷ s) Dots 3 (λ e. cc) (dots_are s h))
+    (λ _. sound_either (46 ∷ s) (nat_lt 0 f) (Whole Decimal f) (Whole Symbol 1) (λ h. no_symbol (46 ∷ s) Decimal f (λ e. cc) (let part = fraction_spelled (46 ∷ s) (positive f h) in ([], part.0, part.1, refl, part.2))) (λ _. point_symbol s))
 
 -- options
 value_spelled : (s : List ℕ) → IsValue (take (value_len s) s)
@@ -171,8 +170,8 @@ dash_sound s =
     let n = prefix_len is_word (drop 2 (45 ∷ s)) in
     let v = value_len (drop n (drop 2 (45 ∷ s))) in
     sound_either (45 ∷ s) (starts && nat_lt 0 n) (Whole Opt (2 + n + v)) (Whole Symbol 1)
-        (λ h. no_symbol (45 ∷ s) Opt (2 + n + v) (λ e. cc) (dashes_then s (and_first starts (nat_lt 0 n) h) (positive n (and_second starts (nat_lt 0 n) h))))
-        (λ _. dash_symbol s)
+    (λ h. no_symbol (45 ∷ s) Opt (2 + n + v) (λ e. cc) (dashes_then s (and_first starts (nat_lt 0 n) h) (positive n (and_second starts (nat_lt 0 n) h))))
+    (λ _. dash_symbol s)
 
 -- comments to the end of the line
 line_comment_sound : (s more : List ℕ) → s ≡ 47 ∷ 47 ∷ more → IsLineComment (take (prefix_len is_inside_line s) s)

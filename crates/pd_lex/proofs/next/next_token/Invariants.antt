@@ -9,7 +9,7 @@ abbrev pub invariant-gaps : goal.invariant-gaps
 invariant-gaps l = record {
   place : IsPlace l.lines l.here;
   same : items l.lines l.fn.place ≡ items l.lines l.here;
-  skipped : Skips (octets_from l.lines l.fn.place) (octets_from l.lines l.here)
+  skipped : Skips (octets_from l.lines l.fn.place) (octets_from l.lines l.here);
 }
 
 abbrev pub decreases-gaps : goal.decreases-gaps
