@@ -9,3 +9,4 @@ pub mod Texts
 pub mod Bounds
 pub mod Spelled
 pub mod Longest
+pub mod Agreement
