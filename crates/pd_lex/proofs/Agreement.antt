@@ -11,17 +11,20 @@ use Rattle.pd_lex.specs.declared.scan.Piece.{Piece}
 use Rattle.pd_lex.specs.declared.scan.Piece.TheVariants.{Blank, Whole, Open, Stray}
 use Rattle.pd_lex.specs.declared.scan.Opener.{Opener}
 use Rattle.pd_lex.specs.declared.scan.Opener.TheVariants.{Comment, Quote, Backquote, Brace}
+use Rattle.pd_lex.specs.declared.token.TokenKind.TheVariants.{Str, Cmd, Code}
+use Rattle.pd_lex.specs.Kinds.{stays_in_line}
 use Rattle.pd_lex.specs.Places.{first_place, joined, line_at, standing, octets_from, place_after, before, IsPlace}
 use Rattle.pd_lex.specs.Pieces.{piece, after_end, opener_len, Front, nothing, gap, token, stray, closed, parted, front}
 use Rattle.pd_lex.specs.Tokens.{Lexeme, Item, lexeme, ending, bad, items}
 use Rattle.pd_lex.specs.Scanned.{piece_len, IsLeftAt}
-use Rattle.pd_lex.specs.Agreement.{last_line, Rises, AgreeTo}
+use Rattle.pd_lex.specs.Agreement.{last_line, IsInOrder, AgreeTo}
 use Rattle.pd_lex.proofs.InLine.{piece_in_line}
 use Rattle.pd_lex.proofs.Endings.{end_in_line, end_past_line, end_suffix}
 use Rattle.pd_lex.proofs.Items.{items_from, items_past, items_over_gap, items_at_token, items_at_end, items_at_stray}
 use Rattle.pd_lex.proofs.Texts.{standing_is_place}
 use Rattle.pd_lex.proofs.Spelled.{before_is}
-use Rattle.pd_lex.proofs.Rests.{octets_at, octets_in_line, octets_past, advance}
+use Rattle.pd_lex.proofs.Rests.{octets_at, octets_in_line, octets_past, advance, further_in_line, same_place}
+use Rattle.pd_lex.proofs.Steps.{front_is}
 use Rattle.pd_lex.proofs.Fronts.{IsWithin, piece_within, IsRest, IsRest-cut, LeavesRest, front_leaves, IsRest-shorter}
 
 -- the front of a text that goes on behind a newline: the piece ends before it, whatever follows, or behind it
@@ -102,10 +105,63 @@ module _ (lines : List (List ℕ)) (plain : list_all is_line lines ≡ true) (p 
       let q = left_behind (token_rest kind e) in
       items_at_token lines plain p (place_after p (before (octets_from lines p) rest)) kind h q.place (e ∙ ap (token kind) (sym q.left)) ∙ rw q.left refl
 
+by_line : (n m : ℕ) (A : Type 0) → (n < m → A) → (m ≤ n → A) → A
+by_line n m A f g = either (cases_lt n m)
+  where
+    either : ((n < m) ⊎ (m ≤ n)) → A
+    either (inl lt) = f lt
+    either (inr le) = g le
+
+-- a token of a kind that stays in its line ends in the line in which it begins
+kind_of : {a b : TokenKind} {r s : List ℕ} → token a r ≡ token b s → a ≡ b
+kind_of e = cc
+
+rest_of : {a b : TokenKind} {r s : List ℕ} → token a r ≡ token b s → r ≡ s
+rest_of e = cc
+
+leaves_line : (a b : TokenKind) → stays_in_line a ≡ false → a ≡ b → stays_in_line b ≡ true → ⊥
+leaves_line a b fails is h = let e : true ≡ false = sym h ∙ ap stays_in_line (sym is) ∙ fails in cc
+
+closed_leaves_line : (o : Opener) (r : Option (List ℕ)) (kind : TokenKind) (rest : List ℕ) → closed o r ≡ token kind rest → stays_in_line kind ≡ true → ⊥
+closed_leaves_line o None kind rest e h = cc
+closed_leaves_line Comment (Some r) kind rest e h = cc
+closed_leaves_line Quote (Some r) kind rest e h = leaves_line Str kind refl (kind_of e) h
+closed_leaves_line Backquote (Some r) kind rest e h = leaves_line Cmd kind refl (kind_of e) h
+closed_leaves_line Brace (Some r) kind rest e h = leaves_line Code kind refl (kind_of e) h
+
+nothing_is_no_token : (kind : TokenKind) (rest : List ℕ) → front [] ≡ token kind rest → ⊥
+unfolding front
+nothing_is_no_token kind rest e = cc
+
+newline_is_no_token : (more : List ℕ) (kind : TokenKind) (rest : List ℕ) → front (10 ∷ more) ≡ token kind rest → ⊥
+unfolding front piece
+newline_is_no_token more kind rest e = cc
+
+module _ (lines : List (List ℕ)) (plain : list_all is_line lines ≡ true) (p : Place) (h : IsPlace lines p) (rest : List ℕ) (kind : TokenKind) (e : front (octets_from lines p) ≡ token kind rest) (stays : stays_in_line kind ≡ true) where
+  piece_stays : p.line ≤ length lines → (b : ℕ) (s : List ℕ) → b ∷ s ≡ drop p.at (line_at lines p.line) → (q : Piece) → IsWithin (b ∷ s) q → parted (b ∷ s ++ 10 ∷ joined (drop p.line lines)) q ≡ token kind rest → (place_after p (before (octets_from lines p) rest)).line ≡ p.line
+  piece_stays le b s is (Blank n) w f = absurd cc
+  piece_stays le b s is (Whole k n) w f =
+      let more = 10 ∷ joined (drop p.line lines) in
+      let left : rest ≡ drop n (b ∷ s) ++ more = sym (rest_of f) ∙ drop-append-le n (b ∷ s) more w.fits in
+      let fits : n ≤ length (drop p.at (line_at lines p.line)) = omega (arith, w.fits, ap length is) in
+      let on = further_in_line lines p h le n fits in
+      let there = left_behind lines plain p h rest (token_rest lines plain p h rest kind e) in
+      let same : length (octets_from lines (place_after p (before (octets_from lines p) rest))) ≡ length (octets_from lines (record { line = p.line; at = p.at + n })) = ap length (there.left ∙ left ∙ ap (λ (l : List ℕ). drop n l ++ more) is ∙ sym on.left) in
+      ap (λ (x : Place). x.line) (same_place lines (place_after p (before (octets_from lines p) rest)) (record { line = p.line; at = p.at + n }) there.place on.place same)
+  piece_stays le b s is (Open o) w f = absurd (closed_leaves_line o (after_end o (drop (opener_len o) (b ∷ s ++ 10 ∷ joined (drop p.line lines)))) kind rest f stays)
+  piece_stays le b s is Stray w f = absurd cc
+
+  line_stays : p.line ≤ length lines → (s : List ℕ) → s ≡ drop p.at (line_at lines p.line) → (place_after p (before (octets_from lines p) rest)).line ≡ p.line
+  line_stays le [] is = absurd (newline_is_no_token (joined (drop p.line lines)) kind rest (ap front (sym (octets_in_line lines p h le ∙ ap (λ (l : List ℕ). l ++ 10 ∷ joined (drop p.line lines)) (sym is))) ∙ e))
+  line_stays le (b ∷ s) is = piece_stays le b s is (piece (b ∷ s)) (piece_within b s) (sym (front_is lines p h le b s is) ∙ e)
+
+  token_stays : (place_after p (before (octets_from lines p) rest)).line ≡ p.line
+  token_stays = by_line (length lines) p.line ((place_after p (before (octets_from lines p) rest)).line ≡ p.line) (λ lt. absurd (nothing_is_no_token kind rest (ap front (sym (octets_past lines p lt)) ∙ e))) (λ le. line_stays le (drop p.at (line_at lines p.line)) refl)
+
 -- tokens come in order
-rises_from : (n m : ℕ) (xs : List Item) → n ≤ m → Rises m xs → Rises n xs
+rises_from : (n m : ℕ) (xs : List Item) → n ≤ m → IsInOrder m xs → IsInOrder n xs
 rises_from n m [] le h = tt
-rises_from n m (lexeme x ∷ xs) le h = (omega (arith, h.0), h.1, h.2)
+rises_from n m (lexeme x ∷ xs) le h = (omega (arith, h.0), h.1, h.2, h.3)
 rises_from n m (ending last ∷ xs) le h = tt
 rises_from n m (bad line ∷ xs) le h = omega (arith, h)
 
@@ -128,7 +184,7 @@ nothing_left [] e = refl
 nothing_left (b ∷ s) e = absurd (parted_some (b ∷ s) (piece (b ∷ s)) e)
 
 module _ (lines : List (List ℕ)) (plain : list_all is_line lines ≡ true) where
-  rises_by : (k : ℕ) (p : Place) → IsPlace lines p → length (octets_from lines p) ≤ suc k → ((q : Place) → IsPlace lines q → length (octets_from lines q) ≤ k → Rises q.line (items lines q)) → (f : Front) → front (octets_from lines p) ≡ f → Rises p.line (items lines p)
+  rises_by : (k : ℕ) (p : Place) → IsPlace lines p → length (octets_from lines p) ≤ suc k → ((q : Place) → IsPlace lines q → length (octets_from lines q) ≤ k → IsInOrder q.line (items lines q)) → (f : Front) → front (octets_from lines p) ≡ f → IsInOrder p.line (items lines p)
   rises_by k p h le ih nothing e = rw (items_at_end lines plain p h (nothing_left (octets_from lines p) e)) tt
   rises_by k p h le ih (gap rest) e =
       let r = gap_rest lines plain p h rest e in
@@ -141,18 +197,18 @@ module _ (lines : List (List ℕ)) (plain : list_all is_line lines ≡ true) whe
       let q = left_behind lines plain p h rest r in
       let less = IsRest-shorter (octets_from lines p) rest r in
       let more = ih (place_after p (before (octets_from lines p) rest)) q.place (omega (arith, ap length q.left)) in
-      rw (items_behind_token lines plain p h rest kind e) (omega arith, after_rises p (before (octets_from lines p) rest), more)
+      rw (items_behind_token lines plain p h rest kind e) (omega arith, after_rises p (before (octets_from lines p) rest), token_stays lines plain p h rest kind e, more)
   rises_by k p h le ih stray e = rw (items_at_stray lines plain p h e) (omega arith)
 
-  rises_within : (k : ℕ) (p : Place) → IsPlace lines p → length (octets_from lines p) ≤ k → Rises p.line (items lines p)
+  rises_within : (k : ℕ) (p : Place) → IsPlace lines p → length (octets_from lines p) ≤ k → IsInOrder p.line (items lines p)
   rises_within zero p h le = rw (items_at_end lines plain p h (nil_from_length (octets_from lines p) (omega arith))) tt
   rises_within (suc k) p h le = rises_by k p h le (rises_within k) (front (octets_from lines p)) refl
 
-  pub items_rise : (p : Place) → IsPlace lines p → Rises p.line (items lines p)
+  pub items_rise : (p : Place) → IsPlace lines p → IsInOrder p.line (items lines p)
   items_rise p h = rises_within (length (octets_from lines p)) p h (omega arith)
 
 -- far behind the first lines nothing is claimed
-far : (same n : ℕ) (xs others : List Item) → same < n → Rises n xs → AgreeTo same xs others
+far : (same n : ℕ) (xs others : List Item) → same < n → IsInOrder n xs → AgreeTo same xs others
 far same n [] others lt h = tt
 far same n (lexeme x ∷ xs) others lt h = λ le. absurd (omega (arith, h.0, h.1))
 far same n (ending last ∷ xs) others lt h = tt
@@ -191,13 +247,6 @@ front_end xs p h le =
 
 octets_then : (xs ys : List (List ℕ)) (p : Place) → IsPlace xs p → p.line ≤ length xs → (c : List ℕ) → octets_from xs p ≡ c ++ 10 ∷ [] → octets_from (xs ++ ys) p ≡ c ++ 10 ∷ joined ys
 octets_then xs ys p h le c e = octets_in_front xs ys p h le ∙ rw e (append_assoc c (10 ∷ []) (joined ys))
-
-by_line : (n m : ℕ) (A : Type 0) → (n < m → A) → (m ≤ n → A) → A
-by_line n m A f g = either (cases_lt n m)
-  where
-    either : ((n < m) ⊎ (m ≤ n)) → A
-    either (inl lt) = f lt
-    either (inr le) = g le
 
 -- a place stands no earlier than it says
 standing_rises : (lines : List (List ℕ)) (p : Place) → p.line ≤ (standing lines p).line
@@ -322,13 +371,13 @@ agree lines others same p plain_x plain_y le e =
     let a = agree_from cs (drop same lines) (drop same others) (rw wx plain_x) (rw wy plain_y) p in
     rw (n, wx, wy) at a
 
-pub rise : (lines : List (List ℕ)) (p : Place) → list_all is_line lines ≡ true → Rises p.line (items lines p)
-rise lines p plain = by_line (length lines) p.line (Rises p.line (items lines p)) past within
+pub rise : (lines : List (List ℕ)) (p : Place) → list_all is_line lines ≡ true → IsInOrder p.line (items lines p)
+rise lines p plain = by_line (length lines) p.line (IsInOrder p.line (items lines p)) past within
   where
-    past : length lines < p.line → Rises p.line (items lines p)
+    past : length lines < p.line → IsInOrder p.line (items lines p)
     past lt = rw (items_past lines plain p lt) tt
 
-    within : p.line ≤ length lines → Rises p.line (items lines p)
+    within : p.line ≤ length lines → IsInOrder p.line (items lines p)
     within le =
         let h = standing_is_place lines p le in
         rw (items_from lines plain p (standing lines p) h refl) (rises_from p.line (standing lines p).line (items lines (standing lines p)) (standing_rises lines p) (items_rise lines plain (standing lines p) h))
