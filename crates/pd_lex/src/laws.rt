@@ -6,5 +6,4 @@ ghost use Rattle.pd_lex.specs.Agreement.{ItemsAreInOrder, FirstLinesAgree};
 pub fn first_lines()
     ensures order { ItemsAreInOrder }
     ensures same { FirstLinesAgree }
-{
-}
+{}

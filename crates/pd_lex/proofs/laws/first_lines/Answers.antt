@@ -1,5 +1,6 @@
 -- Both laws are lemmas.
-use Rattle.pd_lex.proofs.Agreement.{agree, rise}
+use Rattle.pd_lex.proofs.Order.{rise}
+use Rattle.pd_lex.proofs.Agreement.{agree}
 use Rattle.pd_lex.proofs.laws.first_lines.Goals as goal
 
 pub returns-clause-order : goal.returns-clause-order
