@@ -4,6 +4,8 @@ ghost use Rattle.pd_settings.specs.Keys.{Takes, domain_of};
 ghost use Rattle.pd_settings.specs.declared.keys.Key.TheVariants.{Mss, Wscale, Sndbuf, RcvWnd, InitialSsthresh, MinRtoUs, MaxRtoUs, GranularityUs, ToleranceUs};
 ghost use Rattle.pd_settings.specs.declared.values.Value.TheVariants.{Number, Truth};
 
+use toml::Table;
+
 use crate::faults::SettingsFault;
 use crate::keys::Key;
 use crate::values::Value;
@@ -45,6 +47,8 @@ macro_rules! with_field {
 
 impl Settings {
     ghost use Rattle.pd_settings.specs.Settings.{defaults, replaced, with_value};
+    ghost use Rattle.pd_settings.specs.Table.{from_table_of};
+    ghost use Rattle.toml.specs.View.{table_view};
 
     /// The defaults.
     pub fn new() -> Settings
@@ -127,5 +131,22 @@ impl Settings {
     {
         let key = Key::named(key).ok_or(SettingsFault::UnknownKey)?;
         self.replace(key, value).ok_or(SettingsFault::BadValue)
+    }
+
+    /// The settings that a table writes; a setting that it doesn't write has its default.
+    ///
+    /// The entries are looked at in the table's order, which ascends by key.
+    ///
+    /// # Errors
+    ///
+    /// The fault of the first entry that is refused, as by [`Settings::with`].
+    pub fn from_table(table: &Table) -> Result<Settings, SettingsFault>
+        ensures { result ≡ from_table_of (table_view table.now) }
+    {
+        let mut settings = Settings::new();
+        for (key, value) in table {
+            settings = settings.with(key.as_bytes(), Value::from_toml(value))?;
+        }
+        Ok(settings)
     }
 }
