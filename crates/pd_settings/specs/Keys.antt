@@ -9,7 +9,7 @@ use Rattle.pd_settings.specs.declared.domains.Domain.TheVariants.{Numbers, Truth
 use Rattle.pd_settings.specs.declared.keys.Key.{Key}
 use Rattle.pd_settings.specs.declared.keys.Key.TheVariants.{Mss, Sack, Wscale, Sndbuf, RcvWnd, InitialSsthresh, MinRtoUs, MaxRtoUs, GranularityUs, Nagle, ToleranceUs}
 use Rattle.pd_settings.specs.declared.values.Value.{Value}
-use Rattle.pd_settings.specs.declared.values.Value.TheVariants.{Number, Truth, Other}
+use Rattle.pd_settings.specs.declared.values.Value.TheVariants.{Number, Truth}
 
 -- the name that a setting is written by
 abbrev pub name_of : Key → List ℕ

@@ -4,11 +4,10 @@ ghost use Rattle.pd_settings.specs.Keys.{Takes, domain_of};
 ghost use Rattle.pd_settings.specs.declared.keys.Key.TheVariants.{Mss, Wscale, Sndbuf, RcvWnd, InitialSsthresh, MinRtoUs, MaxRtoUs, GranularityUs, ToleranceUs};
 ghost use Rattle.pd_settings.specs.declared.values.Value.TheVariants.{Number, Truth};
 
-use toml::Table;
-
 use crate::faults::SettingsFault;
 use crate::keys::Key;
 use crate::values::Value;
+use toml::Table;
 
 /// The settings of a run.
 #[derive(Clone, Copy, Debug, PartialEq, Eq)]
