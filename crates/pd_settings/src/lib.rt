@@ -5,6 +5,8 @@ mod domains;
 mod faults;
 mod fields;
 mod keys;
+#[cfg(test)]
+mod tests;
 mod values;
 
 pub use domains::Domain;
