@@ -9,20 +9,32 @@ use crate::keys::Key;
 use crate::values::Value;
 use toml::Table;
 
-/// The settings of a run.
+/// The settings of a run, each in its range.
 #[derive(Clone, Copy, Debug, PartialEq, Eq)]
 pub struct Settings {
-    /// The largest segment that this host announces and sends, in octets.
+    /// The maximum segment size that is announced, in octets (RFC 9293, section 3.7.1): 64 to 65,495.
     pub mss: u16,
+    /// Whether SACK is agreed where the peer offers it (RFC 2018, section 2).
     pub sack: bool,
+    /// The shift count that is announced where the peer scales windows (RFC 7323, section 2): 0 to 14.
     pub wscale: u8,
+    /// How many octets `write` may queue beyond those acknowledged: 1,024 to 1,048,576.
     pub sndbuf: u32,
+    /// RCV.WND, the receive window, in octets (RFC 9293, section 3.3.1): 1 to 1,073,725,440.
     pub rcv_wnd: u32,
+    /// The slow start threshold at establishment, in octets (RFC 5681, section 3.1): 128 to 1,073,741,824.
     pub initial_ssthresh: u32,
+    /// The least retransmission timeout, in microseconds (RFC 6298, section 2.4): 1,000 to 60,000,000.
     pub min_rto_us: u64,
+    /// The greatest retransmission timeout, in microseconds (RFC 6298, section 2.5): 60,000,000 to
+    /// 3,600,000,000.
     pub max_rto_us: u64,
+    /// G, the clock granularity, in microseconds (RFC 6298, section 2): 1 to 1,000,000.
     pub granularity_us: u64,
+    /// Whether Nagle's algorithm is on at establishment (RFC 9293, section 3.7.4).
     pub nagle: bool,
+    /// How far a packet's time may lie outside the written one, in microseconds, where the script's header
+    /// doesn't say (packetdrill's `--tolerance_usecs`): 0 to 1,000,000.
     pub tolerance_us: u64,
     pub ghost mss_in_range: { Takes (domain_of Mss) (Number mss) },
     pub ghost wscale_in_range: { Takes (domain_of Wscale) (Number wscale) },

@@ -21,7 +21,7 @@ pub enum Key {
 }
 
 impl Key {
-    /// All settings, in the order of `Settings`.
+    /// All settings, in the order of the fields of `Settings`.
     pub const ALL: [Key; 11] = [
         Key::Mss,
         Key::Sack,
