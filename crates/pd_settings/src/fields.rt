@@ -1,0 +1,124 @@
+//! The settings themselves.
+ghost use Rattle.std.specs.Prelude.{◌≡◌, ◌↔◌, IsTrue};
+ghost use Rattle.pd_settings.specs.Keys.{Takes, domain_of};
+ghost use Rattle.pd_settings.specs.declared.keys.Key.TheVariants.{Mss, Wscale, Sndbuf, RcvWnd, InitialSsthresh, MinRtoUs, MaxRtoUs, GranularityUs, ToleranceUs};
+ghost use Rattle.pd_settings.specs.declared.values.Value.TheVariants.{Number, Truth};
+
+use crate::faults::SettingsFault;
+use crate::keys::Key;
+use crate::values::Value;
+
+/// The settings of a run.
+#[derive(Clone, Copy, Debug, PartialEq, Eq)]
+pub struct Settings {
+    /// The largest segment that this host announces and sends, in octets.
+    pub mss: u16,
+    pub sack: bool,
+    pub wscale: u8,
+    pub sndbuf: u32,
+    pub rcv_wnd: u32,
+    pub initial_ssthresh: u32,
+    pub min_rto_us: u64,
+    pub max_rto_us: u64,
+    pub granularity_us: u64,
+    pub nagle: bool,
+    pub tolerance_us: u64,
+    pub ghost mss_in_range: { Takes (domain_of Mss) (Number mss) },
+    pub ghost wscale_in_range: { Takes (domain_of Wscale) (Number wscale) },
+    pub ghost sndbuf_in_range: { Takes (domain_of Sndbuf) (Number sndbuf) },
+    pub ghost rcv_wnd_in_range: { Takes (domain_of RcvWnd) (Number rcv_wnd) },
+    pub ghost initial_ssthresh_in_range: { Takes (domain_of InitialSsthresh) (Number initial_ssthresh) },
+    pub ghost min_rto_us_in_range: { Takes (domain_of MinRtoUs) (Number min_rto_us) },
+    pub ghost max_rto_us_in_range: { Takes (domain_of MaxRtoUs) (Number max_rto_us) },
+    pub ghost granularity_us_in_range: { Takes (domain_of GranularityUs) (Number granularity_us) },
+    pub ghost tolerance_us_in_range: { Takes (domain_of ToleranceUs) (Number tolerance_us) },
+}
+
+impl Settings {
+    ghost use Rattle.pd_settings.specs.Settings.{defaults, replaced, with_value};
+
+    /// The defaults.
+    pub fn new() -> Settings
+        ensures { result ≡ defaults }
+    {
+        Settings {
+            mss: 1_460,
+            sack: true,
+            wscale: 7,
+            sndbuf: 262_144,
+            rcv_wnd: 65_535,
+            initial_ssthresh: 1_073_741_824,
+            min_rto_us: 1_000_000,
+            max_rto_us: 60_000_000,
+            granularity_us: 1_000,
+            nagle: true,
+            tolerance_us: 4_000,
+        }
+    }
+
+    /// Whether the two are equal in each field.
+    pub fn is_same(&self, other: &Settings) -> bool
+        ensures { IsTrue result ↔ (self.now ≡ other.now) }
+    {
+        self == other
+    }
+
+    /// The settings with one field replaced; None where the key doesn't take the value.
+    pub fn replace(&self, key: Key, value: Value) -> Option<Settings>
+        ensures { result ≡ replaced self.now key value }
+    {
+        match value {
+            Value::Number(number) => self.replace_number(key, number),
+            Value::Truth(truth) => self.replace_truth(key, truth),
+            Value::Other => None,
+        }
+    }
+
+    fn replace_number(&self, key: Key, number: u64) -> Option<Settings>
+        ensures { result ≡ replaced self.now key (Number number) }
+    {
+        if !key.domain().contains(number) {
+            return None;
+        }
+        let mut settings = *self;
+        match key {
+            Key::Mss => settings.mss = number as u16,
+            Key::Wscale => settings.wscale = number as u8,
+            Key::Sndbuf => settings.sndbuf = number as u32,
+            Key::RcvWnd => settings.rcv_wnd = number as u32,
+            Key::InitialSsthresh => settings.initial_ssthresh = number as u32,
+            Key::MinRtoUs => settings.min_rto_us = number,
+            Key::MaxRtoUs => settings.max_rto_us = number,
+            Key::GranularityUs => settings.granularity_us = number,
+            Key::ToleranceUs => settings.tolerance_us = number,
+            Key::Sack | Key::Nagle => return None,
+        }
+        Some(settings)
+    }
+
+    fn replace_truth(&self, key: Key, truth: bool) -> Option<Settings>
+        ensures { result ≡ replaced self.now key (Truth truth) }
+    {
+        let mut settings = *self;
+        match key {
+            Key::Sack => settings.sack = truth,
+            Key::Nagle => settings.nagle = truth,
+            _ => return None,
+        }
+        Some(settings)
+    }
+
+    /// The settings with the named field replaced.
+    ///
+    /// Takes no memory.
+    ///
+    /// # Errors
+    ///
+    /// `UnknownKey` where no setting has the name, else `BadValue` where the setting doesn't take the value.
+    pub fn with(&self, key: &[u8], value: Value) -> Result<Settings, SettingsFault>
+        ensures { result ≡ with_value self.now key.now value }
+    {
+        let key = Key::named(key).ok_or(SettingsFault::UnknownKey)?;
+        self.replace(key, value).ok_or(SettingsFault::BadValue)
+    }
+}
