@@ -2,6 +2,7 @@
 use Rattle.std.specs.Prelude.{codes, ℕ, ◌≤◌, List, [], ◌∷◌, Option, Some, None, find}
 use native.Mathlib.Decide.{dec_le}
 use mathlib.Core.Logic.{dite}
+use mathlib.Core.Logic.Dec.{and as both}
 use Rattle.std.specs.Str.{bytes_eq}
 use Rattle.pd_settings.specs.declared.domains.Domain.{Domain}
 use Rattle.pd_settings.specs.declared.domains.Domain.TheVariants.{Numbers, Truths}
@@ -52,10 +53,12 @@ Takes (Numbers least greatest) (Number n) = (least ≤ n) × (n ≤ greatest)
 Takes Truths (Truth _) = Unit {0}
 Takes _ _ = ⊥
 
+-- whether a number is one of the domain's is decided by its two ends
+abbrev pub decided : (d : Domain) (n : ℕ) → Dec (Takes d (Number n))
+decided (Numbers least greatest) n = both (dec_le least n) (dec_le n greatest)
+decided Truths n = no (λ impossible. impossible)
+
 -- what `f` makes of a number that the domain takes; None for any other value
 abbrev pub taken : {A : Type 0} (d : Domain) → Value → ((n : ℕ) → Takes d (Number n) → A) → Option A
-taken (Numbers least greatest) (Number n) f =
-  dite (dec_le least n)
-    (λ low. dite (dec_le n greatest) (λ high. Some (f n (low, high))) (λ _. None))
-    (λ _. None)
-taken _ _ f = None
+taken d (Number n) f = dite (decided d n) (λ h. Some (f n h)) (λ _. None)
+taken d _ f = None

@@ -4,6 +4,8 @@ ghost use Rattle.pd_settings.specs.Keys.{Takes, domain_of};
 ghost use Rattle.pd_settings.specs.declared.keys.Key.TheVariants.{Mss, Wscale, Sndbuf, RcvWnd, InitialSsthresh, MinRtoUs, MaxRtoUs, GranularityUs, ToleranceUs};
 ghost use Rattle.pd_settings.specs.declared.values.Value.TheVariants.{Number, Truth};
 
+use toml::Table;
+
 use crate::faults::SettingsFault;
 use crate::keys::Key;
 use crate::values::Value;
@@ -34,8 +36,19 @@ pub struct Settings {
     pub ghost tolerance_us_in_range: { Takes (domain_of ToleranceUs) (Number tolerance_us) },
 }
 
+/// Some settings with one field replaced.
+macro_rules! with_field {
+    ($settings:expr, $field:ident, $value:expr) => {{
+        let mut settings = *$settings;
+        settings.$field = $value;
+        Some(settings)
+    }};
+}
+
 impl Settings {
     ghost use Rattle.pd_settings.specs.Settings.{defaults, replaced, with_value};
+    ghost use Rattle.pd_settings.specs.Table.{from_table_of};
+    ghost use Rattle.toml.specs.View.{table_view};
 
     /// The defaults.
     pub fn new() -> Settings
@@ -63,49 +76,47 @@ impl Settings {
         self == other
     }
 
-    /// The settings with one field replaced; None where the key doesn't take the value.
+    /// The settings with the key's field replaced by the value; None where the key doesn't take the value.
+    ///
+    /// Takes no memory.
     pub fn replace(&self, key: Key, value: Value) -> Option<Settings>
         ensures { result ≡ replaced self.now key value }
     {
         match value {
-            Value::Number(number) => self.replace_number(key, number),
+            Value::Number(number) if key.domain().contains(number) => {
+                self.replace_number(key, number)
+            }
             Value::Truth(truth) => self.replace_truth(key, truth),
-            Value::Other => None,
+            _ => None,
         }
     }
 
     fn replace_number(&self, key: Key, number: u64) -> Option<Settings>
+        requires { Takes (domain_of key) (Number number) }
         ensures { result ≡ replaced self.now key (Number number) }
     {
-        if !key.domain().contains(number) {
-            return None;
-        }
-        let mut settings = *self;
         match key {
-            Key::Mss => settings.mss = number as u16,
-            Key::Wscale => settings.wscale = number as u8,
-            Key::Sndbuf => settings.sndbuf = number as u32,
-            Key::RcvWnd => settings.rcv_wnd = number as u32,
-            Key::InitialSsthresh => settings.initial_ssthresh = number as u32,
-            Key::MinRtoUs => settings.min_rto_us = number,
-            Key::MaxRtoUs => settings.max_rto_us = number,
-            Key::GranularityUs => settings.granularity_us = number,
-            Key::ToleranceUs => settings.tolerance_us = number,
-            Key::Sack | Key::Nagle => return None,
+            Key::Mss => with_field!(self, mss, number as u16),
+            Key::Wscale => with_field!(self, wscale, number as u8),
+            Key::Sndbuf => with_field!(self, sndbuf, number as u32),
+            Key::RcvWnd => with_field!(self, rcv_wnd, number as u32),
+            Key::InitialSsthresh => with_field!(self, initial_ssthresh, number as u32),
+            Key::MinRtoUs => with_field!(self, min_rto_us, number),
+            Key::MaxRtoUs => with_field!(self, max_rto_us, number),
+            Key::GranularityUs => with_field!(self, granularity_us, number),
+            Key::ToleranceUs => with_field!(self, tolerance_us, number),
+            Key::Sack | Key::Nagle => None,
         }
-        Some(settings)
     }
 
     fn replace_truth(&self, key: Key, truth: bool) -> Option<Settings>
         ensures { result ≡ replaced self.now key (Truth truth) }
     {
-        let mut settings = *self;
         match key {
-            Key::Sack => settings.sack = truth,
-            Key::Nagle => settings.nagle = truth,
-            _ => return None,
+            Key::Sack => with_field!(self, sack, truth),
+            Key::Nagle => with_field!(self, nagle, truth),
+            _ => None,
         }
-        Some(settings)
     }
 
     /// The settings with the named field replaced.
@@ -120,5 +131,22 @@ impl Settings {
     {
         let key = Key::named(key).ok_or(SettingsFault::UnknownKey)?;
         self.replace(key, value).ok_or(SettingsFault::BadValue)
+    }
+
+    /// The settings that a table writes; a setting that it doesn't write has its default.
+    ///
+    /// The entries are looked at in the table's order, which ascends by key.
+    ///
+    /// # Errors
+    ///
+    /// The fault of the first entry that is refused, as by [`Settings::with`].
+    pub fn from_table(table: &Table) -> Result<Settings, SettingsFault>
+        ensures { result ≡ from_table_of (table_view table.now) }
+    {
+        let mut settings = Settings::new();
+        for (key, value) in table {
+            settings = settings.with(key.as_bytes(), Value::from_toml(value))?;
+        }
+        Ok(settings)
     }
 }
