@@ -1,9 +1,8 @@
 -- The calls that are run, and what the listening descriptor answers (own profile of the socket calls).
-use Rattle.std.specs.Prelude.{ℕ, ◌==◌, Bool, true, false, ◌||◌, ◌&&◌, Option, Some, None, List, [], ◌∷◌, if◌then◌else◌}
+use Rattle.std.specs.Prelude.{ℕ, ◌==◌, Bool, true, false, ◌&&◌, Option, Some, None, List, [], ◌∷◌, if◌then◌else◌}
 use Rattle.pd_script.specs.declared.calls.Argument.{Argument}
 use Rattle.pd_script.specs.declared.calls.Argument.TheVariants.{Int, Constant as Word}
 use Rattle.pd_script.specs.declared.calls.Call.{Call}
-use Rattle.pd_script.specs.declared.calls.Constant.{Constant}
 use Rattle.pd_script.specs.declared.calls.Constant.TheVariants.{SockStream, IpprotoTcp}
 use Rattle.pd_script.specs.declared.calls.ErrorName.{ErrorName}
 use Rattle.pd_script.specs.declared.calls.ErrorName.TheVariants.{Ebadf as EbadfName, Einval as EinvalName}

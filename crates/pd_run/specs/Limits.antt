@@ -1,9 +1,8 @@
 -- The numbers of an event that are over the limits of a run.
-use Rattle.std.specs.Prelude.{ℕ, Bool, true, false, ◌||◌, ◌&&◌, nat_lt, Option, Some, None, List, [], ◌∷◌, ◌++◌, length}
+use Rattle.std.specs.Prelude.{ℕ, Bool, true, false, ◌||◌, ◌&&◌, nat_lt, Option, Some, None, List, [], ◌∷◌, length}
 use Rattle.std.specs.List.{list_any, slice_get}
 use Rattle.pd_script.specs.declared.calls.Argument.{Argument}
 use Rattle.pd_script.specs.declared.calls.Argument.TheVariants.{Int}
-use Rattle.pd_script.specs.declared.calls.Call.{Call}
 use Rattle.pd_script.specs.declared.calls.Function.{Function}
 use Rattle.pd_script.specs.declared.calls.Function.TheVariants.{Write}
 use Rattle.pd_script.specs.declared.packets.Block.{Block}

@@ -1,5 +1,5 @@
 -- A run of a script, its verdict, and the states on its way.
-use Rattle.std.specs.Prelude.{◌≡◌, ℕ, ◌+◌, max, Bool, true, false, not, ◌&&◌, nat_lt, Option, Some, None, is_some, is_none, unwrap_or, List, [], ◌∷◌, find, Result, Ok, Err, length, if◌then◌else◌}
+use Rattle.std.specs.Prelude.{◌≡◌, ℕ, ◌+◌, max, Bool, true, false, not, ◌&&◌, nat_lt, Option, Some, None, is_some, is_none, unwrap_or, List, [], ◌∷◌, find, Result, Ok, Err, if◌then◌else◌}
 use Rattle.std.specs.List.{filter_map, last_or}
 use Rattle.pd_settings.specs.declared.fields.Settings.{Settings}
 use Rattle.pd_script.specs.Script.{script_of}
@@ -12,7 +12,7 @@ use Rattle.pd_script.specs.declared.script_header.HeaderItem.{HeaderItem}
 use Rattle.pd_script.specs.declared.script_header.HeaderKind.{HeaderKind}
 use Rattle.pd_script.specs.declared.script_header.HeaderKind.TheVariants.{Tolerance}
 use Rattle.pd_script.specs.declared.timing.Time.{Time}
-use Rattle.pd_script.specs.declared.timing.Time.TheVariants.{Any, Absolute, Relative, AbsoluteRange, RelativeRange}
+use Rattle.pd_script.specs.declared.timing.Time.TheVariants.{Absolute, Relative, AbsoluteRange}
 use Rattle.pd_run.specs.Limits.{is_over_limit}
 use Rattle.pd_run.specs.Calls.{request_of, answer_to, matches}
 use Rattle.pd_run.specs.declared.answers.Answer.{Answer}
@@ -21,7 +21,6 @@ use Rattle.pd_run.specs.declared.listener.Listener.TheVariants.{Absent}
 use Rattle.pd_run.specs.declared.requests.Request.{Request}
 use Rattle.pd_run.specs.declared.stepping.StepEnd.{StepEnd}
 use Rattle.pd_run.specs.declared.stepping.StepEnd.TheVariants.{Go, Stop}
-use Rattle.pd_run.specs.declared.verdicts.Kind.{Kind}
 use Rattle.pd_run.specs.declared.verdicts.Kind.TheVariants.{Result as WrongResult, Backwards}
 use Rattle.pd_run.specs.declared.verdicts.Verdict.{Verdict}
 use Rattle.pd_run.specs.declared.verdicts.Verdict.TheVariants.{Pass, Fail, Syntax, Unsupported, Limit}

@@ -1,6 +1,6 @@
 //! The limits of an event's numbers.
-ghost use Rattle.std.specs.Prelude.{◌≡◌, Option, ℕ};
-ghost use Rattle.std.specs.List.{list_any, slice_get};
+ghost use Rattle.std.specs.Prelude.{◌≡◌, ◌||◌};
+ghost use Rattle.std.specs.List.{list_any};
 ghost use Rattle.pd_run.specs.Limits.{is_long, is_high, written_times, written_until, is_some_over, is_option_over, are_options_over, is_packet_over, is_write, is_count_over, is_action_over, is_over_limit};
 
 use pd_script::{

@@ -19,13 +19,36 @@ impl Listener {
     pub fn answer(self, request: Request) -> Option<(Listener, Answer)>
         ensures { result ≡ answer_to self request }
     {
-        match (self, request) {
-            (Listener::Absent, Request::Socket) => Some((Listener::Open, Answer::Number(3))),
-            (_, Request::Socket) => None,
-            (_, Request::Bind(fd)) if self.is_at(fd) => Some(self.bind()),
-            (_, Request::Listen(fd)) if self.is_at(fd) => Some(self.listen()),
-            _ => Some((self, Answer::Error(SocketError::Ebadf))),
+        match request {
+            Request::Socket => self.open(),
+            Request::Bind(fd) => Some(if self.is_at(fd) {
+                self.bind()
+            } else {
+                self.closed()
+            }),
+            Request::Listen(fd) => Some(if self.is_at(fd) {
+                self.listen()
+            } else {
+                self.closed()
+            }),
         }
+    }
+
+    /// The first `socket`; a second one isn't run.
+    fn open(self) -> Option<(Listener, Answer)>
+        ensures { result ≡ answer_to self Request.Socket }
+    {
+        match self {
+            Listener::Absent => Some((Listener::Open, Answer::Number(3))),
+            _ => None,
+        }
+    }
+
+    /// A call on a descriptor that isn't open.
+    fn closed(self) -> (Listener, Answer)
+        ensures { result ≡ (self, Answer.Error SocketError.Ebadf) }
+    {
+        (self, Answer::Error(SocketError::Ebadf))
     }
 
     /// Whether this is the open descriptor `fd`.

@@ -1,5 +1,5 @@
 //! Steps of a run, and who takes them.
-ghost use Rattle.std.specs.Prelude.{◌≡◌, ◌+◌, ◌<◌, ◌^◌, ℕ, IfOk};
+ghost use Rattle.std.specs.Prelude.{◌≡◌, ◌+◌, ◌-◌, ◌<◌, ◌^◌, ℕ, IfOk};
 ghost use Rattle.pd_run.specs.Run.{step, Tells};
 
 use crate::run_state::RunState;
@@ -7,6 +7,7 @@ use crate::verdicts::Verdict;
 use pd_script::Event;
 use pd_settings::Settings;
 use std::alloc::AllocError;
+use std::marker::Model;
 
 /// How a step ended.
 #[derive(Clone, Copy, Debug, PartialEq, Eq)]
@@ -38,21 +39,31 @@ pub trait Stepper {
         ensures { result ≡ counted self.now };
 }
 
-/// The stepper of the product.
-#[derive(Debug, Default, Drop)]
+/// The stepper of the product, seen as the number of steps that it took.
+#[derive(Debug, Drop)]
 pub struct Plain {
     steps: u64,
 }
 
+impl Model for Plain {
+    ghost use Rattle.std.specs.Prelude.{ℕ};
+
+    ghost Value = { ℕ };
+
+    ghost view = { λ p. p.steps };
+}
+
 impl Plain {
     /// A stepper that has taken no step.
-    pub fn new() -> Plain {
+    pub fn new() -> Plain
+        ensures { result ≡ 0 }
+    {
         Plain { steps: 0 }
     }
 }
 
 impl Stepper for Plain {
-    ghost counted = { λ p. p.steps };
+    ghost counted = { λ steps. steps };
 
     fn step(
         &mut self,
