@@ -1,5 +1,5 @@
 -- The numbers of an event that are over the limits of a run.
-use Rattle.std.specs.Prelude.{ℕ, Bool, true, false, ◌||◌, ◌&&◌, nat_lt, Option, Some, None, List, [], ◌∷◌, length}
+use Rattle.std.specs.Prelude.{ℕ, ◌-◌, ◌^◌, Bool, true, false, ◌||◌, ◌&&◌, nat_lt, Option, Some, None, List, [], ◌∷◌, length}
 use Rattle.std.specs.List.{list_any, slice_get}
 use Rattle.pd_script.specs.declared.calls.Argument.{Argument}
 use Rattle.pd_script.specs.declared.calls.Argument.TheVariants.{Int}
@@ -27,6 +27,7 @@ written_times (Relative t) = t ∷ []
 written_times (AbsoluteRange first last) = first ∷ last ∷ []
 written_times (RelativeRange first last) = first ∷ last ∷ []
 
+-- the written end of a blocking time
 abbrev pub written_until : Option Until → List ℕ
 written_until None = []
 written_until (Some (AtLast t)) = t ∷ []
@@ -38,8 +39,9 @@ is_long t = nat_lt 3600000000 t
 
 -- a sequence, ack or SACK number is at most 2^31 - 1
 abbrev pub is_high : ℕ → Bool
-is_high n = nat_lt 2147483647 n
+is_high n = nat_lt (2 ^ 31 - 1) n
 
+-- a number is written, and above this one
 abbrev pub is_some_over : ℕ → Option ℕ → Bool
 is_some_over most None = false
 is_some_over most (Some n) = nat_lt most n
@@ -51,23 +53,27 @@ is_option_over (Wscale n) = nat_lt 255 n
 is_option_over (Sack blocks) = nat_lt 4 (length blocks) || list_any (λ (b : Block). is_high b.left || is_high b.right) blocks
 is_option_over _ = false
 
+-- more than 16 options, or one of them over its limits
 abbrev pub are_options_over : Options → Bool
 are_options_over (Listed options) = nat_lt 16 (length options) || list_any is_option_over options
 are_options_over _ = false
 
+-- a number of the packet is over its limit; a window field is at most 65,535
 abbrev pub is_packet_over : Packet → Bool
 is_packet_over p =
-    is_high p.start || is_high p.end || is_some_over 2147483647 p.ack || is_some_over 65535 p.win || are_options_over p.options
+    is_high p.start || is_high p.end || is_some_over (2 ^ 31 - 1) p.ack || is_some_over 65535 p.win || are_options_over p.options
 
--- a `write` whose third argument is a number above 262,144 octets
+-- the call's name is `write`
 abbrev pub is_write : Function → Bool
 is_write Write = true
 is_write _ = false
 
+-- an argument is a number above 262,144 octets
 abbrev pub is_count_over : Option Argument → Bool
 is_count_over (Some (Int n)) = nat_lt 262144 n
 is_count_over _ = false
 
+-- a number of the action is over its limit
 abbrev pub is_action_over : Action → Bool
 is_action_over (Inbound p) = is_packet_over p
 is_action_over (Outbound p) = is_packet_over p

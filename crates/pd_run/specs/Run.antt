@@ -34,12 +34,12 @@ pub record Running : Type 0 where
   pub tolerance : ℕ
 
 -- the microseconds of a valid `--tolerance_usecs`
+abbrev pub tolerance_written : HeaderKind → Option ℕ
+tolerance_written (Tolerance t) = Some t
+tolerance_written _ = None
+
 abbrev pub tolerance_in : HeaderItem → Option ℕ
 tolerance_in item = tolerance_written item.kind
-  where
-    tolerance_written : HeaderKind → Option ℕ
-    tolerance_written (Tolerance t) = Some t
-    tolerance_written _ = None
 
 -- the state before the first event: the last tolerance of the header, else the setting's. The first header item that
 -- is no valid tolerance isn't run
@@ -52,7 +52,7 @@ start_of header settings = started (find (λ item. is_none (tolerance_in item)) 
       listener = Absent;
       clock = 0;
       base = 0;
-      tolerance = unwrap_or (last_or (Some settings.tolerance_us) (filter_map tolerance_in header)) settings.tolerance_us;
+      tolerance = unwrap_or (last_or None (filter_map tolerance_in header)) settings.tolerance_us;
     })
 
 -- a time that is one moment
@@ -73,11 +73,12 @@ is_backwards base (Absolute t) = nat_lt t base
 is_backwards base (AbsoluteRange first last) = nat_lt first base
 is_backwards base _ = false
 
--- a shape that is run: a call that is known, at one moment, that doesn't block
+-- an action that is run: a call of a known name and shape
 abbrev pub is_action_run : Action → Bool
 is_action_run (Calls call) = is_some (request_of call)
 is_action_run _ = false
 
+-- a shape that is run: such an action at one moment, that doesn't block
 abbrev pub is_run : Event → Bool
 is_run e = is_none e.until && is_single e.time && is_action_run e.action
 
@@ -96,6 +97,7 @@ called r e call (Some (listener, answer)) =
     then Ok (record { listener = listener; clock = max moment r.clock; base = moment; tolerance = r.tolerance })
     else Err (Fail e.line WrongResult)
 
+-- what an action of a shape that is run does
 abbrev pub acted : Running → Event → Action → Result Running Verdict
 acted r e (Calls call) = called r e call (answer_of r.listener (request_of call))
 acted r e _ = Err (Unsupported e.line)
@@ -144,9 +146,11 @@ on_script {A} refused stopped run settings parsed = on_fault parsed.fault
 abbrev pub verdict_in : Settings → Parsed → Verdict
 verdict_in settings parsed = on_script (λ line. Syntax line) (λ v. v) (verdict_from 0 parsed.events) settings parsed
 
+-- the number of events that its run takes
 abbrev pub stepped_in : Settings → Parsed → ℕ
 stepped_in settings parsed = on_script (λ line. 0) (λ v. 0) (stepped_from parsed.events) settings parsed
 
+-- the states after them, up to the stop
 abbrev pub states_in : Settings → Parsed → List Running
 states_in settings parsed = on_script (λ line. []) (λ v. []) (states_from parsed.events) settings parsed
 

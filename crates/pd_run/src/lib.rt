@@ -1,4 +1,4 @@
-//! A run of a script against the sender, in virtual time, and its verdict.
+//! A run of a script in virtual time, and its verdict.
 #![tactic(auto)]
 
 mod answers;

@@ -14,8 +14,8 @@ use pd_script::{Action, Call, Event, Header, HeaderKind, Time};
 use pd_settings::Settings;
 use std::marker::Model;
 
-/// What a run holds between two events: the host, and in microseconds the clock, the base of relative times and the
-/// tolerance.
+/// What a run holds between two events: the listening descriptor, and in microseconds the clock, the base of relative
+/// times and the tolerance.
 #[derive(Debug, Drop)]
 pub struct RunState {
     listener: Listener,
@@ -57,7 +57,7 @@ impl RunState {
 
     /// One event, its checks in order: limits, shapes that aren't run, absolute times that go back, then the event
     /// itself.
-    pub fn step(&mut self, event: &Event) -> StepEnd
+    pub(crate) fn step(&mut self, event: &Event) -> StepEnd
         requires base { self.old.base < 2 ^ 61 }
         ensures { Tells (step self.old event.now) result self.new }
     {

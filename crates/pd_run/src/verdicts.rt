@@ -32,6 +32,6 @@ pub enum Kind {
     Result,
     /// No packet was sent.
     Missing,
-    /// An absolute time lies before the event before.
+    /// An absolute time lies before the base, the time of the event before.
     Backwards,
 }
