@@ -1,2 +1,7 @@
 -- The definitions that the contracts cite.
+pub mod Values
+pub mod Items
+pub mod Reader
+pub mod Brackets
+pub mod Reading
 pub mod Script

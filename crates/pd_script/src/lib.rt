@@ -1,9 +1,11 @@
 //! Scripts of packetdrill, read from their tokens.
 #![tactic(auto)]
 
+mod brackets;
 mod calls;
 mod packets;
 mod parsing;
+mod read_arguments;
 mod script_events;
 mod script_header;
 mod timing;
