@@ -1,1 +1,6 @@
 -- The lemmas.
+pub mod Laws
+pub mod Machines
+pub mod Apart
+pub mod ArgumentLaws
+pub mod GrammarLaws

@@ -1,10 +1,12 @@
 -- What an item of a text can be for the grammar.
-use Rattle.std.specs.Prelude.{ℕ, ◌^◌, ◌&&◌, ◌||◌, ◌==◌, nat_le, Bool, true, false, List, [], ◌∷◌}
+use Rattle.std.specs.Prelude.{ℕ, ◌+◌, ◌&&◌, ◌||◌, ◌==◌, not, nat_le, nat_lt, nat_eq, Bool, true, false, List, [], ◌∷◌, length, drop}
+use Rattle.std.specs.List.{list_all, starts_with}
 use Rattle.std.specs.Str.{bytes_eq}
 use Rattle.pd_lex.specs.declared.token.TokenKind.{TokenKind}
 use Rattle.pd_lex.specs.declared.token.TokenKind.TheVariants as kinds
+use Rattle.pd_lex.specs.Octets.{is_digit, is_hex_digit, is_word as is_word_octet, is_printable}
 use Rattle.pd_lex.specs.Tokens.{Lexeme, Item, lexeme, ending, bad}
-use Rattle.pd_script.specs.Values.{number, hex_number, whole_digits}
+use Rattle.pd_script.specs.Values.{number, hex_number, whole_len, whole_digits}
 
 abbrev pub is_int_kind : TokenKind → Bool
 is_int_kind kinds.Int = true
@@ -80,3 +82,22 @@ starts_event t = is_num t || is_symbol 43 t
 -- what an event or the end begins with
 abbrev pub goes_on : Item → Bool
 goes_on t = starts_event t || is_end t
+
+-- the octets are digits, one or more
+abbrev pub is_digits : List ℕ → Bool
+is_digits text = nat_lt 0 (length text) && list_all is_digit text
+
+-- the octets spell a token of one of these kinds
+abbrev pub is_spelled : TokenKind → List ℕ → Bool
+is_spelled kinds.Int text = is_digits text
+is_spelled kinds.Hex text = starts_with nat_eq text (48 ∷ 120 ∷ []) && nat_lt 2 (length text) && list_all is_hex_digit (drop 2 text)
+is_spelled kinds.Word text = nat_lt 0 (length text) && list_all is_word_octet text && not (list_all is_digit text)
+is_spelled kinds.Decimal text = is_digits (whole_digits text) && is_digits (drop (whole_len text + 1) text)
+is_spelled kinds.Symbol text = (length text == 1) && list_all is_printable text && not (list_all is_word_octet text)
+is_spelled _ text = false
+
+-- a number, a word or a symbol as it is spelled, or the end
+abbrev pub is_plain : Item → Bool
+is_plain (lexeme x) = is_spelled x.kind x.text
+is_plain (ending line) = true
+is_plain (bad line) = false
