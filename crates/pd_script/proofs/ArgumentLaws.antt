@@ -5,10 +5,10 @@ use Rattle.std.specs.List.{list_all}
 use Rattle.pd_lex.specs.declared.token.TokenKind.{TokenKind}
 use Rattle.pd_lex.specs.declared.token.TokenKind.TheVariants as kinds
 use Rattle.pd_lex.specs.Places.{first_place}
-use Rattle.pd_lex.specs.Tokens.{Item, Lexeme, lexeme, ending, bad}
+use Rattle.pd_lex.specs.Tokens.{Item, Lexeme, lexeme, ending, bad, line_of}
 use Rattle.pd_script.specs.Items.{is_symbol, is_plain, is_any_int, is_word}
 use Rattle.pd_script.specs.Reader.{Read, Reader, Move, stuck, ends, goes, onto, moved, machine_at, when, done, one, ◌>>=◌}
-use Rattle.pd_script.specs.Reading.{arguments_at, no_arguments_at}
+use Rattle.pd_script.specs.Reading.{symbol_at, arguments_at, no_arguments_at}
 use Rattle.pd_script.specs.Brackets.{Inside, fresh, argument_move, move_within, led, parted, pairs_after, opened_by, is_closing, closed, closing_octet, single_draft, longer_draft, drafted, is_empty}
 use Rattle.pd_script.specs.declared.calls.Argument.{Argument}
 use Rattle.pd_script.specs.declared.brackets.Bracket.{Bracket}
@@ -99,7 +99,10 @@ unfolding arguments_at
 Laws-arguments =
     let within : Laws (machine_at argument_move fresh) (λ t. not (is_symbol 41 t)) any = (let l = Laws-machine argument_move full_within fresh in record { took = l.took; failed = l.failed; full = l.full; begins = λ ts v rest e h. begins_within ts v rest e }) in
     Laws-when (is_symbol 41) no_arguments_at (machine_at argument_move fresh) (is_symbol 41) (λ t. not (is_symbol 41 t)) any any
-      (Laws-bind (one (is_symbol 41)) (λ t. done []) (is_symbol 41) any any any (Laws-one (is_symbol 41) (closer brackets.Round) refl refl) (λ t. Laws-done [] any) (λ t h. refl))
+      (Laws-bind (symbol_at 41) (λ line. done []) (is_symbol 41) any any any
+        (Laws-bind (one (is_symbol 41)) (λ t. done (line_of t)) (is_symbol 41) any any any (Laws-one (is_symbol 41) (closer brackets.Round) refl refl) (λ t. Laws-done (line_of t) any) (λ t h. refl))
+        (λ line. Laws-done [] any)
+        (λ t h. refl))
       within
       (λ t h. h)
       (λ t h. not-true (is_symbol 41 t) h)

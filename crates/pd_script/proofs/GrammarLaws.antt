@@ -4,10 +4,10 @@ use Rattle.std.specs.Prelude.{not, ◌&&◌, ◌||◌, nat_le, ◌==◌}
 use Rattle.pd_lex.specs.declared.token.TokenKind.{TokenKind}
 use Rattle.pd_lex.specs.declared.token.TokenKind.TheVariants as kinds
 use Rattle.pd_lex.specs.Tokens.{Item, lexeme, ending, bad, line_of}
-use Rattle.pd_script.specs.Items.{is_token, is_int, is_hex, is_num, is_word, is_symbol, is_int_kind, is_hex_kind, is_num_kind, is_word_kind, is_symbol_kind, is_end, starts_event, goes_on, text_of}
-use Rattle.pd_script.specs.Values.{number, hex_number, microseconds, error_named}
+use Rattle.pd_script.specs.Items.{is_token, is_int, is_hex, is_num, is_word, is_symbol, is_int_kind, is_hex_kind, is_num_kind, is_word_kind, is_symbol_kind, is_end, is_plain, starts_event, goes_on, text_of}
+use Rattle.pd_script.specs.Values.{number, hex_number, microseconds, error_named, function_named}
 use Rattle.pd_script.specs.Reader.{Read, Reader, then_read, ◌>>=◌, done, one, next_is, when}
-use Rattle.pd_script.specs.Reading.{num_at, absolute_at, relative_at, time_at, whole_at, hex_at, error_at, negative_at, outcome_at, arguments_at, call_at, call_action_at, action_at, event_at, end_at, events_at}
+use Rattle.pd_script.specs.Reading.{symbol_at, int_at, hex_at, num_at, function_at, error_at, absolute_at, relative_at, time_at, whole_at, hexadecimal_at, named_error_at, negative_at, outcome_at, arguments_at, call_at, call_action_at, action_at, event_at, end_at, events_at}
 use Rattle.pd_script.specs.declared.timing.Time.{Time}
 use Rattle.pd_script.specs.declared.timing.Time.TheVariants as times
 use Rattle.pd_script.specs.declared.calls.ErrorName.{ErrorName}
@@ -18,32 +18,6 @@ use Rattle.pd_script.specs.declared.script_events.Event.{Event}
 use Rattle.pd_script.proofs.Laws.{Laws, Laws-one, Laws-bind, Laws-done, Laws-when, Within, any, widen, then_ok}
 use Rattle.pd_script.proofs.Apart.{and-left, or-left, or-right, or-elim, or-elim-no, not-true, not-false, apart, int_kind, hex_kind, num_kind, word_kind, symbol_kind, end_no_token}
 use Rattle.pd_script.proofs.ArgumentLaws.{a_token, a_word, Laws-arguments}
-
--- ---- single tokens
-
-symbol_43 : Laws (one (is_symbol 43)) (is_symbol 43) any
-symbol_43 = Laws-one (is_symbol 43) (a_token kinds.Symbol (43 ∷ [])) refl refl
-
-symbol_40 : Laws (one (is_symbol 40)) (is_symbol 40) any
-symbol_40 = Laws-one (is_symbol 40) (a_token kinds.Symbol (40 ∷ [])) refl refl
-
-symbol_45 : Laws (one (is_symbol 45)) (is_symbol 45) any
-symbol_45 = Laws-one (is_symbol 45) (a_token kinds.Symbol (45 ∷ [])) refl refl
-
-symbol_61 : Laws (one (is_symbol 61)) (is_symbol 61) any
-symbol_61 = Laws-one (is_symbol 61) (a_token kinds.Symbol (61 ∷ [])) refl refl
-
-int : Laws (one is_int) is_int any
-int = Laws-one is_int (a_token kinds.Int (48 ∷ [])) refl refl
-
-hex : Laws (one is_hex) is_hex any
-hex = Laws-one is_hex (a_token kinds.Hex (48 ∷ 120 ∷ 48 ∷ [])) refl refl
-
-num : Laws (one is_num) is_num any
-num = Laws-one is_num (a_token kinds.Int (48 ∷ [])) refl refl
-
-word : Laws (one is_word) is_word any
-word = Laws-one is_word a_word refl refl
 
 all : (f : Item → Bool) → Within f any
 all f t h = refl
@@ -59,6 +33,23 @@ last p v f s l = Laws-bind p (λ a. done (v a)) f any s s l (λ a. Laws-done (v 
 tail : {A : Type 0} (test : Item → Bool) (p : Reader A) (v : A) → Laws p test (but test) → ((w : A) (rest : List Item) → p [] ≡ Ok (w, rest) → ⊥) → Laws (when test p (done v)) any (but test)
 tail test p v l some = Laws-when test p (done v) test (but test) any (but test) l (Laws-done v (but test)) (λ t h. h) (λ t h. not-true (test t) h) some (all test) (all (but test))
 
+-- ---- single tokens
+
+symbol : (octet : ℕ) → is_symbol octet (a_token kinds.Symbol (octet ∷ [])) ≡ true → is_plain (a_token kinds.Symbol (octet ∷ [])) ≡ true → Laws (symbol_at octet) (is_symbol octet) any
+symbol octet h g = last (one (is_symbol octet)) (λ t. line_of t) (is_symbol octet) any (Laws-one (is_symbol octet) (a_token kinds.Symbol (octet ∷ [])) h g)
+
+int : Laws int_at is_int any
+int = last (one is_int) (λ t. number (text_of t)) is_int any (Laws-one is_int (a_token kinds.Int (48 ∷ [])) refl refl)
+
+hex : Laws hex_at is_hex any
+hex = last (one is_hex) (λ t. hex_number (text_of t)) is_hex any (Laws-one is_hex (a_token kinds.Hex (48 ∷ 120 ∷ 48 ∷ [])) refl refl)
+
+num : Laws num_at is_num any
+num = last (one is_num) (λ t. (line_of t, microseconds (text_of t))) is_num any (Laws-one is_num (a_token kinds.Int (48 ∷ [])) refl refl)
+
+word : Laws (one is_word) is_word any
+word = Laws-one is_word a_word refl refl
+
 -- ---- times
 
 num_no_plus : (t : Item) → is_num t ≡ true → is_symbol 43 t ≡ false
@@ -68,13 +59,10 @@ pub Laws-time : Laws time_at starts_event any
 unfolding time_at
 Laws-time =
     Laws-when (is_symbol 43) relative_at absolute_at (is_symbol 43) is_num starts_event any
-      (Laws-bind (one (is_symbol 43)) _ (is_symbol 43) any is_num any symbol_43
-        (λ plus. Laws-bind num_at (λ n. done (line_of plus, times.Relative n)) is_num any any any
-          (last (one is_num) (λ t. microseconds (text_of t)) is_num any num)
-          (λ n. Laws-done (line_of plus, times.Relative n) any)
-          (all any))
+      (Laws-bind (symbol_at 43) _ (is_symbol 43) any is_num any (symbol 43 refl refl)
+        (λ line. last num_at (λ n. (line, times.Relative n.1)) is_num any num)
         (all is_num))
-      (last (one is_num) (λ t. (line_of t, times.Absolute (microseconds (text_of t)))) is_num any num)
+      (last num_at (λ n. (n.0, times.Absolute n.1)) is_num any num)
       (λ t h. h)
       num_no_plus
       (λ v rest e. absurd cc)
@@ -100,22 +88,22 @@ starts_outcome t = is_int t || starts_other_outcome t
 
 Laws-negative : Laws negative_at (is_symbol 45) (but is_word)
 Laws-negative =
-    Laws-bind (one (is_symbol 45)) _ (is_symbol 45) any is_int (but is_word) symbol_45
-      (λ minus. Laws-bind (one is_int) _ is_int any any (but is_word) int
-        (λ t. Laws-bind (when is_word error_at (done None)) (λ name. done (outcomes.Negative (number (text_of t)) name)) any (but is_word) (but is_word) (but is_word)
-          (tail is_word error_at None (last (one is_word) (λ w. Some (error_named (text_of w))) is_word (but is_word) word) (λ w rest e. absurd cc))
-          (λ name. Laws-done (outcomes.Negative (number (text_of t)) name) (but is_word))
-          (λ u h. h))
+    Laws-bind (symbol_at 45) _ (is_symbol 45) any is_int (but is_word) (symbol 45 refl refl)
+      (λ line. Laws-bind int_at _ is_int any any (but is_word) int
+        (λ n. tail is_word (named_error_at n) (outcomes.Negative n None)
+          (last error_at (λ name. outcomes.Negative n (Some name)) is_word (but is_word)
+            (last (one is_word) (λ w. error_named (text_of w)) is_word any word))
+          (λ w rest e. absurd cc))
         (all any))
       (all is_int)
 
 pub Laws-outcome : Laws outcome_at starts_outcome (but is_word)
 unfolding outcome_at
 Laws-outcome =
-    Laws-when is_int whole_at (when is_hex hex_at negative_at) is_int starts_other_outcome starts_outcome (but is_word)
-      (last (one is_int) (λ t. outcomes.Int (number (text_of t))) is_int (but is_word) int)
-      (Laws-when is_hex hex_at negative_at is_hex (is_symbol 45) starts_other_outcome (but is_word)
-        (last (one is_hex) (λ t. outcomes.Hex (hex_number (text_of t))) is_hex (but is_word) hex)
+    Laws-when is_int whole_at (when is_hex hexadecimal_at negative_at) is_int starts_other_outcome starts_outcome (but is_word)
+      (last int_at (λ n. outcomes.Int n) is_int (but is_word) int)
+      (Laws-when is_hex hexadecimal_at negative_at is_hex (is_symbol 45) starts_other_outcome (but is_word)
+        (last hex_at (λ n. outcomes.Hex n) is_hex (but is_word) hex)
         Laws-negative
         (λ t h. h)
         minus_no_hex
@@ -133,10 +121,10 @@ Laws-outcome =
 pub Laws-call : Laws call_at is_word (but is_word)
 unfolding call_at
 Laws-call =
-    Laws-bind (one is_word) _ is_word any (is_symbol 40) (but is_word) word
-      (λ name. Laws-bind (one (is_symbol 40)) _ (is_symbol 40) any any (but is_word) symbol_40
+    Laws-bind function_at _ is_word any (is_symbol 40) (but is_word) (last (one is_word) (λ t. function_named (text_of t)) is_word any word)
+      (λ name. Laws-bind (symbol_at 40) _ (is_symbol 40) any any (but is_word) (symbol 40 refl refl)
         (λ o. Laws-bind arguments_at _ any any (is_symbol 61) (but is_word) Laws-arguments
-          (λ arguments. Laws-bind (one (is_symbol 61)) _ (is_symbol 61) any starts_outcome (but is_word) symbol_61
+          (λ arguments. Laws-bind (symbol_at 61) _ (is_symbol 61) any starts_outcome (but is_word) (symbol 61 refl refl)
             (λ q. Laws-bind outcome_at (λ outcome. done _) starts_outcome (but is_word) (but is_word) (but is_word) Laws-outcome (λ outcome. Laws-done _ (but is_word)) (λ t h. h))
             (all starts_outcome))
           (all (is_symbol 61)))

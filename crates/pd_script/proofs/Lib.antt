@@ -4,3 +4,4 @@ pub mod Machines
 pub mod Apart
 pub mod ArgumentLaws
 pub mod GrammarLaws
+pub mod Capped

@@ -9,6 +9,7 @@ use Rattle.pd_script.specs.declared.timing.Time.{Time}
 use Rattle.pd_script.specs.declared.timing.Time.TheVariants as times
 use Rattle.pd_script.specs.declared.calls.Argument.{Argument}
 use Rattle.pd_script.specs.declared.calls.Call.{Call}
+use Rattle.pd_script.specs.declared.calls.Function.{Function}
 use Rattle.pd_script.specs.declared.calls.ErrorName.{ErrorName}
 use Rattle.pd_script.specs.declared.calls.Outcome.{Outcome}
 use Rattle.pd_script.specs.declared.calls.Outcome.TheVariants as outcomes
@@ -16,22 +17,52 @@ use Rattle.pd_script.specs.declared.script_events.Action.{Action}
 use Rattle.pd_script.specs.declared.script_events.Action.TheVariants as actions
 use Rattle.pd_script.specs.declared.script_events.Event.{Event}
 
--- a number of microseconds
-abbrev pub num_at : Reader ℕ
+-- a symbol, which gives its line
+abbrev pub symbol_at : ℕ → Reader ℕ
+symbol_at octet = do
+  t ← one (is_symbol octet)
+  done (line_of t)
+
+-- a whole number
+abbrev pub int_at : Reader ℕ
+int_at = do
+  t ← one is_int
+  done (number (text_of t))
+
+-- a hexadecimal number
+abbrev pub hex_at : Reader ℕ
+hex_at = do
+  t ← one is_hex
+  done (hex_number (text_of t))
+
+-- a number of microseconds, with the line of its token
+abbrev pub num_at : Reader (ℕ × ℕ)
 num_at = do
   t ← one is_num
-  done (microseconds (text_of t))
+  done (line_of t, microseconds (text_of t))
+
+-- the name of a call
+abbrev pub function_at : Reader Function
+function_at = do
+  t ← one is_word
+  done (function_named (text_of t))
+
+-- the name of an error
+abbrev pub error_at : Reader ErrorName
+error_at = do
+  t ← one is_word
+  done (error_named (text_of t))
 
 abbrev pub absolute_at : Reader (ℕ × Time)
 absolute_at = do
-  t ← one is_num
-  done (line_of t, times.Absolute (microseconds (text_of t)))
+  n ← num_at
+  done (n.0, times.Absolute n.1)
 
 abbrev pub relative_at : Reader (ℕ × Time)
 relative_at = do
-  plus ← one (is_symbol 43)
+  line ← symbol_at 43
   n ← num_at
-  done (line_of plus, times.Relative n)
+  done (line, times.Relative n.1)
 
 -- a time, and the line of its first token
 unfoldable pub time_at : Reader (ℕ × Time)
@@ -39,33 +70,32 @@ time_at = when (is_symbol 43) relative_at absolute_at
 
 abbrev pub whole_at : Reader Outcome
 whole_at = do
-  t ← one is_int
-  done (outcomes.Int (number (text_of t)))
+  n ← int_at
+  done (outcomes.Int n)
 
-abbrev pub hex_at : Reader Outcome
-hex_at = do
-  t ← one is_hex
-  done (outcomes.Hex (hex_number (text_of t)))
+abbrev pub hexadecimal_at : Reader Outcome
+hexadecimal_at = do
+  n ← hex_at
+  done (outcomes.Hex n)
 
-abbrev pub error_at : Reader (Option ErrorName)
-error_at = do
-  t ← one is_word
-  done (Some (error_named (text_of t)))
+abbrev pub named_error_at : ℕ → Reader Outcome
+named_error_at n = do
+  name ← error_at
+  done (outcomes.Negative n (Some name))
 
 abbrev pub negative_at : Reader Outcome
 negative_at = do
-  minus ← one (is_symbol 45)
-  t ← one is_int
-  name ← when is_word error_at (done None)
-  done (outcomes.Negative (number (text_of t)) name)
+  line ← symbol_at 45
+  n ← int_at
+  when is_word (named_error_at n) (done (outcomes.Negative n None))
 
 -- the result of a call
 unfoldable pub outcome_at : Reader Outcome
-outcome_at = when is_int whole_at (when is_hex hex_at negative_at)
+outcome_at = when is_int whole_at (when is_hex hexadecimal_at negative_at)
 
 abbrev pub no_arguments_at : Reader (List Argument)
 no_arguments_at = do
-  closing ← one (is_symbol 41)
+  line ← symbol_at 41
   done []
 
 -- the arguments of a call and the bracket that ends them
@@ -74,12 +104,12 @@ arguments_at = when (is_symbol 41) no_arguments_at (machine_at argument_move fre
 
 unfoldable pub call_at : Reader Call
 call_at = do
-  name ← one is_word
-  opening ← one (is_symbol 40)
+  function ← function_at
+  opening ← symbol_at 40
   arguments ← arguments_at
-  equals ← one (is_symbol 61)
+  equals ← symbol_at 61
   outcome ← outcome_at
-  done (record { function = function_named (text_of name); arguments = arguments; result = outcome })
+  done (record { function = function; arguments = arguments; result = outcome })
 
 abbrev pub call_action_at : Reader Action
 call_action_at = do

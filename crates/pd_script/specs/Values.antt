@@ -1,5 +1,6 @@
 -- What the octets of a token stand for.
-use Rattle.std.specs.Prelude.{codes, ℕ, ◌+◌, ◌-◌, ◌^◌, ◌==◌, Bool, not, List, [], ◌∷◌, ◌++◌, length, take, drop, replicate, min, find, unwrap_or}
+use Rattle.std.specs.Prelude.{codes, ℕ, ◌+◌, ◌-◌, ◌*◌, ◌^◌, ◌==◌, Bool, not, List, [], ◌∷◌, ◌++◌, length, take, drop, replicate, min, find, unwrap_or}
+use Rattle.std.specs.Char.{digit_value}
 use Rattle.std.specs.List.{prefix_len}
 use Rattle.std.specs.Str.{bytes_eq}
 use Rattle.std.specs.Str.Parse.{digits_value}
@@ -92,3 +93,7 @@ named_errors = errors.Ebadf ∷ errors.Einval ∷ errors.Eagain ∷ errors.Epipe
 -- the error of a name
 abbrev pub error_named : List ℕ → ErrorName
 error_named text = unwrap_or (find (λ e. bytes_eq (error_name e) text) named_errors) errors.Unknown
+
+-- a number with one digit more, where one above the greatest of 64 bits stands as that
+abbrev pub capped_digit : ℕ → ℕ → ℕ → ℕ
+capped_digit radix n digit = min (min (n * radix) (2 ^ 64 - 1) + digit_value digit) (2 ^ 64 - 1)

@@ -3,6 +3,7 @@
 
 mod brackets;
 mod calls;
+mod numbers;
 mod packets;
 mod parsing;
 mod read_arguments;
