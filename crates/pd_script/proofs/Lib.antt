@@ -5,3 +5,4 @@ pub mod Apart
 pub mod ArgumentLaws
 pub mod GrammarLaws
 pub mod Capped
+pub mod Taking

@@ -2,6 +2,7 @@
 pub mod Values
 pub mod Items
 pub mod Reader
+pub mod Cursor
 pub mod Brackets
 pub mod Reading
 pub mod Script

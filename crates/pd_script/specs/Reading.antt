@@ -17,6 +17,11 @@ use Rattle.pd_script.specs.declared.script_events.Action.{Action}
 use Rattle.pd_script.specs.declared.script_events.Action.TheVariants as actions
 use Rattle.pd_script.specs.declared.script_events.Event.{Event}
 
+-- the line of the next item
+abbrev pub next_line : List Item → ℕ
+next_line [] = 0
+next_line (t ∷ ts) = line_of t
+
 -- a symbol, which gives its line
 abbrev pub symbol_at : ℕ → Reader ℕ
 symbol_at octet = do

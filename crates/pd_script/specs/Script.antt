@@ -4,14 +4,9 @@ use Rattle.pd_lex.specs.Tokens.{Item, line_of, items}
 use Rattle.pd_lex.specs.Places.{first_place}
 use Rattle.pd_script.specs.Items.{is_end, starts_event, goes_on}
 use Rattle.pd_script.specs.Reader.{Read, next_is}
-use Rattle.pd_script.specs.Reading.{event_at}
+use Rattle.pd_script.specs.Reading.{next_line, event_at}
 use Rattle.pd_script.specs.declared.script_events.Event.{Event}
 use Rattle.pd_script.specs.declared.parsing.Parsed.{Parsed}
-
--- the line of the next item
-abbrev pub next_line : List Item → ℕ
-next_line [] = 0
-next_line (t ∷ ts) = line_of t
 
 -- what may follow an event when there may be so many more
 abbrev pub may_follow : ℕ → Item → Bool

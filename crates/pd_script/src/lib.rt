@@ -3,13 +3,17 @@
 
 mod brackets;
 mod calls;
+mod cursor;
+mod names;
 mod numbers;
 mod packets;
 mod parsing;
 mod read_arguments;
 mod script_events;
 mod script_header;
+mod stops;
 mod timing;
+mod token_tests;
 
 pub use calls::{Argument, Arguments, Call, Constant, ErrorName, Function, Outcome};
 pub use packets::{Block, Blocks, Flags, OptionList, Options, Packet, PacketOption};
