@@ -9,12 +9,13 @@ use Rattle.pd_lex.specs.Tokens.{Item, Lexeme, lexeme, ending, bad, line_of}
 use Rattle.pd_script.specs.Items.{is_symbol, is_plain, is_any_int, is_word}
 use Rattle.pd_script.specs.Reader.{Read, Reader, Move, stuck, ends, goes, onto, moved, machine_at, when, done, one, ◌>>=◌}
 use Rattle.pd_script.specs.Reading.{symbol_at, arguments_at, no_arguments_at}
-use Rattle.pd_script.specs.Brackets.{Inside, fresh, argument_move, move_within, led, parted, pairs_after, opened_by, is_closing, closed, closing_octet, single_draft, longer_draft, drafted, is_empty}
+use Rattle.pd_script.specs.declared.drafts.Inside.{Inside}
+use Rattle.pd_script.specs.Brackets.{fresh, argument_move, move_within, led, parted, pairs_after, opened_by, is_closing, closed, closing_octet, single_draft, longer_draft, drafted, is_empty}
 use Rattle.pd_script.specs.declared.calls.Argument.{Argument}
 use Rattle.pd_script.specs.declared.brackets.Bracket.{Bracket}
 use Rattle.pd_script.specs.declared.brackets.Bracket.TheVariants as brackets
-use Rattle.pd_script.specs.declared.read_arguments.Draft.{Draft}
-use Rattle.pd_script.specs.declared.read_arguments.Draft.TheVariants as drafts
+use Rattle.pd_script.specs.declared.drafts.Draft.{Draft}
+use Rattle.pd_script.specs.declared.drafts.Draft.TheVariants as drafts
 use Rattle.pd_script.proofs.Laws.{Laws, Laws-one, Laws-done, Laws-bind, Laws-when, Full, Stops, Within, any, ok, Stops-any}
 use Rattle.pd_script.proofs.Machines.{Laws-machine}
 use Rattle.pd_script.proofs.Apart.{not-true, not-false}
@@ -53,7 +54,7 @@ is_empty-longer_draft (drafts.Element n) t = refl
 is_empty-longer_draft drafts.Mixed t = refl
 
 abbrev state : List Bracket → Draft → Inside
-state pairs d = record { open_pairs = pairs; draft = d }
+state pairs d = record { pairs = pairs; draft = d }
 
 closes : (pairs : List Bracket) (d : Draft) (tail : List Item) → is_empty d ≡ false → machine_at argument_move (state pairs d) (closing pairs ++ tail) ≡ ok (drafted (at_close pairs d) ∷ []) tail
 unfolding machine_at closing at_close
@@ -78,10 +79,10 @@ full_within : (s : Inside) → Full (machine_at argument_move s) any []
 full_within s =
     let d = longer_draft s.draft a_word in
     record {
-      more = a_word ∷ closing s.open_pairs;
-      value = drafted (at_close s.open_pairs d) ∷ [];
-      spelled = plain_closing s.open_pairs;
-      reads = λ tail h. goes_on_by_word s.open_pairs s.draft (closing s.open_pairs ++ tail) ∙ rw (closes s.open_pairs d tail (is_empty-longer_draft s.draft a_word)) refl
+      more = a_word ∷ closing s.pairs;
+      value = drafted (at_close s.pairs d) ∷ [];
+      spelled = plain_closing s.pairs;
+      reads = λ tail h. goes_on_by_word s.pairs s.draft (closing s.pairs ++ tail) ∙ rw (closes s.pairs d tail (is_empty-longer_draft s.draft a_word)) refl
     }
 
 -- arguments don't begin with the bracket that ends them

@@ -1,15 +1,16 @@
 -- Pairs of brackets, and the arguments of a call.
-use Rattle.std.specs.Prelude.{ℕ, ◌&&◌, ◌||◌, nat_lt, Bool, true, false, List, [], ◌∷◌, length, Option, Some, None, if◌then◌else◌}
+use Rattle.std.specs.Prelude.{ℕ, ◌&&◌, ◌||◌, nat_lt, Bool, true, false, List, [], ◌∷◌, length, Option, Some, None, Ok, Err, if◌then◌else◌}
 use Rattle.pd_lex.specs.Tokens.{Item, lexeme, ending, bad}
 use Rattle.pd_script.specs.Items.{is_any_int, is_word, is_symbol, text_of}
 use Rattle.pd_script.specs.Values.{capped_number, constant_named}
-use Rattle.pd_script.specs.Reader.{Move, stuck, ends, goes}
+use Rattle.pd_script.specs.Reader.{Read, Reader, Move, stuck, ends, goes}
 use Rattle.pd_script.specs.declared.calls.Argument.{Argument}
 use Rattle.pd_script.specs.declared.calls.Argument.TheVariants as arguments
 use Rattle.pd_script.specs.declared.brackets.Bracket.{Bracket}
 use Rattle.pd_script.specs.declared.brackets.Bracket.TheVariants as brackets
-use Rattle.pd_script.specs.declared.read_arguments.Draft.{Draft}
-use Rattle.pd_script.specs.declared.read_arguments.Draft.TheVariants as drafts
+use Rattle.pd_script.specs.declared.drafts.Inside.{Inside}
+use Rattle.pd_script.specs.declared.drafts.Draft.{Draft}
+use Rattle.pd_script.specs.declared.drafts.Draft.TheVariants as drafts
 
 -- the octet that closes a pair
 abbrev pub closing_octet : Bracket → ℕ
@@ -63,18 +64,13 @@ abbrev pub is_empty : Draft → Bool
 is_empty drafts.Empty = true
 is_empty _ = false
 
--- within the brackets of a call: the pairs that are open there, and the tokens of the argument so far
-pub record Inside : Type 0 where
-  pub open_pairs : List Bracket
-  pub draft : Draft
-
 -- where an argument begins
 abbrev pub fresh : Inside
-fresh = record { open_pairs = []; draft = drafts.Empty }
+fresh = record { pairs = []; draft = drafts.Empty }
 
 abbrev pub led : Draft → Item → Option (List Bracket) → Move Inside Argument
 led draft t None = stuck
-led draft t (Some open_pairs) = goes (record { open_pairs = open_pairs; draft = longer_draft draft t }) []
+led draft t (Some open_pairs) = goes (record { pairs = open_pairs; draft = longer_draft draft t }) []
 
 -- an argument has at least one token
 abbrev pub parted : Draft → Move Inside Argument → Move Inside Argument
@@ -89,4 +85,20 @@ move_within (b ∷ open_pairs) draft t = led draft t (pairs_after 16 (b ∷ open
 
 -- outside all pairs a comma parts the arguments, and the call's own bracket ends them
 abbrev pub argument_move : Inside → Item → Move Inside Argument
-argument_move i t = move_within i.open_pairs i.draft t
+argument_move i t = move_within i.pairs i.draft t
+
+-- a token that is a part of an argument
+abbrev pub part_by : Draft → Item → List Item → Option (List Bracket) → Read Inside
+part_by draft t ts None = Err (t ∷ ts)
+part_by draft t ts (Some open_pairs) = Ok (record { pairs = open_pairs; draft = longer_draft draft t }, ts)
+
+abbrev pub part_at : Inside → Reader Inside
+part_at i [] = Err []
+part_at i (t ∷ ts) = part_by i.draft t ts (pairs_after 16 i.pairs t)
+
+-- what is left behind a token
+abbrev pub behind_token : List Item → List Item
+behind_token [] = []
+behind_token (lexeme x ∷ ts) = ts
+behind_token (ending line ∷ ts) = ending line ∷ ts
+behind_token (bad line ∷ ts) = bad line ∷ ts

@@ -4,7 +4,7 @@ use Rattle.pd_lex.specs.Tokens.{Item, line_of}
 use Rattle.pd_script.specs.Items.{is_int, is_hex, is_num, is_word, is_symbol, is_end, starts_event, goes_on, text_of}
 use Rattle.pd_script.specs.Values.{number, hex_number, microseconds, function_named, error_named}
 use Rattle.pd_script.specs.Reader.{Read, Reader, ◌>>=◌, done, one, next_is, when, machine_at}
-use Rattle.pd_script.specs.Brackets.{Inside, fresh, argument_move}
+use Rattle.pd_script.specs.Brackets.{fresh, argument_move}
 use Rattle.pd_script.specs.declared.timing.Time.{Time}
 use Rattle.pd_script.specs.declared.timing.Time.TheVariants as times
 use Rattle.pd_script.specs.declared.calls.Argument.{Argument}

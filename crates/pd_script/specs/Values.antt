@@ -56,7 +56,7 @@ abbrev pub named_functions : List Function
 named_functions = functions.Socket ∷ functions.Bind ∷ functions.Listen ∷ functions.Accept ∷ functions.Setsockopt ∷ functions.Fcntl ∷ functions.Write ∷ functions.Close ∷ []
 
 -- the call of a name
-abbrev pub function_named : List ℕ → Function
+unfoldable pub function_named : List ℕ → Function
 function_named text = unwrap_or (find (λ f. bytes_eq (function_name f) text) named_functions) functions.Unknown
 
 -- the name of a constant
@@ -75,7 +75,7 @@ abbrev pub named_constants : List Constant
 named_constants = constants.SockStream ∷ constants.IpprotoTcp ∷ constants.SolSocket ∷ constants.SolTcp ∷ constants.SoReuseaddr ∷ constants.TcpNodelay ∷ constants.FSetfl ∷ []
 
 -- the constant of a name
-abbrev pub constant_named : List ℕ → Constant
+unfoldable pub constant_named : List ℕ → Constant
 constant_named text = unwrap_or (find (λ c. bytes_eq (constant_name c) text) named_constants) constants.Unknown
 
 -- the name of an error
@@ -91,7 +91,7 @@ abbrev pub named_errors : List ErrorName
 named_errors = errors.Ebadf ∷ errors.Einval ∷ errors.Eagain ∷ errors.Epipe ∷ []
 
 -- the error of a name
-abbrev pub error_named : List ℕ → ErrorName
+unfoldable pub error_named : List ℕ → ErrorName
 error_named text = unwrap_or (find (λ e. bytes_eq (error_name e) text) named_errors) errors.Unknown
 
 -- a number with one digit more, where one above the greatest of 64 bits stands as that

@@ -5,9 +5,12 @@ ghost use Rattle.pd_lex.specs.Tokens.{items};
 ghost use Rattle.pd_script.specs.Items.{is_int, is_hex, is_word, is_symbol, is_end, starts_event, goes_on};
 ghost use Rattle.pd_script.specs.Reader.{next_is};
 ghost use Rattle.pd_script.specs.Reading.{next_line, symbol_at, int_at, hex_at, num_at, function_at, error_at};
+ghost use Rattle.pd_script.specs.Brackets.{part_at, behind_token};
 ghost use Rattle.pd_script.specs.Cursor.{Leaves};
 
+use crate::brackets::MAX_DEPTH;
 use crate::calls::{ErrorName, Function};
+use crate::drafts::Inside;
 use crate::stops::Stop;
 use crate::token_tests::{
     error_of, function_of, hex_of, int_of, is_hex, is_int, is_symbol, is_word, num_of, symbol_line,
@@ -179,5 +182,30 @@ impl<'a> Cursor<'a> {
         };
         self.next = next_token(self.lines, after);
         Ok(name)
+    }
+
+    /// Goes over a token.
+    pub fn advance(&mut self)
+        ensures { self.new ≡ behind_token self.old }
+    {
+        if let Lexed::Token(_, after) = self.next {
+            self.next = next_token(self.lines, after);
+        }
+    }
+
+    /// Takes a token that is a part of an argument.
+    pub fn part(&mut self, inside: Inside) -> Result<Inside, Stop>
+        ensures { Leaves result self.new (part_at inside self.old) }
+    {
+        let Lexed::Token(token, after) = self.next else {
+            return Err(Stop::Syntax);
+        };
+        let Inside { mut pairs, draft } = inside;
+        pairs.pass(self.lines, &token, MAX_DEPTH)?;
+        self.next = next_token(self.lines, after);
+        Ok(Inside {
+            pairs,
+            draft: draft.with(self.lines, &token),
+        })
     }
 }

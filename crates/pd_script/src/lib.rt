@@ -4,6 +4,7 @@
 mod brackets;
 mod calls;
 mod cursor;
+mod drafts;
 mod names;
 mod numbers;
 mod packets;

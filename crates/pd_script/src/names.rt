@@ -98,6 +98,7 @@ fn find_error(name: &[u8]) -> Option<ErrorName>
 }
 
 /// The call of a name.
+#[tactic(auto, unfolding(crate::specs::Values::function_named))]
 pub fn function_named(name: &[u8]) -> Function
     ensures { result ≡ function_named name.now }
 {
@@ -105,6 +106,7 @@ pub fn function_named(name: &[u8]) -> Function
 }
 
 /// The constant of a name.
+#[tactic(auto, unfolding(crate::specs::Values::constant_named))]
 pub fn constant_named(name: &[u8]) -> Constant
     ensures { result ≡ constant_named name.now }
 {
@@ -112,6 +114,7 @@ pub fn constant_named(name: &[u8]) -> Constant
 }
 
 /// The error of a name.
+#[tactic(auto, unfolding(crate::specs::Values::error_named))]
 pub fn error_named(name: &[u8]) -> ErrorName
     ensures { result ≡ error_named name.now }
 {
