@@ -6,3 +6,4 @@ pub mod ArgumentLaws
 pub mod GrammarLaws
 pub mod Capped
 pub mod Taking
+pub mod ArgumentSteps

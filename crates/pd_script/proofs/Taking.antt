@@ -8,7 +8,9 @@ use Rattle.pd_lex.specs.declared.token.Lexed.TheVariants as lexed
 use Rattle.pd_lex.specs.Tokens.{Item, lexeme, ending, bad, items, lexeme_of, IsNext}
 use Rattle.pd_script.specs.Items.{given}
 use Rattle.pd_script.specs.Reader.{Read, Reader, one, done, ◌>>=◌}
-use Rattle.pd_script.specs.Cursor.{left}
+use Rattle.pd_script.specs.declared.stops.Stop.{Stop}
+use Rattle.pd_script.specs.declared.stops.Stop.TheVariants as stops
+use Rattle.pd_script.specs.Cursor.{left, Leaves}
 
 -- what the lexer answers is what is left
 pub left_is : (lines : List (List ℕ)) (p : Place) (next : Lexed) → IsNext lines p next → left lines next ≡ items lines p
@@ -31,3 +33,8 @@ taken test value lines t after next v h n = rw (left_is lines after next n) (by_
 -- another stays where it is
 pub not_taken : {A : Type 0} (test : Item → Bool) (value : Item → A) (t : Item) (ts : List Item) → given test value t ≡ None → (one test >>= (λ x. done (value x))) (t ∷ ts) ≡ Err (t ∷ ts)
 not_taken test value t ts h = by_no_test test value t ts (test t) refl h
+
+-- a fault in a part is a fault of the whole
+pub err_leaves : {X Y : Type 0} (e : Stop) (rest : List Item) (part : Read X) (whole : Read Y) → Leaves {X = X} (Err e) rest part → (part ≡ Err rest → whole ≡ Err rest) → Leaves {X = Y} (Err e) rest whole
+err_leaves stops.Syntax rest part whole h f = f h
+err_leaves stops.OutOfMemory rest part whole h f = tt

@@ -1,9 +1,9 @@
 -- Pairs of brackets, and the arguments of a call.
-use Rattle.std.specs.Prelude.{ℕ, ◌&&◌, ◌||◌, nat_lt, Bool, true, false, List, [], ◌∷◌, length, Option, Some, None, Ok, Err, if◌then◌else◌}
+use Rattle.std.specs.Prelude.{ℕ, ◌&&◌, ◌||◌, ◌==◌, nat_lt, Bool, true, false, List, [], ◌∷◌, length, Option, Some, None, Ok, Err, if◌then◌else◌}
 use Rattle.pd_lex.specs.Tokens.{Item, lexeme, ending, bad}
 use Rattle.pd_script.specs.Items.{is_any_int, is_word, is_symbol, text_of}
 use Rattle.pd_script.specs.Values.{capped_number, constant_named}
-use Rattle.pd_script.specs.Reader.{Read, Reader, Move, stuck, ends, goes}
+use Rattle.pd_script.specs.Reader.{Read, Reader, next_is, Move, stuck, ends, goes}
 use Rattle.pd_script.specs.declared.calls.Argument.{Argument}
 use Rattle.pd_script.specs.declared.calls.Argument.TheVariants as arguments
 use Rattle.pd_script.specs.declared.brackets.Bracket.{Bracket}
@@ -102,3 +102,7 @@ behind_token [] = []
 behind_token (lexeme x ∷ ts) = ts
 behind_token (ending line ∷ ts) = ending line ∷ ts
 behind_token (bad line ∷ ts) = bad line ∷ ts
+
+-- between two arguments or behind the last: outside all pairs, before a comma or the bracket that ends them
+abbrev pub is_between : Inside → List Item → Bool
+is_between i ts = (length i.pairs == 0) && (next_is (is_symbol 41) ts || next_is (is_symbol 44) ts)

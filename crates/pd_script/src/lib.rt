@@ -10,6 +10,7 @@ mod numbers;
 mod packets;
 mod parsing;
 mod read_arguments;
+mod read_events;
 mod script_events;
 mod script_header;
 mod stops;
