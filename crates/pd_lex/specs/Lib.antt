@@ -1,6 +1,8 @@
 -- The definitions that the contracts cite.
+pub mod Kinds
 pub mod Octets
 pub mod Pieces
 pub mod Scanned
+pub mod Spellings
 pub mod Places
 pub mod Tokens

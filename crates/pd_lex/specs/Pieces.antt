@@ -1,5 +1,5 @@
 -- What stands at the front of a text: a blank, a comment or a token.
-use Rattle.std.specs.Prelude.{ℕ, ◌+◌, ◌-◌, Bool, ◌&&◌, nat_lt, nat_eq, ◌==◌, List, [], ◌∷◌, take, drop, Option, Some, None, if◌then◌else◌}
+use Rattle.std.specs.Prelude.{ℕ, ◌+◌, ◌-◌, Bool, ◌&&◌, nat_lt, nat_eq, ◌==◌, List, [], ◌∷◌, length, take, drop, Option, Some, None, if◌then◌else◌}
 use Rattle.std.specs.List.{prefix_len, list_all, starts_with}
 use Rattle.pd_lex.specs.declared.token.TokenKind.{TokenKind}
 use Rattle.pd_lex.specs.declared.token.TokenKind.TheVariants.{Int, Hex, Word, Decimal, Dots, Opt, Str, Cmd, Code, Symbol}
@@ -83,12 +83,15 @@ after_end openers.Quote s = after_quote s
 after_end openers.Backquote s = after_backquote s
 after_end openers.Brace s = after_pair 125 37 s
 
--- how many octets open it
+-- the octets that open it: `/*`, `"`, a backquote or `%{`
+abbrev pub opener_text : Opener → List ℕ
+opener_text openers.Comment = 47 ∷ 42 ∷ []
+opener_text openers.Quote = 34 ∷ []
+opener_text openers.Backquote = 96 ∷ []
+opener_text openers.Brace = 37 ∷ 123 ∷ []
+
 abbrev pub opener_len : Opener → ℕ
-opener_len openers.Comment = 2
-opener_len openers.Quote = 1
-opener_len openers.Backquote = 1
-opener_len openers.Brace = 2
+opener_len o = length (opener_text o)
 
 -- what stands at the front of a text: nothing, a blank or a comment, a token, or what begins nothing; and what is left behind it
 pub data Front : Type 0 where

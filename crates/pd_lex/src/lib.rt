@@ -2,7 +2,11 @@
 #![tactic(auto)]
 
 mod ending;
+mod next;
 mod scan;
+mod standing;
+mod step;
 mod token;
 
+pub use next::next_token;
 pub use token::{Lexed, Place, Span, Token, TokenKind};

@@ -20,6 +20,18 @@ pub enum Opener {
     Brace,
 }
 
+impl Opener {
+    /// How many octets it has.
+    pub fn len(self) -> usize
+        ensures { result ≡ opener_len self }
+    {
+        match self {
+            Opener::Comment | Opener::Brace => 2,
+            Opener::Quote | Opener::Backquote => 1,
+        }
+    }
+}
+
 /// The piece at the front of a line.
 #[derive(Clone, Copy, Debug, PartialEq, Eq)]
 pub enum Piece {
