@@ -13,7 +13,7 @@ use crate::calls::{ErrorName, Function};
 use crate::drafts::Inside;
 use crate::stops::Stop;
 use crate::token_tests::{
-    error_of, function_of, hex_of, int_of, is_hex, is_int, is_symbol, is_word, num_of, symbol_line,
+    error_of, function_of, hex_of, int_of, is_hex, is_int, is_num, is_symbol, is_word, num_of, symbol_line,
 };
 use pd_lex::{Lexed, Place, next_token};
 use pd_text::Lines;
@@ -87,6 +87,16 @@ impl<'a> Cursor<'a> {
     {
         match &self.next {
             Lexed::Token(token, _) => is_hex(self.lines, token),
+            _ => false,
+        }
+    }
+
+    /// Whether an event begins here.
+    pub fn starts_event(&self) -> bool
+        ensures { result ≡ next_is starts_event self.now }
+    {
+        match &self.next {
+            Lexed::Token(token, _) => is_num(self.lines, token) || is_symbol(self.lines, token, b'+'),
             _ => false,
         }
     }

@@ -1,0 +1,71 @@
+//! Reading a whole script.
+ghost use Rattle.std.specs.Prelude.{◌≡◌, IfOk};
+ghost use Rattle.pd_script.specs.Items.{starts_event};
+ghost use Rattle.pd_script.specs.Reader.{next_is};
+ghost use Rattle.pd_script.specs.Reading.{event_at};
+ghost use Rattle.pd_script.specs.Script.{followed, may_follow, script_of};
+ghost use Rattle.pd_script.specs.Cursor.{Leaves};
+
+use crate::cursor::Cursor;
+use crate::parsing::Parsed;
+use crate::script_events::{Event, Events};
+use crate::script_header::Header;
+use crate::stops::Stop;
+use pd_text::Lines;
+use std::alloc::{AllocError, Global};
+
+/// The greatest number of events of a script.
+pub const MAX_EVENTS: usize = 4_096;
+
+impl<'a> Cursor<'a> {
+    fn may_follow(&self, left: usize) -> bool
+        ensures { result ≡ next_is (may_follow left) self.now }
+    {
+        self.is_end() || (left > 0 && self.starts_event())
+    }
+
+    /// Takes an event, if what follows it may follow where so many more may come.
+    fn next_event(&mut self, alloc: Global, left: usize) -> Result<Event, Stop>
+        ensures { Leaves result self.new (followed (may_follow left) (event_at self.old)) }
+    {
+        let event = self.event(alloc)?;
+        if self.may_follow(left) {
+            Ok(event)
+        } else {
+            Err(Stop::Syntax)
+        }
+    }
+}
+
+/// Reads the script of a text.
+///
+/// # Errors
+/// Where a growth is refused.
+pub fn parse(alloc: Global, lines: &Lines) -> Result<Parsed, AllocError>
+    ensures script { IfOk result (λ parsed. parsed ≡ script_of lines.now) }
+{
+    let mut cursor = Cursor::new(lines);
+    let mut events = Events::new(alloc);
+    'events: for i in 0..MAX_EVENTS {
+        if !cursor.starts_event() {
+            break;
+        }
+        match cursor.next_event(alloc, MAX_EVENTS - i - 1) {
+            Ok(event) => events.push(event)?,
+            Err(Stop::Syntax) => {
+                return Ok(Parsed {
+                    header: Header::new(alloc),
+                    events,
+                    fault: Some(cursor.line()),
+                });
+            }
+            Err(Stop::OutOfMemory) => return Err(AllocError),
+        }
+    }
+    let fault = if cursor.is_end() { None } else { Some(cursor.line()) };
+    Ok(Parsed {
+        header: Header::new(alloc),
+        events,
+        fault,
+    })
+}
