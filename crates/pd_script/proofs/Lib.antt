@@ -7,3 +7,4 @@ pub mod GrammarLaws
 pub mod Capped
 pub mod Taking
 pub mod ArgumentSteps
+pub mod Finding

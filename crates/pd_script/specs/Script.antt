@@ -6,6 +6,7 @@ use Rattle.pd_script.specs.Items.{is_end, starts_event, goes_on}
 use Rattle.pd_script.specs.Reader.{Read, next_is}
 use Rattle.pd_script.specs.Reading.{next_line, event_at}
 use Rattle.pd_script.specs.declared.script_events.Event.{Event}
+use Rattle.pd_script.specs.declared.parsing.Found.{Found}
 use Rattle.pd_script.specs.declared.parsing.Parsed.{Parsed}
 
 -- what may follow an event when there may be so many more
@@ -17,11 +18,6 @@ may_follow (suc n) = goes_on
 abbrev pub followed : {A : Type 0} → (Item → Bool) → Read A → Read A
 followed test (Ok x) = if next_is test x.1 then Ok x else Err x.1
 followed test (Err rest) = Err rest
-
--- the events that are read, and the line of the fault
-pub record Found : Type 0 where
-  pub events : List Event
-  pub fault : Option ℕ
 
 -- events in front of those that are found further on
 abbrev pub in_front : List Event → Found → Found

@@ -10,3 +10,10 @@ pub struct Parsed {
     /// The line at which no script goes on, if the text is refused.
     pub fault: Option<usize>,
 }
+
+/// The events that were read, and the line of the fault.
+#[derive(Drop)]
+pub struct Found {
+    pub events: Events,
+    pub fault: Option<usize>,
+}
