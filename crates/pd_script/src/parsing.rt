@@ -11,14 +11,9 @@ pub struct Parsed {
     pub fault: Option<usize>,
 }
 
-use pd_text::Lines;
-use std::alloc::{AllocError, Global};
-ghost use Rattle.std.specs.Prelude.{◌≡◌, ◌≤◌, IfOk, length};
-ghost use Rattle.pd_script.specs.Script.{script_of};
-
-pub fn parse(_alloc: Global, _lines: &Lines) -> Result<Parsed, AllocError>
-    ensures read { IfOk result (λ p. p ≡ script_of _lines.now) }
-    ensures few { IfOk result (λ p. length p.events ≤ 4096) }
-{
-    Err(AllocError)
+/// The events that were read, and the line of the fault.
+#[derive(Drop)]
+pub struct Found {
+    pub events: Events,
+    pub fault: Option<usize>,
 }
