@@ -1,5 +1,5 @@
 //! Reading a whole script.
-ghost use Rattle.std.specs.Prelude.{◌≡◌, IfOk};
+ghost use Rattle.std.specs.Prelude.{◌≡◌, ◌≤◌, length, IfOk};
 ghost use Rattle.pd_script.specs.Items.{starts_event};
 ghost use Rattle.pd_script.specs.Reader.{next_is};
 ghost use Rattle.pd_script.specs.Reading.{event_at};
@@ -70,9 +70,10 @@ impl<'a> Cursor<'a> {
 ///
 /// # Errors
 /// Where a growth is refused.
-#[tactic(auto, unfolding(crate::specs::Script::script_of))]
+#[tactic(auto, using(crate::proofs::Few::script_few), unfolding(crate::specs::Script::script_of))]
 pub fn parse(alloc: Global, lines: &Lines) -> Result<Parsed, AllocError>
     ensures script { IfOk result (λ parsed. parsed ≡ script_of lines.now) }
+    ensures few { IfOk result (λ parsed. length parsed.events ≤ 4096) }
 {
     let mut cursor = Cursor::new(lines);
     let header = Header::new(alloc);
