@@ -4,5 +4,6 @@ pub mod Octets
 pub mod Pieces
 pub mod Scanned
 pub mod Spellings
+pub mod Next
 pub mod Places
 pub mod Tokens
