@@ -1,0 +1,144 @@
+//! Jobs and their results.
+ghost use Rattle.std.specs.Prelude.{◌≡◌, ◌+◌, ◌-◌, ◌^◌, ◌≤◌, IfOk, IfErr, OnOk};
+ghost use Rattle.pd_run.specs.Run.{verdict_of, stepped_of};
+
+use crate::task::Task;
+use pd_run::{run_with, Stepper, Verdict};
+use pd_settings::Settings;
+use pd_text::{Name, Text};
+use std::alloc::Global;
+use std::marker::Model;
+
+/// A script's text to be run under settings, with the number that a book gave it.
+#[derive(Debug, Drop)]
+pub struct Job {
+    task: Task,
+}
+
+impl Model for Job {
+    ghost use Rattle.pd_book.specs.declared.task.Task.{Task};
+
+    ghost Value = { Task };
+
+    ghost view = { λ j. j.task };
+}
+
+impl Job {
+    pub fn new(number: u64, name: Name, text: Text, settings: Settings) -> Job
+        ensures { result ≡ record { number = number; name = name; text = text; settings = settings } }
+    {
+        Job {
+            task: Task {
+                number,
+                name,
+                text,
+                settings,
+            },
+        }
+    }
+
+    pub fn number(&self) -> u64
+        ensures { result ≡ self.now.number }
+    {
+        self.task.number
+    }
+
+    pub fn name(&self) -> &Name
+        ensures { result.now ≡ self.now.name }
+    {
+        &self.task.name
+    }
+
+    pub fn text(&self) -> &Text
+        ensures { result.now ≡ self.now.text }
+    {
+        &self.task.text
+    }
+
+    pub fn settings(&self) -> Settings
+        ensures { result ≡ self.now.settings }
+    {
+        self.task.settings
+    }
+}
+
+/// What a job came to. `run_job` alone makes one: its verdict is the run of its text under its settings.
+#[derive(Debug, Drop)]
+pub struct Done {
+    task: Task,
+    verdict: Verdict,
+}
+
+impl Model for Done {
+    ghost use Rattle.std.specs.Prelude.{◌≡◌};
+    ghost use Rattle.pd_run.specs.Run.{verdict_of};
+    ghost use Rattle.pd_book.specs.declared.task.Task.{Task};
+
+    ghost Value = { Task };
+
+    ghost view = { λ d. d.task };
+
+    ghost invariant = { λ d. d.verdict ≡ verdict_of d.task.text d.task.settings };
+}
+
+impl Done {
+    pub fn number(&self) -> u64
+        ensures { result ≡ self.now.number }
+    {
+        self.task.number
+    }
+
+    pub fn name(&self) -> &Name
+        ensures { result.now ≡ self.now.name }
+    {
+        &self.task.name
+    }
+
+    pub fn text(&self) -> &Text
+        ensures { result.now ≡ self.now.text }
+    {
+        &self.task.text
+    }
+
+    pub fn settings(&self) -> Settings
+        ensures { result ≡ self.now.settings }
+    {
+        self.task.settings
+    }
+
+    pub fn verdict(&self) -> Verdict
+        ensures { result ≡ verdict_of self.now.text self.now.settings }
+    {
+        self.verdict
+    }
+
+    /// What was run.
+    pub(crate) fn task(&self) -> &Task
+        ensures { result.now ≡ self.now }
+    {
+        &self.task
+    }
+}
+
+/// A job that ended without a verdict, for want of memory.
+#[derive(Clone, Copy, Debug, PartialEq, Eq)]
+pub struct Unfinished {
+    /// The job's number.
+    pub number: u64,
+}
+
+/// Runs a job from its first event, with this stepper.
+pub fn run_job<S: Stepper>(alloc: Global, job: Job, stepper: &mut S) -> Result<Done, Unfinished>
+    requires { S.counted stepper.old + 4096 ≤ 2 ^ 64 - 1 }
+    ensures done { IfOk result (λ done. done ≡ job) }
+    ensures steps { OnOk result (S.counted stepper.new ≡ S.counted stepper.old + stepped_of job.text job.settings) }
+    ensures unfinished { IfErr result (λ unfinished. unfinished.number ≡ job.number) }
+{
+    let Job { task } = job;
+    match run_with(alloc, task.text.lines(), &task.settings, stepper) {
+        Ok(verdict) => Ok(Done { task, verdict }),
+        Err(_) => Err(Unfinished {
+            number: task.number,
+        }),
+    }
+}

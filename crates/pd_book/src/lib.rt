@@ -1,0 +1,23 @@
+//! The book of scripts, jobs and results.
+#![tactic(auto)]
+
+mod act;
+mod book_core;
+mod faults;
+mod job;
+mod laws;
+mod recording;
+mod report;
+mod row;
+mod script;
+mod scripts;
+mod task;
+
+pub use act::{Act, Ruling};
+pub use book_core::Book;
+pub use faults::{BookFault, FinishFault};
+pub use job::{run_job, Done, Job, Unfinished};
+pub use laws::headline;
+pub use report::Report;
+pub use row::Row;
+pub use task::Task;
