@@ -1,6 +1,8 @@
 -- Scripts as a book keeps them; cited by private contracts alone.
 use Rattle.std.specs.Prelude.{◌==◌, ℕ, Bool, true, false, not, List, map, filter, if◌then◌else◌, Option, Some, None}
 use Rattle.std.specs.Str.{bytes_eq}
+use Rattle.pd_text.specs.Edit.{edited}
+use Rattle.pd_text.specs.declared.line_edit.LineEdit.{LineEdit}
 use Rattle.pd_run.specs.declared.verdict.Verdict.{Verdict}
 use Rattle.pd_book.specs.declared.row.Row.{Row}
 use Rattle.pd_book.specs.declared.script.Script.{Script}
@@ -38,9 +40,10 @@ in_state script state = record { text = script.text; state = state }
 abbrev pub with_state : (List ℕ → Bool) → State → List Entry → List Entry
 with_state test state entries = map (λ (e : Entry). if test e.0 then (e.0, in_state e.1 state) else e) entries
 
--- the scripts, of which those whose name passes are this one
-abbrev pub with_script : (List ℕ → Bool) → Script → List Entry → List Entry
-with_script test script entries = map (λ (e : Entry). if test e.0 then (e.0, script) else e) entries
+-- the scripts, of which that of this name is edited, and pending
+abbrev pub with_edit : List ℕ → LineEdit → List Entry → List Entry
+with_edit name edit entries =
+    map (λ (e : Entry). if bytes_eq name e.0 then (e.0, record { text = edited e.1.text edit; state = Pending }) else e) entries
 
 -- the scripts but those of this name
 abbrev pub without_name : List ℕ → List Entry → List Entry

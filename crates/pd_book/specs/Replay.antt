@@ -3,7 +3,6 @@ use Rattle.std.specs.Prelude.{◌≡◌, ℕ, ◌+◌, ◌≤◌, List, [], ◌�
 use Rattle.std.specs.Option.{option_map}
 use Rattle.std.specs.Map.{lookup}
 use Rattle.std.specs.Str.{bytes_eq}
-use Rattle.pd_text.specs.Edit.{edited}
 use Rattle.pd_settings.specs.declared.settings.Settings.{Settings}
 use Rattle.pd_run.specs.Run.{verdict_of}
 use Rattle.pd_book.specs.declared.act.Act.{Act}
@@ -13,9 +12,9 @@ use Rattle.pd_book.specs.declared.act.Ruling.TheVariants.{Taken, Stale}
 use Rattle.pd_book.specs.declared.script.Script.{Script}
 use Rattle.pd_book.specs.declared.script.State.TheVariants.{Pending, Running, Answered}
 use Rattle.pd_book.specs.declared.task.Task.{Task}
-use Rattle.pd_book.specs.Acts.{text_of, now, jobs, job, started}
+use Rattle.pd_book.specs.Acts.{now, jobs, job, started}
 use Rattle.pd_book.specs.Legal.{Legal}
-use Rattle.pd_book.specs.Kept.{Entry, with_state, with_script, without_name, all_pending, runs}
+use Rattle.pd_book.specs.Kept.{Entry, with_state, with_edit, without_name, all_pending, runs}
 
 -- the scripts after a finish
 abbrev pub settle : Ruling → Option Task → List Entry → List Entry
@@ -33,7 +32,7 @@ give_up (Some task) entries =
 abbrev pub scripts_of : Settings → List Act → List Entry
 scripts_of opening [] = []
 scripts_of opening (Add n t ∷ older) = scripts_of opening older ++ (n, record { text = t; state = Pending }) ∷ []
-scripts_of opening (Edit n e ∷ older) = with_script (bytes_eq n) (record { text = edited (text_of older n) e; state = Pending }) (scripts_of opening older)
+scripts_of opening (Edit n e ∷ older) = with_edit n e (scripts_of opening older)
 scripts_of opening (Remove n ∷ older) = without_name n (scripts_of opening older)
 scripts_of opening (Set k v ∷ older) = all_pending (scripts_of opening older)
 scripts_of opening (Start j n ∷ older) = with_state (bytes_eq n) (Running j) (scripts_of opening older)

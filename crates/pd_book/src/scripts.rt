@@ -2,10 +2,10 @@
 ghost use Rattle.std.specs.Prelude.{◌≡◌, ◌++◌, ◌∷◌, [], length, is_some, is_none, map, find, count_by, IfOk, OnOk, OnErr, option_map, None, Some};
 ghost use Rattle.std.specs.Option.{option_map_or, option_copied};
 ghost use Rattle.std.specs.List.{IsDistinct};
-ghost use Rattle.std.specs.Map.{lookup, remove_entry, set_value, keys_of};
+ghost use Rattle.std.specs.Map.{lookup, remove_entry, set_value, keys_of, values_of};
 ghost use Rattle.std.specs.Map.Iter.{deref_pair};
 ghost use Rattle.std.specs.Str.{bytes_eq};
-ghost use Rattle.pd_book.specs.Kept.{in_state, is_pending, verdict_in, runs, with_state, with_script, without_name, all_pending, kept_row};
+ghost use Rattle.pd_book.specs.Kept.{in_state, is_pending, verdict_in, runs, with_state, without_name, all_pending, kept_row};
 ghost use Rattle.pd_book.specs.Replay.{give_up};
 
 use crate::row::Row;
@@ -77,23 +77,14 @@ impl Scripts {
 
     /// Gives the script of this name another text; it is pending then.
     pub fn rewrite(&mut self, name: &Name, text: Text)
-        ensures { self.new ≡ with_script (bytes_eq name.now) (record { text = text; state = State.Pending }) self.old }
-    {
-        self.write_script(
-            name,
-            Script {
-                text,
-                state: State::Pending,
-            },
-        );
-    }
-
-    fn write_script(&mut self, name: &Name, new: Script)
-        ensures written { self.new ≡ option_map_or (λ s. set_value (bytes_eq name.now) self.old new) (lookup (bytes_eq name.now) self.old) self.old }
+        ensures written { self.new ≡ option_map_or (λ s. set_value (bytes_eq name.now) self.old (record { text = text; state = State.Pending })) (lookup (bytes_eq name.now) self.old) self.old }
         ensures distinct { IsDistinct bytes_eq (keys_of self.old) }
     {
         if let Some(script) = self.by_name.get_mut(name) {
-            *script = new;
+            *script = Script {
+                text,
+                state: State::Pending,
+            };
         }
     }
 
@@ -106,7 +97,7 @@ impl Scripts {
 
     fn take_out(&mut self, name: &Name)
         ensures taken { self.new ≡ remove_entry (bytes_eq name.now) self.old }
-        ensures distinct { IsDistinct bytes_eq (keys_of self.old) }
+        ensures gone { lookup (bytes_eq name.now) self.new ≡ None }
     {
         let _ = self.by_name.shift_remove(name);
     }
@@ -161,7 +152,7 @@ impl Scripts {
 
     /// How many scripts have no verdict.
     pub fn owed(&self) -> usize
-        ensures { result ≡ count_by (λ e. is_none (verdict_in e.1.state)) self.now }
+        ensures { result ≡ count_by (λ s. is_none (verdict_in s.state)) (values_of self.now) }
     {
         self.by_name
             .values()
