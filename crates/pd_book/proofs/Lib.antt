@@ -9,3 +9,5 @@ pub mod Numbers
 pub mod Standing
 pub mod Ends
 pub mod Replayed
+pub mod Rows
+pub mod Calls
