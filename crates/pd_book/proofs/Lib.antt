@@ -11,3 +11,4 @@ pub mod Ends
 pub mod Replayed
 pub mod Rows
 pub mod Calls
+pub mod Splits
