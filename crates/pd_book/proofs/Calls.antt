@@ -8,7 +8,7 @@ use Rattle.std.proofs.lemmas.Bool.{leb-true}
 use Rattle.std.specs.Prelude.{nat_le}
 use Rattle.pd_text.specs.Edit.{edited, edit_refusal}
 use Rattle.pd_text.specs.declared.line_edit.LineEdit.{LineEdit}
-use Rattle.pd_settings.specs.declared.settings.Settings.{Settings}
+use Rattle.pd_settings.specs.declared.fields.Settings.{Settings}
 use Rattle.pd_book.specs.declared.act.Act.{Act}
 use Rattle.pd_book.specs.declared.act.Act.TheVariants.{Add, Edit, Remove, Set, Start, Finish, Abandon}
 use Rattle.pd_book.specs.declared.act.Ruling.{Ruling}

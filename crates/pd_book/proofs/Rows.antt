@@ -4,8 +4,8 @@ use Rattle.std.specs.List.{AllByRecursion, All, count_by}
 use Rattle.std.specs.Map.{values_of}
 use Rattle.std.proofs.lemmas.List.Elements.{All-map, All-from_recursion}
 use Rattle.std.proofs.lemmas.List.Recursion.{is_count_by}
-use Rattle.pd_settings.specs.declared.settings.Settings.{Settings}
-use Rattle.pd_run.specs.declared.verdict.Verdict.{Verdict}
+use Rattle.pd_settings.specs.declared.fields.Settings.{Settings}
+use Rattle.pd_run.specs.declared.verdicts.Verdict.{Verdict}
 use Rattle.pd_run.specs.Run.{verdict_of}
 use Rattle.pd_book.specs.declared.act.Act.{Act}
 use Rattle.pd_book.specs.declared.row.Row.{Row}

@@ -8,8 +8,8 @@ use Rattle.std.proofs.lemmas.List.Elements.{All-map, All-from_recursion, All-hea
 use Rattle.std.proofs.lemmas.List.Folds.{list_any-append}
 use Rattle.std.proofs.lemmas.Slice.Eq.{bytes_eq-Decides}
 use Rattle.std.proofs.lemmas.Bool.Decides.{Decides-eqb}
-use Rattle.pd_settings.specs.declared.settings.Settings.{Settings}
-use Rattle.pd_run.specs.declared.verdict.Verdict.{Verdict}
+use Rattle.pd_settings.specs.declared.fields.Settings.{Settings}
+use Rattle.pd_run.specs.declared.verdicts.Verdict.{Verdict}
 use Rattle.pd_run.specs.Run.{verdict_of}
 use Rattle.pd_book.specs.declared.act.Act.{Act}
 use Rattle.pd_book.specs.declared.act.Act.TheVariants.{Add, Edit, Remove, Set, Start, Finish, Abandon}

@@ -8,8 +8,8 @@ use Rattle.std.proofs.lemmas.Slice.Eq.{bytes_eq-Decides}
 use Rattle.std.proofs.lemmas.Bool.Decides.{Decides-eqb}
 use Rattle.pd_text.specs.Edit.{edited}
 use Rattle.pd_text.specs.declared.line_edit.LineEdit.{LineEdit}
-use Rattle.pd_settings.specs.declared.settings.Settings.{Settings}
-use Rattle.pd_settings.specs.declared.values.Key.{Key}
+use Rattle.pd_settings.specs.declared.fields.Settings.{Settings}
+use Rattle.pd_settings.specs.declared.keys.Key.{Key}
 use Rattle.pd_settings.specs.declared.values.Value.{Value}
 use Rattle.pd_run.specs.Run.{verdict_of}
 use Rattle.pd_book.specs.declared.act.Act.{Act}

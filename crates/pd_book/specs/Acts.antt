@@ -6,8 +6,8 @@ use Rattle.std.specs.Str.{bytes_eq}
 use Rattle.pd_text.specs.Edit.{edited}
 use Rattle.pd_text.specs.declared.line_edit.LineEdit.{LineEdit}
 use Rattle.pd_settings.specs.Settings.{replaced}
-use Rattle.pd_settings.specs.declared.settings.Settings.{Settings}
-use Rattle.pd_settings.specs.declared.values.Key.{Key}
+use Rattle.pd_settings.specs.declared.fields.Settings.{Settings}
+use Rattle.pd_settings.specs.declared.keys.Key.{Key}
 use Rattle.pd_settings.specs.declared.values.Value.{Value}
 use Rattle.pd_book.specs.declared.act.Act.{Act}
 use Rattle.pd_book.specs.declared.act.Act.TheVariants.{Add, Edit, Remove, Set, Start, Finish, Abandon}

@@ -1,6 +1,6 @@
 -- The headline, said by positions in the list of acts. The newest act stands first.
 use Rattle.std.specs.Prelude.{◌≡◌, ◌↔◌, ℕ, false, List, ◌∷◌, ◌++◌, map, All, Some, IsSome}
-use Rattle.pd_settings.specs.declared.settings.Settings.{Settings}
+use Rattle.pd_settings.specs.declared.fields.Settings.{Settings}
 use Rattle.pd_book.specs.declared.act.Act.{Act}
 use Rattle.pd_book.specs.declared.act.Act.TheVariants.{Start, Finish}
 use Rattle.pd_book.specs.declared.act.Ruling.{Ruling}

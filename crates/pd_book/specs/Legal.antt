@@ -3,7 +3,7 @@ use Rattle.std.specs.Prelude.{◌≡◌, ℕ, ◌+◌, ◌<◌, ◌≤◌, true,
 use Rattle.pd_text.specs.Name.{is_valid_name}
 use Rattle.pd_text.specs.Edit.{edit_refusal}
 use Rattle.pd_settings.specs.Settings.{replaced}
-use Rattle.pd_settings.specs.declared.settings.Settings.{Settings}
+use Rattle.pd_settings.specs.declared.fields.Settings.{Settings}
 use Rattle.pd_book.specs.declared.act.Act.{Act}
 use Rattle.pd_book.specs.declared.act.Act.TheVariants.{Add, Edit, Remove, Set, Start, Finish, Abandon}
 use Rattle.pd_book.specs.declared.task.Task.{Task}

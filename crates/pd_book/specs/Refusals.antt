@@ -6,9 +6,10 @@ use Rattle.std.specs.Str.{bytes_eq}
 use Rattle.pd_text.specs.Name.{is_valid_name}
 use Rattle.pd_text.specs.Edit.{edit_refusal}
 use Rattle.pd_text.specs.declared.line_edit.LineEdit.{LineEdit}
-use Rattle.pd_settings.specs.Settings.{key_named, replaced}
-use Rattle.pd_settings.specs.declared.settings.Settings.{Settings}
-use Rattle.pd_settings.specs.declared.values.Key.{Key}
+use Rattle.pd_settings.specs.Keys.{key_named}
+use Rattle.pd_settings.specs.Settings.{replaced}
+use Rattle.pd_settings.specs.declared.fields.Settings.{Settings}
+use Rattle.pd_settings.specs.declared.keys.Key.{Key}
 use Rattle.pd_settings.specs.declared.values.Value.{Value}
 use Rattle.pd_book.specs.declared.faults.BookFault.{BookFault}
 use Rattle.pd_book.specs.declared.faults.BookFault.TheVariants.{UnknownKey, BadValue, BadName, NameTaken, NoSuchScript, TooManyScripts, HistoryFull, OutOfMemory}

@@ -1,6 +1,6 @@
 -- What a report shows.
 use Rattle.std.specs.Prelude.{◌≡◌, ℕ, List, map, count_by, if◌then◌else◌, Some, None, is_none, IfSome}
-use Rattle.pd_settings.specs.declared.settings.Settings.{Settings}
+use Rattle.pd_settings.specs.declared.fields.Settings.{Settings}
 use Rattle.pd_run.specs.Run.{verdict_of}
 use Rattle.pd_book.specs.declared.act.Act.{Act}
 use Rattle.pd_book.specs.declared.row.Row.{Row}

@@ -1,6 +1,6 @@
 -- What a book is to its callers.
 use Rattle.std.specs.Prelude.{List, ◌∷◌, Option, Some, None}
-use Rattle.pd_settings.specs.declared.settings.Settings.{Settings}
+use Rattle.pd_settings.specs.declared.fields.Settings.{Settings}
 use Rattle.pd_book.specs.declared.act.Act.{Act}
 use Rattle.pd_book.specs.declared.act.Act.TheVariants.{Start}
 use Rattle.pd_book.specs.declared.task.Task.{Task}

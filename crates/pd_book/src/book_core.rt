@@ -4,7 +4,7 @@ ghost use Rattle.std.specs.Map.{lookup};
 ghost use Rattle.std.specs.Map.Iter.{deref_pair};
 ghost use Rattle.std.specs.Str.{bytes_eq};
 ghost use Rattle.pd_text.specs.Edit.{edited};
-ghost use Rattle.pd_settings.specs.Settings.{key_named};
+ghost use Rattle.pd_settings.specs.Keys.{key_named};
 ghost use Rattle.pd_book.specs.Acts.{texts, text_of, stands, next, now, started, job, ruling};
 ghost use Rattle.pd_book.specs.Report.{shown, owed};
 ghost use Rattle.pd_book.specs.Story.{told, told_start};

@@ -1,5 +1,5 @@
 //! Jobs and their results.
-ghost use Rattle.std.specs.Prelude.{◌≡◌, ◌+◌, ◌-◌, ◌^◌, ◌≤◌, IfOk, IfErr, OnOk};
+ghost use Rattle.std.specs.Prelude.{◌≡◌, ◌+◌, ◌<◌, ◌^◌, IfOk, IfErr, OnOk};
 ghost use Rattle.pd_run.specs.Run.{verdict_of, stepped_of};
 
 use crate::task::Task;
@@ -127,9 +127,10 @@ pub struct Unfinished {
     pub number: u64,
 }
 
-/// Runs a job from its first event, with this stepper.
+/// Runs a job from its first event with this stepper, which takes one step for each event up to the stop, the
+/// stop's included, and has room for 4,096.
 pub fn run_job<S: Stepper>(alloc: Global, job: Job, stepper: &mut S) -> Result<Done, Unfinished>
-    requires { S.counted stepper.old + 4096 ≤ 2 ^ 64 - 1 }
+    requires room { S.counted stepper.old + 4096 < 2 ^ 64 }
     ensures done { IfOk result (λ done. done ≡ job) }
     ensures steps { OnOk result (S.counted stepper.new ≡ S.counted stepper.old + stepped_of job.text job.settings) }
     ensures unfinished { IfErr result (λ unfinished. unfinished.number ≡ job.number) }

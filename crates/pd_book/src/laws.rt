@@ -1,6 +1,6 @@
 //! What the definitions say of each legal history; the functions do nothing.
 ghost use Rattle.std.specs.Prelude.{List};
-ghost use Rattle.pd_settings.specs.declared.settings.Settings.{Settings};
+ghost use Rattle.pd_settings.specs.declared.fields.Settings.{Settings};
 ghost use Rattle.pd_book.specs.declared.act.Act.{Act};
 ghost use Rattle.pd_book.specs.Legal.{Legal};
 ghost use Rattle.pd_book.specs.Headline.{CurrentWhenAnswered, RowsAreScripts, VerdictsAreRuns, ScratchWhenAllAnswered, TakenWhenUnchanged};
