@@ -69,6 +69,7 @@ edit_kept opening past past' current kept kept' tasks count cap cap' n d t r all
   where
     found : lookup (bytes_eq n) (texts past) ≡ option_map (λ (s : Script). s.text) (lookup (bytes_eq n) kept)
     found = lookup-kept (bytes_eq n) opening past ∙ ap (λ (es : List Entry). option_map (λ (s : Script). s.text) (lookup (bytes_eq n) es)) (sym r.scripts)
+
     go : (o : Option Script) → lookup (bytes_eq n) kept ≡ o → IsReplay opening past' current kept' tasks count cap'
     go None q =
         let none : lookup (bytes_eq n) (texts past) ≡ None = found ∙ ap (option_map (λ (s : Script). s.text)) q in
@@ -80,7 +81,7 @@ edit_kept opening past past' current kept kept' tasks count cap cap' n d t r all
         let text : t ≡ edited s.text d = te ∙ ap (λ (x : List (List ℕ)). edited x d) is in
         let f : Script → Script = λ x. record { text = edited x.text d; state = Pending } in
         let one : kept' ≡ set_value (bytes_eq n) kept (record { text = t; state = Pending }) =
-            w ∙ ap (λ (o : Option Script). option_map_or (λ (x : Script). set_value (bytes_eq n) kept (record { text = t; state = Pending })) o kept) q in
+        w ∙ ap (λ (o : Option Script). option_map_or (λ (x : Script). set_value (bytes_eq n) kept (record { text = t; state = Pending })) o kept) q in
         let two : set_value (bytes_eq n) kept (record { text = t; state = Pending }) ≡ set_value (bytes_eq n) kept (f s) = ap (λ (x : List (List ℕ)). set_value (bytes_eq n) kept (record { text = x; state = Pending })) text in
         recorded opening past past' current current kept kept' tasks count cap cap' (Edit n d) r
         (ap is_some here, ap (λ (x : List (List ℕ)). edit_refusal x d) is ∙ no_fault of_text (edit_refusal s.text d) may)
@@ -122,7 +123,7 @@ start_kept opening past past' current kept kept' tasks tasks' count count' cap c
     let num : j.number ≡ count + 1 = ns ∙ ap (λ (x : ℕ). x + 1) (sym r.numbers) in
     let set : j.settings ≡ current = ss ∙ sym r.settings in
     let whole : j ≡ record { number = count + 1; name = j.name; text = j.text; settings = current } =
-        ap (λ (x : ℕ). task_with x j.name j.text j.settings) num ∙ ap (λ (x : Settings). task_with (count + 1) j.name j.text x) set in
+    ap (λ (x : ℕ). task_with x j.name j.text j.settings) num ∙ ap (λ (x : Settings). task_with (count + 1) j.name j.text x) set in
     rw (p, ais, k, hs, n, num, whole) (start_replays opening past current kept tasks count cap cap' j.name j.text r h big few)
 
 -- an end leaves fewer jobs
@@ -137,8 +138,9 @@ fewer j (x ∷ tasks) h e = go (j == x.number) e (fewer j tasks h) (no_more task
         by : (b : Bool) → length (without j ys) ≤ length ys → length (cond (not b) (y ∷ without j ys) (without j ys)) ≤ suc (length ys)
         by true f = omega (arith, f)
         by false f = omega (arith, f)
+
     go : (b : Bool) → cond b (Some x) (find (λ (y : Task). j == y.number) tasks) ≡ Some h → (find (λ (y : Task). j == y.number) tasks ≡ Some h → length (without j tasks) < length tasks)
-      → length (without j tasks) ≤ length tasks → length (cond (not b) (x ∷ without j tasks) (without j tasks)) < suc (length tasks)
+        → length (without j tasks) ≤ length tasks → length (cond (not b) (x ∷ without j tasks) (without j tasks)) < suc (length tasks)
     go true w f m = omega (arith, m)
     go false w f m = let s = f w in omega (arith, s)
 

@@ -52,9 +52,9 @@ no_open past k n xs o h = sub _ _ n xs (λ j q. apart j k (λ w. absurd (let e :
 no_other : (past : List Act) (k i : ℕ) (n : List ℕ) (xs : List Act) → ended past k ≡ false → (k ≡ i → ⊥) → NoStart (λ j. not (ended past j) && not (j == i)) n xs → NoStart (λ j. j == k) n xs
 no_other past k i n xs o far h =
     sub _ _ n xs (λ j q. apart j k (λ w. absurd (
-        let e : ended past j ≡ false = ap (ended past) w ∙ o in
-        let d : (j == i) ≡ false = apart j i (λ z. far (sym w ∙ z)) in
-        let bad : true ≡ false = sym (ap not e) ∙ (sym (and_true (not (ended past j)) (not (j == i)) (ap not d)) ∙ q) in cc))) h
+    let e : ended past j ≡ false = ap (ended past) w ∙ o in
+    let d : (j == i) ≡ false = apart j i (λ z. far (sym w ∙ z)) in
+    let bad : true ≡ false = sym (ap not e) ∙ (sym (and_true (not (ended past j)) (not (j == i)) (ap not d)) ∙ q) in cc))) h
   where
     and_true : (b c : Bool) → c ≡ true → (b && c) ≡ b
     and_true true c h = h
@@ -131,6 +131,7 @@ taken_each opening past k h l j f e s = go (began past e.0 k) refl
   where
     open_k : ended past k ≡ false
     open_k = open_job opening past k h l j
+
     go : (b : Bool) → began past e.0 k ≡ b → Stands opening (Finish k Taken ∷ past) (cond (bytes_eq h.name e.0) (e.0, in_state e.1 (Answered (verdict_of h.text h.settings))) e)
     go true q =
         let x = hit opening past k open_k e.0 e.1.text e.1.state q s.1 in
@@ -156,6 +157,7 @@ abandoned_each opening past k h l j f e s = go (began past e.0 k) refl
   where
     open_k : ended past k ≡ false
     open_k = open_job opening past k h l j
+
     go : (b : Bool) → began past e.0 k ≡ b → Stands opening (Abandon k ∷ past) (cond (bytes_eq h.name e.0) (e.0, in_state e.1 Pending) e)
     go true q =
         let x = hit opening past k open_k e.0 e.1.text e.1.state q s.1 in

@@ -57,7 +57,7 @@ texts-without n [] = refl
 texts-without n (e ∷ es) = go (bytes_eq n e.0) (texts-without n es)
   where
     go : (b : Bool) → texts_of (without_name n es) ≡ filter (λ (p : Named). not (bytes_eq n p.0)) (texts_of es)
-      → texts_of (cond (not b) (e ∷ without_name n es) (without_name n es)) ≡ cond (not b) ((e.0, e.1.text) ∷ filter (λ (p : Named). not (bytes_eq n p.0)) (texts_of es)) (filter (λ (p : Named). not (bytes_eq n p.0)) (texts_of es))
+        → texts_of (cond (not b) (e ∷ without_name n es) (without_name n es)) ≡ cond (not b) ((e.0, e.1.text) ∷ filter (λ (p : Named). not (bytes_eq n p.0)) (texts_of es)) (filter (λ (p : Named). not (bytes_eq n p.0)) (texts_of es))
     go true f = f
     go false f = ap (λ (x : List Named). (e.0, e.1.text) ∷ x) f
 
@@ -66,7 +66,7 @@ texts-edit n d [] = refl
 texts-edit n d (e ∷ es) = go (bytes_eq n e.0) (texts-edit n d es)
   where
     go : (b : Bool) → texts_of (with_edit n d es) ≡ map (edited_at n d) (texts_of es)
-      → named_text (cond b (e.0, record { text = edited e.1.text d; state = Pending }) e) ∷ texts_of (with_edit n d es) ≡ cond b (e.0, edited e.1.text d) (e.0, e.1.text) ∷ map (edited_at n d) (texts_of es)
+        → named_text (cond b (e.0, record { text = edited e.1.text d; state = Pending }) e) ∷ texts_of (with_edit n d es) ≡ cond b (e.0, edited e.1.text d) (e.0, e.1.text) ∷ map (edited_at n d) (texts_of es)
     go true f = ap (λ (x : List Named). (e.0, edited e.1.text d) ∷ x) f
     go false f = ap (λ (x : List Named). (e.0, e.1.text) ∷ x) f
 
@@ -88,7 +88,7 @@ lookup-texts test [] = refl
 lookup-texts test (e ∷ es) = go (test e.0) (lookup-texts test es)
   where
     go : (b : Bool) → lookup test (texts_of es) ≡ option_map (λ (s : Script). s.text) (lookup test es)
-      → cond b (Some e.1.text) (lookup test (texts_of es)) ≡ option_map (λ (s : Script). s.text) (cond b (Some e.1) (lookup test es))
+        → cond b (Some e.1.text) (lookup test (texts_of es)) ≡ option_map (λ (s : Script). s.text) (cond b (Some e.1) (lookup test es))
     go true f = refl
     go false f = f
 
@@ -125,7 +125,7 @@ lookup-edited_other m n d [] h = refl
 lookup-edited_other m n d (x ∷ xs) h = go (bytes_eq m x.0) (bytes_eq n x.0) refl refl (lookup-edited_other m n d xs h)
   where
     go : (b c : Bool) → bytes_eq m x.0 ≡ b → bytes_eq n x.0 ≡ c → lookup (bytes_eq n) (map (edited_at m d) xs) ≡ lookup (bytes_eq n) xs
-      → lookup (bytes_eq n) (cond b (x.0, edited x.1 d) x ∷ map (edited_at m d) xs) ≡ cond c (Some x.1) (lookup (bytes_eq n) xs)
+        → lookup (bytes_eq n) (cond b (x.0, edited x.1 d) x ∷ map (edited_at m d) xs) ≡ cond c (Some x.1) (lookup (bytes_eq n) xs)
     go true true p q f = absurd (let no = other_name m n x.0 h q in cc)
     go true false p q f = rw q f
     go false true p q f = rw q refl
@@ -136,7 +136,7 @@ lookup-edited n d [] = refl
 lookup-edited n d (x ∷ xs) = go (bytes_eq n x.0) refl (lookup-edited n d xs)
   where
     go : (b : Bool) → bytes_eq n x.0 ≡ b → lookup (bytes_eq n) (map (edited_at n d) xs) ≡ option_map (λ (t : List (List ℕ)). edited t d) (lookup (bytes_eq n) xs)
-      → lookup (bytes_eq n) (cond b (x.0, edited x.1 d) x ∷ map (edited_at n d) xs) ≡ option_map (λ (t : List (List ℕ)). edited t d) (cond b (Some x.1) (lookup (bytes_eq n) xs))
+        → lookup (bytes_eq n) (cond b (x.0, edited x.1 d) x ∷ map (edited_at n d) xs) ≡ option_map (λ (t : List (List ℕ)). edited t d) (cond b (Some x.1) (lookup (bytes_eq n) xs))
     go true p f = rw p refl
     go false p f = rw p f
 
@@ -146,7 +146,7 @@ lookup-removed_other m n [] h = refl
 lookup-removed_other m n (x ∷ xs) h = go (bytes_eq m x.0) (bytes_eq n x.0) refl refl (lookup-removed_other m n xs h)
   where
     go : (b c : Bool) → bytes_eq m x.0 ≡ b → bytes_eq n x.0 ≡ c → lookup (bytes_eq n) (filter (λ (p : Named). not (bytes_eq m p.0)) xs) ≡ lookup (bytes_eq n) xs
-      → lookup (bytes_eq n) (cond (not b) (x ∷ filter (λ (p : Named). not (bytes_eq m p.0)) xs) (filter (λ (p : Named). not (bytes_eq m p.0)) xs)) ≡ cond c (Some x.1) (lookup (bytes_eq n) xs)
+        → lookup (bytes_eq n) (cond (not b) (x ∷ filter (λ (p : Named). not (bytes_eq m p.0)) xs) (filter (λ (p : Named). not (bytes_eq m p.0)) xs)) ≡ cond c (Some x.1) (lookup (bytes_eq n) xs)
     go true true p q f = absurd (let no = other_name m n x.0 h q in cc)
     go true false p q f = f
     go false true p q f = rw q refl

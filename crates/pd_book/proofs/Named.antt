@@ -22,7 +22,7 @@ set_named n f s [] d h = refl
 set_named n f s (e ∷ es) d h = go (bytes_eq n e.0) refl h (set_named n f s es (IsDistinct-tail bytes_eq e.0 (keys_of es) d))
   where
     go : (b : Bool) → bytes_eq n e.0 ≡ b → cond b (Some e.1) (lookup (bytes_eq n) es) ≡ Some s → (lookup (bytes_eq n) es ≡ Some s → set_value (bytes_eq n) es (f s) ≡ with_name n f es)
-      → cond b ((e.0, f s) ∷ es) (e ∷ set_value (bytes_eq n) es (f s)) ≡ cond b (e.0, f e.1) e ∷ with_name n f es
+        → cond b ((e.0, f s) ∷ es) (e ∷ set_value (bytes_eq n) es (f s)) ≡ cond b (e.0, f e.1) e ∷ with_name n f es
     go true t k g =
         let same : n ≡ e.0 = (bytes_eq-Decides n e.0).0 t in
         let here : e.1 ≡ s = cc in
@@ -54,7 +54,7 @@ remove_named n [] h = refl
 remove_named n (e ∷ es) h = go (bytes_eq n e.0) refl h (remove_named n es)
   where
     go : (b : Bool) → bytes_eq n e.0 ≡ b → lookup (bytes_eq n) (cond b es (e ∷ remove_entry (bytes_eq n) es)) ≡ None
-      → (lookup (bytes_eq n) (remove_entry (bytes_eq n) es) ≡ None → remove_entry (bytes_eq n) es ≡ without_name n es)
-      → cond b es (e ∷ remove_entry (bytes_eq n) es) ≡ cond (not b) (e ∷ without_name n es) (without_name n es)
+        → (lookup (bytes_eq n) (remove_entry (bytes_eq n) es) ≡ None → remove_entry (bytes_eq n) es ≡ without_name n es)
+        → cond b es (e ∷ remove_entry (bytes_eq n) es) ≡ cond (not b) (e ∷ without_name n es) (without_name n es)
     go true t k g = sym (unremoved n es k)
     go false t k g = ap (λ (x : List Entry). e ∷ x) (g (rw t at k))

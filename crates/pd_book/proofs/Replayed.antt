@@ -126,17 +126,21 @@ standing opening (Abandon k ∷ past) l = rw l.0.1 (go (fresh past l.0.0) refl (
   where
     h : Task
     h = l.0.0
+
     go : (b : Bool) → fresh past h ≡ b → AllByRecursion (Stands opening past) (scripts_of opening past) → AllByRecursion (Stands opening (Abandon k ∷ past)) (give_up (Some h) (scripts_of opening past))
     go b q a = rw is (by b q a)
       where
         num : h.number ≡ k
         num = (job_number opening past k h l.1 l.0.1).0
+
         mine : job opening past h.number ≡ Some h
         mine = ap (job opening past) num ∙ l.0.1
+
         is : runs (option_map (λ (s : Script). s.state) (lookup (bytes_eq h.name) (scripts_of opening past))) h.number ≡ b
         is = runs_fresh opening past h l.1 a mine ∙ q
+
         by : (c : Bool) → fresh past h ≡ c → AllByRecursion (Stands opening past) (scripts_of opening past)
-          → AllByRecursion (Stands opening (Abandon k ∷ past)) (cond c (with_state (bytes_eq h.name) Pending (scripts_of opening past)) (scripts_of opening past))
+            → AllByRecursion (Stands opening (Abandon k ∷ past)) (cond c (with_state (bytes_eq h.name) Pending (scripts_of opening past)) (scripts_of opening past))
         by true q a = all_map _ _ _ (scripts_of opening past) (abandoned_each opening past k h l.1 l.0.1 (and_right (stands past h.name) (began past h.name h.number) q)) a
         by false q a = all_imp _ _ (scripts_of opening past) (left_each opening past k h l.1 l.0.1 q) a
 
@@ -149,6 +153,7 @@ waits_is opening past e s = by e.1.state s.1
   where
     here : stands past e.0 ≡ true
     here = ap is_some s.0
+
     by : (st : State) → At opening past e.0 e.1.text st → (not (stands past e.0 && reached past e.0) && not (busy past e.0)) ≡ pending_state st
     by Pending a = rw (here, a.0, a.1) refl
     by (Running j) a =

@@ -26,6 +26,7 @@ row_is opening past e s = by e.1.state s.1
   where
     here : stands past e.0 ≡ true
     here = ap is_some s.0
+
     by : (st : State) → At opening past e.0 e.1.text st → row opening past (named_text e) ≡ record { name = e.0; text = e.1.text; verdict = verdict_in st }
     by Pending a = rw (here, a.0) refl
     by (Running j) a = rw (here, a.0) refl
@@ -46,6 +47,7 @@ rows_run opening past = All-map (IsRunUnder (now opening past)) (row opening pas
     one : (p : Named) (b : Bool) → answered past p.0 ≡ b → IsRunUnder (now opening past) (record { name = p.0; text = p.1; verdict = cond b (Some (verdict_of p.1 (now opening past))) None })
     one p true q = refl
     one p false q = tt
+
     each : (ps : List Named) → AllByRecursion (λ (p : Named). IsRunUnder (now opening past) (row opening past p)) ps
     each [] = tt
     each (p ∷ ps) = (one p (answered past p.0) refl, each ps)

@@ -78,6 +78,7 @@ found_kept {A} p q (x ∷ xs) y h = go (q x) refl h (found_kept p q xs y)
     head : (b : Bool) → q x ≡ true → cond b (Some x) (find p (filter q xs)) ≡ Some y → (find p (filter q xs) ≡ Some y → q y ≡ true) → q y ≡ true
     head true e k f = let same : x ≡ y = cc in ap q (sym same) ∙ e
     head false e k f = f k
+
     go : (b : Bool) → q x ≡ b → find p (cond b (x ∷ filter q xs) (filter q xs)) ≡ Some y → (find p (filter q xs) ≡ Some y → q y ≡ true) → q y ≡ true
     go true e k f = head (p x) e k f
     go false e k f = f k

@@ -96,6 +96,7 @@ begun test name (Start j n ∷ xs) h = go (bytes_eq name n) refl h (begun test n
     here : (c : Bool) → test j ≡ c → name ≡ n → (c || list_any (starts test name) xs) ≡ true → (list_any (starts test name) xs ≡ true → Begun test name xs) → Begun test name (Start j n ∷ xs)
     here true p e h f = record { number = j; later = []; earlier = xs; split = ap (λ (m : List ℕ). Start j m ∷ xs) (sym e); passes = p }
     here false p e h f = further test name (Start j n) xs (f h)
+
     go : (b : Bool) → bytes_eq name n ≡ b → ((b && test j) || list_any (starts test name) xs) ≡ true → (list_any (starts test name) xs ≡ true → Begun test name xs) → Begun test name (Start j n ∷ xs)
     go true e h f = here (test j) refl ((bytes_eq-Decides name n).0 e) h f
     go false e h f = further test name (Start j n) xs (f h)
@@ -148,7 +149,7 @@ still_stands opening [] older j n l s = found_stands (waits older) (texts older)
 still_stands opening (Add m t ∷ xs) older j n l s = go (lookup (bytes_eq n) (texts (xs ++ Start j n ∷ older))) refl (still_stands opening xs older j n l.1 s.1)
   where
     go : (o : Option (List (List ℕ))) → lookup (bytes_eq n) (texts (xs ++ Start j n ∷ older)) ≡ o → is_some (lookup (bytes_eq n) (texts (xs ++ Start j n ∷ older))) ≡ true
-      → is_some (lookup (bytes_eq n) (texts (xs ++ Start j n ∷ older) ++ (m, t) ∷ [])) ≡ true
+        → is_some (lookup (bytes_eq n) (texts (xs ++ Start j n ∷ older) ++ (m, t) ∷ [])) ≡ true
     go (Some u) e h = ap is_some (lookup_push (bytes_eq n) (texts (xs ++ Start j n ∷ older)) ((m, t) ∷ []) u e)
     go None e h = let no : is_some (lookup (bytes_eq n) (texts (xs ++ Start j n ∷ older))) ≡ false = ap is_some e in absurd cc
 still_stands opening (Edit m d ∷ xs) older j n l s = ap is_some (lookup-edited_other m n d (texts (xs ++ Start j n ∷ older)) (bytes_flip n m s.0)) ∙ still_stands opening xs older j n l.1 s.1
@@ -166,7 +167,7 @@ answered_split opening past n l h =
     let b = begun (finished past) n (since n past) h in
     let older : List Act = b.earlier ++ p.rest in
     let whole : past ≡ b.later ++ Start b.number n ∷ older =
-        p.split ∙ (ap (λ (xs : List Act). xs ++ p.rest) b.split ∙ append_assoc b.later (Start b.number n ∷ b.earlier) p.rest) in
+    p.split ∙ (ap (λ (xs : List Act). xs ++ p.rest) b.split ∙ append_assoc b.later (Start b.number n ∷ b.earlier) p.rest) in
     let begins : Legal opening (Start b.number n ∷ older) = legal_before opening b.later (Start b.number n ∷ older) (subst (λ (xs : List Act). Legal opening xs) whole l) in
     let ends : finished b.later b.number ≡ true = finished_later opening b.later older b.number n begins (subst (λ (xs : List Act). finished xs b.number ≡ true) whole b.passes) in
     let d = done b.number b.later ends in
@@ -188,10 +189,10 @@ split_answered past n a =
     let late : AllByRecursion (Same n) a.later = by_recursion (Same n) a.later a.later_unchanged in
     let mid : AllByRecursion (Same n) a.between = by_recursion (Same n) a.between a.between_unchanged in
     let is : since n past ≡ a.later ++ Finish a.number a.ruled ∷ (a.between ++ Start a.number n ∷ since n a.earlier) =
-        ap (since n) a.split ∙ (since-same n a.later (Finish a.number a.ruled ∷ tail) late
-        ∙ ap (λ (xs : List Act). a.later ++ Finish a.number a.ruled ∷ xs) (since-same n a.between (Start a.number n ∷ a.earlier) mid)) in
+    ap (since n) a.split ∙ (since-same n a.later (Finish a.number a.ruled ∷ tail) late
+    ∙ ap (λ (xs : List Act). a.later ++ Finish a.number a.ruled ∷ xs) (since-same n a.between (Start a.number n ∷ a.earlier) mid)) in
     let fin : finished past a.number ≡ true =
-        ap (λ (xs : List Act). finished xs a.number) a.split ∙ any_at (finishes a.number) a.later (Finish a.number a.ruled) tail ((Decides-eqb a.number a.number).1 refl) in
+    ap (λ (xs : List Act). finished xs a.number) a.split ∙ any_at (finishes a.number) a.later (Finish a.number a.ruled) tail ((Decides-eqb a.number a.number).1 refl) in
     let me : (bytes_eq n n && finished past a.number) ≡ true = rw (bytes_refl n) fin in
     let test : Act → Bool = starts (finished past) n in
     ap (λ (xs : List Act). list_any test xs) is
@@ -240,6 +241,7 @@ from_scratch opening past h = ap (λ (rows : List Row). record { settings = now 
     one : (p : Named) (b : Bool) → is_some (cond b (Some (verdict_of p.1 (now opening past))) None) ≡ true → cond b (Some (verdict_of p.1 (now opening past))) None ≡ Some (verdict_of p.1 (now opening past))
     one p true k = refl
     one p false k = absurd cc
+
     each : (xs : List Named) → AllByRecursion (λ (r : Row). IsSome r.verdict) (map (row opening past) xs) → map (row opening past) xs ≡ map (scratch_row (now opening past)) xs
     each [] k = refl
     each (x ∷ xs) k =
@@ -257,6 +259,7 @@ taken opening past l j task open_task = (there, back)
   where
     n : List ℕ
     n = task.name
+
     there : ruling past task ≡ Taken → UnchangedSinceStart task past
     there h =
         let b = begun (λ (i : ℕ). i == task.number) n (since n past) (and_right (stands past n) (began past n task.number) (taken_when (fresh past task) h)) in
@@ -268,11 +271,12 @@ taken opening past l j task open_task = (there, back)
           split = p.split ∙ (ap (λ (xs : List Act). xs ++ p.rest) b.split ∙ (append_assoc b.later (Start b.number n ∷ b.earlier) p.rest ∙ ap (λ (i : ℕ). b.later ++ Start i n ∷ (b.earlier ++ p.rest)) num));
           later_unchanged = All-from_recursion (Same n) b.later (all_front (Same n) b.later (Start b.number n ∷ b.earlier) same);
         }
+
     back : UnchangedSinceStart task past → ruling past task ≡ Taken
     back u =
         let late : AllByRecursion (Same n) u.later = by_recursion (Same n) u.later u.later_unchanged in
         let here : stands past n ≡ true =
-            ap (λ (xs : List Act). stands xs n) u.split ∙ still_stands opening u.later u.earlier task.number n (subst (λ (xs : List Act). Legal opening xs) u.split l) late in
+        ap (λ (xs : List Act). stands xs n) u.split ∙ still_stands opening u.later u.earlier task.number n (subst (λ (xs : List Act). Legal opening xs) u.split l) late in
         let test : Act → Bool = starts (λ (i : ℕ). i == task.number) n in
         let me : (bytes_eq n n && (task.number == task.number)) ≡ true = rw (bytes_refl n) ((Decides-eqb task.number task.number).1 refl) in
         let since_is : since n past ≡ u.later ++ Start task.number n ∷ since n u.earlier = ap (since n) u.split ∙ since-same n u.later (Start task.number n ∷ u.earlier) late in

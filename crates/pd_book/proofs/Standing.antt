@@ -106,7 +106,7 @@ edit_each opening past m d e h = go (bytes_eq m e.0) refl
         let same : m ≡ e.0 = (bytes_eq-Decides m e.0).0 q in
         let me : bytes_eq e.0 m ≡ true = (bytes_eq-Decides e.0 m).1 (sym same) in (
           ap (λ (x : List ℕ). lookup (bytes_eq e.0) (map (edited_at x d) (texts past))) same
-          ∙ (lookup-edited e.0 d (texts past) ∙ ap (λ (o : Option (List (List ℕ))). option_map (λ (t : List (List ℕ)). edited t d) o) h.0),
+              ∙ (lookup-edited e.0 d (texts past) ∙ ap (λ (o : Option (List (List ℕ))). option_map (λ (t : List (List ℕ)). edited t d) o) h.0),
           rw me (refl, refl),
         )
     go false q = (
@@ -131,8 +131,10 @@ start_each opening past j m l new calm idle e h = go (bytes_eq m e.0) refl
     not_ended : (b : Bool) → ended past j ≡ b → b ≡ false
     not_ended true q = let s = ended_small opening past j l q in absurd (omega (arith, s, new))
     not_ended false q = refl
+
     open_j : ended past j ≡ false
     open_j = not_ended (ended past j) refl
+
     go : (b : Bool) → bytes_eq m e.0 ≡ b → Stands opening (Start j m ∷ past) (cond b (e.0, in_state e.1 (Running j)) e)
     go true q =
         let same : m ≡ e.0 = (bytes_eq-Decides m e.0).0 q in
@@ -148,7 +150,7 @@ start_each opening past j m l new calm idle e h = go (bytes_eq m e.0) refl
             open_j,
             or_both _ _ (and_no (bytes_eq e.0 m) _ (rw jj (and_no (not (ended past j)) false refl))) (sub _ _ e.0 (since e.0 past) (λ i k. and_first (not (ended past i)) _ k) idle'),
             find_none (λ (x : Task). j == x.number) (jobs opening past) _ (all_imp _ _ (jobs opening past) (λ x k. apart j x.number (λ w. absurd (omega (arith, k, w, new)))) (jobs_small opening past l))
-            ∙ rw jj (ap (λ (n : List ℕ). Some (task_of opening past n (text_of past m) j)) same ∙ ap (λ (t : List (List ℕ)). Some (task_of opening past e.0 t j)) text),
+                ∙ rw jj (ap (λ (n : List ℕ). Some (task_of opening past n (text_of past m) j)) same ∙ ap (λ (t : List (List ℕ)). Some (task_of opening past e.0 t j)) text),
           ),
         )
     go false q = (

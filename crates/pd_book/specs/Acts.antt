@@ -34,13 +34,16 @@ texts (Start j n ∷ older) = texts older
 texts (Finish j r ∷ older) = texts older
 texts (Abandon j ∷ older) = texts older
 
--- a script of this name stands
+-- the present text of the script of this name, if it stands
+abbrev pub present : List Act → List ℕ → Option (List (List ℕ))
+present past name = lookup (bytes_eq name) (texts past)
+
 abbrev pub stands : List Act → List ℕ → Bool
-stands past name = is_some (lookup (bytes_eq name) (texts past))
+stands past name = is_some (present past name)
 
 -- the present text of a script that stands
 abbrev pub text_of : List Act → List ℕ → List (List ℕ)
-text_of past name = unwrap_or (lookup (bytes_eq name) (texts past)) []
+text_of past name = unwrap_or (present past name) []
 
 -- the settings after one was set; a set that settings refuse leaves them
 abbrev pub set_to : Settings → Key → Value → Settings

@@ -1,5 +1,7 @@
 -- Scripts as a book keeps them; cited by private contracts alone.
 use Rattle.std.specs.Prelude.{◌==◌, ℕ, Bool, true, false, not, List, map, filter, if◌then◌else◌, Option, Some, None}
+use Rattle.std.specs.Option.{option_map_or}
+use Rattle.std.specs.Map.{lookup, set_value}
 use Rattle.std.specs.Str.{bytes_eq}
 use Rattle.pd_text.specs.Edit.{edited}
 use Rattle.pd_text.specs.declared.line_edit.LineEdit.{LineEdit}
@@ -26,6 +28,9 @@ verdict_in Pending = None
 verdict_in (Running j) = None
 verdict_in (Answered v) = Some v
 
+abbrev pub in_state : Script → State → Script
+in_state script state = record { text = script.text; state = state }
+
 -- the script, if there is one, runs this job
 abbrev pub runs : Option State → ℕ → Bool
 runs None j = false
@@ -33,8 +38,10 @@ runs (Some Pending) j = false
 runs (Some (Answered v)) j = false
 runs (Some (Running k)) j = k == j
 
-abbrev pub in_state : Script → State → Script
-in_state script state = record { text = script.text; state = state }
+-- the scripts after a write to the first of this name
+abbrev pub written_at : List ℕ → (Script → Script) → List Entry → List Entry
+written_at name change entries =
+    option_map_or (λ (s : Script). set_value (bytes_eq name) entries (change s)) (lookup (bytes_eq name) entries) entries
 
 -- the scripts, of which those whose name passes are in this state
 abbrev pub with_state : (List ℕ → Bool) → State → List Entry → List Entry

@@ -1,10 +1,8 @@
 -- Which calls a book refuses, and why: the first that applies.
 use Rattle.std.specs.Prelude.{ℕ, ◌+◌, ◌==◌, not, Bool, nat_le, List, [], length, if◌then◌else◌, Option, Some, None, is_some, is_none, unwrap_or}
 use Rattle.std.specs.Option.{option_map}
-use Rattle.std.specs.Map.{lookup}
-use Rattle.std.specs.Str.{bytes_eq}
 use Rattle.pd_text.specs.Name.{is_valid_name}
-use Rattle.pd_text.specs.Edit.{edit_refusal}
+use Rattle.pd_text.specs.Edit.{edit_refusal as fault_of_edit}
 use Rattle.pd_text.specs.declared.line_edit.LineEdit.{LineEdit}
 use Rattle.pd_settings.specs.Keys.{key_named}
 use Rattle.pd_settings.specs.Settings.{replaced}
@@ -16,7 +14,7 @@ use Rattle.pd_book.specs.declared.faults.BookFault.TheVariants.{UnknownKey, BadV
 use Rattle.pd_book.specs.declared.faults.FinishFault.{FinishFault}
 use Rattle.pd_book.specs.declared.faults.FinishFault.TheVariants.{NoSuchJob, Foreign}
 use Rattle.pd_book.specs.declared.task.Task.{Task}
-use Rattle.pd_book.specs.Acts.{Named, texts, stands, now, next, started, jobs}
+use Rattle.pd_book.specs.Acts.{Named, texts, present, stands, now, next, started, jobs}
 use Rattle.pd_book.specs.Faults.{of_text}
 use Rattle.pd_book.specs.Story.{Story}
 
@@ -43,10 +41,10 @@ add_refusal story name =
 -- why an edit of this text, if there is one, is refused
 abbrev pub text_refusal : Option (List (List ℕ)) → LineEdit → Option BookFault
 text_refusal None edit = Some NoSuchScript
-text_refusal (Some text) edit = option_map of_text (edit_refusal text edit)
+text_refusal (Some text) edit = option_map of_text (fault_of_edit text edit)
 
-abbrev pub book_edit_refusal : Story → List ℕ → LineEdit → Option BookFault
-book_edit_refusal story name edit = or_else (text_refusal (lookup (bytes_eq name) (texts story.past)) edit) (full 1 story)
+abbrev pub edit_refusal : Story → List ℕ → LineEdit → Option BookFault
+edit_refusal story name edit = or_else (text_refusal (present story.past name) edit) (full 1 story)
 
 abbrev pub remove_refusal : Story → List ℕ → Option BookFault
 remove_refusal story name = if stands story.past name then full 1 story else Some NoSuchScript

@@ -12,7 +12,7 @@ use Rattle.pd_book.specs.declared.act.Ruling.TheVariants.{Taken, Stale}
 use Rattle.pd_book.specs.declared.script.Script.{Script}
 use Rattle.pd_book.specs.declared.script.State.TheVariants.{Pending, Running, Answered}
 use Rattle.pd_book.specs.declared.task.Task.{Task}
-use Rattle.pd_book.specs.Acts.{now, jobs, job, started}
+use Rattle.pd_book.specs.Acts.{now, jobs, job, next, started}
 use Rattle.pd_book.specs.Legal.{Legal}
 use Rattle.pd_book.specs.Kept.{Entry, with_state, with_edit, without_name, all_pending, runs}
 
@@ -38,6 +38,14 @@ scripts_of opening (Set k v ∷ older) = all_pending (scripts_of opening older)
 scripts_of opening (Start j n ∷ older) = with_state (bytes_eq n) (Running j) (scripts_of opening older)
 scripts_of opening (Finish j r ∷ older) = settle r (job opening older j) (scripts_of opening older)
 scripts_of opening (Abandon j ∷ older) = give_up (job opening older j) (scripts_of opening older)
+
+-- a job to hand out, its task to keep and its act to record are those of the first script that waits
+pub record IsReady (opening : Settings) (past : List Act) (handed kept : Task) (act : Act) : Type 0 where
+  pub waiting : next past ≡ Some (handed.name, handed.text)
+  pub number : handed.number ≡ started past + 1
+  pub settings : handed.settings ≡ now opening past
+  pub same : kept ≡ handed
+  pub start : act ≡ Start handed.number handed.name
 
 -- the book keeps the replay of its acts, which are legal, with room for the ends of its jobs
 pub record IsReplay (opening : Settings) (past : List Act) (current : Settings) (kept : List Entry) (open_jobs : List Task) (count : ℕ) (capacity : ℕ) : Type 0 where

@@ -5,15 +5,16 @@ ghost use Rattle.std.specs.Map.Iter.{deref_pair};
 ghost use Rattle.std.specs.Str.{bytes_eq};
 ghost use Rattle.pd_text.specs.Edit.{edited};
 ghost use Rattle.pd_settings.specs.Keys.{key_named};
-ghost use Rattle.pd_book.specs.Acts.{texts, text_of, stands, next, now, started, job, ruling};
+ghost use Rattle.pd_book.specs.Acts.{texts, present, text_of, stands, next, job, ruling};
 ghost use Rattle.pd_book.specs.Report.{shown, owed};
 ghost use Rattle.pd_book.specs.Story.{told, told_start};
-ghost use Rattle.pd_book.specs.Refusals.{full, add_refusal, text_refusal, book_edit_refusal, remove_refusal, set_refusal, start_refusal, next_job, fault_of, finish_fault};
+ghost use Rattle.pd_book.specs.Replay.{IsReady};
+ghost use Rattle.pd_book.specs.Refusals.{full, add_refusal, text_refusal, edit_refusal, remove_refusal, set_refusal, start_refusal, next_job, fault_of, finish_fault};
 
 use crate::act::{Act, Ruling};
 use crate::faults::{BookFault, FinishFault};
 use crate::job::{Done, Job};
-use crate::recording::{keep_abandon, keep_finish, keep_start, record, task_of, Prepared};
+use crate::recording::{Prepared, keep_abandon, keep_finish, keep_start, record, task_of};
 use crate::report::Report;
 use crate::scripts::Scripts;
 use crate::task::Task;
@@ -49,7 +50,8 @@ impl Model for Book {
 
     ghost view = { λ b. record { opening = b.opening; past = reverse b.acts.items } };
 
-    ghost invariant = { λ b. IsReplay b.opening (reverse b.acts.items) b.settings b.scripts b.tasks.items b.numbers (vec_capacity b.acts) };
+    ghost invariant = { λ b. IsReplay b.opening (reverse b.acts.items) b.settings b.scripts b.tasks.items b.numbers
+        (vec_capacity b.acts) };
 }
 
 impl Book {
@@ -159,8 +161,8 @@ impl Book {
     /// The text of a script after an edit; `None` for want of memory.
     fn edited(&self, name: &Name, edit: &LineEdit) -> Result<Option<Lines>, BookFault>
         ensures ok { IfOk result (λ lines. IfSome lines (λ lines. lines ≡ edited (text_of self.now.past name.now) edit.now)) }
-        ensures allowed { OnOk result (text_refusal (lookup (bytes_eq name.now) (texts self.now.past)) edit.now ≡ None) }
-        ensures err { IfErr result (λ e. text_refusal (lookup (bytes_eq name.now) (texts self.now.past)) edit.now ≡ Some e) }
+        ensures allowed { OnOk result (text_refusal (present self.now.past name.now) edit.now ≡ None) }
+        ensures err { IfErr result (λ e. text_refusal (present self.now.past name.now) edit.now ≡ Some e) }
     {
         let Some(text) = self.text(name) else {
             return Err(BookFault::NoSuchScript);
@@ -175,7 +177,7 @@ impl Book {
 
     /// The present text of a script.
     fn text(&self, name: &Name) -> Option<&Text>
-        ensures { option_copied result ≡ lookup (bytes_eq name.now) (texts self.now.past) }
+        ensures { option_copied result ≡ present self.now.past name.now }
     {
         self.scripts.text(name)
     }
@@ -186,8 +188,8 @@ impl Book {
     /// `NoSuchScript`, `BadRange`, `TooLarge` or `HistoryFull`, the first that applies; else `OutOfMemory`.
     pub fn edit(&mut self, name: &Name, edit: &LineEdit) -> Result<(), BookFault>
         ensures ok { OnOk result (self.new ≡ told self.old (Act.Edit name.now edit.now)) }
-        ensures allowed { OnOk result (book_edit_refusal self.old name.now edit.now ≡ None) }
-        ensures err { IfErr result (λ e. e ≡ fault_of (book_edit_refusal self.old name.now edit.now)) }
+        ensures allowed { OnOk result (edit_refusal self.old name.now edit.now ≡ None) }
+        ensures err { IfErr result (λ e. e ≡ fault_of (edit_refusal self.old name.now edit.now)) }
         ensures same { OnErr result (self.new ≡ self.old) }
     {
         let edited = self.edited(name, edit)?;
@@ -241,7 +243,7 @@ impl Book {
     /// What a start hands out, keeps and records.
     fn prepare(&self) -> Result<Option<Prepared>, BookFault>
         ensures none { IfOk result (λ p. p ≡ None → next self.now.past ≡ None) }
-        ensures some { IfOk result (λ p. IfSome p (λ p. (next self.now.past ≡ Some (p.job.name, p.job.text)) × (p.job.number ≡ started self.now.past + 1) × (p.job.settings ≡ now self.now.opening self.now.past) × (p.task ≡ p.job) × (p.act ≡ Act.Start p.job.number p.job.name))) }
+        ensures some { IfOk result (λ p. IfSome p (λ p. IsReady self.now.opening self.now.past p.job p.task p.act)) }
         ensures room { IfOk result (λ p. IfSome p (λ _. full 2 self.now ≡ None)) }
         ensures err { IfErr result (λ e. e ≡ fault_of (start_refusal self.now)) }
     {
@@ -280,12 +282,7 @@ impl Book {
         self.acts.reserve(self.tasks.len() + 2)?;
         self.tasks.reserve(1)?;
         self.numbers = prepared.job.number();
-        let job = keep_start(
-            &mut self.acts,
-            &mut self.tasks,
-            &mut self.scripts,
-            prepared,
-        );
+        let job = keep_start(&mut self.acts, &mut self.tasks, &mut self.scripts, prepared);
         Ok(Some(job))
     }
 

@@ -3,7 +3,7 @@ ghost use Rattle.std.specs.Prelude.{◌≡◌, ◌+◌, ◌<◌, ◌^◌, IfOk, 
 ghost use Rattle.pd_run.specs.Run.{verdict_of, stepped_of};
 
 use crate::task::Task;
-use pd_run::{run_with, Stepper, Verdict};
+use pd_run::{Stepper, Verdict, run_with};
 use pd_settings::Settings;
 use pd_text::{Name, Text};
 use std::alloc::Global;

@@ -14,5 +14,4 @@ pub fn headline()
     ensures verdicts { (opening : Settings) → (past : List Act) → Legal opening past → VerdictsAreRuns opening past }
     ensures scratch { (opening : Settings) → (past : List Act) → Legal opening past → ScratchWhenAllAnswered opening past }
     ensures taken { (opening : Settings) → (past : List Act) → Legal opening past → TakenWhenUnchanged opening past }
-{
-}
+{}

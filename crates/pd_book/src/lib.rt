@@ -16,7 +16,7 @@ mod task;
 pub use act::{Act, Ruling};
 pub use book_core::Book;
 pub use faults::{BookFault, FinishFault};
-pub use job::{run_job, Done, Job, Unfinished};
+pub use job::{Done, Job, Unfinished, run_job};
 pub use laws::headline;
 pub use report::Report;
 pub use row::Row;

@@ -1,11 +1,11 @@
 //! The scripts that stand, in order of adding.
 ghost use Rattle.std.specs.Prelude.{◌≡◌, ◌++◌, ◌∷◌, [], length, is_some, is_none, map, find, count_by, IfOk, OnOk, OnErr, option_map, None, Some};
-ghost use Rattle.std.specs.Option.{option_map_or, option_copied};
+ghost use Rattle.std.specs.Option.{option_copied};
 ghost use Rattle.std.specs.List.{IsDistinct};
-ghost use Rattle.std.specs.Map.{lookup, remove_entry, set_value, keys_of, values_of};
+ghost use Rattle.std.specs.Map.{lookup, remove_entry, keys_of, values_of};
 ghost use Rattle.std.specs.Map.Iter.{deref_pair};
 ghost use Rattle.std.specs.Str.{bytes_eq};
-ghost use Rattle.pd_book.specs.Kept.{in_state, is_pending, verdict_in, runs, with_state, without_name, all_pending, kept_row};
+ghost use Rattle.pd_book.specs.Kept.{in_state, is_pending, verdict_in, runs, written_at, with_state, without_name, all_pending, kept_row};
 ghost use Rattle.pd_book.specs.Replay.{give_up};
 
 use crate::row::Row;
@@ -77,7 +77,7 @@ impl Scripts {
 
     /// Gives the script of this name another text; it is pending then.
     pub fn rewrite(&mut self, name: &Name, text: Text)
-        ensures written { self.new ≡ option_map_or (λ s. set_value (bytes_eq name.now) self.old (record { text = text; state = State.Pending })) (lookup (bytes_eq name.now) self.old) self.old }
+        ensures written { self.new ≡ written_at name.now (λ s. record { text = text; state = State.Pending }) self.old }
         ensures distinct { IsDistinct bytes_eq (keys_of self.old) }
     {
         if let Some(script) = self.by_name.get_mut(name) {
@@ -168,7 +168,7 @@ impl Scripts {
     }
 
     fn write_state(&mut self, name: &Name, state: State)
-        ensures written { self.new ≡ option_map_or (λ s. set_value (bytes_eq name.now) self.old (in_state s state)) (lookup (bytes_eq name.now) self.old) self.old }
+        ensures written { self.new ≡ written_at name.now (λ s. in_state s state) self.old }
         ensures distinct { IsDistinct bytes_eq (keys_of self.old) }
     {
         if let Some(script) = self.by_name.get_mut(name) {

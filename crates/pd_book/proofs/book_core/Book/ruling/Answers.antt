@@ -17,7 +17,7 @@ returns-then-runs c =
     let kept = ruling_kept c.self.inside.opening past h c.self.invariant.legal there in
     let is : runs (option_map (λ (s : Script). s.state) (lookup (bytes_eq h.name) c.self.inside.scripts)) h.number ≡ true = cc (c.runs.ensures, c.if-runs.true, c.name.ensures, c.number.ensures) in
     let f : fresh c.args.self.now.past h ≡ true =
-        sym (ap (λ (x : Story). fresh x.past h) c.self.view_is) ∙ (sym kept ∙ (ap (λ (es : List Entry). runs (option_map (λ (s : Script). s.state) (lookup (bytes_eq h.name) es)) h.number) (sym c.self.invariant.scripts) ∙ is)) in
+    sym (ap (λ (x : Story). fresh x.past h) c.self.view_is) ∙ (sym kept ∙ (ap (λ (es : List Entry). runs (option_map (λ (s : Script). s.state) (lookup (bytes_eq h.name) es)) h.number) (sym c.self.invariant.scripts) ∙ is)) in
     rw f refl
 
 pub returns-else-runs : goal.returns-else-runs
@@ -28,5 +28,5 @@ returns-else-runs c =
     let kept = ruling_kept c.self.inside.opening past h c.self.invariant.legal there in
     let is : runs (option_map (λ (s : Script). s.state) (lookup (bytes_eq h.name) c.self.inside.scripts)) h.number ≡ false = cc (c.runs.ensures, c.if-runs.false, c.name.ensures, c.number.ensures) in
     let f : fresh c.args.self.now.past h ≡ false =
-        sym (ap (λ (x : Story). fresh x.past h) c.self.view_is) ∙ (sym kept ∙ (ap (λ (es : List Entry). runs (option_map (λ (s : Script). s.state) (lookup (bytes_eq h.name) es)) h.number) (sym c.self.invariant.scripts) ∙ is)) in
+    sym (ap (λ (x : Story). fresh x.past h) c.self.view_is) ∙ (sym kept ∙ (ap (λ (es : List Entry). runs (option_map (λ (s : Script). s.state) (lookup (bytes_eq h.name) es)) h.number) (sym c.self.invariant.scripts) ∙ is)) in
     rw f refl

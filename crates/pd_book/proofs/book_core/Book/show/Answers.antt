@@ -14,7 +14,7 @@ new-requires c =
     let past = reverse c.self.inside.acts.items in
     let opening = c.self.inside.opening in
     let rows : c.in_ok-rows.rows.items ≡ (shown opening past).rows =
-        c.in_ok-rows.ensures ∙ (ap (λ (es : List Entry). map kept_row es) c.self.invariant.scripts ∙ sym (rows_kept opening past c.self.invariant.legal)) in
+    c.in_ok-rows.ensures ∙ (ap (λ (es : List Entry). map kept_row es) c.self.invariant.scripts ∙ sym (rows_kept opening past c.self.invariant.legal)) in
     subst (λ (s : Settings). All (IsRunUnder s) c.in_ok-rows.rows.items) (sym c.self.invariant.settings)
     (subst (λ (rs : List Row). All (IsRunUnder (now opening past)) rs) (sym rows) (rows_run opening past))
 
@@ -23,7 +23,7 @@ returns c =
     let past = reverse c.self.inside.acts.items in
     let opening = c.self.inside.opening in
     let rows : c.in_ok-rows.rows.items ≡ (shown opening past).rows =
-        c.in_ok-rows.ensures ∙ (ap (λ (es : List Entry). map kept_row es) c.self.invariant.scripts ∙ sym (rows_kept opening past c.self.invariant.legal)) in
+    c.in_ok-rows.ensures ∙ (ap (λ (es : List Entry). map kept_row es) c.self.invariant.scripts ∙ sym (rows_kept opening past c.self.invariant.legal)) in
     let under : Settings → List Row → Shown = λ s rs. record { settings = s; rows = rs } in
     c.new.ensures ∙ (ap (under c.self.inside.settings) rows ∙ (ap (λ (s : Settings). under s (shown opening past).rows) c.self.invariant.settings
     ∙ ap (λ (x : Story). shown x.opening x.past) c.self.view_is))

@@ -18,13 +18,13 @@ invariant_of-self-2 c =
     let k = c.keep_start-job.ensures in
     start_kept c.self.inside.opening (reverse acts) _ c.self.inside.settings c.self.inside.scripts _ c.self.inside.tasks.items _ c.self.inside.numbers _ _ _ p.job p.act
     c.self.invariant
-    (ap (λ (x : Story). next x.past) c.self.view_is ∙ s.0)
-    (s.1 ∙ ap (λ (x : Story). started x.past + 1) (sym c.self.view_is))
-    (s.2 ∙ ap (λ (x : Story). now x.opening x.past) (sym c.self.view_is))
-    s.4
+    (ap (λ (x : Story). next x.past) c.self.view_is ∙ s.waiting)
+    (s.number ∙ ap (λ (x : Story). started x.past + 1) (sym c.self.view_is))
+    (s.settings ∙ ap (λ (x : Story). now x.opening x.past) (sym c.self.view_is))
+    s.start
     (k.past ∙ ap (λ (x : List Act). p.act ∷ reverse x) c.in_ok-reserve.ensures.items)
     k.scripts
-    (k.tasks ∙ cc (c.in_ok-reserve-2.ensures.items, s.3))
+    (k.tasks ∙ cc (c.in_ok-reserve-2.ensures.items, s.same))
     c.number-self-inside.ensures
     (omega (arith, c.in_ok-reserve.ensures.ok, k.capacity, length-reverse acts, c.in_ok-reserve.ensures.len, c.len.ensures))
     few

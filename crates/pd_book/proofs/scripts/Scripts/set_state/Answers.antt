@@ -14,8 +14,8 @@ returns c =
     let f = λ (s : Script). in_state s c.args.state in
     let d = c.write_state.ensures.distinct in
     let go : (r : Option Script) → lookup (bytes_eq n) es ≡ r → option_map_or (λ (s : Script). set_value (bytes_eq n) es (f s)) r es ≡ with_state (bytes_eq n) c.args.state es =
-        λ r. elim r as (λ (x : Option Script). lookup (bytes_eq n) es ≡ x → option_map_or (λ (s : Script). set_value (bytes_eq n) es (f s)) x es ≡ with_state (bytes_eq n) c.args.state es) [
-          | None ↦ λ h. sym (set_unnamed n f es h)
-          | Some s ↦ λ h. set_named n f s es d h
-        ] in
+    λ r. elim r as (λ (x : Option Script). lookup (bytes_eq n) es ≡ x → option_map_or (λ (s : Script). set_value (bytes_eq n) es (f s)) x es ≡ with_state (bytes_eq n) c.args.state es) [
+      | None ↦ λ h. sym (set_unnamed n f es h)
+      | Some s ↦ λ h. set_named n f s es d h
+    ] in
     c.write_state.ensures.written ∙ go (lookup (bytes_eq n) es) refl
