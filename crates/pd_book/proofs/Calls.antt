@@ -1,5 +1,5 @@
 -- A book after each call is the replay of its acts.
-use Rattle.std.proofs.Common.{◌≡◌, ℕ, suc, ◌==◌, ◌+◌, ◌<◌, ◌≤◌, length, length-append, List, [], ◌∷◌, ◌++◌, map, find, filter, Option, Some, None, is_some, Bool, true, false, not, cond, unwrap_or, refl, ap, sym, subst, ◌∙◌, arith}
+use Rattle.std.proofs.Common.{◌≡◌, ℕ, suc, ◌==◌, ◌+◌, ◌<◌, ◌≤◌, length, length-append, List, [], ◌∷◌, ◌++◌, find, Option, Some, None, is_some, Bool, true, false, not, cond, unwrap_or, refl, ap, sym, ◌∙◌, arith}
 use Rattle.std.specs.Option.{option_map, option_map_or}
 use Rattle.std.specs.List.{IsDistinct}
 use Rattle.std.specs.Map.{lookup, set_value, keys_of}
@@ -10,15 +10,14 @@ use Rattle.pd_text.specs.Edit.{edited, edit_refusal}
 use Rattle.pd_text.specs.declared.line_edit.LineEdit.{LineEdit}
 use Rattle.pd_settings.specs.declared.fields.Settings.{Settings}
 use Rattle.pd_book.specs.declared.act.Act.{Act}
-use Rattle.pd_book.specs.declared.act.Act.TheVariants.{Add, Edit, Remove, Set, Start, Finish, Abandon}
+use Rattle.pd_book.specs.declared.act.Act.TheVariants.{Edit, Start, Finish, Abandon}
 use Rattle.pd_book.specs.declared.act.Ruling.{Ruling}
-use Rattle.pd_book.specs.declared.faults.BookFault.{BookFault}
 use Rattle.pd_book.specs.declared.faults.BookFault.TheVariants.{HistoryFull}
 use Rattle.pd_book.specs.declared.script.Script.{Script}
-use Rattle.pd_book.specs.declared.script.State.TheVariants.{Pending, Running, Answered}
+use Rattle.pd_book.specs.declared.script.State.TheVariants.{Pending, Running}
 use Rattle.pd_book.specs.declared.task.Task.{Task}
-use Rattle.pd_book.specs.Acts.{Named, texts, text_of, now, without, jobs, job, started, next, ruling}
-use Rattle.pd_book.specs.Legal.{May, HasRoom, Legal}
+use Rattle.pd_book.specs.Acts.{texts, text_of, now, without, jobs, job, started, next, ruling}
+use Rattle.pd_book.specs.Legal.{May}
 use Rattle.pd_book.specs.Story.{Story}
 use Rattle.pd_book.specs.Faults.{of_text}
 use Rattle.pd_book.specs.Refusals.{taken_room, full, text_refusal}

@@ -1,5 +1,5 @@
 -- A write under one name, and a removal, where names differ.
-use Rattle.std.proofs.Common.{◌≡◌, ℕ, List, [], ◌∷◌, map, Bool, true, false, not, filter, cond, Some, None, Option, refl, ap, sym, ◌∙◌}
+use Rattle.std.proofs.Common.{◌≡◌, ℕ, List, [], ◌∷◌, map, Bool, true, false, not, cond, Some, None, refl, ap, sym}
 use Rattle.std.specs.List.{IsDistinct, AllByRecursion}
 use Rattle.std.specs.Map.{lookup, set_value, remove_entry, keys_of}
 use Rattle.std.specs.Str.{bytes_eq}

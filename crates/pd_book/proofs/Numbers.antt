@@ -1,5 +1,5 @@
 -- Numbers of jobs: those that were started, are outstanding or have ended.
-use Rattle.std.proofs.Common.{◌≡◌, ℕ, ◌+◌, ◌<◌, ◌≤◌, ◌==◌, List, [], ◌∷◌, ◌++◌, filter, find, Option, Some, None, Bool, true, false, not, ◌||◌, cond, refl, ap, sym, ◌∙◌, arith}
+use Rattle.std.proofs.Common.{◌≡◌, ℕ, ◌≤◌, ◌==◌, List, [], ◌∷◌, find, Option, Some, None, Bool, true, false, not, ◌||◌, refl, ap, sym, ◌∙◌, arith}
 use Rattle.std.specs.List.{AllByRecursion}
 use Rattle.std.proofs.lemmas.Bool.Decides.{Decides-eqb}
 use Rattle.pd_settings.specs.declared.fields.Settings.{Settings}

@@ -1,5 +1,5 @@
 -- Entries of which the first are pending.
-use Rattle.std.proofs.Common.{◌≡◌, ℕ, Bool, find, drop, None, ◌+◌, ◌∙◌, cond, add-one, zero, suc, ◌≤◌, List, [], ◌∷◌, length, slice_get, Some, refl, ap, sym, arith}
+use Rattle.std.proofs.Common.{◌≡◌, ℕ, Bool, find, drop, ◌∙◌, cond, zero, suc, ◌≤◌, List, [], ◌∷◌, length, slice_get, Some, refl, ap, sym, arith}
 use Rattle.std.specs.Map.{values_of}
 use Rattle.indexmap.specs.Layout.{set_value_at}
 use Rattle.pd_book.specs.declared.script.Script.{Script}

@@ -1,5 +1,5 @@
 -- The scripts that a book keeps stand as the acts say.
-use Rattle.std.proofs.Common.{◌≡◌, ℕ, ◌==◌, List, [], ◌∷◌, map, find, Option, Some, None, is_some, Bool, true, false, not, ◌&&◌, cond, unwrap_or, refl, ap, sym, subst, ◌∙◌}
+use Rattle.std.proofs.Common.{◌≡◌, ℕ, ◌==◌, List, [], ◌∷◌, find, Option, Some, None, is_some, Bool, true, false, not, ◌&&◌, cond, unwrap_or, refl, ap, sym, subst, ◌∙◌}
 use Rattle.std.specs.Option.{option_map}
 use Rattle.std.specs.List.{AllByRecursion}
 use Rattle.std.specs.Map.{lookup}
@@ -24,7 +24,7 @@ use Rattle.pd_book.proofs.Faithful.{named_text, texts_of, texts-scripts, stands-
 use Rattle.pd_book.proofs.Stretches.{up}
 use Rattle.pd_book.proofs.Numbers.{open_job, job_number}
 use Rattle.pd_book.proofs.Standing.{Stands, At, reached, began, add_old, add_new, edit_each, remove_each, set_each, start_each, and_no}
-use Rattle.pd_book.proofs.Ends.{Runs, hit, taken_each, stale_each, abandoned_each, left_each, and_both}
+use Rattle.pd_book.proofs.Ends.{hit, taken_each, stale_each, abandoned_each, left_each}
 
 taken_if : (b : Bool) → Taken ≡ cond b Taken Stale → b ≡ true
 taken_if true h = refl

@@ -18,7 +18,7 @@ use Rattle.pd_book.specs.Legal.{Legal}
 use Rattle.pd_book.specs.Kept.{Entry, verdict_in, kept_row}
 use Rattle.pd_book.specs.Replay.{scripts_of}
 use Rattle.pd_book.proofs.Faithful.{named_text, texts_of, texts-scripts}
-use Rattle.pd_book.proofs.Standing.{Stands, At, reached}
+use Rattle.pd_book.proofs.Standing.{Stands, At}
 use Rattle.pd_book.proofs.Replayed.{standing}
 
 row_is : (opening : Settings) (past : List Act) (e : Entry) → Stands opening past e → row opening past (named_text e) ≡ kept_row e

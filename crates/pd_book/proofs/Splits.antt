@@ -1,5 +1,5 @@
 -- The headline: what is answered and taken, said by positions in the acts.
-use Rattle.std.proofs.Common.{◌≡◌, ◌↔◌, ℕ, ◌==◌, ◌+◌, ◌≤◌, List, [], ◌∷◌, ◌++◌, append_assoc, map, filter, Option, Some, None, is_some, Bool, true, false, not, ◌&&◌, ◌||◌, cond, refl, ap, sym, subst, ◌∙◌, arith}
+use Rattle.std.proofs.Common.{◌≡◌, ◌↔◌, ℕ, ◌==◌, List, [], ◌∷◌, ◌++◌, append_assoc, map, Option, Some, None, is_some, Bool, true, false, ◌&&◌, ◌||◌, cond, refl, ap, sym, subst, ◌∙◌, arith}
 use Rattle.std.specs.Prelude.{IsSome}
 use Rattle.std.specs.List.{AllByRecursion, All, list_any}
 use Rattle.std.specs.Map.{lookup}
@@ -16,17 +16,16 @@ use Rattle.pd_book.specs.declared.act.Act.TheVariants.{Add, Edit, Remove, Set, S
 use Rattle.pd_book.specs.declared.act.Ruling.{Ruling}
 use Rattle.pd_book.specs.declared.act.Ruling.TheVariants.{Taken, Stale}
 use Rattle.pd_book.specs.declared.row.Row.{Row}
-use Rattle.pd_book.specs.declared.task.Task.{Task}
-use Rattle.pd_book.specs.Acts.{Named, texts, text_of, stands, now, changes, since, starts, finishes, ends, finished, ended, started, answered, fresh, waits, job, ruling}
-use Rattle.pd_book.specs.Report.{row, shown, scratch_row, scratch}
+use Rattle.pd_book.specs.Acts.{Named, texts, text_of, stands, now, changes, since, starts, finishes, finished, ended, answered, fresh, waits, ruling}
+use Rattle.pd_book.specs.Report.{row, scratch_row}
 use Rattle.pd_book.specs.Legal.{Legal}
-use Rattle.pd_book.specs.Headline.{Unchanged, AnsweredSinceChange, UnchangedSinceStart, CurrentWhenAnswered, RowsAreScripts, ScratchWhenAllAnswered, TakenWhenUnchanged}
+use Rattle.pd_book.specs.Headline.{AnsweredSinceChange, UnchangedSinceStart, CurrentWhenAnswered, RowsAreScripts, ScratchWhenAllAnswered, TakenWhenUnchanged}
 use Rattle.pd_book.proofs.Searches.{all_imp, lookup_push, not_true}
 use Rattle.pd_book.proofs.Faithful.{bytes_refl, bytes_flip, lookup-edited_other, lookup-removed_other}
 use Rattle.pd_book.proofs.Numbers.{ended_small, finished_ended}
 use Rattle.pd_book.proofs.Standing.{reached, began}
 use Rattle.pd_book.proofs.Ends.{and_both}
-use Rattle.pd_book.proofs.Replayed.{found_stands, and_left, and_right}
+use Rattle.pd_book.proofs.Replayed.{found_stands, and_right}
 
 -- ---- lists
 

@@ -7,7 +7,7 @@ use Rattle.pd_book.specs.declared.act.Ruling.{Ruling}
 use Rattle.pd_book.specs.declared.act.Ruling.TheVariants.{Taken}
 use Rattle.pd_book.specs.declared.row.Row.{Row}
 use Rattle.pd_book.specs.declared.task.Task.{Task}
-use Rattle.pd_book.specs.Acts.{Named, changes, texts, now, job, ruling}
+use Rattle.pd_book.specs.Acts.{changes, texts, now, job, ruling}
 use Rattle.pd_book.specs.Report.{IsRunUnder, shown, scratch}
 
 -- none of these acts changes the script of this name

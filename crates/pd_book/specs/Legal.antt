@@ -1,5 +1,5 @@
 -- Which lists of acts a book may have recorded.
-use Rattle.std.specs.Prelude.{◌≡◌, ℕ, ◌+◌, ◌<◌, ◌≤◌, true, false, List, [], ◌∷◌, length, Option, Some, None, IsSome}
+use Rattle.std.specs.Prelude.{◌≡◌, ◌+◌, ◌<◌, ◌≤◌, true, false, List, [], ◌∷◌, length, Some, None, IsSome}
 use Rattle.pd_text.specs.Name.{is_valid_name}
 use Rattle.pd_text.specs.Edit.{edit_refusal}
 use Rattle.pd_settings.specs.Settings.{replaced}

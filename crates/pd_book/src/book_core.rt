@@ -260,7 +260,7 @@ impl Book {
             settings: self.settings,
         };
         let act = Act::Start(task.number, name.copy()?);
-        let job = Job::new(task.number, name.copy()?, text.share()?, task.settings);
+        let job = Job::of(task.share()?);
         Ok(Some(Prepared { job, task, act }))
     }
 

@@ -37,6 +37,13 @@ impl Job {
         }
     }
 
+    /// The job of this task.
+    pub(crate) fn of(task: Task) -> Job
+        ensures { result ≡ task }
+    {
+        Job { task }
+    }
+
     pub fn number(&self) -> u64
         ensures { result ≡ self.now.number }
     {

@@ -1,6 +1,5 @@
-use Rattle.std.proofs.Common.{◌≡◌, ◌∙◌, Some, List, find, ◌==◌, reverse, rules, ap, sym}
+use Rattle.std.proofs.Common.{◌≡◌, ◌∙◌, Some, List, find, ◌==◌, reverse, ap, sym}
 use Rattle.pd_book.specs.declared.task.Task.{Task}
-use Rattle.pd_book.specs.Acts.{job}
 use Rattle.pd_book.proofs.Calls.{abandon_kept}
 use Rattle.pd_book.proofs.book_core.Book.abandon.Goals as goal
 

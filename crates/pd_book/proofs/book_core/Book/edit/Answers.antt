@@ -1,10 +1,9 @@
-use Rattle.std.proofs.Common.{◌≡◌, ◌∙◌, ◌∷◌, ◌+◌, ◌≤◌, None, List, reverse, ap, sym, arith, rules, length}
+use Rattle.std.proofs.Common.{◌≡◌, ◌∙◌, ◌+◌, ◌≤◌, None, reverse, ap, sym, arith, rules, length}
 use Rattle.std.specs.Map.{lookup}
 use Rattle.std.specs.Str.{bytes_eq}
 use Rattle.std.proofs.lemmas.List.{length-reverse}
 use Rattle.pd_text.specs.Edit.{edited}
-use Rattle.pd_book.specs.declared.act.Act.{Act}
-use Rattle.pd_book.specs.Acts.{texts, text_of, jobs}
+use Rattle.pd_book.specs.Acts.{texts, text_of}
 use Rattle.pd_book.specs.Story.{Story}
 use Rattle.pd_book.specs.Refusals.{text_refusal, full, taken_room}
 use Rattle.pd_book.proofs.Calls.{edit_kept, has_room}

@@ -1,4 +1,4 @@
-use Rattle.std.proofs.Common.{◌≡◌, ◌∙◌, Some, reverse, rules, ap, sym}
+use Rattle.std.proofs.Common.{◌∙◌, reverse, rules, ap, sym}
 use Rattle.pd_book.specs.Acts.{job, ruling}
 use Rattle.pd_book.specs.Story.{Story}
 use Rattle.pd_book.proofs.Calls.{finish_kept}

@@ -1,4 +1,4 @@
-use Rattle.std.proofs.Common.{◌≡◌, ◌∙◌, Bool, true, false, List, Some, reverse, refl, ap, sym}
+use Rattle.std.proofs.Common.{◌≡◌, ◌∙◌, true, false, List, Some, reverse, refl, ap, sym}
 use Rattle.std.specs.Option.{option_map}
 use Rattle.std.specs.Map.{lookup}
 use Rattle.std.specs.Str.{bytes_eq}

@@ -1,9 +1,9 @@
-use Rattle.std.proofs.Common.{◌≡◌, ◌∙◌, ◌∷◌, ◌+◌, ◌≤◌, None, List, reverse, ap, sym, arith, length}
+use Rattle.std.proofs.Common.{◌∙◌, ◌∷◌, ◌+◌, ◌≤◌, List, reverse, ap, sym, arith, length}
 use Rattle.std.proofs.lemmas.List.{length-reverse}
 use Rattle.pd_book.specs.declared.act.Act.{Act}
 use Rattle.pd_book.specs.Acts.{next, now, started}
 use Rattle.pd_book.specs.Story.{Story}
-use Rattle.pd_book.specs.Refusals.{full, taken_room}
+use Rattle.pd_book.specs.Refusals.{taken_room}
 use Rattle.pd_book.proofs.Calls.{start_kept, has_room}
 use Rattle.pd_book.proofs.book_core.Book.start.Goals as goal
 

@@ -1,4 +1,4 @@
-use Rattle.std.proofs.Common.{◌≡◌, ◌∙◌, List, ℕ, Option, find, ap, sym, reverse}
+use Rattle.std.proofs.Common.{◌∙◌, List, Option, find, ap, sym, reverse}
 use Rattle.std.specs.Option.{option_map}
 use Rattle.pd_book.specs.Kept.{Entry, is_pending}
 use Rattle.pd_book.specs.Acts.{next}

@@ -1,4 +1,4 @@
-use Rattle.std.proofs.Common.{◌≡◌, ◌∙◌, find, drop, Some, cond, true, false, sym, ap, add-one, slice_get, arith}
+use Rattle.std.proofs.Common.{◌≡◌, ◌∙◌, find, Some, true, false, sym, ap, add-one, slice_get, arith}
 use Rattle.pd_book.specs.Kept.{is_pending, pending_state}
 use Rattle.pd_book.proofs.Pending.{find_at}
 use Rattle.pd_book.proofs.scripts.Scripts.first_pending.Goals as goal

@@ -1,7 +1,6 @@
-use Rattle.std.proofs.Common.{◌≡◌, ◌∙◌, Option, None, sym, ap}
+use Rattle.std.proofs.Common.{◌≡◌, ◌∙◌, None}
 use Rattle.std.specs.Map.{lookup, remove_entry}
 use Rattle.std.specs.Str.{bytes_eq}
-use Rattle.pd_book.specs.Kept.{Entry}
 use Rattle.pd_book.proofs.Named.{remove_named}
 use Rattle.pd_book.proofs.scripts.Scripts.remove.Goals as goal
 
