@@ -12,3 +12,4 @@ pub mod Replayed
 pub mod Rows
 pub mod Calls
 pub mod Splits
+pub mod Turns

@@ -34,7 +34,7 @@ stale_if : (b : Bool) → Stale ≡ cond b Taken Stale → b ≡ false
 stale_if true h = absurd cc
 stale_if false h = refl
 
-both_left : (a b : Bool) → (not a && not b) ≡ true → a ≡ false
+pub both_left : (a b : Bool) → (not a && not b) ≡ true → a ≡ false
 both_left true b h = absurd cc
 both_left false b h = refl
 

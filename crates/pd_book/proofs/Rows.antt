@@ -52,11 +52,11 @@ rows_run opening past = All-map (IsRunUnder (now opening past)) (row opening pas
     each [] = tt
     each (p ∷ ps) = (one p (answered past p.0) refl, each ps)
 
-tally : {X : Type 0} → (X → Bool) → List X → ℕ
+unfoldable pub tally : {X : Type 0} → (X → Bool) → List X → ℕ
 tally p [] = 0
 tally p (x ∷ xs) = cond (p x) (1 + tally p xs) (tally p xs)
 
-tallied : {X : Type 0} (p : X → Bool) (xs : List X) → count_by p xs ≡ tally p xs
+pub tallied : {X : Type 0} (p : X → Bool) (xs : List X) → count_by p xs ≡ tally p xs
 unfolding tally
 tallied p xs = sym (is_count_by (tally p) p refl (λ y ys. refl) xs)
 

@@ -55,16 +55,16 @@ one_of false b h k = absurd cc
 
 -- ---- positions
 
-abbrev Same : List ℕ → Act → Type 0
+abbrev pub Same : List ℕ → Act → Type 0
 Same name act = changes name act ≡ false
 
 -- the acts since the last change of the script, and those before
-record Parted (name : List ℕ) (past : List Act) : Type 0 where
-  rest : List Act
-  split : past ≡ since name past ++ rest
-  same : AllByRecursion (Same name) (since name past)
+pub record Parted (name : List ℕ) (past : List Act) : Type 0 where
+  pub rest : List Act
+  pub split : past ≡ since name past ++ rest
+  pub same : AllByRecursion (Same name) (since name past)
 
-parted : (name : List ℕ) (past : List Act) → Parted name past
+pub parted : (name : List ℕ) (past : List Act) → Parted name past
 parted name [] = record { rest = []; split = refl; same = tt }
 parted name (a ∷ past) = go (changes name a) refl (parted name past)
   where

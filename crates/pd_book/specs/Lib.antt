@@ -11,5 +11,6 @@ pub mod Story
 pub mod Faults
 pub mod Refusals
 pub mod Headline
+pub mod Turns
 pub mod Kept
 pub mod Replay

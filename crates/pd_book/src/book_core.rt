@@ -6,6 +6,7 @@ ghost use Rattle.std.specs.Str.{bytes_eq};
 ghost use Rattle.pd_text.specs.Edit.{edited};
 ghost use Rattle.pd_settings.specs.Keys.{key_named};
 ghost use Rattle.pd_book.specs.Acts.{texts, present, text_of, stands, next, job, ruling};
+ghost use Rattle.pd_book.specs.Legal.{Legal};
 ghost use Rattle.pd_book.specs.Report.{shown, owed};
 ghost use Rattle.pd_book.specs.Story.{told, told_start};
 ghost use Rattle.pd_book.specs.Replay.{IsReady};
@@ -71,7 +72,8 @@ impl Book {
 
     /// The accepted calls, the oldest first.
     pub fn history(&self) -> &[Act]
-        ensures { reverse result.now ≡ self.now.past }
+        ensures acts { reverse result.now ≡ self.now.past }
+        ensures legal { Legal self.now.opening self.now.past }
     {
         self.acts.as_slice()
     }

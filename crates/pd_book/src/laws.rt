@@ -3,6 +3,7 @@ ghost use Rattle.std.specs.Prelude.{List};
 ghost use Rattle.pd_settings.specs.declared.fields.Settings.{Settings};
 ghost use Rattle.pd_book.specs.declared.act.Act.{Act};
 ghost use Rattle.pd_book.specs.Legal.{Legal};
+ghost use Rattle.pd_book.specs.Turns.{TurnsSettle, NoneOwedWhenNoneWaits};
 ghost use Rattle.pd_book.specs.Headline.{CurrentWhenAnswered, RowsAreScripts, VerdictsAreRuns, ScratchWhenAllAnswered, TakenWhenUnchanged};
 
 /// After any list of accepted calls, in any order, a script is shown with a verdict exactly when a job
@@ -15,3 +16,11 @@ pub fn headline()
     ensures scratch { (opening : Settings) → (past : List Act) → Legal opening past → ScratchWhenAllAnswered opening past }
     ensures taken { (opening : Settings) → (past : List Act) → Legal opening past → TakenWhenUnchanged opening past }
 {}
+
+/// Starts and finishes by turns, with no other job between, come to an end: each turn leaves one row fewer
+/// pending, and where no script waits none is pending.
+pub fn settling()
+    ensures turns { (opening : Settings) → (past : List Act) → Legal opening past → TurnsSettle opening past }
+    ensures end { (opening : Settings) → (past : List Act) → Legal opening past → NoneOwedWhenNoneWaits opening past }
+{
+}

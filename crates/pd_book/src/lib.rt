@@ -17,7 +17,7 @@ pub use act::{Act, Ruling};
 pub use book_core::Book;
 pub use faults::{BookFault, FinishFault};
 pub use job::{Done, Job, Unfinished, run_job};
-pub use laws::headline;
+pub use laws::{headline, settling};
 pub use report::Report;
 pub use row::Row;
 pub use task::Task;
