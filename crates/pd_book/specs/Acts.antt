@@ -29,15 +29,13 @@ texts [] = []
 texts (Add n t ∷ older) = texts older ++ (n, t) ∷ []
 texts (Edit n e ∷ older) = map (edited_at n e) (texts older)
 texts (Remove n ∷ older) = filter (λ (script : Named). not (bytes_eq n script.0)) (texts older)
-texts (Set k v ∷ older) = texts older
-texts (Start j n ∷ older) = texts older
-texts (Finish j r ∷ older) = texts older
-texts (Abandon j ∷ older) = texts older
+texts (_ ∷ older) = texts older
 
 -- the present text of the script of this name, if it stands
 abbrev pub present : List Act → List ℕ → Option (List (List ℕ))
 present past name = lookup (bytes_eq name) (texts past)
 
+-- a script of this name stands
 abbrev pub stands : List Act → List ℕ → Bool
 stands past name = is_some (present past name)
 
@@ -52,13 +50,8 @@ set_to settings key value = unwrap_or (replaced settings key value) settings
 -- the present settings
 abbrev pub now : Settings → List Act → Settings
 now opening [] = opening
-now opening (Add n t ∷ older) = now opening older
-now opening (Edit n e ∷ older) = now opening older
-now opening (Remove n ∷ older) = now opening older
 now opening (Set k v ∷ older) = set_to (now opening older) k v
-now opening (Start j n ∷ older) = now opening older
-now opening (Finish j r ∷ older) = now opening older
-now opening (Abandon j ∷ older) = now opening older
+now opening (_ ∷ older) = now opening older
 
 -- the act is a change of the script of this name: an add, an edit or a remove of it, or any set,
 -- also where it changes no octet
@@ -67,9 +60,7 @@ changes name (Add n t) = bytes_eq name n
 changes name (Edit n e) = bytes_eq name n
 changes name (Remove n) = bytes_eq name n
 changes name (Set k v) = true
-changes name (Start j n) = false
-changes name (Finish j r) = false
-changes name (Abandon j) = false
+changes name _ = false
 
 -- the acts after the last change of the script
 abbrev pub since : List ℕ → List Act → List Act
@@ -78,37 +69,25 @@ since name (act ∷ older) = if changes name act then [] else act ∷ since name
 
 -- the act starts a job on the script of this name, of which the number passes the test
 abbrev pub starts : (ℕ → Bool) → List ℕ → Act → Bool
-starts test name (Add n t) = false
-starts test name (Edit n e) = false
-starts test name (Remove n) = false
-starts test name (Set k v) = false
 starts test name (Start j n) = bytes_eq name n && test j
-starts test name (Finish j r) = false
-starts test name (Abandon j) = false
+starts test name _ = false
 
 -- the act finishes this job
 abbrev pub finishes : ℕ → Act → Bool
-finishes j (Add n t) = false
-finishes j (Edit n e) = false
-finishes j (Remove n) = false
-finishes j (Set k v) = false
-finishes j (Start i n) = false
 finishes j (Finish i r) = j == i
-finishes j (Abandon i) = false
+finishes j _ = false
 
 -- the act ends this job: finishes or abandons it
 abbrev pub ends : ℕ → Act → Bool
-ends j (Add n t) = false
-ends j (Edit n e) = false
-ends j (Remove n) = false
-ends j (Set k v) = false
-ends j (Start i n) = false
 ends j (Finish i r) = j == i
 ends j (Abandon i) = j == i
+ends j _ = false
 
+-- the job was finished, whatever the ruling
 abbrev pub finished : List Act → ℕ → Bool
 finished past j = list_any (finishes j) past
 
+-- the job was finished or abandoned
 abbrev pub ended : List Act → ℕ → Bool
 ended past j = list_any (ends j) past
 
@@ -131,13 +110,8 @@ next past = find (waits past) (texts past)
 -- how many jobs were started
 abbrev pub started : List Act → ℕ
 started [] = 0
-started (Add n t ∷ older) = started older
-started (Edit n e ∷ older) = started older
-started (Remove n ∷ older) = started older
-started (Set k v ∷ older) = started older
 started (Start j n ∷ older) = started older + 1
-started (Finish j r ∷ older) = started older
-started (Abandon j ∷ older) = started older
+started (_ ∷ older) = started older
 
 -- the tasks but the one of this number
 abbrev pub without : ℕ → List Task → List Task
@@ -146,14 +120,11 @@ without j tasks = filter (λ (task : Task). not (j == task.number)) tasks
 -- the outstanding jobs, the oldest first, each with the text and the settings of the moment of its start
 abbrev pub jobs : Settings → List Act → List Task
 jobs opening [] = []
-jobs opening (Add n t ∷ older) = jobs opening older
-jobs opening (Edit n e ∷ older) = jobs opening older
-jobs opening (Remove n ∷ older) = jobs opening older
-jobs opening (Set k v ∷ older) = jobs opening older
 jobs opening (Start j n ∷ older) =
     jobs opening older ++ record { number = j; name = n; text = text_of older n; settings = now opening older } ∷ []
 jobs opening (Finish j r ∷ older) = without j (jobs opening older)
 jobs opening (Abandon j ∷ older) = without j (jobs opening older)
+jobs opening (_ ∷ older) = jobs opening older
 
 -- the outstanding job of this number
 abbrev pub job : Settings → List Act → ℕ → Option Task

@@ -15,19 +15,23 @@ use Rattle.pd_book.specs.declared.script.State.TheVariants.{Pending, Running, An
 abbrev pub Entry : Type 0
 Entry = List ℕ × Script
 
+-- the script has no verdict, and runs no job
 abbrev pub pending_state : State → Bool
 pending_state Pending = true
 pending_state (Running j) = false
 pending_state (Answered v) = false
 
+-- the same of a script under its name
 abbrev pub is_pending : Entry → Bool
 is_pending entry = pending_state entry.1.state
 
+-- the verdict, where there is one
 abbrev pub verdict_in : State → Option Verdict
 verdict_in Pending = None
 verdict_in (Running j) = None
 verdict_in (Answered v) = Some v
 
+-- the script, in this state
 abbrev pub in_state : Script → State → Script
 in_state script state = record { text = script.text; state = state }
 
@@ -60,5 +64,6 @@ without_name name entries = filter (λ (e : Entry). not (bytes_eq name e.0)) ent
 abbrev pub all_pending : List Entry → List Entry
 all_pending entries = map (λ (e : Entry). (e.0, in_state e.1 Pending)) entries
 
+-- the row of a script
 abbrev pub kept_row : Entry → Row
 kept_row entry = record { name = entry.0; text = entry.1.text; verdict = verdict_in entry.1.state }

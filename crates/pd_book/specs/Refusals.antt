@@ -31,6 +31,7 @@ abbrev pub or_else : Option BookFault → Option BookFault → Option BookFault
 or_else (Some fault) second = Some fault
 or_else None second = second
 
+-- an add: the name has 1 to 64 letters, digits, `_`, `-` and `.`, doesn't stand, and isn't the 1,025th
 abbrev pub add_refusal : Story → List ℕ → Option BookFault
 add_refusal story name =
     if not (is_valid_name name) then Some BadName else (
@@ -43,9 +44,11 @@ abbrev pub text_refusal : Option (List (List ℕ)) → LineEdit → Option BookF
 text_refusal None edit = Some NoSuchScript
 text_refusal (Some text) edit = option_map of_text (fault_of_edit text edit)
 
+-- an edit: the script stands, and the edit lies within its text and leaves a text within the limits
 abbrev pub edit_refusal : Story → List ℕ → LineEdit → Option BookFault
 edit_refusal story name edit = or_else (text_refusal (present story.past name) edit) (full 1 story)
 
+-- a remove: the script stands
 abbrev pub remove_refusal : Story → List ℕ → Option BookFault
 remove_refusal story name = if stands story.past name then full 1 story else Some NoSuchScript
 
@@ -54,6 +57,7 @@ abbrev pub value_refusal : Settings → Option Key → Value → Option BookFaul
 value_refusal settings None value = Some UnknownKey
 value_refusal settings (Some key) value = if is_none (replaced settings key value) then Some BadValue else None
 
+-- a set: the key names a setting, and the value lies in its range
 abbrev pub set_refusal : Story → List ℕ → Value → Option BookFault
 set_refusal story name value = or_else (value_refusal (now story.opening story.past) (key_named name) value) (full 1 story)
 
