@@ -46,7 +46,7 @@ absent_push n m t [] h e = rw e refl
 absent_push n m t (x ∷ xs) h e = go (bytes_eq n x.0) h (absent_push n m t xs)
   where
     go : (b : Bool) → cond b (Some x.1) (lookup (bytes_eq n) xs) ≡ None → (lookup (bytes_eq n) xs ≡ None → bytes_eq n m ≡ false → lookup (bytes_eq n) (xs ++ (m, t) ∷ []) ≡ None)
-      → cond b (Some x.1) (lookup (bytes_eq n) (xs ++ (m, t) ∷ [])) ≡ None
+        → cond b (Some x.1) (lookup (bytes_eq n) (xs ++ (m, t) ∷ [])) ≡ None
     go true k f = absurd cc
     go false k f = f k e
 
@@ -63,7 +63,7 @@ absent_edited n m d [] h = refl
 absent_edited n m d (x ∷ xs) h = go (bytes_eq n x.0) refl (bytes_eq m x.0) h (absent_edited n m d xs)
   where
     go : (b : Bool) → bytes_eq n x.0 ≡ b → (c : Bool) → cond b (Some x.1) (lookup (bytes_eq n) xs) ≡ None → (lookup (bytes_eq n) xs ≡ None → lookup (bytes_eq n) (map (edited_at m d) xs) ≡ None)
-      → lookup (bytes_eq n) (cond c (x.0, edited x.1 d) x ∷ map (edited_at m d) xs) ≡ None
+        → lookup (bytes_eq n) (cond c (x.0, edited x.1 d) x ∷ map (edited_at m d) xs) ≡ None
     go true e c k f = absurd cc
     go false e true k f = rw e (f k)
     go false e false k f = rw e (f k)
@@ -81,7 +81,7 @@ absent_removed n m [] h = refl
 absent_removed n m (x ∷ xs) h = go (bytes_eq n x.0) refl (bytes_eq m x.0) h (absent_removed n m xs)
   where
     go : (b : Bool) → bytes_eq n x.0 ≡ b → (c : Bool) → cond b (Some x.1) (lookup (bytes_eq n) xs) ≡ None → (lookup (bytes_eq n) xs ≡ None → lookup (bytes_eq n) (filter (λ (p : Named). not (bytes_eq m p.0)) xs) ≡ None)
-      → lookup (bytes_eq n) (cond (not c) (x ∷ filter (λ (p : Named). not (bytes_eq m p.0)) xs) (filter (λ (p : Named). not (bytes_eq m p.0)) xs)) ≡ None
+        → lookup (bytes_eq n) (cond (not c) (x ∷ filter (λ (p : Named). not (bytes_eq m p.0)) xs) (filter (λ (p : Named). not (bytes_eq m p.0)) xs)) ≡ None
     go true e c k f = absurd cc
     go false e true k f = f k
     go false e false k f = rw e (f k)
@@ -91,7 +91,7 @@ distinct_removed m [] h = tt
 distinct_removed m (x ∷ xs) h = go (bytes_eq m x.0) (distinct_removed m xs h.1)
   where
     go : (c : Bool) → Distinct (filter (λ (p : Named). not (bytes_eq m p.0)) xs)
-      → Distinct (cond (not c) (x ∷ filter (λ (p : Named). not (bytes_eq m p.0)) xs) (filter (λ (p : Named). not (bytes_eq m p.0)) xs))
+        → Distinct (cond (not c) (x ∷ filter (λ (p : Named). not (bytes_eq m p.0)) xs) (filter (λ (p : Named). not (bytes_eq m p.0)) xs))
     go true f = f
     go false f = (absent_removed x.0 m xs h.0, f)
 
@@ -156,8 +156,8 @@ counted_less p q n [] d same one = (λ h. absurd cc, λ h. refl)
 counted_less p q n (x ∷ xs) d same one = go (bytes_eq n x.0) refl (counted_less p q n xs d.1 same one)
   where
     go : (b : Bool) → bytes_eq n x.0 ≡ b
-      → (is_some (lookup (bytes_eq n) xs) ≡ true → tally p xs + 1 ≡ tally q xs) × (lookup (bytes_eq n) xs ≡ None → tally p xs ≡ tally q xs)
-      → (is_some (cond b (Some x.1) (lookup (bytes_eq n) xs)) ≡ true → cond (p x) (1 + tally p xs) (tally p xs) + 1 ≡ cond (q x) (1 + tally q xs) (tally q xs))
+        → (is_some (lookup (bytes_eq n) xs) ≡ true → tally p xs + 1 ≡ tally q xs) × (lookup (bytes_eq n) xs ≡ None → tally p xs ≡ tally q xs)
+        → (is_some (cond b (Some x.1) (lookup (bytes_eq n) xs)) ≡ true → cond (p x) (1 + tally p xs) (tally p xs) + 1 ≡ cond (q x) (1 + tally q xs) (tally q xs))
         × (cond b (Some x.1) (lookup (bytes_eq n) xs) ≡ None → cond (p x) (1 + tally p xs) (tally p xs) ≡ cond (q x) (1 + tally q xs) (tally q xs))
     go true e f =
         let is : n ≡ x.0 = (bytes_eq-Decides n x.0).0 e in
@@ -195,11 +195,13 @@ turns_settle opening past l task empty h = (fewer, alone)
   where
     acts : List Act
     acts = turned past task
+
     r : Ruling
     r = ruling (Start task.number task.name ∷ past) task
+
     found : (o : Option Named) → next past ≡ o
-      → option_map (λ (p : Named). task_at (started past + 1) p.0 p.1 (now opening past)) o ≡ Some task
-      → (stands past task.name ≡ true) × (answered past task.name ≡ false) × (started past < task.number)
+        → option_map (λ (p : Named). task_at (started past + 1) p.0 p.1 (now opening past)) o ≡ Some task
+        → (stands past task.name ≡ true) × (answered past task.name ≡ false) × (started past < task.number)
     found None q w = absurd cc
     found (Some p) q w =
         let is : task_at (started past + 1) p.0 p.1 (now opening past) ≡ task = cc in
@@ -209,18 +211,23 @@ turns_settle opening past l task empty h = (fewer, alone)
         let waiting = find_is (waits past) (texts past) p q in
         let calm = both_left (answered past p.0) (busy past p.0) waiting in
         (ap (stands past) (sym name) ∙ here, ap (answered past) (sym name) ∙ calm, omega (arith, number))
+
     facts : (stands past task.name ≡ true) × (answered past task.name ≡ false) × (started past < task.number)
     facts = found (next past) refl h
+
     same : (x : Named) → bytes_eq task.name x.0 ≡ false → unanswered acts x ≡ unanswered past x
     same x e = ap not (others_same opening past task.number r task.name x.0 l facts.2 (bytes_flip task.name x.0 e))
+
     one : (x : Named) → bytes_eq task.name x.0 ≡ true → (unanswered acts x ≡ false) × (unanswered past x ≡ true)
     one x e =
         let is : task.name ≡ x.0 = (bytes_eq-Decides task.name x.0).0 e in
         (ap not (ap (answered acts) (sym is) ∙ now_answered past task.number r task.name facts.0), ap not (ap (answered past) (sym is) ∙ facts.1))
+
     fewer : owed opening acts + 1 ≡ owed opening past
     fewer =
         ap (λ (k : ℕ). k + 1) (owed_tally opening acts)
         ∙ ((counted_less (unanswered acts) (unanswered past) task.name (texts past) (distinct opening past l) same one).0 facts.0 ∙ sym (owed_tally opening past))
+
     alone : jobs opening acts ≡ []
     alone = rw (empty, (Decides-eqb task.number task.number).1 refl) refl
 
@@ -234,7 +241,7 @@ all_answered opening past empty [] a h = refl
 all_answered opening past empty (e ∷ es) a h = by e.1.state a.0.1 h (all_answered opening past empty es a.1)
   where
     by : (st : State) → At opening past e.0 e.1.text st → cond (pending_state st) (Some e) (find is_pending es) ≡ None → (find is_pending es ≡ None → tally pending_script (values_of es) ≡ 0)
-      → cond (is_none (verdict_in st)) (1 + tally pending_script (values_of es)) (tally pending_script (values_of es)) ≡ 0
+        → cond (is_none (verdict_in st)) (1 + tally pending_script (values_of es)) (tally pending_script (values_of es)) ≡ 0
     by Pending at k f = absurd cc
     by (Running j) at k f = absurd (let none : job opening past j ≡ None = ap (λ (ts : List Task). find (λ (t : Task). j == t.number) ts) empty in let some = at.4 in cc)
     by (Answered v) at k f = f k

@@ -13,8 +13,9 @@ ghost use Rattle.pd_book.specs.Replay.{IsReady};
 ghost use Rattle.pd_book.specs.Refusals.{full, add_refusal, text_refusal, edit_refusal, remove_refusal, set_refusal, start_refusal, next_job, fault_of, finish_fault};
 
 use crate::act::{Act, Ruling};
+use crate::done::Done;
 use crate::faults::{BookFault, FinishFault};
-use crate::job::{Done, Job};
+use crate::job::Job;
 use crate::recording::{Prepared, keep_abandon, keep_finish, keep_start, record, task_of};
 use crate::report::Report;
 use crate::scripts::Scripts;

@@ -22,5 +22,4 @@ pub fn headline()
 pub fn settling()
     ensures turns { (opening : Settings) → (past : List Act) → Legal opening past → TurnsSettle opening past }
     ensures end { (opening : Settings) → (past : List Act) → Legal opening past → NoneOwedWhenNoneWaits opening past }
-{
-}
+{}

@@ -3,6 +3,7 @@
 
 mod act;
 mod book_core;
+mod done;
 mod faults;
 mod job;
 mod laws;
@@ -15,8 +16,9 @@ mod task;
 
 pub use act::{Act, Ruling};
 pub use book_core::Book;
+pub use done::{Done, Unfinished, run_job};
 pub use faults::{BookFault, FinishFault};
-pub use job::{Done, Job, Unfinished, run_job};
+pub use job::Job;
 pub use laws::{headline, settling};
 pub use report::Report;
 pub use row::Row;

@@ -6,7 +6,8 @@ ghost use Rattle.pd_book.specs.Kept.{with_state};
 ghost use Rattle.pd_book.specs.Replay.{settle, give_up};
 
 use crate::act::{Act, Ruling};
-use crate::job::{Done, Job};
+use crate::done::Done;
+use crate::job::Job;
 use crate::script::State;
 use crate::scripts::Scripts;
 use crate::task::Task;
@@ -46,7 +47,7 @@ pub fn task_of(tasks: &[Task], number: u64) -> Option<&Task>
 fn drop_task(tasks: &mut Vec<Task>, number: u64)
     ensures { tasks.new.items ≡ without number tasks.old.items }
 {
-    tasks.retain(|task| !(number == task.number));
+    tasks.retain(|task| number != task.number);
 }
 
 /// Keeps what a start leaves, and hands out its job.

@@ -1,3 +1,4 @@
+-- The headline holds of each legal list of acts.
 use Rattle.pd_book.proofs.Rows.{rows_run}
 use Rattle.pd_book.proofs.Splits.{current, rows_are_scripts, from_scratch, taken}
 use Rattle.pd_book.proofs.laws.headline.Goals as goal

@@ -1,3 +1,4 @@
+-- Settling by turns comes to an end.
 use Rattle.pd_book.proofs.Turns.{turns_settle, none_owed}
 use Rattle.pd_book.proofs.laws.settling.Goals as goal
 

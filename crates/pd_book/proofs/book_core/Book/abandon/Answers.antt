@@ -1,3 +1,4 @@
+-- The book after an abandonment is the replay of its acts.
 use Rattle.std.proofs.Common.{◌≡◌, ◌∙◌, Some, List, find, ◌==◌, reverse, ap, sym}
 use Rattle.pd_book.specs.declared.task.Task.{Task}
 use Rattle.pd_book.proofs.Calls.{abandon_kept}

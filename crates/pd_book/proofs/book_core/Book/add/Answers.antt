@@ -1,3 +1,4 @@
+-- A name that does not stand is not kept.
 use Rattle.std.proofs.Common.{◌≡◌, ◌∙◌, false, ap, sym, reverse}
 use Rattle.pd_book.specs.Acts.{stands}
 use Rattle.pd_book.specs.Story.{Story}

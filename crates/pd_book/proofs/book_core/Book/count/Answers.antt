@@ -1,3 +1,4 @@
+-- The kept scripts are as many as those that stand.
 use Rattle.std.proofs.Common.{◌∙◌, List, length, ap, sym, reverse}
 use Rattle.pd_book.specs.Acts.{texts}
 use Rattle.pd_book.specs.Kept.{Entry}

@@ -1,3 +1,4 @@
+-- The book after an edit is the replay of its acts.
 use Rattle.std.proofs.Common.{◌≡◌, ◌∙◌, ◌+◌, ◌≤◌, None, reverse, ap, sym, arith, rules, length}
 use Rattle.std.specs.Map.{lookup}
 use Rattle.std.specs.Str.{bytes_eq}

@@ -1,3 +1,4 @@
+-- The book after a finish is the replay of its acts.
 use Rattle.std.proofs.Common.{◌∙◌, reverse, rules, ap, sym}
 use Rattle.pd_book.specs.Acts.{job, ruling}
 use Rattle.pd_book.specs.Story.{Story}

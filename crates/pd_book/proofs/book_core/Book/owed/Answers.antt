@@ -1,3 +1,4 @@
+-- The kept scripts without a verdict are as many as the pending rows.
 use Rattle.std.proofs.Common.{◌∙◌, List, ap, sym, reverse}
 use Rattle.std.specs.List.{count_by}
 use Rattle.std.specs.Map.{values_of}

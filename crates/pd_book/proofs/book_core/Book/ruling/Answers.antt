@@ -1,3 +1,4 @@
+-- A script runs an outstanding job exactly where it has not changed since the start.
 use Rattle.std.proofs.Common.{◌≡◌, ◌∙◌, true, false, List, Some, reverse, refl, ap, sym}
 use Rattle.std.specs.Option.{option_map}
 use Rattle.std.specs.Map.{lookup}

@@ -1,3 +1,4 @@
+-- The kept rows are those that are shown, and their verdicts are runs.
 use Rattle.std.proofs.Common.{◌≡◌, ◌∙◌, List, map, subst, ap, sym, reverse}
 use Rattle.std.specs.List.{All}
 use Rattle.pd_settings.specs.declared.fields.Settings.{Settings}

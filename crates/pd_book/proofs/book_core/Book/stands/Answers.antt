@@ -1,3 +1,4 @@
+-- A kept name stands.
 use Rattle.std.proofs.Common.{◌∙◌, List, is_some, ap, sym, reverse}
 use Rattle.std.specs.Map.{lookup}
 use Rattle.std.specs.Str.{bytes_eq}

@@ -1,3 +1,4 @@
+-- The book after a start is the replay of its acts.
 use Rattle.std.proofs.Common.{◌∙◌, ◌∷◌, ◌+◌, ◌≤◌, List, reverse, ap, sym, arith, length}
 use Rattle.std.proofs.lemmas.List.{length-reverse}
 use Rattle.pd_book.specs.declared.act.Act.{Act}

@@ -1,3 +1,4 @@
+-- A kept text is the present one.
 use Rattle.std.proofs.Common.{◌∙◌, List, ap, sym, reverse}
 use Rattle.std.specs.Option.{option_map}
 use Rattle.std.specs.Map.{lookup}

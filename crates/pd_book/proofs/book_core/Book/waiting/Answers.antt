@@ -1,3 +1,4 @@
+-- The first kept as pending is the first that waits.
 use Rattle.std.proofs.Common.{◌∙◌, List, Option, find, ap, sym, reverse}
 use Rattle.std.specs.Option.{option_map}
 use Rattle.pd_book.specs.Kept.{Entry, is_pending}

@@ -1,3 +1,4 @@
+-- Each script is written once.
 use Rattle.std.proofs.Common.{◌≡◌, ◌∙◌, Some, slice_get, sym, ap, arith, add-one, length}
 use Rattle.std.specs.Map.{values_of}
 use Rattle.indexmap.specs.Layout.{set_value_at}

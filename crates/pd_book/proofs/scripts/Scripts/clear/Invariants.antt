@@ -1,3 +1,4 @@
+-- The scripts before the index are pending.
 use Rattle.std.proofs.Common.{◌≡◌}
 use Rattle.pd_book.proofs.Pending.{pending_to}
 use Rattle.pd_book.proofs.scripts.Scripts.clear.Given as goal

@@ -1,3 +1,4 @@
+-- The search goes on behind the index.
 use Rattle.std.proofs.Common.{◌≡◌, ◌∙◌, find, Some, true, false, sym, ap, add-one, slice_get, arith}
 use Rattle.pd_book.specs.Kept.{is_pending, pending_state}
 use Rattle.pd_book.proofs.Pending.{find_at}

@@ -1,3 +1,4 @@
+-- What is found is found behind the index.
 use Rattle.std.proofs.Common.{◌≡◌, drop, find}
 use Rattle.pd_book.specs.Kept.{is_pending}
 use Rattle.pd_book.proofs.scripts.Scripts.first_pending.Given as goal

@@ -1,3 +1,4 @@
+-- Without the first of a name is without the name.
 use Rattle.std.proofs.Common.{◌≡◌, ◌∙◌, None}
 use Rattle.std.specs.Map.{lookup, remove_entry}
 use Rattle.std.specs.Str.{bytes_eq}

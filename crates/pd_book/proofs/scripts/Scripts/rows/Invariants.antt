@@ -1,3 +1,4 @@
+-- The rows so far are those of the scripts so far.
 use Rattle.std.proofs.Common.{◌≡◌, map}
 use Rattle.std.specs.Map.Iter.{deref_pair}
 use Rattle.pd_book.specs.Kept.{kept_row}
