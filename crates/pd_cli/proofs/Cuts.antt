@@ -1,6 +1,6 @@
 -- Lines off the front.
-use Rattle.std.proofs.Common.{◌≡◌, ℕ, ◌+◌, ◌-◌, ◌≤◌, ◌<◌, ◌==◌, Bool, true, false, List, [], ◌∷◌, ◌++◌, length, take, All, Option, Some, None, refl, sym, ap, ◌∙◌, arith, cond, suc, zero, append-nil, slice_index, if◌then◌else◌, min, subst, IfSome}
-use Rattle.std.specs.List.{slice_split, count_by}
+use Rattle.std.proofs.Common.{◌≡◌, ℕ, ◌+◌, ◌-◌, ◌≤◌, ◌<◌, ◌==◌, Bool, true, false, List, [], ◌∷◌, ◌++◌, length, take, Option, refl, sym, ap, ◌∙◌, arith, cond, slice_index}
+use Rattle.std.specs.List.{slice_split}
 use Rattle.std.specs.Str.Lines.{lines, lines_of_parts, strip_carriage_return}
 use Rattle.std.proofs.lemmas.List.Splits.{slice_split_at, slice_split_none, length-slice_split}
 use Rattle.std.proofs.lemmas.List.{length-take, take_all}
@@ -8,7 +8,7 @@ use Rattle.std.proofs.lemmas.List.Elements.{All-take}
 use Rattle.std.proofs.lemmas.Bool.Decides.{nat_tests}
 use Rattle.pd_cli.specs.TakenLines.{TakesLine}
 use Rattle.pd_cli.specs.declared.intake.Taken.{Taken}
-use Rattle.pd_cli.specs.declared.intake.Taken.TheVariants.{Whole, Long, End}
+use Rattle.pd_cli.specs.declared.intake.Taken.TheVariants.{Long, End}
 use Rattle.pd_cli.specs.Input.{IfKnown}
 use Rattle.pd_cli.specs.Pieces.{NoNewline, Cuts, KeepsLine}
 use Rattle.pd_cli.proofs.Known.{known_map}

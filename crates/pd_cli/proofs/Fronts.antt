@@ -1,8 +1,8 @@
 -- A line that is read piece by piece.
-use Rattle.std.proofs.Common.{◌≡◌, ℕ, ◌+◌, ◌≤◌, ◌<◌, List, [], ◌∷◌, ◌++◌, length, take, drop, Option, Some, None, All, append_assoc, ap, sym, ◌∙◌, refl, arith, true, false, Bool, zero-add, suc-add, suc, zero, min, append-nil, get_or, add-one, drop-cons, ◌==◌}
+use Rattle.std.proofs.Common.{◌≡◌, ℕ, ◌+◌, ◌≤◌, ◌<◌, List, [], ◌∷◌, ◌++◌, length, take, drop, Option, Some, None, append_assoc, ap, sym, ◌∙◌, refl, arith, true, false, suc, zero, append-nil, get_or, add-one, drop-cons, ◌==◌}
 use Rattle.std.proofs.lemmas.List.{take-append-drop, get_or-take, length-take, get_or_default}
 use Rattle.std.proofs.lemmas.List.Elements.{All-append}
-use Rattle.std.specs.Io.KnownBytes.{Appends, Consumes, IsAtEnd, prepend_known}
+use Rattle.std.specs.Io.KnownBytes.{Consumes, IsAtEnd, prepend_known}
 use Rattle.pd_cli.specs.Input.{IfKnown}
 use Rattle.pd_cli.specs.Pieces.{NoNewline, Cuts, CutsPiece, KeepsLine}
 

@@ -1,5 +1,5 @@
 -- What holds of the octets to come, and of those written, where they are known.
-use Rattle.std.proofs.Common.{◌≡◌, ℕ, List, ◌++◌, Option, Some, None, IfSome, append_assoc, ap, ◌∙◌}
+use Rattle.std.proofs.Common.{ℕ, List, ◌++◌, Option, Some, None, IfSome, append_assoc, ap, ◌∙◌}
 use Rattle.std.specs.Io.KnownBytes.{Appends}
 use Rattle.pd_cli.specs.Input.{IfKnown}
 

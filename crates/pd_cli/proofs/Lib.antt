@@ -1,4 +1,6 @@
 -- The lemmas of the proofs.
-pub mod Known
 pub mod Cuts
+pub mod Digits
 pub mod Fronts
+pub mod Gather
+pub mod Known

@@ -1,5 +1,5 @@
-use Rattle.std.proofs.Common.{◌≡◌, ◌<◌, ◌≤◌, length, arith, ap}
-use Rattle.pd_cli.proofs.Cuts.{takes_cut, takes_long, takes_last, takes_last_long, takes_end, no_newline_strip}
+use Rattle.std.proofs.Common.{length, arith, ap}
+use Rattle.pd_cli.proofs.Cuts.{takes_cut, takes_long, takes_last, takes_last_long, no_newline_strip}
 use Rattle.pd_cli.proofs.intake.taken_of.Goals as goal
 
 pub returns-then-len-limit-clause-line : goal.returns-then-len-limit-clause-line

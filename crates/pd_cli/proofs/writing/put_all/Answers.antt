@@ -1,4 +1,4 @@
-use Rattle.std.proofs.Common.{◌≡◌, ◌-◌, ◌∙◌, arith, sym, take, drop, length, take-add, length-drop, length-append}
+use Rattle.std.proofs.Common.{◌≡◌, ◌-◌, arith, take, drop, length, take-add, length-drop}
 use Rattle.std.proofs.lemmas.List.{take_all}
 use Rattle.pd_cli.proofs.Known.{appends_then}
 use Rattle.pd_cli.proofs.writing.put_all.Goals as goal

@@ -1,5 +1,4 @@
-use Rattle.std.proofs.Common.{rules, ◌≡◌, ◌+◌, ◌*◌, ◌≤◌, ◌<◌, ◌++◌, ◌∷◌, [], ℕ, List, length, take, drop, arith}
-use Rattle.pd_cli.specs.Input.{work_left}
+use Rattle.std.proofs.Common.{arith}
 use Rattle.pd_cli.proofs.Fronts.{front_more, front_cut, front_end}
 use Rattle.pd_cli.proofs.intake.Intake.read_line.Goals as goal
 
