@@ -1,4 +1,5 @@
 -- The lemmas of the proofs.
+pub mod Chains
 pub mod Cuts
 pub mod Digits
 pub mod Fronts

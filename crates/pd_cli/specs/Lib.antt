@@ -2,6 +2,7 @@
 pub mod Commands
 pub mod Input
 pub mod Pieces
+pub mod Report
 pub mod Requests
 pub mod TakenLines
 pub mod Taking

@@ -6,10 +6,12 @@ mod faults;
 mod gathered;
 mod intake;
 mod numbers;
+mod rendering;
 mod requests;
 mod writing;
 
 pub use command::{Command, next_command};
 pub use faults::ServeFault;
 pub use intake::Intake;
+pub use rendering::render;
 pub use requests::Word;
