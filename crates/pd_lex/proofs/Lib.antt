@@ -1,0 +1,7 @@
+-- The lemmas that the proofs cite.
+pub mod InLine
+pub mod Endings
+pub mod Rests
+pub mod Fronts
+pub mod Items
+pub mod Steps

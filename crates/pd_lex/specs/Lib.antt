@@ -1,0 +1,7 @@
+-- The definitions that the contracts cite.
+pub mod Kinds
+pub mod Octets
+pub mod Pieces
+pub mod Scanned
+pub mod Places
+pub mod Tokens

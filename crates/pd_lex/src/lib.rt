@@ -1,0 +1,11 @@
+//! The tokens of a packetdrill script.
+#![tactic(auto)]
+
+mod ending;
+mod next;
+mod scan;
+mod step;
+mod token;
+
+pub use next::next_token;
+pub use token::{Lexed, Place, Span, Token, TokenKind};
