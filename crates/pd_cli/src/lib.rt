@@ -1,6 +1,7 @@
 //! The commands, the report and the whole program, over any reader and writers.
 #![tactic(auto)]
 
+mod acts;
 mod command;
 mod faults;
 mod gathered;
@@ -8,6 +9,8 @@ mod intake;
 mod numbers;
 mod rendering;
 mod requests;
+mod serving;
+mod settling;
 mod writing;
 
 pub use command::{Command, next_command};
@@ -15,3 +18,4 @@ pub use faults::ServeFault;
 pub use intake::Intake;
 pub use rendering::render;
 pub use requests::Word;
+pub use serving::serve_alone;
