@@ -5,3 +5,5 @@ pub mod Rests
 pub mod Fronts
 pub mod Items
 pub mod Steps
+pub mod Texts
+pub mod Bounds

@@ -2,7 +2,7 @@
 use Rattle.std.proofs.Common.{◌≡◌, ◌∙◌, sym, ap, length, true}
 use Rattle.std.specs.List.{list_all}
 use Rattle.pd_text.specs.Text.{is_line}
-use Rattle.pd_lex.specs.Places.{octets_from}
+use Rattle.pd_lex.specs.Places.{octets_from, between}
 use Rattle.pd_lex.specs.Tokens.{items, lexeme_of}
 use Rattle.pd_lex.specs.Scanned.{IsPlace}
 use Rattle.pd_lex.proofs.Items.{items_from, items_past, gap_shorter, items_over_gap, items_at_token, items_at_end, items_at_stray}
@@ -27,7 +27,7 @@ gaps-preserved c = record {
 }
 
 pub returns-in-Token : goal.returns-in-Token
-unfolding lexeme_of
+unfolding lexeme_of between
 returns-in-Token c = record { next = c.gaps.invariant.same ∙ items_at_token c.args.lines.now c.standing_place.ensures.lines c.gaps.here c.in-Token.after c.in-Token.kind c.gaps.invariant.place c.in-Token.ensures.0 c.in-Token.ensures.1 }
 
 pub returns-in-Nothing : goal.returns-in-Nothing
