@@ -1,0 +1,163 @@
+//! The settings themselves.
+ghost use Rattle.std.specs.Prelude.{◌≡◌, ◌↔◌, IsTrue};
+ghost use Rattle.pd_settings.specs.Keys.{Takes, domain_of};
+ghost use Rattle.pd_settings.specs.declared.keys.Key.TheVariants.{Mss, Wscale, Sndbuf, RcvWnd, InitialSsthresh, MinRtoUs, MaxRtoUs, GranularityUs, ToleranceUs};
+ghost use Rattle.pd_settings.specs.declared.values.Value.TheVariants.{Number, Truth};
+
+use crate::faults::SettingsFault;
+use crate::keys::Key;
+use crate::values::Value;
+use toml::Table;
+
+/// The settings of a run, each in its range.
+#[derive(Clone, Copy, Debug, PartialEq, Eq)]
+pub struct Settings {
+    /// The maximum segment size that is announced, in octets (RFC 9293, section 3.7.1): 64 to 65,495.
+    pub mss: u16,
+    /// Whether SACK is agreed where the peer offers it (RFC 2018, section 2).
+    pub sack: bool,
+    /// The shift count that is announced where the peer scales windows (RFC 7323, section 2): 0 to 14.
+    pub wscale: u8,
+    /// How many octets `write` may queue beyond those acknowledged: 1,024 to 1,048,576.
+    pub sndbuf: u32,
+    /// RCV.WND, the receive window, in octets (RFC 9293, section 3.3.1): 1 to 1,073,725,440.
+    pub rcv_wnd: u32,
+    /// The slow start threshold at establishment, in octets (RFC 5681, section 3.1): 128 to 1,073,741,824.
+    pub initial_ssthresh: u32,
+    /// The least retransmission timeout, in microseconds (RFC 6298, section 2.4): 1,000 to 60,000,000.
+    pub min_rto_us: u64,
+    /// The greatest retransmission timeout, in microseconds (RFC 6298, section 2.5): 60,000,000 to
+    /// 3,600,000,000.
+    pub max_rto_us: u64,
+    /// G, the clock granularity, in microseconds (RFC 6298, section 2): 1 to 1,000,000.
+    pub granularity_us: u64,
+    /// Whether Nagle's algorithm is on at establishment (RFC 9293, section 3.7.4).
+    pub nagle: bool,
+    /// How far a packet's time may lie outside the written one, in microseconds, where the script's header
+    /// doesn't say (packetdrill's `--tolerance_usecs`): 0 to 1,000,000.
+    pub tolerance_us: u64,
+    pub ghost mss_in_range: { Takes (domain_of Mss) (Number mss) },
+    pub ghost wscale_in_range: { Takes (domain_of Wscale) (Number wscale) },
+    pub ghost sndbuf_in_range: { Takes (domain_of Sndbuf) (Number sndbuf) },
+    pub ghost rcv_wnd_in_range: { Takes (domain_of RcvWnd) (Number rcv_wnd) },
+    pub ghost initial_ssthresh_in_range: { Takes (domain_of InitialSsthresh) (Number initial_ssthresh) },
+    pub ghost min_rto_us_in_range: { Takes (domain_of MinRtoUs) (Number min_rto_us) },
+    pub ghost max_rto_us_in_range: { Takes (domain_of MaxRtoUs) (Number max_rto_us) },
+    pub ghost granularity_us_in_range: { Takes (domain_of GranularityUs) (Number granularity_us) },
+    pub ghost tolerance_us_in_range: { Takes (domain_of ToleranceUs) (Number tolerance_us) },
+}
+
+/// Some settings with one field replaced.
+macro_rules! with_field {
+    ($settings:expr, $field:ident, $value:expr) => {{
+        let mut settings = *$settings;
+        settings.$field = $value;
+        Some(settings)
+    }};
+}
+
+impl Settings {
+    ghost use Rattle.pd_settings.specs.Settings.{defaults, replaced, with_value};
+    ghost use Rattle.pd_settings.specs.Table.{from_table_of};
+    ghost use Rattle.toml.specs.View.{table_view};
+
+    /// The defaults.
+    pub fn new() -> Settings
+        ensures { result ≡ defaults }
+    {
+        Settings {
+            mss: 1_460,
+            sack: true,
+            wscale: 7,
+            sndbuf: 262_144,
+            rcv_wnd: 65_535,
+            initial_ssthresh: 1_073_741_824,
+            min_rto_us: 1_000_000,
+            max_rto_us: 60_000_000,
+            granularity_us: 1_000,
+            nagle: true,
+            tolerance_us: 4_000,
+        }
+    }
+
+    /// Whether the two are equal in each field.
+    pub fn is_same(&self, other: &Settings) -> bool
+        ensures { IsTrue result ↔ (self.now ≡ other.now) }
+    {
+        self == other
+    }
+
+    /// The settings with the key's field replaced by the value; None where the key doesn't take the value.
+    ///
+    /// Takes no memory.
+    pub fn replace(&self, key: Key, value: Value) -> Option<Settings>
+        ensures { result ≡ replaced self.now key value }
+    {
+        match value {
+            Value::Number(number) if key.domain().contains(number) => {
+                self.replace_number(key, number)
+            }
+            Value::Truth(truth) => self.replace_truth(key, truth),
+            _ => None,
+        }
+    }
+
+    fn replace_number(&self, key: Key, number: u64) -> Option<Settings>
+        requires { Takes (domain_of key) (Number number) }
+        ensures { result ≡ replaced self.now key (Number number) }
+    {
+        match key {
+            Key::Mss => with_field!(self, mss, number as u16),
+            Key::Wscale => with_field!(self, wscale, number as u8),
+            Key::Sndbuf => with_field!(self, sndbuf, number as u32),
+            Key::RcvWnd => with_field!(self, rcv_wnd, number as u32),
+            Key::InitialSsthresh => with_field!(self, initial_ssthresh, number as u32),
+            Key::MinRtoUs => with_field!(self, min_rto_us, number),
+            Key::MaxRtoUs => with_field!(self, max_rto_us, number),
+            Key::GranularityUs => with_field!(self, granularity_us, number),
+            Key::ToleranceUs => with_field!(self, tolerance_us, number),
+            Key::Sack | Key::Nagle => None,
+        }
+    }
+
+    fn replace_truth(&self, key: Key, truth: bool) -> Option<Settings>
+        ensures { result ≡ replaced self.now key (Truth truth) }
+    {
+        match key {
+            Key::Sack => with_field!(self, sack, truth),
+            Key::Nagle => with_field!(self, nagle, truth),
+            _ => None,
+        }
+    }
+
+    /// The settings with the named field replaced.
+    ///
+    /// Takes no memory.
+    ///
+    /// # Errors
+    ///
+    /// `UnknownKey` where no setting has the name, else `BadValue` where the setting doesn't take the value.
+    pub fn with(&self, key: &[u8], value: Value) -> Result<Settings, SettingsFault>
+        ensures { result ≡ with_value self.now key.now value }
+    {
+        let key = Key::named(key).ok_or(SettingsFault::UnknownKey)?;
+        self.replace(key, value).ok_or(SettingsFault::BadValue)
+    }
+
+    /// The settings that a table writes; a setting that it doesn't write has its default.
+    ///
+    /// The entries are looked at in the table's order, which ascends by key.
+    ///
+    /// # Errors
+    ///
+    /// The fault of the first entry that is refused, as by [`Settings::with`].
+    pub fn from_table(table: &Table) -> Result<Settings, SettingsFault>
+        ensures { result ≡ from_table_of (table_view table.now) }
+    {
+        let mut settings = Settings::new();
+        for (key, value) in table {
+            settings = settings.with(key.as_bytes(), Value::from_toml(value))?;
+        }
+        Ok(settings)
+    }
+}

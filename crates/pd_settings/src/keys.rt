@@ -1,0 +1,83 @@
+//! The settings by name.
+ghost use Rattle.std.specs.Prelude.{◌≡◌};
+ghost use Rattle.pd_settings.specs.Keys.{key_named, name_of, domain_of};
+
+use crate::domains::Domain;
+
+/// One of the settings.
+#[derive(Clone, Copy, Debug, PartialEq, Eq)]
+pub enum Key {
+    Mss,
+    Sack,
+    Wscale,
+    Sndbuf,
+    RcvWnd,
+    InitialSsthresh,
+    MinRtoUs,
+    MaxRtoUs,
+    GranularityUs,
+    Nagle,
+    ToleranceUs,
+}
+
+impl Key {
+    /// All settings, in the order of the fields of `Settings`.
+    pub const ALL: [Key; 11] = [
+        Key::Mss,
+        Key::Sack,
+        Key::Wscale,
+        Key::Sndbuf,
+        Key::RcvWnd,
+        Key::InitialSsthresh,
+        Key::MinRtoUs,
+        Key::MaxRtoUs,
+        Key::GranularityUs,
+        Key::Nagle,
+        Key::ToleranceUs,
+    ];
+
+    /// The setting of a name; None where no setting has it.
+    pub fn named(name: &[u8]) -> Option<Key>
+        ensures { result ≡ key_named name.now }
+    {
+        Key::ALL.iter().copied().find(|key| key.name() == name)
+    }
+
+    /// The name that the setting is written by.
+    pub fn name(&self) -> &'static [u8]
+        ensures { result.now ≡ name_of self.now }
+    {
+        match self {
+            Key::Mss => b"mss",
+            Key::Sack => b"sack",
+            Key::Wscale => b"wscale",
+            Key::Sndbuf => b"sndbuf",
+            Key::RcvWnd => b"rcv_wnd",
+            Key::InitialSsthresh => b"initial_ssthresh",
+            Key::MinRtoUs => b"min_rto_us",
+            Key::MaxRtoUs => b"max_rto_us",
+            Key::GranularityUs => b"granularity_us",
+            Key::Nagle => b"nagle",
+            Key::ToleranceUs => b"tolerance_us",
+        }
+    }
+
+    /// The values that the setting takes.
+    pub fn domain(&self) -> Domain
+        ensures { result ≡ domain_of self.now }
+    {
+        match self {
+            Key::Mss => Domain::Numbers(64, 65_495),
+            Key::Sack => Domain::Truths,
+            Key::Wscale => Domain::Numbers(0, 14),
+            Key::Sndbuf => Domain::Numbers(1_024, 1_048_576),
+            Key::RcvWnd => Domain::Numbers(1, 1_073_725_440),
+            Key::InitialSsthresh => Domain::Numbers(128, 1_073_741_824),
+            Key::MinRtoUs => Domain::Numbers(1_000, 60_000_000),
+            Key::MaxRtoUs => Domain::Numbers(60_000_000, 3_600_000_000),
+            Key::GranularityUs => Domain::Numbers(1, 1_000_000),
+            Key::Nagle => Domain::Truths,
+            Key::ToleranceUs => Domain::Numbers(0, 1_000_000),
+        }
+    }
+}

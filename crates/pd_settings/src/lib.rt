@@ -1,0 +1,16 @@
+//! The settings of a run: eleven fields, each in its range, and how a key and a value change one of them.
+#![tactic(auto)]
+
+mod domains;
+mod faults;
+mod fields;
+mod keys;
+#[cfg(test)]
+mod tests;
+mod values;
+
+pub use domains::Domain;
+pub use faults::SettingsFault;
+pub use fields::Settings;
+pub use keys::Key;
+pub use values::Value;
