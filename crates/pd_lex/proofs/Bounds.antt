@@ -61,10 +61,10 @@ run_up_to : (p : ℕ → Bool) (text : List ℕ) (b : ℕ) (more : List ℕ) →
 run_up_to p [] b more h stop = rw stop refl
 run_up_to p (c ∷ text) b more h stop = rw (and_first (p c) (list_all p text) h, run_up_to p text b more (and_second (p c) (list_all p text) h) stop) (omega arith)
 
-word_is_no_blank : (b : ℕ) → is_word b ≡ true → is_blank b ≡ false
+pub word_is_no_blank : (b : ℕ) → is_word b ≡ true → is_blank b ≡ false
 word_is_no_blank b h = grind (arith, nat_tests)
 
-digit_is_word : (b : ℕ) → is_digit b ≡ true → is_word b ≡ true
+pub digit_is_word : (b : ℕ) → is_digit b ≡ true → is_word b ≡ true
 digit_is_word b h = rw h refl
 
 at_a_word : (b : ℕ) (s : List ℕ) → is_word b ≡ true → piece (b ∷ s) ≡ word_piece (b ∷ s)
@@ -83,11 +83,11 @@ run_taken [] more some all = absurd (omega arith)
 run_taken (b ∷ text) more some all =
     front_takes b (text ++ more) (length (b ∷ text)) (rw (at_a_word b (text ++ more) (and_first (is_word b) (list_all is_word text) all)) (word_long (b ∷ text ++ more) (length (b ∷ text)) (run_at_least is_word (b ∷ text) more all)))
 
-all_also : (p q : ℕ → Bool) → ((b : ℕ) → p b ≡ true → q b ≡ true) → (text : List ℕ) → list_all p text ≡ true → list_all q text ≡ true
+pub all_also : (p q : ℕ → Bool) → ((b : ℕ) → p b ≡ true → q b ≡ true) → (text : List ℕ) → list_all p text ≡ true → list_all q text ≡ true
 all_also p q also [] h = refl
 all_also p q also (b ∷ text) h = rw (also b (and_first (p b) (list_all p text) h), all_also p q also text (and_second (p b) (list_all p text) h)) refl
 
-hex_digit_is_word : (b : ℕ) → is_hex_digit b ≡ true → is_word b ≡ true
+pub hex_digit_is_word : (b : ℕ) → is_hex_digit b ≡ true → is_word b ≡ true
 hex_digit_is_word b h = grind (arith, nat_tests)
 
 int_taken : (text more : List ℕ) → 0 < length text → list_all is_digit text ≡ true → Takes (text ++ more) (length text) (front (text ++ more))

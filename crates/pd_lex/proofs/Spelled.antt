@@ -75,7 +75,7 @@ take_sum n m s le =
     rw (len, whole) at e
 
 -- letters, digits and `_`
-hex_is : (s : List ℕ) → is_hex s ≡ true → IsHex s
+pub hex_is : (s : List ℕ) → is_hex s ≡ true → IsHex s
 hex_is [] h = absurd cc
 hex_is (b ∷ s) h =
     let start = starts_with nat_eq (b ∷ s) (48 ∷ 120 ∷ []) in
@@ -91,7 +91,7 @@ hex_is (b ∷ s) h =
     longer : (n : ℕ) → nat_lt 2 n ≡ true → 2 < n
     longer n h = grind (arith, nat_tests)
 
-is_hex_of : (digits : List ℕ) → 0 < length digits → list_all is_hex_digit digits ≡ true → is_hex (48 ∷ 120 ∷ digits) ≡ true
+pub is_hex_of : (digits : List ℕ) → 0 < length digits → list_all is_hex_digit digits ≡ true → is_hex (48 ∷ 120 ∷ digits) ≡ true
 is_hex_of digits some all = rw (longer (length (48 ∷ 120 ∷ digits)) (omega arith), all) refl
   where
     longer : (n : ℕ) → 2 < n → nat_lt 2 n ≡ true
@@ -174,8 +174,14 @@ dash_sound s =
     (λ _. dash_symbol s)
 
 -- comments to the end of the line
+take_one_more : (n b : ℕ) (s : List ℕ) → take (1 + n) (b ∷ s) ≡ b ∷ take n s
+take_one_more n b s = rw one-add refl
+
 line_comment_sound : (s more : List ℕ) → s ≡ 47 ∷ 47 ∷ more → IsLineComment (take (prefix_len is_inside_line s) s)
-line_comment_sound s more is = (take (prefix_len is_inside_line more) more, rw (is, one-add) (rw one-add refl), run_passes is_inside_line more)
+line_comment_sound s more is =
+    let n = prefix_len is_inside_line more in
+    let slashes = take_one_more (1 + n) 47 (47 ∷ more) ∙ ap (λ (l : List ℕ). 47 ∷ l) (take_one_more n 47 more) in
+    (take n more, rw is slashes, run_passes is_inside_line more)
 
 pair_begins : (s more : List ℕ) (x y : ℕ) → s ≡ x ∷ y ∷ more → starts_with nat_eq s (x ∷ y ∷ []) ≡ true
 pair_begins s more x y is = rw (is, same_octet x, same_octet y) refl

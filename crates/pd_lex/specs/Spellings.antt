@@ -98,11 +98,12 @@ pub record Fits (s : List ℕ) (kind : Option TokenKind) (text : List ℕ) : Typ
   pub spelled : IsPiece kind text
   pub unopened : kind ≡ Some Symbol → ¬ IsOpened s
 
--- the longest of them, and what is left behind it
+-- the longest of them, what is left behind it, and no other kind is spelled so
 pub record IsLongest (s : List ℕ) (kind : Option TokenKind) (text rest : List ℕ) : Type 0 where
   pub cut : s ≡ text ++ rest
   pub fits : Fits s kind text
   pub longest : (other : Option TokenKind) (prefix : List ℕ) → Fits s other prefix → length prefix ≤ length text
+  pub only : (other : Option TokenKind) → IsPiece other text → other ≡ kind
 
 -- the text doesn't end, and no piece fits
 pub record IsStuck (s : List ℕ) : Type 0 where
