@@ -1,14 +1,14 @@
 -- No two kinds fit the same octets.
-use Rattle.std.proofs.Common.{◌≡◌, ◌≢◌, ℕ, ◌+◌, ◌<◌, ◌≤◌, Bool, true, false, ◌&&◌, cond, nat_eq, ◌==◌, List, [], ◌∷◌, ◌++◌, length, Option, Some, None, refl, sym, ap, ◌∙◌, arith, ◌⊎◌, inl, inr}
-use Rattle.std.specs.List.{list_all, starts_with}
+use Rattle.std.proofs.Common.{◌≡◌, ℕ, Bool, true, false, cond, ◌==◌, List, [], ◌∷◌, ◌++◌, Option, Some, None, refl, sym, ◌∙◌, arith, inl, inr}
+use Rattle.std.specs.List.{list_all}
 use Rattle.std.proofs.lemmas.List.Folds.{list_all-append}
 use Rattle.std.proofs.lemmas.Bool.Decides.{nat_tests}
 use Rattle.pd_lex.specs.declared.token.TokenKind.{TokenKind}
 use Rattle.pd_lex.specs.declared.token.TokenKind.TheVariants.{Int, Hex, Word, Decimal, Dots, Opt, Str, Cmd, Code, Symbol}
 use Rattle.pd_lex.specs.Octets.{is_digit, is_hex_digit, is_word, is_blank, is_printable}
 use Rattle.pd_lex.specs.Pieces.{is_hex}
-use Rattle.pd_lex.specs.Spellings.{AreAll, AreSome, IsHex, IsWord, IsDecimal, IsValue, IsSpelled, IsPiece, IsOpened, Fits}
-use Rattle.pd_lex.proofs.Rests.{and_first, and_second}
+use Rattle.pd_lex.specs.Spellings.{AreAll, AreSome, IsWord, IsSpelled, IsPiece}
+use Rattle.pd_lex.proofs.Rests.{and_first}
 use Rattle.pd_lex.proofs.Endings.{and-false}
 use Rattle.pd_lex.proofs.Bounds.{word_is_no_blank, digit_is_word, hex_digit_is_word, all_also}
 use Rattle.pd_lex.proofs.Spelled.{hex_is, is_hex_of}

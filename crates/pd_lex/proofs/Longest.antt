@@ -18,7 +18,7 @@ longest_by s rest kind left spelled unopened bounded =
       cut = cut;
       fits = record { more = rest; cut = cut; spelled = spelled; unopened = unopened };
       longest = λ other prefix fits. omega (arith, sum, bounded other prefix fits);
-      only = λ other is. one_kind other kind (before s rest) is spelled
+      only = λ other is. one_kind other kind (before s rest) is spelled;
     }
 
 pub longest_gap : (s rest : List ℕ) → front s ≡ gap rest → IsLongest s None (before s rest) rest

@@ -3,7 +3,7 @@ use Rattle.std.specs.Prelude.{◌≡◌, ◌≢◌, ℕ, ◌≤◌, ◌<◌, Boo
 use Rattle.std.specs.List.{list_all}
 use Rattle.pd_lex.specs.declared.token.TokenKind.{TokenKind}
 use Rattle.pd_lex.specs.declared.token.TokenKind.TheVariants.{Int, Hex, Word, Decimal, Dots, Opt, Str, Cmd, Code, Symbol}
-use Rattle.pd_lex.specs.Octets.{is_digit, is_hex_digit, is_word, is_blank, is_solid, is_inside_line, is_no_backquote, is_printable}
+use Rattle.pd_lex.specs.Octets.{quote, backslash, is_digit, is_hex_digit, is_word, is_blank, is_solid, is_inside_line, is_no_backquote, is_printable}
 
 -- each octet passes a test
 abbrev pub AreAll : (ℕ → Bool) → List ℕ → Type 0
@@ -36,8 +36,8 @@ IsOpt text = (name : List ℕ) × (value : List ℕ) × (text ≡ codes "--" ++ 
 -- what may stand in a string: any octet but `"` and a backslash, and a backslash with any octet behind it
 pub data IsQuoted : List ℕ → Type 0 where
   empty : IsQuoted []
-  plain : {b : ℕ} {text : List ℕ} → b ≢ 34 → b ≢ 92 → IsQuoted text → IsQuoted (b ∷ text)
-  escaped : {b : ℕ} {text : List ℕ} → IsQuoted text → IsQuoted (92 ∷ b ∷ text)
+  plain : {b : ℕ} {text : List ℕ} → b ≢ quote → b ≢ backslash → IsQuoted text → IsQuoted (b ∷ text)
+  escaped : {b : ℕ} {text : List ℕ} → IsQuoted text → IsQuoted (backslash ∷ b ∷ text)
 
 -- `"` to the next `"` that no backslash takes
 abbrev pub IsStr : List ℕ → Type 0
