@@ -33,7 +33,7 @@ longest_token s rest kind e =
     same_kind : (a b : TokenKind) → ◌≡◌ {A = Option TokenKind} (Some a) (Some b) → a ≡ b
     same_kind a b is = cc
 
-not_empty : (s : List ℕ) → front s ≡ stray → 0 < length s
+pub not_empty : (s : List ℕ) → front s ≡ stray → 0 < length s
 unfolding front
 not_empty [] e = absurd cc
 not_empty (b ∷ s) e = omega arith
