@@ -8,3 +8,4 @@ pub mod Capped
 pub mod Taking
 pub mod ArgumentSteps
 pub mod Finding
+pub mod Matches

@@ -4,5 +4,7 @@ pub mod Items
 pub mod Reader
 pub mod Cursor
 pub mod Brackets
+pub mod Arguments
+pub mod Grammar
 pub mod Reading
 pub mod Script
