@@ -9,3 +9,4 @@ pub mod Taking
 pub mod ArgumentSteps
 pub mod Finding
 pub mod Matches
+pub mod ArgumentSound

@@ -14,10 +14,10 @@ is_parting [] t = is_symbol 44 t
 is_parting (b ∷ pairs) t = false
 
 -- the items go on within these pairs and leave none of them open: each bracket that closes fits the innermost pair, at most
--- so many are open at once, and no comma stands outside them
-abbrev pub Balances : ℕ → List Bracket → List Item → Type 0
-Balances most pairs [] = pairs ≡ []
-Balances most pairs (t ∷ ts) = (is_parting pairs t ≡ false) × ((next : List Bracket) × (pairs_after most pairs t ≡ Some next) × Balances most next ts)
+-- so many are open at once, and no item parts them
+abbrev pub Balances : (List Bracket → Item → Bool) → ℕ → List Bracket → List Item → Type 0
+Balances parts most pairs [] = pairs ≡ []
+Balances parts most pairs (t ∷ ts) = (parts pairs t ≡ false) × (next : List Bracket) × (pairs_after most pairs t ≡ Some next) × Balances parts most next ts
 
 -- what the items of an argument are: one whole number, one word, a whole number between `[` and `]`, or anything else
 abbrev pub argument_of : List Item → Argument
@@ -33,7 +33,7 @@ pub record IsArgument (argument : Argument) (ts rest : List Item) : Type 0 where
   pub first : Item
   pub others : List Item
   pub spelled : ts ≡ (first ∷ others) ++ rest
-  pub balanced : Balances 16 [] (first ∷ others)
+  pub balanced : Balances is_parting 16 [] (first ∷ others)
   pub value : argument ≡ argument_of (first ∷ others)
 
 -- one argument or more, parted by commas, and the bracket that ends them
