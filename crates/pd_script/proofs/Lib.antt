@@ -10,3 +10,4 @@ pub mod ArgumentSteps
 pub mod Finding
 pub mod Matches
 pub mod ArgumentSound
+pub mod HeaderLaws

@@ -1,6 +1,7 @@
 -- The definitions that the contracts cite.
 pub mod Values
 pub mod Items
+pub mod Header
 pub mod Reader
 pub mod Cursor
 pub mod Brackets
@@ -8,3 +9,4 @@ pub mod Arguments
 pub mod Grammar
 pub mod Reading
 pub mod Script
+pub mod Faults
