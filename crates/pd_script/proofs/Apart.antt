@@ -94,6 +94,19 @@ apart f g p q none fp gq t h = by_test (q t) refl
     by_test true e = absurd (other t (fp.kind t h) (gq.kind t e))
     by_test false e = e
 
+-- ---- tokens, that is neither the end nor a bad place
+
+abbrev pub is_lexeme : Item → Bool
+is_lexeme t = is_token (λ kind text. true) t
+
+pub lexical : (f : TokenKind → Bool) (test : Item → Bool) → IsOf f test → (t : Item) → test t ≡ true → is_lexeme t ≡ true
+lexical f test k t h = at t (k.kind t h)
+  where
+    at : (u : Item) → is_token (λ kind text. f kind) u ≡ true → is_lexeme u ≡ true
+    at (lexeme x) g = refl
+    at (ending line) g = g
+    at (bad line) g = g
+
 -- ---- the kinds of the tests
 
 pub int_kind : IsOf is_int_kind is_int

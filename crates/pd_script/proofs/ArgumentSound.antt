@@ -2,7 +2,9 @@
 use Rattle.std.proofs.Common.{◌≡◌, ℕ, ◌+◌, ◌<◌, ◌≤◌, Bool, true, false, cond, List, [], ◌∷◌, ◌++◌, length, Option, Some, None, Result, Ok, Err, refl, sym, ap, subst, ◌∙◌, arith, append_assoc, inl, inr}
 use Rattle.std.specs.Prelude.{◌&&◌, ◌||◌, ◌==◌, ◌⊎◌}
 use Rattle.pd_lex.specs.Tokens.{Item, lexeme, ending, bad}
-use Rattle.pd_script.specs.Items.{is_symbol, is_any_int, is_word, text_of}
+use Rattle.std.specs.List.{list_all}
+use Rattle.std.proofs.lemmas.List.Folds.{list_all-append}
+use Rattle.pd_script.specs.Items.{is_symbol, is_symbol_kind, is_any_int, is_word, text_of}
 use Rattle.pd_script.specs.Values.{capped_number, constant_named}
 use Rattle.pd_script.specs.Reader.{Read, Reader, Move, stuck, ends, goes, onto, moved, machine_at, next_is}
 use Rattle.pd_script.specs.declared.drafts.Inside.{Inside}
@@ -18,7 +20,7 @@ use Rattle.pd_script.specs.Reading.{arguments_at, no_arguments_at}
 use Rattle.pd_script.proofs.ArgumentLaws.{is_empty-longer_draft}
 use Rattle.pd_script.proofs.ArgumentSteps.{onto-nil}
 use Rattle.pd_script.proofs.Machines.{onto_ok}
-use Rattle.pd_script.proofs.Apart.{and-left, and-right, or-no, symbol_apart, symbol_no_int, symbol_no_word}
+use Rattle.pd_script.proofs.Apart.{is_lexeme, lexical, symbol_kind, and-left, and-right, or-no, symbol_apart, symbol_no_int, symbol_no_word}
 
 -- ---- drafts and arguments
 
@@ -213,3 +215,30 @@ arguments_complete ts [] rest h = rw (h.1, h.2) refl
 arguments_complete ts (a ∷ more) rest h =
     let e = some_complete (a ∷ more) ts rest h in
     rw (begins_other (a ∷ more) ts rest e) e
+
+-- ---- arguments are tokens
+
+paired_lexeme : (most : ℕ) (pairs next : List Bracket) (t : Item) → pairs_after most pairs t ≡ Some next → is_lexeme t ≡ true
+paired_lexeme most pairs next (lexeme x) h = refl
+paired_lexeme most pairs next (ending line) h = absurd cc
+paired_lexeme most pairs next (bad line) h = absurd cc
+
+pub balanced_lexemes : (parts : List Bracket → Item → Bool) (most : ℕ) (pairs : List Bracket) (ts : List Item) → Balances parts most pairs ts → list_all is_lexeme ts ≡ true
+balanced_lexemes parts most pairs [] h = refl
+balanced_lexemes parts most pairs (t ∷ ts) h = rw (paired_lexeme most pairs h.1 t h.2, balanced_lexemes parts most h.1 ts h.3) refl
+
+some_take : (vs : List Argument) (ts rest : List Item) → IsSomeArguments vs ts rest → (front : List Item) × (ts ≡ front ++ rest) × (list_all is_lexeme front ≡ true)
+some_take [] ts rest h = absurd h
+some_take (a ∷ []) ts rest h =
+    let A = h.1 in
+    let front : List Item = A.first ∷ A.others in
+    (front ++ h.0 ∷ [], A.spelled ∙ sym (append_assoc front (h.0 ∷ []) rest), rw (list_all-append is_lexeme front (h.0 ∷ []), balanced_lexemes is_parting 16 [] front A.balanced, lexical is_symbol_kind (is_symbol 41) (symbol_kind 41) h.0 h.2) refl)
+some_take (a ∷ b ∷ more) ts rest h =
+    let A = h.2 in
+    let R = some_take (b ∷ more) h.1 rest h.4 in
+    let front : List Item = A.first ∷ A.others in
+    (front ++ h.0 ∷ R.0, A.spelled ∙ ap (λ (x : List Item). front ++ h.0 ∷ x) R.1 ∙ sym (append_assoc front (h.0 ∷ R.0) rest), rw (list_all-append is_lexeme front (h.0 ∷ R.0), balanced_lexemes is_parting 16 [] front A.balanced, lexical is_symbol_kind (is_symbol 44) (symbol_kind 44) h.0 h.3, R.2) refl)
+
+pub arguments_take : (ts : List Item) (vs : List Argument) (rest : List Item) → IsArguments vs ts rest → (front : List Item) × (ts ≡ front ++ rest) × (list_all is_lexeme front ≡ true)
+arguments_take ts [] rest h = (h.0 ∷ [], h.1, rw (lexical is_symbol_kind (is_symbol 41) (symbol_kind 41) h.0 h.2) refl)
+arguments_take ts (a ∷ more) rest h = some_take (a ∷ more) ts rest h

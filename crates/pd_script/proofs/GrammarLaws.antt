@@ -21,7 +21,7 @@ use Rattle.pd_script.proofs.Laws.{Within, any}
 use Rattle.pd_script.proofs.Matches.{Reads, Reads-one, Reads-bind, Reads-done, Reads-when, Reads-widen}
 use Rattle.pd_script.proofs.Apart.{and-left, or-left, or-right, or-elim, or-elim-no, not-true, not-false, apart, int_kind, hex_kind, num_kind, word_kind, symbol_kind, end_no_token}
 use Rattle.pd_script.proofs.ArgumentLaws.{a_token, a_word, Laws-arguments}
-use Rattle.pd_script.proofs.ArgumentSound.{arguments_sound, arguments_complete}
+use Rattle.pd_script.proofs.ArgumentSound.{arguments_sound, arguments_complete, arguments_take}
 
 all : (f : Item → Bool) → Within f any
 all f t h = refl
@@ -40,22 +40,22 @@ tail test p P v r some = Reads-when test p (done v) P (made v) test (but test) a
 -- ---- single tokens
 
 symbol : (octet : ℕ) → is_symbol octet (a_token kinds.Symbol (octet ∷ [])) ≡ true → is_plain (a_token kinds.Symbol (octet ∷ [])) ≡ true → Reads (symbol_at octet) (IsSymbol octet) (is_symbol octet) any
-symbol octet h g = last (one (is_symbol octet)) (λ t. line_of t) (token (is_symbol octet)) (is_symbol octet) any (Reads-one (is_symbol octet) (a_token kinds.Symbol (octet ∷ [])) h g)
+symbol octet h g = last (one (is_symbol octet)) (λ t. line_of t) (token (is_symbol octet)) (is_symbol octet) any (Reads-one is_symbol_kind (is_symbol octet) (a_token kinds.Symbol (octet ∷ [])) (symbol_kind octet) h g)
 
 int : Reads int_at IsInt is_int any
-int = last (one is_int) (λ t. number (text_of t)) (token is_int) is_int any (Reads-one is_int (a_token kinds.Int (48 ∷ [])) refl refl)
+int = last (one is_int) (λ t. number (text_of t)) (token is_int) is_int any (Reads-one is_int_kind is_int (a_token kinds.Int (48 ∷ [])) int_kind refl refl)
 
 hex : Reads hex_at IsHex is_hex any
-hex = last (one is_hex) (λ t. hex_number (text_of t)) (token is_hex) is_hex any (Reads-one is_hex (a_token kinds.Hex (48 ∷ 120 ∷ 48 ∷ [])) refl refl)
+hex = last (one is_hex) (λ t. hex_number (text_of t)) (token is_hex) is_hex any (Reads-one is_hex_kind is_hex (a_token kinds.Hex (48 ∷ 120 ∷ 48 ∷ [])) hex_kind refl refl)
 
 num : Reads num_at IsNum is_num any
-num = last (one is_num) (λ t. (line_of t, microseconds (text_of t))) (token is_num) is_num any (Reads-one is_num (a_token kinds.Int (48 ∷ [])) refl refl)
+num = last (one is_num) (λ t. (line_of t, microseconds (text_of t))) (token is_num) is_num any (Reads-one is_num_kind is_num (a_token kinds.Int (48 ∷ [])) num_kind refl refl)
 
 function : Reads function_at IsFunction is_word any
-function = last (one is_word) (λ t. function_named (text_of t)) (token is_word) is_word any (Reads-one is_word a_word refl refl)
+function = last (one is_word) (λ t. function_named (text_of t)) (token is_word) is_word any (Reads-one is_word_kind is_word a_word word_kind refl refl)
 
 error_name : Reads error_at IsErrorName is_word any
-error_name = last (one is_word) (λ t. error_named (text_of t)) (token is_word) is_word any (Reads-one is_word a_word refl refl)
+error_name = last (one is_word) (λ t. error_named (text_of t)) (token is_word) is_word any (Reads-one is_word_kind is_word a_word word_kind refl refl)
 
 -- ---- times
 
@@ -125,7 +125,7 @@ Reads-outcome =
 -- ---- calls
 
 Reads-arguments : Reads arguments_at IsArguments any any
-Reads-arguments = record { laws = Laws-arguments; sound = arguments_sound; complete = λ ts v rest h stops. arguments_complete ts v rest h }
+Reads-arguments = record { laws = Laws-arguments; sound = arguments_sound; complete = λ ts v rest h stops. arguments_complete ts v rest h; takes = arguments_take }
 
 pub Reads-call : Reads call_at IsCall is_word (but is_word)
 unfolding call_at IsCall
