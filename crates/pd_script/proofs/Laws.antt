@@ -207,7 +207,7 @@ Laws-bind p q fp sp fq sq lp lq goes = Laws-bind_if p q (λ v. Unit {0}) fp sp f
 pick : {A : Type 0} (test : Item → Bool) (p q : Reader A) (ts : List Item) (b : Bool) → next_is test ts ≡ b → when test p q ts ≡ cond b (p ts) (q ts)
 pick test p q ts b h = rw h refl
 
-next-yes : (test f : Item → Bool) (ts : List Item) → Within f test → (ts ≡ [] → ⊥) → Stops f ts → next_is test ts ≡ true
+pub next-yes : (test f : Item → Bool) (ts : List Item) → Within f test → (ts ≡ [] → ⊥) → Stops f ts → next_is test ts ≡ true
 next-yes test f [] w h g = absurd (h refl)
 next-yes test f (t ∷ ts) w h g = w t g
 

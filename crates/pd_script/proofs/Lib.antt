@@ -11,3 +11,4 @@ pub mod Finding
 pub mod Matches
 pub mod ArgumentSound
 pub mod HeaderLaws
+pub mod ScriptLaws
