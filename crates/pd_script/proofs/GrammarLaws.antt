@@ -59,7 +59,7 @@ error_name = last (one is_word) (λ t. error_named (text_of t)) (token is_word) 
 
 -- ---- times
 
-num_no_plus : (t : Item) → is_num t ≡ true → is_symbol 43 t ≡ false
+pub num_no_plus : (t : Item) → is_num t ≡ true → is_symbol 43 t ≡ false
 num_no_plus = apart is_num_kind is_symbol_kind is_num (is_symbol 43) refl num_kind (symbol_kind 43)
 
 pub Reads-time : Reads time_at IsTime starts_event any

@@ -12,3 +12,4 @@ pub mod Matches
 pub mod ArgumentSound
 pub mod HeaderLaws
 pub mod ScriptLaws
+pub mod Kept

@@ -2,7 +2,7 @@
 use Rattle.std.proofs.Common.{◌≡◌, ℕ, zero, suc, ◌+◌, ◌≤◌, Bool, true, false, cond, List, [], ◌∷◌, ◌++◌, length, Result, Ok, Err, refl, sym, ap, subst, ◌∙◌, arith, append_assoc, inl, inr}
 use Rattle.std.specs.Prelude.{not, ◌&&◌, ◌||◌, ◌⊎◌}
 use Rattle.std.specs.List.{list_all}
-use Rattle.std.proofs.lemmas.List.{append-nil}
+use Rattle.std.proofs.lemmas.List.{append-nil, length-append}
 use Rattle.std.proofs.lemmas.List.Folds.{list_all-append}
 use Rattle.pd_lex.specs.declared.token.TokenKind.{TokenKind}
 use Rattle.pd_lex.specs.Tokens.{Item, lexeme, ending, bad}
@@ -15,7 +15,7 @@ use Rattle.pd_script.specs.Reading.{time_at, event_at, end_at, events_at}
 use Rattle.pd_script.specs.Grammar.{IsEvent}
 use Rattle.pd_script.specs.Faults.{IsHeader, AreEvents, IsScript, Begins, IsFault}
 use Rattle.pd_script.proofs.Laws.{Laws, Laws-one, Laws-bind, Laws-done, Laws-when, Took, Stops, Stops-any, Within, any, ok, widen, then_ok, value_is, rest_is, next-yes}
-use Rattle.pd_script.proofs.Apart.{IsOf, or-left, or-right, or-elim-no, not-true, not-false, apart, num_kind, symbol_kind, end_no_token, is_lexeme, lexical}
+use Rattle.pd_script.proofs.Apart.{IsOf, and-left, and-right, or-left, or-right, or-elim-no, not-true, not-false, apart, num_kind, symbol_kind, end_no_token, is_lexeme, lexical}
 use Rattle.pd_script.proofs.GrammarLaws.{but, Reads-event, goes_on_no_word, end_no_start}
 
 -- ---- headers
@@ -27,7 +27,7 @@ header_stop : (ts : List Item) → Stops (but is_header) ts → header_at ts ≡
 header_stop [] h = refl
 header_stop (t ∷ ts) h = rw (not-true (is_header t) h) refl
 
-header_took : (ts : List Item) → Took header_at (but is_header) ts (header_of ts) (behind_header ts)
+pub header_took : (ts : List Item) → Took header_at (but is_header) ts (header_of ts) (behind_header ts)
 header_took [] = record { front = []; parts = refl; same = λ t old more h. absurd cc; again = λ more h. header_stop more h }
 header_took (t ∷ ts) = by_test (is_header t) refl (header_took ts)
   where
@@ -55,7 +55,7 @@ Laws-header = record {
   begins = λ ts v rest e h. Stops-any ts
 }
 
-header_sound : (ts : List Item) → IsHeader (header_of ts) ts (behind_header ts)
+pub header_sound : (ts : List Item) → IsHeader (header_of ts) ts (behind_header ts)
 header_sound [] = refl
 header_sound (t ∷ ts) = by_test (is_header t) refl (header_sound ts)
   where
@@ -145,10 +145,10 @@ events_sound (suc n) ts es rest e = by_test (next_is starts_event ts) e (λ us f
     by_test true h ih = and_sound n ts es rest h ih
     by_test false h ih = let S = end_sound ts es rest h in (S.0, omega (arith, S.1))
 
-event_starts : (ts : List Item) (e : Event) (rest : List Item) → event_at ts ≡ ok e rest → Stops (but is_word) rest → next_is starts_event ts ≡ true
+pub event_starts : (ts : List Item) (e : Event) (rest : List Item) → event_at ts ≡ ok e rest → Stops (but is_word) rest → next_is starts_event ts ≡ true
 event_starts ts e rest h stops = next-yes starts_event starts_event ts (λ t g. g) (λ none. event_nothing e rest (subst (λ (x : List Item). event_at x ≡ ok e rest) none h)) (Reads-event.laws.begins ts e rest h stops)
 
-Stops-goes_on : (ts : List Item) → Stops goes_on ts → Stops (but is_word) ts
+pub Stops-goes_on : (ts : List Item) → Stops goes_on ts → Stops (but is_word) ts
 Stops-goes_on [] h = tt
 Stops-goes_on (t ∷ ts) h = goes_on_no_word t h
 
@@ -276,10 +276,48 @@ behind_closed (lexeme x ∷ ts) c = by_test (is_header (lexeme x)) refl (behind_
 behind_closed (ending line ∷ ts) c = c
 behind_closed (bad line ∷ ts) c = c
 
--- nothing can follow the last item
-closed_more : (front more : List Item) (last : Item) → list_all is_lexeme (front ++ more) ≡ true → IsClosed front → ⊥
+lexemes_open : (front : List Item) → list_all is_lexeme front ≡ true → IsClosed front → ⊥
 unfolding IsClosed
-closed_more [] more last h c = c
-closed_more (lexeme x ∷ front) more last h c = closed_more front more last h c
-closed_more (ending line ∷ front) more last h c = absurd cc
-closed_more (bad line ∷ front) more last h c = absurd cc
+lexemes_open [] h c = c
+lexemes_open (lexeme x ∷ front) h c = lexemes_open front h c
+lexemes_open (ending line ∷ front) h c = absurd cc
+lexemes_open (bad line ∷ front) h c = absurd cc
+
+prefix_lexemes : (front : List Item) (m : Item) (more before : List Item) (last : Item) → front ++ m ∷ more ≡ before ++ last ∷ [] → list_all is_lexeme before ≡ true → list_all is_lexeme front ≡ true
+prefix_lexemes [] m more before last e h = refl
+prefix_lexemes (x ∷ front) m more [] last e h = absurd (omega (arith, ap length e, length-append front (m ∷ more)))
+prefix_lexemes (x ∷ front) m more (y ∷ before) last e h =
+    let first : x ≡ y = cc in
+    let others : front ++ m ∷ more ≡ before ++ last ∷ [] = cc in
+    rw (first, and-left (is_lexeme y) _ h, prefix_lexemes front m more before last others (and-right (is_lexeme y) _ h)) refl
+
+not_after_all : (front more : List Item) (h : List HeaderItem) (es : List Event) → IsScript h es (front ++ more) → IsClosed front → more ≡ []
+not_after_all front [] h es s c = refl
+not_after_all front (m ∷ more) h es s c =
+    let H = header_takes h (front ++ m ∷ more) s.behind s.begins in
+    let E = events_take es s.behind (s.end ∷ []) s.goes in
+    let all : front ++ m ∷ more ≡ (H.0 ++ E.0) ++ s.end ∷ [] = H.1 ∙ ap (λ (x : List Item). H.0 ++ x) E.1 ∙ sym (append_assoc H.0 E.0 (s.end ∷ [])) in
+    let tokens : list_all is_lexeme (H.0 ++ E.0) ≡ true = rw (list_all-append is_lexeme H.0 E.0, H.2, E.2) refl in
+    absurd (lexemes_open front (prefix_lexemes front m more (H.0 ++ E.0) s.end all tokens) c)
+
+-- a fault lies at an item
+pub fault_somewhere : (ts : List Item) → IsClosed ts → script_at 4096 ts ≡ Err [] → ⊥
+fault_somewhere ts c e =
+    let F = (Laws-script 4096).failed ts [] e in
+    let L = F.live in
+    let all : ts ≡ F.front = F.parts ∙ append-nil F.front in
+    let S = script_sound L.value.0 L.value.1 (F.front ++ (L.more ++ [])) (L.reads [] tt) in
+    let none : L.more ++ [] ≡ [] = not_after_all F.front (L.more ++ []) L.value.0 L.value.1 S (subst IsClosed all c) in
+    let whole : F.front ++ (L.more ++ []) ≡ ts = ap (λ (x : List Item). F.front ++ x) none ∙ sym F.parts in
+    let good : script_at 4096 ts ≡ ok (L.value.0, L.value.1) [] = subst (λ (x : List Item). script_at 4096 x ≡ ok (L.value.0, L.value.1) []) whole (L.reads [] tt) in
+    absurd (let both = sym good ∙ e in cc)
+
+-- a script that was read
+pub script_is : (ts : List Item) (es : List Event) (rest : List Item) → IsClosed ts → events_at 4096 (behind_header ts) ≡ ok es rest → IsScript (header_of ts) es ts
+script_is ts es rest c e =
+    let S = events_sound 4096 (behind_header ts) es rest e in
+    let none : rest ≡ [] = ends_closed es (behind_header ts) rest S.0 (behind_closed ts c) in
+    record { behind = behind_header ts; end = S.0.last; begins = header_sound ts; goes = subst (λ (x : List Item). AreEvents es (behind_header ts) (S.0.last ∷ x)) none S.0.goes; ends = S.0.ends; limit = S.1 }
+
+pub script_at_fault : (ts rest : List Item) → events_at 4096 (behind_header ts) ≡ Err rest → script_at 4096 ts ≡ Err rest
+script_at_fault ts rest e = rw e refl
