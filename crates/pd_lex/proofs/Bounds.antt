@@ -1,8 +1,7 @@
 -- No piece that the text begins with is longer than the one that is cut.
-use Rattle.std.proofs.Common.{◌≡◌, ◌≢◌, ℕ, zero, suc, ◌+◌, ◌-◌, ◌<◌, ◌≤◌, Bool, true, false, ◌&&◌, not, cond, nat_lt, nat_eq, eqb, ◌==◌, List, [], ◌∷◌, ◌++◌, length, get_or, take, drop, Option, Some, None, refl, sym, ap, subst, ◌∙◌, arith, zero-add, append_assoc, length-append, ◌⊎◌, inl, inr}
+use Rattle.std.proofs.Common.{◌≡◌, ◌≢◌, ℕ, ◌+◌, ◌<◌, ◌≤◌, Bool, true, false, ◌&&◌, not, cond, nat_lt, nat_eq, eqb, ◌==◌, List, [], ◌∷◌, ◌++◌, length, take, drop, Option, Some, None, refl, sym, ap, ◌∙◌, arith, zero-add, append_assoc, append-nil, length-append, ◌⊎◌, inl, inr}
 use Rattle.std.specs.List.{prefix_len, list_all, starts_with}
-use Rattle.std.proofs.lemmas.List.{drop-drop, length-drop, take_at, drop_at}
-use Rattle.std.proofs.lemmas.List.Sums.{prefix_len-le-length}
+use Rattle.std.proofs.lemmas.List.{length-drop, take_at, drop_at}
 use Rattle.std.proofs.lemmas.Bool.Decides.{nat_tests, eqb_tells}
 use Rattle.pd_lex.specs.declared.token.TokenKind.{TokenKind}
 use Rattle.pd_lex.specs.declared.token.TokenKind.TheVariants.{Int, Hex, Word, Decimal, Dots, Opt, Str, Cmd, Code, Symbol}
@@ -13,8 +12,9 @@ use Rattle.pd_lex.specs.declared.scan.Opener.TheVariants.{Comment, Quote, Backqu
 use Rattle.pd_lex.specs.Octets.{is_digit, is_hex_digit, is_word, is_blank, is_solid, is_inside_line, is_no_backquote, is_printable}
 use Rattle.pd_lex.specs.Pieces.{is_hex, fraction_len, value_len, word_piece, point_piece, dash_piece, piece, after_pair, after_quote, after_backquote, after_end, opener_text, opener_len, Front, nothing, gap, token, stray, closed, parted, front}
 use Rattle.pd_lex.specs.Scanned.{piece_len}
-use Rattle.pd_lex.specs.Spellings.{AreAll, AreSome, IsHex, IsWord, IsDecimal, IsValue, IsOpt, IsQuoted, empty, plain, escaped, IsStr, IsCmd, HasNoPair, IsCode, IsSymbol, IsSpelled, IsBlank, IsLineComment, IsBlockComment, IsPiece, IsOpened, Fits}
-use Rattle.pd_lex.proofs.Fronts.{IsWithin, piece_within, IsOther, IsShaped, at_blank, at_word, at_point, at_dash, at_line_comment, at_opener, at_symbol, at_stray, shaped}
+use Rattle.pd_lex.specs.Spellings.{IsValue, IsQuoted, empty, plain, escaped, HasNoPair, IsSpelled, IsPiece, IsOpened, Fits}
+use Rattle.pd_lex.proofs.Endings.{and-false}
+use Rattle.pd_lex.proofs.Fronts.{IsWithin, piece_within, IsShaped, at_blank, at_word, at_point, at_dash, at_line_comment, at_opener, at_symbol, at_stray, shaped, run_begins, positive}
 use Rattle.pd_lex.proofs.Rests.{and_first, and_second}
 
 -- a front that takes so many octets at least
@@ -214,15 +214,11 @@ backquote_ends (b ∷ body) more h = rw (no_end b (and_first (is_no_backquote b)
     no_end : (b : ℕ) → not (b == 96) ≡ true → (b == 96) ≡ false
     no_end b h = grind (arith, nat_tests)
 
-same_octet : (a : ℕ) → eqb a a ≡ true
+pub same_octet : (a : ℕ) → eqb a a ≡ true
 same_octet a = grind (arith, nat_tests)
 
 other_order : (x y : ℕ) → eqb x y ≡ false → eqb y x ≡ false
 other_order x y h = grind (arith, nat_tests)
-
-and-false : (t : Bool) → (t && false) ≡ false
-and-false true = refl
-and-false false = refl
 
 pair_test : (x y b c : ℕ) → ((x ≡ b) × (y ≡ c) → ⊥) → (eqb x b && (eqb y c && true)) ≡ false
 pair_test x y b c none = by_tests (eqb_tells x b) (eqb_tells y c)
@@ -242,3 +238,118 @@ HasNoPair-tail x y b body none front back e = none (b ∷ front) back (ap (λ (l
 pair_ends : (x y : ℕ) (body more : List ℕ) → eqb x y ≡ false → HasNoPair x y body → after_pair x y (body ++ x ∷ y ∷ more) ≡ Some more
 pair_ends x y [] more apart none = rw (same_octet x, same_octet y) refl
 pair_ends x y (b ∷ body) more apart none = rw (no_pair_here x y b body more apart none) (pair_ends x y body more apart (HasNoPair-tail x y b body none))
+
+str_taken : (body more : List ℕ) → IsQuoted body → Takes (34 ∷ body ++ 34 ∷ more) (length (34 ∷ body ++ 34 ∷ [])) (front (34 ∷ body ++ 34 ∷ more))
+unfolding piece
+str_taken body more h = closed_taken 34 (body ++ 34 ∷ more) Quote (length (34 ∷ body ++ 34 ∷ [])) more refl (quoted_ends more h) (omega (arith, length-append body (34 ∷ []), length-append body (34 ∷ more)))
+
+cmd_taken : (body more : List ℕ) → list_all is_no_backquote body ≡ true → Takes (96 ∷ body ++ 96 ∷ more) (length (96 ∷ body ++ 96 ∷ [])) (front (96 ∷ body ++ 96 ∷ more))
+unfolding piece
+cmd_taken body more h = closed_taken 96 (body ++ 96 ∷ more) Backquote (length (96 ∷ body ++ 96 ∷ [])) more refl (backquote_ends body more h) (omega (arith, length-append body (96 ∷ []), length-append body (96 ∷ more)))
+
+code_taken : (body more : List ℕ) → HasNoPair 125 37 body → Takes (37 ∷ 123 ∷ body ++ 125 ∷ 37 ∷ more) (length (37 ∷ 123 ∷ body ++ 125 ∷ 37 ∷ [])) (front (37 ∷ 123 ∷ body ++ 125 ∷ 37 ∷ more))
+unfolding piece
+code_taken body more h = closed_taken 37 (123 ∷ body ++ 125 ∷ 37 ∷ more) Brace (length (37 ∷ 123 ∷ body ++ 125 ∷ 37 ∷ [])) more refl (pair_ends 125 37 body more refl h) (omega (arith, length-append body (125 ∷ 37 ∷ []), length-append body (125 ∷ 37 ∷ more)))
+
+block_comment_taken : (body more : List ℕ) → HasNoPair 42 47 body → Takes (47 ∷ 42 ∷ body ++ 42 ∷ 47 ∷ more) (length (47 ∷ 42 ∷ body ++ 42 ∷ 47 ∷ [])) (front (47 ∷ 42 ∷ body ++ 42 ∷ 47 ∷ more))
+unfolding piece
+block_comment_taken body more h = closed_taken 47 (42 ∷ body ++ 42 ∷ 47 ∷ more) Comment (length (47 ∷ 42 ∷ body ++ 42 ∷ 47 ∷ [])) more refl (pair_ends 42 47 body more refl h) (omega (arith, length-append body (42 ∷ 47 ∷ []), length-append body (42 ∷ 47 ∷ more)))
+
+-- comments to the end of the line, and blanks
+line_comment_taken : (body more : List ℕ) → list_all is_inside_line body ≡ true → Takes (47 ∷ 47 ∷ body ++ more) (length (47 ∷ 47 ∷ body)) (front (47 ∷ 47 ∷ body ++ more))
+unfolding piece
+line_comment_taken body more h = front_takes 47 (47 ∷ body ++ more) (length (47 ∷ 47 ∷ body)) (blank_long (length (47 ∷ 47 ∷ body)) (prefix_len is_inside_line (47 ∷ 47 ∷ body ++ more)) (run_at_least is_inside_line (47 ∷ 47 ∷ body) more h))
+
+blank_taken : (b : ℕ) (more : List ℕ) → is_blank b ≡ true → Takes (b ∷ more) 1 (front (b ∷ more))
+unfolding piece
+blank_taken b more h = front_takes b more 1 (rw h (blank_long 1 1 (omega arith)))
+
+-- symbols: any piece but an opener has an octet
+pub begins_pair : (b x y : ℕ) (s : List ℕ) → starts_with nat_eq (b ∷ s) (x ∷ y ∷ []) ≡ true → (more : List ℕ) × (b ∷ s ≡ x ∷ y ∷ more)
+begins_pair b x y [] h = absurd (let g = rw and-false at h in cc)
+begins_pair b x y (c ∷ s) h = (s, both (eqb_tells x b) (eqb_tells y c))
+  where
+    both : ((eqb x b ≡ true) × (x ≡ b)) ⊎ ((eqb x b ≡ false) × (x ≢ b)) → ((eqb y c ≡ true) × (y ≡ c)) ⊎ ((eqb y c ≡ false) × (y ≢ c)) → b ∷ c ∷ s ≡ x ∷ y ∷ s
+    both (inr f) o = absurd (let g = rw f.0 at h in cc)
+    both (inl t) (inr f) = absurd (let g = rw (f.0, and-false) at h in cc)
+    both (inl t) (inl u) = cc (t.1, u.1)
+
+pub begins_one : (b x : ℕ) (s : List ℕ) → starts_with nat_eq (b ∷ s) (x ∷ []) ≡ true → b ∷ s ≡ x ∷ s
+begins_one b x s h = same (eqb_tells x b)
+  where
+    same : ((eqb x b ≡ true) × (x ≡ b)) ⊎ ((eqb x b ≡ false) × (x ≢ b)) → b ∷ s ≡ x ∷ s
+    same (inr f) = absurd (let g = rw f.0 at h in cc)
+    same (inl t) = cc (t.1)
+
+pub opener_opens : (o : Opener) (b : ℕ) (s : List ℕ) → starts_with nat_eq (b ∷ s) (opener_text o) ≡ true → IsOpened (b ∷ s)
+opener_opens Comment b s h = let p = begins_pair b 47 42 s h in (p.0, inl p.1)
+opener_opens Quote b s h = (s, inr (inl (begins_one b 34 s h)))
+opener_opens Backquote b s h = (s, inr (inr (inl (begins_one b 96 s h))))
+opener_opens Brace b s h = let p = begins_pair b 37 123 s h in (p.0, inr (inr (inr p.1)))
+
+point_some : (s : List ℕ) → IsLong 1 (point_piece s)
+unfolding point_piece
+point_some s =
+    let f = fraction_len s in
+    long_either 1 (starts_with nat_eq s (46 ∷ 46 ∷ 46 ∷ [])) (Whole Dots 3) (cond (nat_lt 0 f) (Whole Decimal f) (Whole Symbol 1)) (λ _. whole_long 1 3 Dots (omega arith)) (λ _. long_either 1 (nat_lt 0 f) (Whole Decimal f) (Whole Symbol 1) (λ h. whole_long 1 f Decimal (positive f h)) (λ _. whole_long 1 1 Symbol (omega arith)))
+
+dash_some : (s : List ℕ) → IsLong 1 (dash_piece s)
+unfolding dash_piece
+dash_some s =
+    let n = prefix_len is_word (drop 2 s) in
+    long_either 1 (starts_with nat_eq s (45 ∷ 45 ∷ []) && nat_lt 0 n) (Whole Opt (2 + n + value_len (drop n (drop 2 s)))) (Whole Symbol 1) (λ _. whole_long 1 (2 + n + value_len (drop n (drop 2 s))) Opt (omega arith)) (λ _. whole_long 1 1 Symbol (omega arith))
+
+symbol_long : (b : ℕ) (s : List ℕ) (p : Piece) → is_printable b ≡ true → ¬ IsOpened (b ∷ s) → IsWithin (b ∷ s) p → IsShaped b s p → IsLong 1 p
+symbol_long b s p prints closed_here w (at_blank h) = blank_long 1 1 (omega arith)
+symbol_long b s p prints closed_here w (at_word h) = word_long (b ∷ s) 1 (run_begins is_word b s h)
+symbol_long b s p prints closed_here w (at_point h) = point_some (b ∷ s)
+symbol_long b s p prints closed_here w (at_dash h) = dash_some (b ∷ s)
+symbol_long b s p prints closed_here w (at_line_comment h) = blank_long 1 (prefix_len is_inside_line (b ∷ s)) w.some
+symbol_long b s p prints closed_here w (at_opener o h) = absurd (closed_here (opener_opens o b s h))
+symbol_long b s p prints closed_here w (at_symbol other h) = whole_long 1 1 Symbol (omega arith)
+symbol_long b s p prints closed_here w (at_stray other h) = absurd (let e : true ≡ false = sym prints ∙ h in cc)
+
+symbol_taken : (b : ℕ) (more : List ℕ) → is_printable b ≡ true → ¬ IsOpened (b ∷ more) → Takes (b ∷ more) 1 (front (b ∷ more))
+symbol_taken b more prints closed_here = front_takes b more 1 (symbol_long b more (piece (b ∷ more)) prints closed_here (piece_within b more) (shaped b more))
+
+-- all kinds
+taken_as : (s text more whole all : List ℕ) → s ≡ text ++ more → text ≡ whole → whole ++ more ≡ all → Takes all (length whole) (front all) → Takes s (length text) (front s)
+taken_as s text more whole all cut is same h = rw (cut, is, same) h
+
+bound_gap : (s text more : List ℕ) → s ≡ text ++ more → IsPiece None text → Takes s (length text) (front s)
+bound_gap s text more cut (inl (b, is, blank)) = taken_as s text more (b ∷ []) (b ∷ more) cut is refl (blank_taken b more blank)
+bound_gap s text more cut (inr (inl (body, is, inside))) = taken_as s text more (47 ∷ 47 ∷ body) (47 ∷ 47 ∷ body ++ more) cut is refl (line_comment_taken body more inside)
+bound_gap s text more cut (inr (inr (body, is, none))) = taken_as s text more (47 ∷ 42 ∷ body ++ 42 ∷ 47 ∷ []) (47 ∷ 42 ∷ body ++ 42 ∷ 47 ∷ more) cut is (rw append_assoc refl) (block_comment_taken body more none)
+
+taken_len : (all : List ℕ) (n m : ℕ) → n ≡ m → Takes all n (front all) → Takes all m (front all)
+taken_len all n m e h = rw (← e) h
+
+bound_value : (s text more name value : List ℕ) → s ≡ text ++ more → text ≡ 45 ∷ 45 ∷ name ++ value → 0 < length name → list_all is_word name ≡ true → IsValue value → Takes s (length text) (front s)
+bound_value s text more name value cut is some all (inl none) =
+    let bare : text ≡ 45 ∷ 45 ∷ name = is ∙ rw (none, append-nil name) refl in
+    taken_as s text more (45 ∷ 45 ∷ name) (45 ∷ 45 ∷ name ++ more) cut bare refl (taken_len (45 ∷ 45 ∷ name ++ more) (2 + length name) (length (45 ∷ 45 ∷ name)) (omega arith) (name_taken name more some all))
+bound_value s text more name value cut is some all (inr (octets, has, solid)) =
+    let full : text ≡ 45 ∷ 45 ∷ name ++ (61 ∷ octets) = is ∙ rw has refl in
+    let whole = 45 ∷ 45 ∷ name ++ (61 ∷ octets ++ more) in
+    taken_as s text more (45 ∷ 45 ∷ name ++ (61 ∷ octets)) whole cut full (rw append_assoc refl) (taken_len whole (2 + (length name + (1 + length octets))) (length (45 ∷ 45 ∷ name ++ (61 ∷ octets))) (omega (arith, length-append name (61 ∷ octets))) (value_taken name octets more some all solid))
+
+bound_token : (kind : TokenKind) (s text more : List ℕ) → s ≡ text ++ more → IsSpelled kind text → (kind ≡ Symbol → ¬ IsOpened s) → Takes s (length text) (front s)
+bound_token Int s text more cut h unopened = taken_as s text more text (text ++ more) cut refl refl (int_taken text more h.0 h.1)
+bound_token Hex s text more cut (digits, is, some) unopened = taken_as s text more (48 ∷ 120 ∷ digits) (48 ∷ 120 ∷ digits ++ more) cut is refl (hex_taken digits more some.1)
+bound_token Word s text more cut h unopened = taken_as s text more text (text ++ more) cut refl refl (run_taken text more h.0.0 h.0.1)
+bound_token Decimal s text more cut (whole, part, is, digits, some) unopened =
+    let all = whole ++ (46 ∷ part ++ more) in
+    taken_as s text more (whole ++ 46 ∷ part) all cut is (rw append_assoc refl) (taken_len all (length whole + (length part + 1)) (length (whole ++ 46 ∷ part)) (omega (arith, length-append whole (46 ∷ part))) (decimal_taken whole part more digits some.0 some.1))
+bound_token Dots s text more cut h unopened = taken_as s text more (46 ∷ 46 ∷ 46 ∷ []) (46 ∷ 46 ∷ 46 ∷ more) cut h refl (dots_taken more)
+bound_token Opt s text more cut (name, value, is, some, valued) unopened = bound_value s text more name value cut is some.0 some.1 valued
+bound_token Str s text more cut (body, is, quoted) unopened = taken_as s text more (34 ∷ body ++ 34 ∷ []) (34 ∷ body ++ 34 ∷ more) cut is (rw append_assoc refl) (str_taken body more quoted)
+bound_token Cmd s text more cut (body, is, none) unopened = taken_as s text more (96 ∷ body ++ 96 ∷ []) (96 ∷ body ++ 96 ∷ more) cut is (rw append_assoc refl) (cmd_taken body more none)
+bound_token Code s text more cut (body, is, none) unopened = taken_as s text more (37 ∷ 123 ∷ body ++ 125 ∷ 37 ∷ []) (37 ∷ 123 ∷ body ++ 125 ∷ 37 ∷ more) cut is (rw append_assoc refl) (code_taken body more none)
+bound_token Symbol s text more cut (b, is, prints, no_word) unopened =
+    let here : s ≡ b ∷ more = cut ∙ rw is refl in
+    taken_as s text more (b ∷ []) (b ∷ more) cut is refl (symbol_taken b more prints (rw here at (unopened refl)))
+
+-- every piece that fits is no longer than the one that is cut
+pub bound : (s : List ℕ) (kind : Option TokenKind) (text : List ℕ) → Fits s kind text → Takes s (length text) (front s)
+bound s None text h = bound_gap s text h.more h.cut h.spelled
+bound s (Some kind) text h = bound_token kind s text h.more h.cut h.spelled (λ is. h.unopened (ap (λ (k : TokenKind). Some k) is))

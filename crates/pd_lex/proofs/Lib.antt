@@ -7,3 +7,7 @@ pub mod Items
 pub mod Steps
 pub mod Texts
 pub mod Bounds
+pub mod Spelled
+pub mod Longest
+pub mod Order
+pub mod Agreement

@@ -1,13 +1,13 @@
 -- What is left of a text at a place, and that no two places leave the same.
-use Rattle.std.proofs.Common.{◌≡◌, ℕ, zero, suc, ◌+◌, ◌-◌, ◌<◌, ◌≤◌, Bool, true, false, cond, eqb, ◌==◌, not, ◌&&◌, List, [], ◌∷◌, ◌++◌, length, get_or, take, drop, min, refl, sym, ap, subst, ◌∙◌, arith, length-append, ◌⊎◌, inl, inr}
+use Rattle.std.proofs.Common.{◌≡◌, ℕ, zero, suc, ◌+◌, ◌-◌, ◌<◌, ◌≤◌, Bool, true, false, ◌==◌, not, ◌&&◌, List, [], ◌∷◌, ◌++◌, length, get_or, drop, min, refl, sym, ap, subst, ◌∙◌, arith, length-append, ◌⊎◌, inl, inr}
 use Rattle.std.proofs.lemmas.List.{drop_more, drop-append-le, drop-drop, length-drop, drop_all, get_or_past}
-use Rattle.std.proofs.lemmas.Bool.{cases_lt, cases_eq}
+use Rattle.std.proofs.lemmas.Bool.{cases_lt}
 use Rattle.std.proofs.lemmas.Bool.Decides.{nat_tests}
 use Rattle.pd_lex.specs.declared.token.Place.{Place}
-use Rattle.pd_lex.specs.Places.{first_place, joined, line_at, standing, octets_from, place_after, before}
+use Rattle.pd_lex.specs.Places.{first_place, joined, line_at, standing, octets_from, place_after, IsPlace}
 use Rattle.std.specs.List.{list_all}
 use Rattle.pd_text.specs.Text.{is_line}
-use Rattle.pd_lex.specs.Scanned.{IsPlace, IsLeftAt}
+use Rattle.pd_lex.specs.Scanned.{IsLeftAt}
 
 min_within : (a b : ℕ) → a ≤ b → min a b ≡ a
 min_within a b h = omega arith

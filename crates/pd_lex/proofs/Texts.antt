@@ -1,6 +1,6 @@
 -- The octets from one place up to another, within the first line.
-use Rattle.std.proofs.Common.{◌≡◌, ℕ, zero, suc, ◌+◌, ◌-◌, ◌<◌, ◌≤◌, Bool, true, false, ◌&&◌, cond, ◌==◌, List, [], ◌∷◌, ◌++◌, length, take, drop, min, refl, sym, ap, subst, ◌∙◌, arith, ◌⊎◌, inl, inr, length-append}
-use Rattle.std.specs.List.{prefix_len, list_all}
+use Rattle.std.proofs.Common.{◌≡◌, ℕ, zero, suc, ◌-◌, ◌<◌, ◌≤◌, Bool, true, false, cond, ◌==◌, List, [], ◌∷◌, ◌++◌, length, take, drop, min, refl, ap, ◌∙◌, arith, ◌⊎◌, inl, inr, length-append}
+use Rattle.std.specs.List.{list_all}
 use Rattle.std.proofs.lemmas.List.{length-drop, take-append-le}
 use Rattle.std.proofs.lemmas.Bool.{cases_lt}
 use Rattle.std.proofs.lemmas.Bool.Decides.{nat_tests}
@@ -8,8 +8,7 @@ use Rattle.std.proofs.Math.Numerals.{one-add}
 use Rattle.pd_text.specs.Text.{is_line}
 use Rattle.pd_lex.specs.declared.token.Place.{Place}
 use Rattle.pd_lex.specs.Octets.{is_inside_line}
-use Rattle.pd_lex.specs.Places.{first_place, joined, line_at, standing, octets_from, before, between, first_line}
-use Rattle.pd_lex.specs.Scanned.{IsPlace}
+use Rattle.pd_lex.specs.Places.{first_place, joined, line_at, standing, octets_from, before, between, first_line, IsPlace}
 use Rattle.pd_lex.proofs.Rests.{standing_place, octets_in_line, octets_past, left_here, left_at_most, later_less, line_is_line, and_first, and_second}
 
 -- a line's octets go before its newline
@@ -32,7 +31,7 @@ line_drop zero s h = h
 line_drop (suc n) [] h = refl
 line_drop (suc n) (b ∷ s) h = line_drop n s (and_second (is_inside_line b) (list_all is_inside_line s) h)
 
-octets_standing : (lines : List (List ℕ)) (p q : Place) → IsPlace lines q → q ≡ standing lines p → octets_from lines p ≡ octets_from lines q
+pub octets_standing : (lines : List (List ℕ)) (p q : Place) → IsPlace lines q → q ≡ standing lines p → octets_from lines p ≡ octets_from lines q
 unfolding octets_from
 octets_standing lines p q h e = rw (← e, standing_place lines q h) refl
 
@@ -101,7 +100,7 @@ is_place_by : (lines : List (List ℕ)) (t : Bool) (p : Place) → (t ≡ false 
 is_place_by lines true p h = record { from_one = omega arith; within = omega arith; at = omega arith }
 is_place_by lines false p h = h refl
 
-standing_is_place : (lines : List (List ℕ)) (p : Place) → p.line ≤ length lines → IsPlace lines (standing lines p)
+pub standing_is_place : (lines : List (List ℕ)) (p : Place) → p.line ≤ length lines → IsPlace lines (standing lines p)
 unfolding standing
 standing_is_place lines p le = is_place_by lines (p.line == 0) (record { line = p.line; at = min p.at (length (line_at lines p.line)) }) (λ not. record { from_one = is_positive p.line not; within = omega arith; at = omega arith })
   where

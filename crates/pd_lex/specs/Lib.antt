@@ -4,5 +4,7 @@ pub mod Octets
 pub mod Pieces
 pub mod Scanned
 pub mod Spellings
+pub mod Next
+pub mod Agreement
 pub mod Places
 pub mod Tokens

@@ -1,5 +1,6 @@
 //! The next token of a text.
 ghost use Rattle.pd_lex.specs.Tokens.{IsNext};
+ghost use Rattle.pd_lex.specs.Next.{IsCut, HasLine};
 
 use crate::standing::standing_place;
 use crate::step::{Step, step_at};
@@ -12,6 +13,8 @@ use pd_text::Lines;
 /// begins none, or where a comment, a string, a command or code is opened and never closed.
 pub fn next_token(lines: &Lines, place: Place) -> Lexed
     ensures next { IsNext lines.now place result }
+    ensures cut { IsCut lines.now place result }
+    ensures line { HasLine lines.now result }
 {
     let Some(mut here) = standing_place(lines, place) else {
         return Lexed::End;

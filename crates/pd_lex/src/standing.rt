@@ -1,8 +1,7 @@
 //! Places in a text, and what is left of their lines.
 ghost use Rattle.std.specs.Prelude.{◌≡◌, ◌≤◌, ◌<◌, ◌^◌, length, drop, IfSome, IfNone};
 ghost use Rattle.pd_text.specs.Text.{AreLines};
-ghost use Rattle.pd_lex.specs.Places.{line_at, standing, between, first_line};
-ghost use Rattle.pd_lex.specs.Scanned.{IsPlace};
+ghost use Rattle.pd_lex.specs.Places.{line_at, standing, between, first_line, IsPlace};
 
 use crate::token::Place;
 use pd_text::Lines;

@@ -1,8 +1,8 @@
 //! One step over a text: the piece at a place.
 ghost use Rattle.std.specs.Prelude.{◌≡◌, ◌+◌, length};
-ghost use Rattle.pd_lex.specs.Places.{octets_from};
+ghost use Rattle.pd_lex.specs.Places.{octets_from, IsPlace};
 ghost use Rattle.pd_lex.specs.Pieces.{after_end};
-ghost use Rattle.pd_lex.specs.Scanned.{IsPlace, IsClosed, IsStep, closing_step};
+ghost use Rattle.pd_lex.specs.Scanned.{IsClosed, IsStep, closing_step};
 
 use crate::ending::behind_end;
 use crate::scan::{Opener, Piece, piece_at};

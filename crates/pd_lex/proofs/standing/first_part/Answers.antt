@@ -1,7 +1,6 @@
 -- What is answered is the first line of what stands between the places.
-use Rattle.std.proofs.Common.{◌≡◌, ◌∙◌, ◌<◌, ℕ, sym, ap, arith, nat_cmp, Less, Equal, Greater}
+use Rattle.std.proofs.Common.{◌≡◌, ◌∙◌, ◌<◌, ℕ, sym, arith, nat_cmp, Less, Equal, Greater}
 use Rattle.std.proofs.lemmas.Bool.Decides.{nat_tests}
-use Rattle.pd_lex.specs.Places.{between, first_line}
 use Rattle.pd_lex.proofs.Rests.{octets_past}
 use Rattle.pd_lex.proofs.Texts.{nothing_from, nothing_at, nothing_before, first_line_here, first_line_to_end, first_line_beyond}
 use Rattle.pd_lex.proofs.standing.first_part.Goals as goal
