@@ -87,7 +87,7 @@ impl<'a> Cursor<'a> {
 ///
 /// # Errors
 /// Where a growth is refused.
-#[tactic(auto, using(crate::proofs::Few::script_few), unfolding(crate::specs::Script::script_of, crate::specs::Script::script_in))]
+#[tactic(auto, unfolding(crate::specs::Script::script_of, crate::specs::Script::script_in))]
 pub fn parse(alloc: Global, lines: &Lines) -> Result<Parsed, AllocError>
     ensures script { IfOk result (λ parsed. parsed ≡ script_of lines.now) }
 
