@@ -8,9 +8,9 @@ pub mod Capped
 pub mod Taking
 pub mod ArgumentSteps
 pub mod Finding
-pub mod Few
 pub mod Matches
 pub mod ArgumentSound
 pub mod HeaderLaws
 pub mod ScriptLaws
 pub mod Kept
+pub mod TextItems
