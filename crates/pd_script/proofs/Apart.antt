@@ -6,7 +6,7 @@ use Rattle.pd_lex.specs.declared.token.TokenKind.TheVariants as kinds
 use Rattle.pd_lex.specs.Tokens.{Item, lexeme, ending, bad}
 use Rattle.std.specs.Str.{bytes_eq}
 use Rattle.std.proofs.lemmas.Slice.Eq.{bytes_eq-Decides}
-use Rattle.pd_script.specs.Items.{is_token, is_any_int, is_int, is_hex, is_num, is_word, is_symbol, is_int_kind, is_hex_kind, is_num_kind, is_word_kind, is_symbol_kind, is_end, starts_event, goes_on}
+use Rattle.pd_script.specs.Items.{is_token, is_any_int, is_int, is_hex, is_num, is_dots, is_command, is_code, is_word, is_symbol, is_dots_kind, is_command_kind, is_code_kind, is_int_kind, is_hex_kind, is_num_kind, is_word_kind, is_symbol_kind, is_end, starts_event, goes_on}
 
 -- ---- tests
 
@@ -135,6 +135,15 @@ num_kind = record { kind = at }
 
 pub word_kind : IsOf is_word_kind is_word
 word_kind = record { kind = λ x h. h }
+
+pub dots_kind : IsOf is_dots_kind is_dots
+dots_kind = record { kind = λ x h. h }
+
+pub command_kind : IsOf is_command_kind is_command
+command_kind = record { kind = λ x h. h }
+
+pub code_kind : IsOf is_code_kind is_code
+code_kind = record { kind = λ x h. h }
 
 pub symbol_kind : (octet : ℕ) → IsOf is_symbol_kind (is_symbol octet)
 symbol_kind octet = record { kind = at }

@@ -32,7 +32,7 @@ abbrev pub a_word : Item
 a_word = a_token kinds.Word (97 ∷ [])
 
 -- the pairs that are open are closed, and then the call's own
-closing : List Bracket → List Item
+unfoldable pub closing : List Bracket → List Item
 closing [] = closer brackets.Round ∷ []
 closing (b ∷ pairs) = closer b ∷ closing pairs
 
@@ -63,7 +63,7 @@ closes (brackets.Round ∷ pairs) d tail h = rw (closes pairs (longer_draft d (c
 closes (brackets.Square ∷ pairs) d tail h = rw (closes pairs (longer_draft d (closer brackets.Square)) tail (is_empty-longer_draft d (closer brackets.Square))) refl
 closes (brackets.Curly ∷ pairs) d tail h = rw (closes pairs (longer_draft d (closer brackets.Curly)) tail (is_empty-longer_draft d (closer brackets.Curly))) refl
 
-plain_closing : (pairs : List Bracket) → list_all is_plain (closing pairs) ≡ true
+pub plain_closing : (pairs : List Bracket) → list_all is_plain (closing pairs) ≡ true
 unfolding closing
 plain_closing [] = refl
 plain_closing (brackets.Round ∷ pairs) = plain_closing pairs

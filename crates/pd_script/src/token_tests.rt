@@ -1,13 +1,14 @@
 //! What a token is for the grammar.
 ghost use Rattle.std.specs.Prelude.{◌≡◌, ◌≤◌, true};
 ghost use Rattle.pd_lex.specs.Tokens.{lexeme, lexeme_of, line_of};
-ghost use Rattle.pd_script.specs.Items.{is_int, is_any_int, is_hex, is_num, is_word, is_symbol, is_header, given, text_of};
+ghost use Rattle.pd_script.specs.Items.{is_int, is_any_int, is_hex, is_num, is_num_from, is_dots, is_command, is_code, is_word, is_symbol, is_header, given, text_of};
 ghost use Rattle.pd_script.specs.Header.{header_item};
 ghost use Rattle.pd_script.specs.Values.{number, hex_number, microseconds, function_named, error_named};
 
 use crate::calls::{ErrorName, Function};
 use crate::names::{error_named, function_named};
-use crate::numbers::{GREATEST, hex_number, microseconds, number, whole_digits};
+use crate::numbers::{GREATEST, TIME_LIMIT, hex_number, microseconds, number};
+use crate::script_events::Action;
 use crate::script_header::{HeaderItem, HeaderKind};
 use pd_lex::{Token, TokenKind};
 use pd_text::Lines;
@@ -53,12 +54,38 @@ pub fn is_hex(lines: &Lines, token: &Token) -> bool
     matches!(token.kind, TokenKind::Hex) && hex_number(token.text(lines)) <= GREATEST
 }
 
-/// An Int or a Decimal whose whole part is at most 4,294,967,295.
+/// An Int or a Decimal below 4,294,967,296 seconds.
 #[tactic(auto, unfolding(pd_lex::specs::Tokens::lexeme_of))]
 pub fn is_num(lines: &Lines, token: &Token) -> bool
     ensures { result ≡ is_num (lexeme (lexeme_of lines.now token.now)) }
 {
-    matches!(token.kind, TokenKind::Int | TokenKind::Decimal) && number(whole_digits(token.text(lines))) <= GREATEST
+    matches!(token.kind, TokenKind::Int | TokenKind::Decimal) && microseconds(token.text(lines)) < TIME_LIMIT
+}
+
+/// Three points.
+#[tactic(auto, unfolding(pd_lex::specs::Tokens::lexeme_of))]
+pub fn is_dots(lines: &Lines, token: &Token) -> bool
+    ensures { result ≡ is_dots (lexeme (lexeme_of lines.now token.now)) }
+{
+    let _ = lines;
+    matches!(token.kind, TokenKind::Dots)
+}
+
+/// A shell command.
+#[tactic(auto, unfolding(pd_lex::specs::Tokens::lexeme_of))]
+pub fn is_command(lines: &Lines, token: &Token) -> bool
+    ensures { result ≡ is_command (lexeme (lexeme_of lines.now token.now)) }
+{
+    let _ = lines;
+    matches!(token.kind, TokenKind::Cmd)
+}
+
+#[tactic(auto, unfolding(pd_lex::specs::Tokens::lexeme_of))]
+pub fn is_code(lines: &Lines, token: &Token) -> bool
+    ensures { result ≡ is_code (lexeme (lexeme_of lines.now token.now)) }
+{
+    let _ = lines;
+    matches!(token.kind, TokenKind::Code)
 }
 
 /// The line of a token, if it is the symbol of this octet.
@@ -91,7 +118,7 @@ pub fn hex_of(lines: &Lines, token: &Token) -> Option<u32>
     u32::try_from(hex_number(token.text(lines))).ok()
 }
 
-/// The line and the microseconds of a token, if it is an Int or a Decimal whose whole part is at most 4,294,967,295.
+/// The line and the microseconds of a token, if it is an Int or a Decimal below 4,294,967,296 seconds.
 #[tactic(auto, unfolding(pd_lex::specs::Tokens::lexeme_of))]
 pub fn num_of(lines: &Lines, token: &Token) -> Option<(usize, u64)>
     ensures { result ≡ given is_num (λ t. (line_of t, microseconds (text_of t))) (lexeme (lexeme_of lines.now token.now)) }
@@ -99,11 +126,44 @@ pub fn num_of(lines: &Lines, token: &Token) -> Option<(usize, u64)>
     if !matches!(token.kind, TokenKind::Int | TokenKind::Decimal) {
         return None;
     }
-    let text = token.text(lines);
-    if number(whole_digits(text)) > GREATEST {
+    let time = microseconds(token.text(lines));
+    if time < TIME_LIMIT { Some((token.line, time)) } else { None }
+}
+
+/// The microseconds of a token, if it is such a number of at least so many.
+#[tactic(auto, unfolding(pd_lex::specs::Tokens::lexeme_of))]
+pub fn num_from_of(lines: &Lines, token: &Token, least: u64) -> Option<u64>
+    ensures { result ≡ given (is_num_from least) (λ t. microseconds (text_of t)) (lexeme (lexeme_of lines.now token.now)) }
+{
+    if !matches!(token.kind, TokenKind::Int | TokenKind::Decimal) {
         return None;
     }
-    Some((token.line, microseconds(text)))
+    let time = microseconds(token.text(lines));
+    if time < TIME_LIMIT && least <= time { Some(time) } else { None }
+}
+
+/// The line of a token, if it is three points.
+#[tactic(auto, unfolding(pd_lex::specs::Tokens::lexeme_of))]
+pub fn dots_line(lines: &Lines, token: &Token) -> Option<usize>
+    ensures { result ≡ given is_dots (λ t. line_of t) (lexeme (lexeme_of lines.now token.now)) }
+{
+    if is_dots(lines, token) { Some(token.line) } else { None }
+}
+
+/// What a token does, if it is a shell command.
+#[tactic(auto, unfolding(pd_lex::specs::Tokens::lexeme_of))]
+pub fn command_of(lines: &Lines, token: &Token) -> Option<Action>
+    ensures { result ≡ given is_command (λ t. Action.Command) (lexeme (lexeme_of lines.now token.now)) }
+{
+    if is_command(lines, token) { Some(Action::Command) } else { None }
+}
+
+/// What a token does, if it is code.
+#[tactic(auto, unfolding(pd_lex::specs::Tokens::lexeme_of))]
+pub fn code_of(lines: &Lines, token: &Token) -> Option<Action>
+    ensures { result ≡ given is_code (λ t. Action.Code) (lexeme (lexeme_of lines.now token.now)) }
+{
+    if is_code(lines, token) { Some(Action::Code) } else { None }
 }
 
 /// The call that a token names, if it is a word.
