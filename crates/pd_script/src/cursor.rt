@@ -11,12 +11,13 @@ ghost use Rattle.pd_script.specs.Cursor.{Leaves};
 use crate::brackets::{MAX_DEPTH, OpenPairs};
 use crate::calls::{ErrorName, Function};
 use crate::drafts::Inside;
+use crate::script_events::Action;
 use crate::script_header::HeaderItem;
 use crate::stops::Stop;
-use crate::script_events::Action;
 use crate::token_tests::{
     code_of, command_of, dots_line, error_of, function_of, header_item_of, hex_of, int_of, is_code,
-    is_command, is_dots, is_hex, is_int, is_num, is_symbol, is_word, num_from_of, num_of, symbol_line,
+    is_command, is_dots, is_hex, is_int, is_num, is_symbol, is_word, num_from_of, num_of,
+    symbol_line,
 };
 use pd_lex::{Lexed, Place, next_token};
 use pd_text::Lines;

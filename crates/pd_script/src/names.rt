@@ -82,19 +82,28 @@ fn error_name(error: &ErrorName) -> &'static [u8]
 fn find_function(name: &[u8]) -> Option<Function>
     ensures { result ≡ find (λ f. bytes_eq (function_name f) name.now) named_functions }
 {
-    FUNCTIONS.iter().copied().find(|function| function_name(function) == name)
+    FUNCTIONS
+        .iter()
+        .copied()
+        .find(|function| function_name(function) == name)
 }
 
 fn find_constant(name: &[u8]) -> Option<Constant>
     ensures { result ≡ find (λ c. bytes_eq (constant_name c) name.now) named_constants }
 {
-    CONSTANTS.iter().copied().find(|constant| constant_name(constant) == name)
+    CONSTANTS
+        .iter()
+        .copied()
+        .find(|constant| constant_name(constant) == name)
 }
 
 fn find_error(name: &[u8]) -> Option<ErrorName>
     ensures { result ≡ find (λ e. bytes_eq (error_name e) name.now) named_errors }
 {
-    ERRORS.iter().copied().find(|error| error_name(error) == name)
+    ERRORS
+        .iter()
+        .copied()
+        .find(|error| error_name(error) == name)
 }
 
 /// The call of a name.

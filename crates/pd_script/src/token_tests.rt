@@ -59,7 +59,8 @@ pub fn is_hex(lines: &Lines, token: &Token) -> bool
 pub fn is_num(lines: &Lines, token: &Token) -> bool
     ensures { result ≡ is_num (lexeme (lexeme_of lines.now token.now)) }
 {
-    matches!(token.kind, TokenKind::Int | TokenKind::Decimal) && microseconds(token.text(lines)) < TIME_LIMIT
+    matches!(token.kind, TokenKind::Int | TokenKind::Decimal)
+        && microseconds(token.text(lines)) < TIME_LIMIT
 }
 
 /// Three points.
@@ -93,7 +94,11 @@ pub fn is_code(lines: &Lines, token: &Token) -> bool
 pub fn symbol_line(lines: &Lines, token: &Token, octet: u8) -> Option<usize>
     ensures { result ≡ given (is_symbol octet) (λ t. line_of t) (lexeme (lexeme_of lines.now token.now)) }
 {
-    if is_symbol(lines, token, octet) { Some(token.line) } else { None }
+    if is_symbol(lines, token, octet) {
+        Some(token.line)
+    } else {
+        None
+    }
 }
 
 /// The number of a token, if it is an Int of at most 4,294,967,295.
@@ -127,7 +132,11 @@ pub fn num_of(lines: &Lines, token: &Token) -> Option<(usize, u64)>
         return None;
     }
     let time = microseconds(token.text(lines));
-    if time < TIME_LIMIT { Some((token.line, time)) } else { None }
+    if time < TIME_LIMIT {
+        Some((token.line, time))
+    } else {
+        None
+    }
 }
 
 /// The microseconds of a token, if it is such a number of at least so many.
@@ -139,7 +148,11 @@ pub fn num_from_of(lines: &Lines, token: &Token, least: u64) -> Option<u64>
         return None;
     }
     let time = microseconds(token.text(lines));
-    if time < TIME_LIMIT && least <= time { Some(time) } else { None }
+    if time < TIME_LIMIT && least <= time {
+        Some(time)
+    } else {
+        None
+    }
 }
 
 /// The line of a token, if it is three points.
@@ -147,7 +160,11 @@ pub fn num_from_of(lines: &Lines, token: &Token, least: u64) -> Option<u64>
 pub fn dots_line(lines: &Lines, token: &Token) -> Option<usize>
     ensures { result ≡ given is_dots (λ t. line_of t) (lexeme (lexeme_of lines.now token.now)) }
 {
-    if is_dots(lines, token) { Some(token.line) } else { None }
+    if is_dots(lines, token) {
+        Some(token.line)
+    } else {
+        None
+    }
 }
 
 /// What a token does, if it is a shell command.
@@ -155,7 +172,11 @@ pub fn dots_line(lines: &Lines, token: &Token) -> Option<usize>
 pub fn command_of(lines: &Lines, token: &Token) -> Option<Action>
     ensures { result ≡ given is_command (λ t. Action.Command) (lexeme (lexeme_of lines.now token.now)) }
 {
-    if is_command(lines, token) { Some(Action::Command) } else { None }
+    if is_command(lines, token) {
+        Some(Action::Command)
+    } else {
+        None
+    }
 }
 
 /// What a token does, if it is code.
@@ -163,7 +184,11 @@ pub fn command_of(lines: &Lines, token: &Token) -> Option<Action>
 pub fn code_of(lines: &Lines, token: &Token) -> Option<Action>
     ensures { result ≡ given is_code (λ t. Action.Code) (lexeme (lexeme_of lines.now token.now)) }
 {
-    if is_code(lines, token) { Some(Action::Code) } else { None }
+    if is_code(lines, token) {
+        Some(Action::Code)
+    } else {
+        None
+    }
 }
 
 /// The call that a token names, if it is a word.
