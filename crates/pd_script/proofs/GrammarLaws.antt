@@ -10,8 +10,10 @@ use Rattle.pd_script.specs.Items.{is_token, is_int, is_hex, is_num, is_num_from,
 use Rattle.pd_script.specs.Values.{number, hex_number, microseconds, error_named, function_named}
 use Rattle.pd_script.specs.Reader.{Read, Reader, then_read, ◌>>=◌, done, one, next_is, when, machine_at}
 use Rattle.pd_script.specs.Brackets.{note_move}
-use Rattle.pd_script.specs.Reading.{symbol_at, int_at, hex_at, num_at, num_from_at, dots_at, function_at, error_at, absolute_range_at, absolute_at, plus_num_from_at, relative_range_at, relative_at, any_time_at, time_at, relative_until_at, absolute_until_at, until_at, maybe_until_at, whole_at, hexadecimal_at, named_error_at, negative_at, outcome_at, arguments_at, note_at, maybe_note_at, call_at, call_action_at, command_at, code_at, action_at, event_at}
-use Rattle.pd_script.specs.Grammar.{Spelling, token, made, in_turn, either, IsSymbol, IsInt, IsHex, IsNum, IsNumFrom, IsDots, IsFunction, IsErrorName, IsAbsoluteRange, IsAbsolute, IsPlusNumFrom, IsRelativeRange, IsRelative, IsAnyTime, IsTime, IsRelativeUntil, IsAbsoluteUntil, IsUntil, IsMaybeUntil, IsWhole, IsHexadecimal, IsNegative, IsOutcome, IsNote, IsCall, IsCallAction, IsCommand, IsCode, IsAction, IsEvent}
+use Rattle.pd_script.specs.TokenReading.{symbol_at, int_at, dots_at}
+use Rattle.pd_script.specs.Reading.{hex_at, num_at, num_from_at, function_at, error_at, absolute_range_at, absolute_at, plus_num_from_at, relative_range_at, relative_at, any_time_at, time_at, relative_until_at, absolute_until_at, until_at, maybe_until_at, whole_at, hexadecimal_at, named_error_at, negative_at, outcome_at, arguments_at, note_at, maybe_note_at, call_at, call_action_at, command_at, code_at, action_at, event_at}
+use Rattle.pd_script.specs.Spelling.{Spelling, token, made, in_turn, either, IsSymbol, IsInt, IsDots}
+use Rattle.pd_script.specs.Grammar.{IsHex, IsNum, IsNumFrom, IsFunction, IsErrorName, IsAbsoluteRange, IsAbsolute, IsPlusNumFrom, IsRelativeRange, IsRelative, IsAnyTime, IsTime, IsRelativeUntil, IsAbsoluteUntil, IsUntil, IsMaybeUntil, IsWhole, IsHexadecimal, IsNegative, IsOutcome, IsNote, IsCall, IsCallAction, IsCommand, IsCode, IsAction, IsEvent}
 use Rattle.pd_script.specs.Arguments.{IsArguments, IsInNote}
 use Rattle.pd_script.specs.declared.timing.Time.{Time}
 use Rattle.pd_script.specs.declared.timing.Time.TheVariants as times
