@@ -85,7 +85,7 @@ impl<'a> Cursor<'a> {
     {
         let mut blocks = Blocks::new(alloc);
         blocks.push(self.block()?)?;
-        'blocks: while self.is_int() {
+        'more: while self.is_int() {
             let block = self.block()?;
             blocks.push(block)?;
         }
@@ -139,7 +139,7 @@ impl<'a> Cursor<'a> {
     {
         let mut options = OptionList::new(alloc);
         options.push(self.option(alloc)?)?;
-        'options: while self.is_symbol(b',') {
+        'more: while self.is_symbol(b',') {
             let option = self.next_option(alloc)?;
             options.push(option)?;
         }
