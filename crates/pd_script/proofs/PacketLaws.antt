@@ -15,7 +15,7 @@ use Rattle.pd_lex.specs.Octets.{is_digit}
 use Rattle.pd_lex.specs.Tokens.{Item, lexeme, ending, bad, line_of}
 use Rattle.pd_script.specs.Items.{is_token, is_int, is_int_from, is_int_of, is_named, is_flags, is_option, is_num, is_dots, is_word, is_symbol, is_int_kind, is_num_kind, is_dots_kind, is_word_kind, is_symbol_kind, is_end, is_plain, is_digits, is_small, goes_on, text_of}
 use Rattle.pd_script.specs.Values.{number, flags_of, with_ack, option_named}
-use Rattle.pd_script.specs.Reader.{Reader, ◌>>=◌, done, one, when}
+use Rattle.pd_script.specs.Reader.{Reader, ◌>>=◌, done, one, when, onto}
 use Rattle.pd_script.specs.TokenReading.{symbol_at, int_at, dots_at}
 use Rattle.pd_script.specs.PacketReading.{int_from_at, int_of_at, named_at, letters_at, option_name_at, repeated_at, no_flags_at, point_at, lettered_at, flags_at, octets_at, numbered_at, ack_at, win_at, block_at, blocks_at, timestamp_at, option_rest_at, option_at, next_option_at, some_options_at, listed_at, unlisted_at, any_options_at, list_at, inside_options_at, bracketed_options_at, options_at, packet_at}
 use Rattle.pd_script.specs.Spelling.{Spelling, token, made, in_turn, either, IsSymbol, IsInt, IsDots, Repeats}
@@ -33,7 +33,7 @@ use Rattle.pd_script.proofs.Matches.{Reads, Reads-one, Reads-bind, Reads-bind_if
 use Rattle.pd_script.proofs.Apart.{IsOf, and-left, and-right, and-false-right, or-left, or-right, or-elim, or-elim-no, not-true, not-false, apart, text_apart, int_kind, num_kind, dots_kind, word_kind, symbol_kind, symbol_apart, symbol_no_word, end_no_token}
 use Rattle.pd_script.proofs.ArgumentLaws.{a_token}
 use Rattle.pd_script.proofs.TokenLaws.{all, but, last, tail, symbol, int, dots, NoStart, goes_on_not, symbol_no_start}
-use Rattle.pd_script.proofs.Repeating.{Reads-repeated}
+use Rattle.pd_script.proofs.Repeating.{Reads-repeated, cons_is}
 
 -- ---- tokens
 
@@ -405,3 +405,21 @@ Reads-packet inbound =
           (λ t h. h))
         (all (starts_ack inbound)))
       int_no_point
+
+-- ---- steps of the code
+
+pub blocks_err : (xs rest : List Item) → block_at xs ≡ Err rest → blocks_at xs ≡ Err rest
+unfolding blocks_at
+blocks_err xs rest e = rw e refl
+
+pub blocks_begin : (xs ys : List Item) (b : Block) → block_at xs ≡ Ok (b, ys) → onto (b ∷ []) (repeated_at is_int block_at ys) ≡ blocks_at xs
+unfolding blocks_at
+blocks_begin xs ys b e = rw e (sym (cons_is b (repeated_at is_int block_at ys)))
+
+pub options_err : (xs rest : List Item) → option_at xs ≡ Err rest → some_options_at xs ≡ Err rest
+unfolding some_options_at
+options_err xs rest e = rw e refl
+
+pub options_begin : (xs ys : List Item) (o : PacketOption) → option_at xs ≡ Ok (o, ys) → onto (o ∷ []) (repeated_at (is_symbol 44) next_option_at ys) ≡ some_options_at xs
+unfolding some_options_at
+options_begin xs ys o e = rw e (sym (cons_is o (repeated_at (is_symbol 44) next_option_at ys)))

@@ -10,7 +10,7 @@ use Rattle.pd_script.proofs.Laws.{Laws, Took, Failed, Full, Stops, Within, ok, t
 use Rattle.pd_script.proofs.Apart.{or-left, or-right}
 use Rattle.pd_script.proofs.Matches.{Reads, Reads-done, Reads-bind, Reads-when, Reads-widen, Reads-same}
 
-cons_is : {A : Type 0} (x : A) (r : Read (List A)) → then_read r (λ xs rest. Ok (x ∷ xs, rest)) ≡ onto (x ∷ []) r
+pub cons_is : {A : Type 0} (x : A) (r : Read (List A)) → then_read r (λ xs rest. Ok (x ∷ xs, rest)) ≡ onto (x ∷ []) r
 cons_is x (Ok y) = refl
 cons_is x (Err y) = refl
 
