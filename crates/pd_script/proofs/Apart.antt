@@ -90,6 +90,7 @@ apart f g p q none fp gq t h = by_test (q t) refl
     other (lexeme x) a b = let no = apart_kind (f x.kind) (g x.kind) (each_kind (λ k. not (f k && g k)) none x.kind) a in absurd cc
     other (ending line) a b = absurd cc
     other (bad line) a b = absurd cc
+
     by_test : (b : Bool) → q t ≡ b → q t ≡ false
     by_test true e = absurd (other t (fp.kind t h) (gq.kind t e))
     by_test false e = e

@@ -83,7 +83,7 @@ full_within s =
       more = a_word ∷ closing s.pairs;
       value = drafted (at_close s.pairs d) ∷ [];
       spelled = plain_closing s.pairs;
-      reads = λ tail h. goes_on_by_word s.pairs s.draft (closing s.pairs ++ tail) ∙ rw (closes s.pairs d tail (is_empty-longer_draft s.draft a_word)) refl
+      reads = λ tail h. goes_on_by_word s.pairs s.draft (closing s.pairs ++ tail) ∙ rw (closes s.pairs d tail (is_empty-longer_draft s.draft a_word)) refl;
     }
 
 -- arguments don't begin with the bracket that ends them
@@ -101,13 +101,13 @@ unfolding arguments_at
 Laws-arguments =
     let within : Laws (machine_at argument_move fresh) (λ t. not (is_symbol 41 t)) any = (let l = Laws-machine argument_move full_within fresh in record { took = l.took; failed = l.failed; full = l.full; begins = λ ts v rest e h. begins_within ts v rest e }) in
     Laws-when (is_symbol 41) no_arguments_at (machine_at argument_move fresh) (is_symbol 41) (λ t. not (is_symbol 41 t)) any any
-      (Laws-bind (symbol_at 41) (λ line. done []) (is_symbol 41) any any any
-        (Laws-bind (one (is_symbol 41)) (λ t. done (line_of t)) (is_symbol 41) any any any (Laws-one (is_symbol 41) (closer brackets.Round) refl refl) (λ t. Laws-done (line_of t) any) (λ t h. refl))
-        (λ line. Laws-done [] any)
-        (λ t h. refl))
-      within
-      (λ t h. h)
-      (λ t h. not-true (is_symbol 41 t) h)
-      (λ v rest e. absurd cc)
-      (λ t h. refl)
-      (λ t h. refl)
+    (Laws-bind (symbol_at 41) (λ line. done []) (is_symbol 41) any any any
+    (Laws-bind (one (is_symbol 41)) (λ t. done (line_of t)) (is_symbol 41) any any any (Laws-one (is_symbol 41) (closer brackets.Round) refl refl) (λ t. Laws-done (line_of t) any) (λ t h. refl))
+    (λ line. Laws-done [] any)
+    (λ t h. refl))
+    within
+    (λ t h. h)
+    (λ t h. not-true (is_symbol 41 t) h)
+    (λ v rest e. absurd cc)
+    (λ t h. refl)
+    (λ t h. refl)

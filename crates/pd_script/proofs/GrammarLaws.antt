@@ -88,14 +88,14 @@ but_tilde = but (is_symbol 126)
 Reads-absolute_range : (n : ℕ × ℕ) → n.1 ≤ 4294967295999999 → Reads (absolute_range_at n.0 n.1) (IsAbsoluteRange n.0 n.1) (is_symbol 126) but_tilde
 Reads-absolute_range n h =
     Reads-bind (symbol_at 126) _ (IsSymbol 126) _ (is_symbol 126) any (is_num_from n.1) but_tilde (symbol 126 refl refl)
-      (λ tilde. last (num_from_at n.1) (λ m. (n.0, times.AbsoluteRange n.1 m)) (IsNumFrom n.1) (is_num_from n.1) but_tilde (num_from n.1 h))
-      (all (is_num_from n.1))
+    (λ tilde. last (num_from_at n.1) (λ m. (n.0, times.AbsoluteRange n.1 m)) (IsNumFrom n.1) (is_num_from n.1) but_tilde (num_from n.1 h))
+    (all (is_num_from n.1))
 
 Reads-absolute : Reads absolute_at IsAbsolute is_num but_tilde
 Reads-absolute =
     Reads-bind_if num_at _ IsNum _ (λ n. n.1 ≤ 4294967295999999) is_num any any but_tilde num_small num
-      (λ n h. tail (is_symbol 126) (absolute_range_at n.0 n.1) (IsAbsoluteRange n.0 n.1) (n.0, times.Absolute n.1) (Reads-absolute_range n h) (λ w rest e. absurd cc))
-      (all any)
+    (λ n h. tail (is_symbol 126) (absolute_range_at n.0 n.1) (IsAbsoluteRange n.0 n.1) (n.0, times.Absolute n.1) (Reads-absolute_range n h) (λ w rest e. absurd cc))
+    (all any)
 
 num_from_no_plus : (least : ℕ) (t : Item) → is_num_from least t ≡ true → is_symbol 43 t ≡ false
 num_from_no_plus least t h = num_no_plus t (and-left (is_num t) _ h)
@@ -103,51 +103,51 @@ num_from_no_plus least t h = num_no_plus t (and-left (is_num t) _ h)
 Reads-second : (least : ℕ) → least ≤ 4294967295999999 → Reads (when (is_symbol 43) (plus_num_from_at least) (num_from_at least)) (either (IsPlusNumFrom least) (IsNumFrom least)) any any
 Reads-second least h =
     Reads-when (is_symbol 43) (plus_num_from_at least) (num_from_at least) (IsPlusNumFrom least) (IsNumFrom least) (is_symbol 43) (is_num_from least) any any
-      (Reads-bind (symbol_at 43) (λ plus. num_from_at least) (IsSymbol 43) (λ plus. IsNumFrom least) (is_symbol 43) any (is_num_from least) any (symbol 43 refl refl) (λ plus. num_from least h) (all (is_num_from least)))
-      (num_from least h)
-      (λ t g. g)
-      (num_from_no_plus least)
-      (λ w rest e. absurd cc)
-      (all (is_symbol 43))
-      (all (is_num_from least))
+    (Reads-bind (symbol_at 43) (λ plus. num_from_at least) (IsSymbol 43) (λ plus. IsNumFrom least) (is_symbol 43) any (is_num_from least) any (symbol 43 refl refl) (λ plus. num_from least h) (all (is_num_from least)))
+    (num_from least h)
+    (λ t g. g)
+    (num_from_no_plus least)
+    (λ w rest e. absurd cc)
+    (all (is_symbol 43))
+    (all (is_num_from least))
 
 Reads-relative_range : (line first : ℕ) → first ≤ 4294967295999999 → Reads (relative_range_at line first) (IsRelativeRange line first) (is_symbol 126) but_tilde
 Reads-relative_range line first h =
     Reads-bind (symbol_at 126) _ (IsSymbol 126) _ (is_symbol 126) any any but_tilde (symbol 126 refl refl)
-      (λ tilde. last (when (is_symbol 43) (plus_num_from_at first) (num_from_at first)) (λ m. (line, times.RelativeRange first m)) (either (IsPlusNumFrom first) (IsNumFrom first)) any but_tilde (Reads-second first h))
-      (all any)
+    (λ tilde. last (when (is_symbol 43) (plus_num_from_at first) (num_from_at first)) (λ m. (line, times.RelativeRange first m)) (either (IsPlusNumFrom first) (IsNumFrom first)) any but_tilde (Reads-second first h))
+    (all any)
 
 Reads-relative : Reads relative_at IsRelative (is_symbol 43) but_tilde
 Reads-relative =
     Reads-bind (symbol_at 43) _ (IsSymbol 43) _ (is_symbol 43) any is_num but_tilde (symbol 43 refl refl)
-      (λ line. Reads-bind_if num_at _ IsNum _ (λ n. n.1 ≤ 4294967295999999) is_num any any but_tilde num_small num
-        (λ n h. tail (is_symbol 126) (relative_range_at line n.1) (IsRelativeRange line n.1) (line, times.Relative n.1) (Reads-relative_range line n.1 h) (λ w rest e. absurd cc))
-        (all any))
-      (all is_num)
+    (λ line. Reads-bind_if num_at _ IsNum _ (λ n. n.1 ≤ 4294967295999999) is_num any any but_tilde num_small num
+    (λ n h. tail (is_symbol 126) (relative_range_at line n.1) (IsRelativeRange line n.1) (line, times.Relative n.1) (Reads-relative_range line n.1 h) (λ w rest e. absurd cc))
+    (all any))
+    (all is_num)
 
 Reads-number_time : Reads (when (is_symbol 43) relative_at absolute_at) (either IsRelative IsAbsolute) starts_number but_tilde
 unfolding starts_number
 Reads-number_time =
     Reads-when (is_symbol 43) relative_at absolute_at IsRelative IsAbsolute (is_symbol 43) is_num starts_number but_tilde
-      Reads-relative
-      Reads-absolute
-      (λ t h. h)
-      num_no_plus
-      (λ v rest e. absurd cc)
-      (λ t h. or-right (is_num t) (is_symbol 43 t) h)
-      (λ t h. or-left (is_num t) (is_symbol 43 t) h)
+    Reads-relative
+    Reads-absolute
+    (λ t h. h)
+    num_no_plus
+    (λ v rest e. absurd cc)
+    (λ t h. or-right (is_num t) (is_symbol 43 t) h)
+    (λ t h. or-left (is_num t) (is_symbol 43 t) h)
 
 pub Reads-time : Reads time_at IsTime starts_event but_tilde
 unfolding time_at IsTime starts_number
 Reads-time =
     Reads-when (is_symbol 42) any_time_at (when (is_symbol 43) relative_at absolute_at) IsAnyTime (either IsRelative IsAbsolute) (is_symbol 42) starts_number starts_event but_tilde
-      (last (symbol_at 42) (λ line. (line, times.Any)) (IsSymbol 42) (is_symbol 42) but_tilde (symbol 42 refl refl))
-      Reads-number_time
-      (λ t h. h)
-      (λ t h. or-elim-no (is_num t) (is_symbol 43 t) (is_symbol 42 t) (num_no_star t) (symbol_apart 43 42 refl t) h)
-      (λ v rest e. absurd cc)
-      (λ t h. or-right (starts_number t) (is_symbol 42 t) h)
-      (λ t h. or-left (starts_number t) (is_symbol 42 t) h)
+    (last (symbol_at 42) (λ line. (line, times.Any)) (IsSymbol 42) (is_symbol 42) but_tilde (symbol 42 refl refl))
+    Reads-number_time
+    (λ t h. h)
+    (λ t h. or-elim-no (is_num t) (is_symbol 43 t) (is_symbol 42 t) (num_no_star t) (symbol_apart 43 42 refl t) h)
+    (λ v rest e. absurd cc)
+    (λ t h. or-right (starts_number t) (is_symbol 42 t) h)
+    (λ t h. or-left (starts_number t) (is_symbol 42 t) h)
 
 -- ---- what follows
 
@@ -159,7 +159,7 @@ word_no_start = record {
   num_is = apart is_num_kind is_word_kind is_num is_word refl num_kind word_kind;
   plus_is = symbol_no_word 43;
   star_is = symbol_no_word 42;
-  end_is = λ t h. end_no_token (λ kind text. is_word_kind kind) t h
+  end_is = λ t h. end_no_token (λ kind text. is_word_kind kind) t h;
 }
 
 pub goes_on_no_word : (t : Item) → goes_on t ≡ true → but is_word t ≡ true
@@ -185,31 +185,31 @@ starts_outcome t = is_int t || starts_other_outcome t
 Reads-negative : Reads negative_at IsNegative (is_symbol 45) (but is_word)
 Reads-negative =
     Reads-bind (symbol_at 45) _ (IsSymbol 45) _ (is_symbol 45) any is_int (but is_word) (symbol 45 refl refl)
-      (λ line. Reads-bind int_at _ IsInt _ is_int any any (but is_word) int
-        (λ n. tail is_word (named_error_at n) (in_turn IsErrorName (λ name. made (outcomes.Negative n (Some name)))) (outcomes.Negative n None)
-          (last error_at (λ name. outcomes.Negative n (Some name)) IsErrorName is_word (but is_word) error_name)
-          (λ w rest e. absurd cc))
-        (all any))
-      (all is_int)
+    (λ line. Reads-bind int_at _ IsInt _ is_int any any (but is_word) int
+    (λ n. tail is_word (named_error_at n) (in_turn IsErrorName (λ name. made (outcomes.Negative n (Some name)))) (outcomes.Negative n None)
+    (last error_at (λ name. outcomes.Negative n (Some name)) IsErrorName is_word (but is_word) error_name)
+    (λ w rest e. absurd cc))
+    (all any))
+    (all is_int)
 
 pub Reads-outcome : Reads outcome_at IsOutcome starts_outcome (but is_word)
 unfolding outcome_at IsOutcome
 Reads-outcome =
     Reads-when is_int whole_at (when is_hex hexadecimal_at negative_at) IsWhole (either IsHexadecimal IsNegative) is_int starts_other_outcome starts_outcome (but is_word)
-      (last int_at (λ n. outcomes.Int n) IsInt is_int (but is_word) int)
-      (Reads-when is_hex hexadecimal_at negative_at IsHexadecimal IsNegative is_hex (is_symbol 45) starts_other_outcome (but is_word)
-        (last hex_at (λ n. outcomes.Hex n) IsHex is_hex (but is_word) hex)
-        Reads-negative
-        (λ t h. h)
-        minus_no_hex
-        (λ w rest e. absurd cc)
-        (λ t h. or-left (is_hex t) (is_symbol 45 t) h)
-        (λ t h. or-right (is_hex t) (is_symbol 45 t) h))
-      (λ t h. h)
-      (λ t h. or-elim-no (is_hex t) (is_symbol 45 t) (is_int t) (hex_no_int t) (minus_no_int t) h)
-      (λ w rest e. absurd cc)
-      (λ t h. or-left (is_int t) (starts_other_outcome t) h)
-      (λ t h. or-right (is_int t) (starts_other_outcome t) h)
+    (last int_at (λ n. outcomes.Int n) IsInt is_int (but is_word) int)
+    (Reads-when is_hex hexadecimal_at negative_at IsHexadecimal IsNegative is_hex (is_symbol 45) starts_other_outcome (but is_word)
+    (last hex_at (λ n. outcomes.Hex n) IsHex is_hex (but is_word) hex)
+    Reads-negative
+    (λ t h. h)
+    minus_no_hex
+    (λ w rest e. absurd cc)
+    (λ t h. or-left (is_hex t) (is_symbol 45 t) h)
+    (λ t h. or-right (is_hex t) (is_symbol 45 t) h))
+    (λ t h. h)
+    (λ t h. or-elim-no (is_hex t) (is_symbol 45 t) (is_int t) (hex_no_int t) (minus_no_int t) h)
+    (λ w rest e. absurd cc)
+    (λ t h. or-left (is_int t) (starts_other_outcome t) h)
+    (λ t h. or-right (is_int t) (starts_other_outcome t) h)
 
 -- ---- calls
 
@@ -220,8 +220,8 @@ Reads-note : Reads note_at IsNote (is_symbol 40) goes_on
 unfolding note_at IsNote
 Reads-note =
     Reads-bind (symbol_at 40) _ (IsSymbol 40) _ (is_symbol 40) any any goes_on (symbol 40 refl refl)
-      (λ line. last (machine_at note_move []) (λ skipped. line) IsInNote any goes_on Reads-in_note)
-      (all any)
+    (λ line. last (machine_at note_move []) (λ skipped. line) IsInNote any goes_on Reads-in_note)
+    (all any)
 
 note_nothing : (w : ℕ) (rest : List Item) → note_at [] ≡ Ok (w, rest) → ⊥
 unfolding note_at
@@ -240,16 +240,16 @@ pub Reads-call : Reads call_at IsCall is_word goes_on
 unfolding call_at IsCall
 Reads-call =
     Reads-bind function_at _ IsFunction _ is_word any (is_symbol 40) goes_on function
-      (λ name. Reads-bind (symbol_at 40) _ (IsSymbol 40) _ (is_symbol 40) any any goes_on (symbol 40 refl refl)
-        (λ o. Reads-bind arguments_at _ IsArguments _ any any (is_symbol 61) goes_on Reads-arguments
-          (λ arguments. Reads-bind (symbol_at 61) _ (IsSymbol 61) _ (is_symbol 61) any starts_outcome goes_on (symbol 61 refl refl)
-            (λ q. Reads-bind outcome_at _ IsOutcome _ starts_outcome (but is_word) follows_outcome goes_on Reads-outcome
-              (λ outcome. Reads-bind maybe_note_at (λ note. done _) (either IsNote (made 0)) (λ note. made _) follows_outcome goes_on goes_on goes_on Reads-maybe_note (λ note. Reads-done _ goes_on) (λ t h. h))
-              follows_no_word)
-            (all starts_outcome))
-          (all (is_symbol 61)))
-        (all any))
-      (all (is_symbol 40))
+    (λ name. Reads-bind (symbol_at 40) _ (IsSymbol 40) _ (is_symbol 40) any any goes_on (symbol 40 refl refl)
+    (λ o. Reads-bind arguments_at _ IsArguments _ any any (is_symbol 61) goes_on Reads-arguments
+    (λ arguments. Reads-bind (symbol_at 61) _ (IsSymbol 61) _ (is_symbol 61) any starts_outcome goes_on (symbol 61 refl refl)
+    (λ q. Reads-bind outcome_at _ IsOutcome _ starts_outcome (but is_word) follows_outcome goes_on Reads-outcome
+    (λ outcome. Reads-bind maybe_note_at (λ note. done _) (either IsNote (made 0)) (λ note. made _) follows_outcome goes_on goes_on goes_on Reads-maybe_note (λ note. Reads-done _ goes_on) (λ t h. h))
+    follows_no_word)
+    (all starts_outcome))
+    (all (is_symbol 61)))
+    (all any))
+    (all (is_symbol 40))
 
 -- ---- actions
 
@@ -265,14 +265,14 @@ call_action = Reads-bind call_at (λ call. done (actions.Call call)) IsCall (λ 
 inbound : Reads inbound_at IsInbound (is_symbol 60) goes_on
 inbound =
     Reads-bind (symbol_at 60) _ (IsSymbol 60) _ (is_symbol 60) any any goes_on (symbol 60 refl refl)
-      (λ line. Reads-bind (packet_at true) (λ p. done (actions.Inbound p)) (IsPacket true) (λ p. made (actions.Inbound p)) any goes_on goes_on goes_on (Reads-packet true) (λ p. Reads-done (actions.Inbound p) goes_on) (λ t h. h))
-      (all any)
+    (λ line. Reads-bind (packet_at true) (λ p. done (actions.Inbound p)) (IsPacket true) (λ p. made (actions.Inbound p)) any goes_on goes_on goes_on (Reads-packet true) (λ p. Reads-done (actions.Inbound p) goes_on) (λ t h. h))
+    (all any)
 
 outbound : Reads outbound_at IsOutbound (is_symbol 62) goes_on
 outbound =
     Reads-bind (symbol_at 62) _ (IsSymbol 62) _ (is_symbol 62) any any goes_on (symbol 62 refl refl)
-      (λ line. Reads-bind (packet_at false) (λ p. done (actions.Outbound p)) (IsPacket false) (λ p. made (actions.Outbound p)) any goes_on goes_on goes_on (Reads-packet false) (λ p. Reads-done (actions.Outbound p) goes_on) (λ t h. h))
-      (all any)
+    (λ line. Reads-bind (packet_at false) (λ p. done (actions.Outbound p)) (IsPacket false) (λ p. made (actions.Outbound p)) any goes_on goes_on goes_on (Reads-packet false) (λ p. Reads-done (actions.Outbound p) goes_on) (λ t h. h))
+    (all any)
 
 abbrev pub starts_outbound_or_call : Item → Bool
 starts_outbound_or_call t = is_symbol 62 t || is_word t
@@ -300,24 +300,24 @@ word_no_angle octet t h = apart is_word_kind is_symbol_kind is_word (is_symbol o
 Reads-outbound_or_call : Reads (when (is_symbol 62) outbound_at call_action_at) (either IsOutbound IsCallAction) starts_outbound_or_call goes_on
 Reads-outbound_or_call =
     Reads-when (is_symbol 62) outbound_at call_action_at IsOutbound IsCallAction (is_symbol 62) is_word starts_outbound_or_call goes_on
-      outbound
-      call_action
-      (λ t h. h)
-      (word_no_angle 62)
-      (λ w rest e. absurd cc)
-      (λ t h. or-left (is_symbol 62 t) (is_word t) h)
-      (λ t h. or-right (is_symbol 62 t) (is_word t) h)
+    outbound
+    call_action
+    (λ t h. h)
+    (word_no_angle 62)
+    (λ w rest e. absurd cc)
+    (λ t h. or-left (is_symbol 62 t) (is_word t) h)
+    (λ t h. or-right (is_symbol 62 t) (is_word t) h)
 
 Reads-packet_or_call : Reads (when (is_symbol 60) inbound_at (when (is_symbol 62) outbound_at call_action_at)) (either IsInbound (either IsOutbound IsCallAction)) starts_packet_or_call goes_on
 Reads-packet_or_call =
     Reads-when (is_symbol 60) inbound_at (when (is_symbol 62) outbound_at call_action_at) IsInbound (either IsOutbound IsCallAction) (is_symbol 60) starts_outbound_or_call starts_packet_or_call goes_on
-      inbound
-      Reads-outbound_or_call
-      (λ t h. h)
-      (λ t h. or-elim-no (is_symbol 62 t) (is_word t) (is_symbol 60 t) (symbol_apart 62 60 refl t) (word_no_angle 60 t) h)
-      (λ w rest e. absurd cc)
-      (λ t h. or-left (is_symbol 60 t) (starts_outbound_or_call t) h)
-      (λ t h. or-right (is_symbol 60 t) (starts_outbound_or_call t) h)
+    inbound
+    Reads-outbound_or_call
+    (λ t h. h)
+    (λ t h. or-elim-no (is_symbol 62 t) (is_word t) (is_symbol 60 t) (symbol_apart 62 60 refl t) (word_no_angle 60 t) h)
+    (λ w rest e. absurd cc)
+    (λ t h. or-left (is_symbol 60 t) (starts_outbound_or_call t) h)
+    (λ t h. or-right (is_symbol 60 t) (starts_outbound_or_call t) h)
 
 angle_no_code : (octet : ℕ) (t : Item) → is_symbol octet t ≡ true → is_code t ≡ false
 angle_no_code octet t h = apart is_symbol_kind is_code_kind (is_symbol octet) is_code refl (symbol_kind octet) code_kind t h
@@ -337,56 +337,56 @@ code_no_command = apart is_code_kind is_command_kind is_code is_command refl cod
 Reads-code_or_other : Reads (when is_code code_at (when (is_symbol 60) inbound_at (when (is_symbol 62) outbound_at call_action_at))) (either IsCode (either IsInbound (either IsOutbound IsCallAction))) starts_code_or_other goes_on
 Reads-code_or_other =
     Reads-when is_code code_at (when (is_symbol 60) inbound_at (when (is_symbol 62) outbound_at call_action_at)) IsCode (either IsInbound (either IsOutbound IsCallAction)) is_code starts_packet_or_call starts_code_or_other goes_on
-      code
-      Reads-packet_or_call
-      (λ t h. h)
-      (λ t h. or-elim-no (is_symbol 60 t) (starts_outbound_or_call t) (is_code t) (angle_no_code 60 t) (λ g. or-elim-no (is_symbol 62 t) (is_word t) (is_code t) (angle_no_code 62 t) (word_no_code t) g) h)
-      (λ w rest e. absurd cc)
-      (λ t h. or-left (is_code t) (starts_packet_or_call t) h)
-      (λ t h. or-right (is_code t) (starts_packet_or_call t) h)
+    code
+    Reads-packet_or_call
+    (λ t h. h)
+    (λ t h. or-elim-no (is_symbol 60 t) (starts_outbound_or_call t) (is_code t) (angle_no_code 60 t) (λ g. or-elim-no (is_symbol 62 t) (is_word t) (is_code t) (angle_no_code 62 t) (word_no_code t) g) h)
+    (λ w rest e. absurd cc)
+    (λ t h. or-left (is_code t) (starts_packet_or_call t) h)
+    (λ t h. or-right (is_code t) (starts_packet_or_call t) h)
 
 pub Reads-action : Reads action_at IsAction starts_action goes_on
 unfolding action_at IsAction
 Reads-action =
     Reads-when is_command command_at (when is_code code_at (when (is_symbol 60) inbound_at (when (is_symbol 62) outbound_at call_action_at))) IsCommand (either IsCode (either IsInbound (either IsOutbound IsCallAction))) is_command starts_code_or_other starts_action goes_on
-      command
-      Reads-code_or_other
-      (λ t h. h)
-      (λ t h. or-elim-no (is_code t) (starts_packet_or_call t) (is_command t) (code_no_command t) (λ g. or-elim-no (is_symbol 60 t) (starts_outbound_or_call t) (is_command t) (angle_no_command 60 t) (λ k. or-elim-no (is_symbol 62 t) (is_word t) (is_command t) (angle_no_command 62 t) (word_no_command t) k) g) h)
-      (λ w rest e. absurd cc)
-      (λ t h. or-left (is_command t) (starts_code_or_other t) h)
-      (λ t h. or-right (is_command t) (starts_code_or_other t) h)
+    command
+    Reads-code_or_other
+    (λ t h. h)
+    (λ t h. or-elim-no (is_code t) (starts_packet_or_call t) (is_command t) (code_no_command t) (λ g. or-elim-no (is_symbol 60 t) (starts_outbound_or_call t) (is_command t) (angle_no_command 60 t) (λ k. or-elim-no (is_symbol 62 t) (is_word t) (is_command t) (angle_no_command 62 t) (word_no_command t) k) g) h)
+    (λ w rest e. absurd cc)
+    (λ t h. or-left (is_command t) (starts_code_or_other t) h)
+    (λ t h. or-right (is_command t) (starts_code_or_other t) h)
 
 -- ---- events
 
 Reads-until_number : Reads (when (is_symbol 43) relative_until_at absolute_until_at) (either IsRelativeUntil IsAbsoluteUntil) any any
 Reads-until_number =
     Reads-when (is_symbol 43) relative_until_at absolute_until_at IsRelativeUntil IsAbsoluteUntil (is_symbol 43) is_num any any
-      (Reads-bind (symbol_at 43) _ (IsSymbol 43) _ (is_symbol 43) any is_num any (symbol 43 refl refl)
-        (λ plus. last num_at (λ n. untils.Relative n.1) IsNum is_num any num)
-        (all is_num))
-      (last num_at (λ n. untils.Absolute n.1) IsNum is_num any num)
-      (λ t h. h)
-      num_no_plus
-      (λ w rest e. absurd cc)
-      (all (is_symbol 43))
-      (all is_num)
+    (Reads-bind (symbol_at 43) _ (IsSymbol 43) _ (is_symbol 43) any is_num any (symbol 43 refl refl)
+    (λ plus. last num_at (λ n. untils.Relative n.1) IsNum is_num any num)
+    (all is_num))
+    (last num_at (λ n. untils.Absolute n.1) IsNum is_num any num)
+    (λ t h. h)
+    num_no_plus
+    (λ w rest e. absurd cc)
+    (all (is_symbol 43))
+    (all is_num)
 
 Reads-until : Reads until_at IsUntil is_dots starts_action
 Reads-until =
     Reads-bind dots_at _ IsDots _ is_dots any any starts_action dots
-      (λ line. last (when (is_symbol 43) relative_until_at absolute_until_at) (λ u. Some u) (either IsRelativeUntil IsAbsoluteUntil) any starts_action Reads-until_number)
-      (all any)
+    (λ line. last (when (is_symbol 43) relative_until_at absolute_until_at) (λ u. Some u) (either IsRelativeUntil IsAbsoluteUntil) any starts_action Reads-until_number)
+    (all any)
 
 action_no_dots : (t : Item) → starts_action t ≡ true → is_dots t ≡ false
 action_no_dots t h =
     not-true (is_dots t) (each_action (not (is_dots t)) t
-      (no_kinds is_command_kind is_dots_kind is_command is_dots refl command_kind dots_kind t)
-      (no_kinds is_code_kind is_dots_kind is_code is_dots refl code_kind dots_kind t)
-      (no_kinds is_symbol_kind is_dots_kind (is_symbol 60) is_dots refl (symbol_kind 60) dots_kind t)
-      (no_kinds is_symbol_kind is_dots_kind (is_symbol 62) is_dots refl (symbol_kind 62) dots_kind t)
-      (no_kinds is_word_kind is_dots_kind is_word is_dots refl word_kind dots_kind t)
-      h)
+    (no_kinds is_command_kind is_dots_kind is_command is_dots refl command_kind dots_kind t)
+    (no_kinds is_code_kind is_dots_kind is_code is_dots refl code_kind dots_kind t)
+    (no_kinds is_symbol_kind is_dots_kind (is_symbol 60) is_dots refl (symbol_kind 60) dots_kind t)
+    (no_kinds is_symbol_kind is_dots_kind (is_symbol 62) is_dots refl (symbol_kind 62) dots_kind t)
+    (no_kinds is_word_kind is_dots_kind is_word is_dots refl word_kind dots_kind t)
+    h)
 
 abbrev follows_time : Item → Bool
 follows_time t = is_dots t || starts_action t
@@ -398,23 +398,23 @@ Reads-maybe_until = Reads-optional is_dots starts_action until_at IsUntil None R
 time_then : (t : Item) → follows_time t ≡ true → but_tilde t ≡ true
 time_then t h =
     or-elim (is_dots t) (starts_action t) (but_tilde t)
-      (no_kinds is_dots_kind is_symbol_kind is_dots (is_symbol 126) refl dots_kind (symbol_kind 126) t)
-      (each_action (but_tilde t) t
-        (no_kinds is_command_kind is_symbol_kind is_command (is_symbol 126) refl command_kind (symbol_kind 126) t)
-        (no_kinds is_code_kind is_symbol_kind is_code (is_symbol 126) refl code_kind (symbol_kind 126) t)
-        (λ g. not-false (is_symbol 126 t) (symbol_apart 60 126 refl t g))
-        (λ g. not-false (is_symbol 126 t) (symbol_apart 62 126 refl t g))
-        (no_kinds is_word_kind is_symbol_kind is_word (is_symbol 126) refl word_kind (symbol_kind 126) t))
-      h
+    (no_kinds is_dots_kind is_symbol_kind is_dots (is_symbol 126) refl dots_kind (symbol_kind 126) t)
+    (each_action (but_tilde t) t
+    (no_kinds is_command_kind is_symbol_kind is_command (is_symbol 126) refl command_kind (symbol_kind 126) t)
+    (no_kinds is_code_kind is_symbol_kind is_code (is_symbol 126) refl code_kind (symbol_kind 126) t)
+    (λ g. not-false (is_symbol 126 t) (symbol_apart 60 126 refl t g))
+    (λ g. not-false (is_symbol 126 t) (symbol_apart 62 126 refl t g))
+    (no_kinds is_word_kind is_symbol_kind is_word (is_symbol 126) refl word_kind (symbol_kind 126) t))
+    h
 
 pub Reads-event : Reads event_at IsEvent starts_event goes_on
 unfolding event_at IsEvent
 Reads-event =
     Reads-bind time_at _ IsTime _ starts_event but_tilde follows_time goes_on Reads-time
-      (λ start. Reads-bind maybe_until_at _ IsMaybeUntil _ follows_time starts_action starts_action goes_on Reads-maybe_until
-        (λ until. Reads-bind action_at (λ action. done _) IsAction (λ action. made _) starts_action goes_on goes_on goes_on Reads-action (λ action. Reads-done _ goes_on) (λ t h. h))
-        (λ t h. h))
-      time_then
+    (λ start. Reads-bind maybe_until_at _ IsMaybeUntil _ follows_time starts_action starts_action goes_on Reads-maybe_until
+    (λ until. Reads-bind action_at (λ action. done _) IsAction (λ action. made _) starts_action goes_on goes_on goes_on Reads-action (λ action. Reads-done _ goes_on) (λ t h. h))
+    (λ t h. h))
+    time_then
 
 pub end_no_start : (t : Item) → is_end t ≡ true → starts_event t ≡ false
 end_no_start (lexeme x) h = absurd cc

@@ -116,7 +116,7 @@ after_time t more time h plain =
           let action = Reads-action.sound xs A.value tail (A.reads tail st) in
           let none : Option Until = None in
           let it : IsEvent e (t ∷ (more ++ xs)) tail = (time, xs, h xs, (none, xs, inr (refl, refl), (A.value, tail, action, (refl, refl)))) in
-          rw append_assoc (Reads-event.complete (t ∷ (more ++ xs)) e tail it st))
+          rw append_assoc (Reads-event.complete (t ∷ (more ++ xs)) e tail it st));
     }
 
 begins_event : (t : Item) → starts_event t ≡ true → Full event_at goes_on (t ∷ [])
@@ -223,12 +223,12 @@ kept_followed : (n : ℕ) (us front : List Item) (t : Item) (rest : List Item) (
 kept_followed n us front t rest e m true f parts h fault ih =
     let M = (Laws-events n).failed m (t ∷ rest) fault in
     let some : M.front ≡ [] → ⊥ = λ none. (let left : m ≡ t ∷ rest = M.parts ∙ ap (λ (x : List Item). x ++ t ∷ rest) none in
-        not_at_once n t rest (subst (λ (x : List Item). next_is (may_follow n) x ≡ true) left f) (subst (λ (x : List Item). events_at n x ≡ Err (t ∷ rest)) left fault)) in
+    not_at_once n t rest (subst (λ (x : List Item). next_is (may_follow n) x ≡ true) left f) (subst (λ (x : List Item). events_at n x ≡ Err (t ∷ rest)) left fault)) in
     kept_more us front e (found_in n m).events m M.front t rest parts h M.parts some (ih M.front M.parts)
 kept_followed n us front t rest e m false f parts h fault ih =
     let there : m ≡ t ∷ rest = (let both = sym (not_followed n m f) ∙ fault in cc) in
     kept_nothing front (λ d next more spelled g. (let other = sym h ∙ subst (λ (x : List Item). event_at x ≡ ok d (next ∷ (more ++ t ∷ rest))) (sym parts) (read_before d front next more t rest spelled g) in
-        too_long t next more rest (sym there ∙ rest_is e d m (next ∷ (more ++ t ∷ rest)) other)))
+    too_long t next more rest (sym there ∙ rest_is e d m (next ∷ (more ++ t ∷ rest)) other)))
 
 kept_read : (n : ℕ) (us front : List Item) (t : Item) (rest : List Item) (r : Read Event) → event_at us ≡ r → us ≡ front ++ t ∷ rest → then_read r (λ e m. then_read (events_at n m) (λ es left. Ok (e ∷ es, left))) ≡ Err (t ∷ rest) → ((m middle : List Item) → m ≡ middle ++ t ∷ rest → events_at n m ≡ Err (t ∷ rest) → Kept (found_in n m).events middle) → Kept (with_event (found_in n) (followed (may_follow n) r)).events front
 kept_read n us front t rest (Err d) h parts fault ih =

@@ -271,5 +271,5 @@ narrow s r l w = record {
   took = λ ts v rest e. Took-narrow s r ts v rest w (l.took ts v rest e);
   failed = λ ts rest e. (let F = l.failed ts rest e in record { front = F.front; parts = F.parts; again = F.again; live = Full-narrow s r F.front w F.live });
   full = Full-narrow s r [] w l.full;
-  begins = λ ts v rest e h. l.begins ts v rest e (Stops-within r s rest w h)
+  begins = λ ts v rest e h. l.begins ts v rest e (Stops-within r s rest w h);
 }

@@ -121,5 +121,5 @@ Reads-same Q r to from = record {
   laws = r.laws;
   sound = λ ts v rest e. to v ts rest (r.sound ts v rest e);
   complete = λ ts v rest h stops. r.complete ts v rest (from v ts rest h) stops;
-  takes = λ ts v rest h. r.takes ts v rest (from v ts rest h)
+  takes = λ ts v rest h. r.takes ts v rest (from v ts rest h);
 }

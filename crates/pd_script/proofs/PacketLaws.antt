@@ -130,8 +130,8 @@ Reads-point f = last (symbol_at 46) (λ line. with_ack f) (IsSymbol 46) (is_symb
 Reads-lettered : Reads lettered_at IsLettered is_flags but_point
 Reads-lettered =
     Reads-bind letters_at _ IsLetters _ is_flags any any but_point letters
-      (λ f. tail (is_symbol 46) (point_at f) (IsPoint f) f (Reads-point f) (λ w rest e. absurd cc))
-      (all any)
+    (λ f. tail (is_symbol 46) (point_at f) (IsPoint f) f (Reads-point f) (λ w rest e. absurd cc))
+    (all any)
 
 abbrev starts_flags : Item → Bool
 starts_flags t = is_symbol 46 t || is_flags t
@@ -142,25 +142,25 @@ flags_no_symbol octet t h = apart is_word_kind is_symbol_kind is_flags (is_symbo
 Reads-some_flags : Reads (when (is_symbol 46) (point_at (flags_of [])) lettered_at) (either (IsPoint (flags_of [])) IsLettered) starts_flags but_point
 Reads-some_flags =
     Reads-when (is_symbol 46) (point_at (flags_of [])) lettered_at (IsPoint (flags_of [])) IsLettered (is_symbol 46) is_flags starts_flags but_point
-      (Reads-point (flags_of []))
-      Reads-lettered
-      (λ t h. h)
-      (flags_no_symbol 46)
-      (λ w rest e. absurd cc)
-      (λ t h. or-left (is_symbol 46 t) (is_flags t) h)
-      (λ t h. or-right (is_symbol 46 t) (is_flags t) h)
+    (Reads-point (flags_of []))
+    Reads-lettered
+    (λ t h. h)
+    (flags_no_symbol 46)
+    (λ w rest e. absurd cc)
+    (λ t h. or-left (is_symbol 46 t) (is_flags t) h)
+    (λ t h. or-right (is_symbol 46 t) (is_flags t) h)
 
 Reads-flags : Reads flags_at IsFlags any but_point
 unfolding flags_at IsFlags
 Reads-flags =
     Reads-when (is_symbol 45) no_flags_at (when (is_symbol 46) (point_at (flags_of [])) lettered_at) IsNoFlags (either (IsPoint (flags_of [])) IsLettered) (is_symbol 45) starts_flags any but_point
-      (last (symbol_at 45) (λ line. flags_of []) (IsSymbol 45) (is_symbol 45) but_point (symbol 45 refl refl))
-      Reads-some_flags
-      (λ t h. h)
-      (λ t h. or-elim-no (is_symbol 46 t) (is_flags t) (is_symbol 45 t) (symbol_apart 46 45 refl t) (flags_no_symbol 45 t) h)
-      (λ w rest e. absurd cc)
-      (all (is_symbol 45))
-      (all starts_flags)
+    (last (symbol_at 45) (λ line. flags_of []) (IsSymbol 45) (is_symbol 45) but_point (symbol 45 refl refl))
+    Reads-some_flags
+    (λ t h. h)
+    (λ t h. or-elim-no (is_symbol 46 t) (is_flags t) (is_symbol 45 t) (symbol_apart 46 45 refl t) (flags_no_symbol 45 t) h)
+    (λ w rest e. absurd cc)
+    (all (is_symbol 45))
+    (all starts_flags)
 
 int_no_point : (t : Item) → is_int t ≡ true → but_point t ≡ true
 int_no_point t h = not-false (is_symbol 46 t) (apart is_int_kind is_symbol_kind is_int (is_symbol 46) refl int_kind (symbol_kind 46) t h)
@@ -171,22 +171,22 @@ Reads-octets : Reads octets_at IsOctets is_int any
 unfolding octets_at IsOctets
 Reads-octets =
     Reads-bind_if int_at _ IsInt _ (λ start. start ≤ 4294967295) is_int any (is_symbol 58) any int_small int
-      (λ start small. Reads-bind (symbol_at 58) _ (IsSymbol 58) _ (is_symbol 58) any (is_int_from start) any (symbol 58 refl refl)
-        (λ colon. Reads-bind_if (int_from_at start) _ (IsIntFrom start) _ (λ end. end ≤ 4294967295) (is_int_from start) any (is_symbol 40) any (int_from_small start) (int_from start small)
-          (λ end bound. Reads-bind (symbol_at 40) _ (IsSymbol 40) _ (is_symbol 40) any (is_int_of (end - start)) any (symbol 40 refl refl)
-            (λ opening. Reads-bind (int_of_at (end - start)) _ (IsIntOf (end - start)) _ (is_int_of (end - start)) any (is_symbol 41) any (int_of (end - start) (omega arith))
-              (λ len. last (symbol_at 41) (λ closing. (start, end, len)) (IsSymbol 41) (is_symbol 41) any (symbol 41 refl refl))
-              (all (is_symbol 41)))
-            (all (is_int_of (end - start))))
-          (all (is_symbol 40)))
-        (all (is_int_from start)))
-      (all (is_symbol 58))
+    (λ start small. Reads-bind (symbol_at 58) _ (IsSymbol 58) _ (is_symbol 58) any (is_int_from start) any (symbol 58 refl refl)
+    (λ colon. Reads-bind_if (int_from_at start) _ (IsIntFrom start) _ (λ end. end ≤ 4294967295) (is_int_from start) any (is_symbol 40) any (int_from_small start) (int_from start small)
+    (λ end bound. Reads-bind (symbol_at 40) _ (IsSymbol 40) _ (is_symbol 40) any (is_int_of (end - start)) any (symbol 40 refl refl)
+    (λ opening. Reads-bind (int_of_at (end - start)) _ (IsIntOf (end - start)) _ (is_int_of (end - start)) any (is_symbol 41) any (int_of (end - start) (omega arith))
+    (λ len. last (symbol_at 41) (λ closing. (start, end, len)) (IsSymbol 41) (is_symbol 41) any (symbol 41 refl refl))
+    (all (is_symbol 41)))
+    (all (is_int_of (end - start))))
+    (all (is_symbol 40)))
+    (all (is_int_from start)))
+    (all (is_symbol 58))
 
 Reads-numbered : (name : List ℕ) → Reads (named_at name) (IsNamed name) (is_named name) any → Reads (numbered_at name) (IsNumbered name) (is_named name) any
 Reads-numbered name word =
     Reads-bind (named_at name) _ (IsNamed name) _ (is_named name) any is_int any word
-      (λ line. last int_at (λ n. Some n) IsInt is_int any int)
-      (all is_int)
+    (λ line. last int_at (λ n. Some n) IsInt is_int any int)
+    (all is_int)
 
 abbrev ack_name : List ℕ
 ack_name = codes "ack"
@@ -208,14 +208,14 @@ named_no_start name = record {
   num_is = apart is_num_kind is_word_kind is_num (is_named name) refl num_kind (named_kind name);
   plus_is = apart is_symbol_kind is_word_kind (is_symbol 43) (is_named name) refl (symbol_kind 43) (named_kind name);
   star_is = apart is_symbol_kind is_word_kind (is_symbol 42) (is_named name) refl (symbol_kind 42) (named_kind name);
-  end_is = λ t h. end_no_token (λ kind text. is_word_kind kind && bytes_eq text name) t h
+  end_is = λ t h. end_no_token (λ kind text. is_word_kind kind && bytes_eq text name) t h;
 }
 
 win_follows_not : (name : List ℕ) (t : Item) → follows_win t ≡ true → is_named name t ≡ false
 win_follows_not name t h =
     or-elim-no (is_symbol 60 t) (goes_on t) (is_named name t)
-      (apart is_symbol_kind is_word_kind (is_symbol 60) (is_named name) refl (symbol_kind 60) (named_kind name) t)
-      (goes_on_not (is_named name) (named_no_start name) t) h
+    (apart is_symbol_kind is_word_kind (is_symbol 60) (is_named name) refl (symbol_kind 60) (named_kind name) t)
+    (goes_on_not (is_named name) (named_no_start name) t) h
 
 named_apart : (a b : List ℕ) → bytes_eq a b ≡ false → (t : Item) → is_named a t ≡ true → is_named b t ≡ false
 named_apart a b other (lexeme x) h = and-false-right (is_word_kind x.kind) (bytes_eq x.text b) (text_apart x.text a b other (and-right (is_word_kind x.kind) _ h))
@@ -259,10 +259,10 @@ not_longer v ts rest r h = let T = r.takes ts v rest h in omega (arith, ap lengt
 Reads-block : Reads block_at IsBlock is_int any
 Reads-block =
     Reads-bind int_at _ IsInt _ is_int any (is_symbol 58) any int
-      (λ left. Reads-bind (symbol_at 58) _ (IsSymbol 58) _ (is_symbol 58) any is_int any (symbol 58 refl refl)
-        (λ colon. last int_at (λ right. record { left = left; right = right }) IsInt is_int any int)
-        (all is_int))
-      (all (is_symbol 58))
+    (λ left. Reads-bind (symbol_at 58) _ (IsSymbol 58) _ (is_symbol 58) any is_int any (symbol 58 refl refl)
+    (λ colon. last int_at (λ right. record { left = left; right = right }) IsInt is_int any int)
+    (all is_int))
+    (all (is_symbol 58))
 
 pub block_less : (ts : List Item) (v : Block) (rest : List Item) → block_at ts ≡ ok v rest → length rest < length ts
 block_less ts v rest e =
@@ -283,21 +283,21 @@ Reads-blocks : Reads blocks_at AreBlocks is_int but_int
 unfolding blocks_at AreBlocks
 Reads-blocks =
     Reads-bind block_at _ IsBlock _ is_int any follows_block but_int Reads-block
-      (λ b. Reads-bind (repeated_at is_int block_at) (λ bs. done (b ∷ bs)) (Repeats IsBlock) (λ bs. made (b ∷ bs)) follows_block but_int but_int but_int
-        (Reads-repeated is_int block_at block_less IsBlock any but_int Reads-block (λ t h. not-true (is_int t) h) (all follows_block))
-        (λ bs. Reads-done (b ∷ bs) but_int)
-        (λ t h. h))
-      (all follows_block)
+    (λ b. Reads-bind (repeated_at is_int block_at) (λ bs. done (b ∷ bs)) (Repeats IsBlock) (λ bs. made (b ∷ bs)) follows_block but_int but_int but_int
+    (Reads-repeated is_int block_at block_less IsBlock any but_int Reads-block (λ t h. not-true (is_int t) h) (all follows_block))
+    (λ bs. Reads-done (b ∷ bs) but_int)
+    (λ t h. h))
+    (all follows_block)
 
 Reads-timestamp : Reads timestamp_at IsTimestamp (is_named (codes "val")) but_int
 Reads-timestamp =
     Reads-bind (named_at (codes "val")) _ (IsNamed (codes "val")) _ (is_named (codes "val")) any is_int but_int (named (codes "val") refl refl)
-      (λ val. Reads-bind int_at _ IsInt _ is_int any (is_named (codes "ecr")) but_int int
-        (λ v. Reads-bind (named_at (codes "ecr")) _ (IsNamed (codes "ecr")) _ (is_named (codes "ecr")) any is_int but_int (named (codes "ecr") refl refl)
-          (λ ecr. last int_at (λ e. options.Timestamp v e) IsInt is_int but_int int)
-          (all is_int))
-        (all (is_named (codes "ecr"))))
-      (all is_int)
+    (λ val. Reads-bind int_at _ IsInt _ is_int any (is_named (codes "ecr")) but_int int
+    (λ v. Reads-bind (named_at (codes "ecr")) _ (IsNamed (codes "ecr")) _ (is_named (codes "ecr")) any is_int but_int (named (codes "ecr") refl refl)
+    (λ ecr. last int_at (λ e. options.Timestamp v e) IsInt is_int but_int int)
+    (all is_int))
+    (all (is_named (codes "ecr"))))
+    (all is_int)
 
 any_done : {A : Type 0} (x : A) → Reads (done x) (made x) any but_int
 any_done x = Reads-widen but_int any (Reads-done x but_int) (all but_int)
@@ -339,11 +339,11 @@ Reads-some_options : Reads some_options_at AreOptions is_option (is_symbol 62)
 unfolding some_options_at AreOptions
 Reads-some_options =
     Reads-bind option_at _ IsOption _ is_option but_int follows_option (is_symbol 62) Reads-option
-      (λ o. Reads-bind (repeated_at (is_symbol 44) next_option_at) (λ os. done (o ∷ os)) (Repeats IsNextOption) (λ os. made (o ∷ os)) follows_option (is_symbol 62) (is_symbol 62) (is_symbol 62)
-        (Reads-repeated (is_symbol 44) next_option_at next_option_less IsNextOption but_int (is_symbol 62) Reads-next_option (symbol_apart 62 44 refl) option_then)
-        (λ os. Reads-done (o ∷ os) (is_symbol 62))
-        (λ t h. h))
-      option_then
+    (λ o. Reads-bind (repeated_at (is_symbol 44) next_option_at) (λ os. done (o ∷ os)) (Repeats IsNextOption) (λ os. made (o ∷ os)) follows_option (is_symbol 62) (is_symbol 62) (is_symbol 62)
+    (Reads-repeated (is_symbol 44) next_option_at next_option_less IsNextOption but_int (is_symbol 62) Reads-next_option (symbol_apart 62 44 refl) option_then)
+    (λ os. Reads-done (o ∷ os) (is_symbol 62))
+    (λ t h. h))
+    option_then
 
 abbrev starts_list : Item → Bool
 starts_list t = is_symbol 62 t || is_option t
@@ -354,35 +354,35 @@ option_no_symbol = apart is_word_kind is_symbol_kind is_option (is_symbol 62) re
 Reads-list : Reads list_at IsList starts_list any
 Reads-list =
     Reads-when (is_symbol 62) unlisted_at listed_at IsUnlisted IsListed (is_symbol 62) is_option starts_list any
-      (last (symbol_at 62) (λ closing. lists.Listed []) (IsSymbol 62) (is_symbol 62) any (symbol 62 refl refl))
-      (Reads-bind some_options_at _ AreOptions _ is_option (is_symbol 62) (is_symbol 62) any Reads-some_options
-        (λ os. last (symbol_at 62) (λ closing. lists.Listed os) (IsSymbol 62) (is_symbol 62) any (symbol 62 refl refl))
-        (λ t h. h))
-      (λ t h. h)
-      option_no_symbol
-      (λ w rest e. absurd cc)
-      (λ t h. or-left (is_symbol 62 t) (is_option t) h)
-      (λ t h. or-right (is_symbol 62 t) (is_option t) h)
+    (last (symbol_at 62) (λ closing. lists.Listed []) (IsSymbol 62) (is_symbol 62) any (symbol 62 refl refl))
+    (Reads-bind some_options_at _ AreOptions _ is_option (is_symbol 62) (is_symbol 62) any Reads-some_options
+    (λ os. last (symbol_at 62) (λ closing. lists.Listed os) (IsSymbol 62) (is_symbol 62) any (symbol 62 refl refl))
+    (λ t h. h))
+    (λ t h. h)
+    option_no_symbol
+    (λ w rest e. absurd cc)
+    (λ t h. or-left (is_symbol 62 t) (is_option t) h)
+    (λ t h. or-right (is_symbol 62 t) (is_option t) h)
 
 list_no_dots : (t : Item) → starts_list t ≡ true → is_dots t ≡ false
 list_no_dots t h =
     or-elim-no (is_symbol 62 t) (is_option t) (is_dots t)
-      (apart is_symbol_kind is_dots_kind (is_symbol 62) is_dots refl (symbol_kind 62) dots_kind t)
-      (apart is_word_kind is_dots_kind is_option is_dots refl option_kind dots_kind t) h
+    (apart is_symbol_kind is_dots_kind (is_symbol 62) is_dots refl (symbol_kind 62) dots_kind t)
+    (apart is_word_kind is_dots_kind is_option is_dots refl option_kind dots_kind t) h
 
 Reads-inside_options : (inbound : Bool) → Reads (inside_options_at inbound) (IsInsideOptions inbound) any any
 Reads-inside_options true = Reads-widen starts_list any Reads-list (all starts_list)
 Reads-inside_options false =
     Reads-when is_dots any_options_at list_at IsAnyOptions IsList is_dots starts_list any any
-      (Reads-bind dots_at _ IsDots _ is_dots any (is_symbol 62) any dots
-        (λ line. last (symbol_at 62) (λ closing. lists.Any) (IsSymbol 62) (is_symbol 62) any (symbol 62 refl refl))
-        (all (is_symbol 62)))
-      Reads-list
-      (λ t h. h)
-      list_no_dots
-      (λ w rest e. absurd cc)
-      (all is_dots)
-      (all starts_list)
+    (Reads-bind dots_at _ IsDots _ is_dots any (is_symbol 62) any dots
+    (λ line. last (symbol_at 62) (λ closing. lists.Any) (IsSymbol 62) (is_symbol 62) any (symbol 62 refl refl))
+    (all (is_symbol 62)))
+    Reads-list
+    (λ t h. h)
+    list_no_dots
+    (λ w rest e. absurd cc)
+    (all is_dots)
+    (all starts_list)
 
 Reads-bracketed : (inbound : Bool) → Reads (bracketed_options_at inbound) (IsBracketedOptions inbound) (is_symbol 60) any
 Reads-bracketed inbound = Reads-bind (symbol_at 60) (λ opening. inside_options_at inbound) (IsSymbol 60) (λ opening. IsInsideOptions inbound) (is_symbol 60) any any any (symbol 60 refl refl) (λ opening. Reads-inside_options inbound) (all any)
@@ -397,14 +397,14 @@ pub Reads-packet : (inbound : Bool) → Reads (packet_at inbound) (IsPacket inbo
 unfolding packet_at IsPacket
 Reads-packet inbound =
     Reads-bind flags_at _ IsFlags _ any but_point is_int goes_on Reads-flags
-      (λ flags. Reads-bind octets_at _ IsOctets _ is_int any (starts_ack inbound) goes_on Reads-octets
-        (λ octets. Reads-bind ack_at _ IsAck _ (starts_ack inbound) (follows_ack inbound) (follows_ack inbound) goes_on (Reads-ack inbound)
-          (λ ack. Reads-bind (win_at inbound) _ (IsWin inbound) _ (follows_ack inbound) follows_win follows_win goes_on (Reads-win inbound)
-            (λ win. Reads-bind (options_at inbound) (λ os. done _) (IsOptions inbound) (λ os. made _) follows_win goes_on goes_on goes_on (Reads-options inbound) (λ os. Reads-done _ goes_on) (λ t h. h))
-            (λ t h. h))
-          (λ t h. h))
-        (all (starts_ack inbound)))
-      int_no_point
+    (λ flags. Reads-bind octets_at _ IsOctets _ is_int any (starts_ack inbound) goes_on Reads-octets
+    (λ octets. Reads-bind ack_at _ IsAck _ (starts_ack inbound) (follows_ack inbound) (follows_ack inbound) goes_on (Reads-ack inbound)
+    (λ ack. Reads-bind (win_at inbound) _ (IsWin inbound) _ (follows_ack inbound) follows_win follows_win goes_on (Reads-win inbound)
+    (λ win. Reads-bind (options_at inbound) (λ os. done _) (IsOptions inbound) (λ os. made _) follows_win goes_on goes_on goes_on (Reads-options inbound) (λ os. Reads-done _ goes_on) (λ t h. h))
+    (λ t h. h))
+    (λ t h. h))
+    (all (starts_ack inbound)))
+    int_no_point
 
 -- ---- steps of the code
 

@@ -106,18 +106,18 @@ module _ {A : Type 0} (test : Item → Bool) (p : Reader A) (less : (ts : List I
     Reads-within zero = Reads-same (Few zero) (Reads-widen s follows (Reads-done [] s) (λ t h. or-right (test t) (s t) h)) (none_few zero) few_none
     Reads-within (suc n) =
         Reads-same (Few (suc n))
-          (Reads-when test (one_more n) (done []) (Next n) (made []) test s follows s
-            (Reads-bind p _ P _ test sp follows s rp
-              (λ x. Reads-bind (within n) (λ xs. done (x ∷ xs)) (Few n) (λ xs. made (x ∷ xs)) follows s s s (Reads-within n) (λ xs. Reads-done (x ∷ xs) s) (λ t h. h))
-              goes)
-            (Reads-done [] s)
-            (λ t h. h)
-            other
-            (nothing_more n)
-            (λ t h. or-left (test t) (s t) h)
-            (λ t h. or-right (test t) (s t) h))
-          (next_few n)
-          (few_next n)
+        (Reads-when test (one_more n) (done []) (Next n) (made []) test s follows s
+        (Reads-bind p _ P _ test sp follows s rp
+        (λ x. Reads-bind (within n) (λ xs. done (x ∷ xs)) (Few n) (λ xs. made (x ∷ xs)) follows s s s (Reads-within n) (λ xs. Reads-done (x ∷ xs) s) (λ t h. h))
+        goes)
+        (Reads-done [] s)
+        (λ t h. h)
+        other
+        (nothing_more n)
+        (λ t h. or-left (test t) (s t) h)
+        (λ t h. or-right (test t) (s t) h))
+        (next_few n)
+        (few_next n)
 
     abbrev rep : Reader (List A)
     rep = repeated_at test p

@@ -53,7 +53,7 @@ Laws-header = record {
   took = λ ts v rest e. subst (λ (x : List HeaderItem). Took header_at (but is_header) ts x rest) (value_is (header_of ts) v (behind_header ts) rest e) (subst (λ (x : List Item). Took header_at (but is_header) ts (header_of ts) x) (rest_is (header_of ts) v (behind_header ts) rest e) (header_took ts));
   failed = λ ts rest e. absurd cc;
   full = record { more = []; value = []; spelled = refl; reads = λ tail h. header_stop tail h };
-  begins = λ ts v rest e h. Stops-any ts
+  begins = λ ts v rest e h. Stops-any ts;
 }
 
 pub header_sound : (ts : List Item) → IsHeader (header_of ts) ts (behind_header ts)
@@ -96,15 +96,15 @@ unfolding events_at
 Laws-events zero = widen is_end goes_on Laws-end (λ t h. or-right (starts_event t) (is_end t) h)
 Laws-events (suc n) =
     Laws-when starts_event (event_and n) end_at starts_event is_end goes_on any
-      (Laws-bind event_at _ starts_event goes_on goes_on any Reads-event.laws
-        (λ e. Laws-bind (events_at n) (λ es. done (e ∷ es)) goes_on any any any (Laws-events n) (λ es. Laws-done (e ∷ es) any) (λ t h. refl))
-        (λ t h. h))
-      Laws-end
-      (λ t h. h)
-      end_no_start
-      (λ w rest e. let b = then_ok (event_at []) (λ a. events_at n >>= (λ es. done (a ∷ es))) (w, rest) e in event_nothing b.0.0 b.0.1 b.1)
-      (λ t h. or-left (starts_event t) (is_end t) h)
-      (λ t h. or-right (starts_event t) (is_end t) h)
+    (Laws-bind event_at _ starts_event goes_on goes_on any Reads-event.laws
+    (λ e. Laws-bind (events_at n) (λ es. done (e ∷ es)) goes_on any any any (Laws-events n) (λ es. Laws-done (e ∷ es) any) (λ t h. refl))
+    (λ t h. h))
+    Laws-end
+    (λ t h. h)
+    end_no_start
+    (λ w rest e. let b = then_ok (event_at []) (λ a. events_at n >>= (λ es. done (a ∷ es))) (w, rest) e in event_nothing b.0.0 b.0.1 b.1)
+    (λ t h. or-left (starts_event t) (is_end t) h)
+    (λ t h. or-right (starts_event t) (is_end t) h)
 
 -- events, and then the end
 pub record Ends (es : List Event) (ts rest : List Item) : Type 0 where
@@ -178,7 +178,7 @@ header_no_start = record {
   num_is = apart is_num_kind is_header_kind is_num is_header refl num_kind (record { kind = λ x g. g });
   plus_is = apart is_symbol_kind is_header_kind (is_symbol 43) is_header refl (symbol_kind 43) (record { kind = λ x g. g });
   star_is = apart is_symbol_kind is_header_kind (is_symbol 42) is_header refl (symbol_kind 42) (record { kind = λ x g. g });
-  end_is = λ t h. end_no_token (λ kind text. is_header_kind kind) t h
+  end_is = λ t h. end_no_token (λ kind text. is_header_kind kind) t h;
 }
 
 goes_on_no_header : (t : Item) → goes_on t ≡ true → but is_header t ≡ true
@@ -187,8 +187,8 @@ goes_on_no_header t h = not-false (is_header t) (goes_on_not is_header header_no
 Laws-script : (n : ℕ) → Laws (script_at n) any any
 Laws-script n =
     Laws-bind header_at _ any (but is_header) goes_on any Laws-header
-      (λ h. Laws-bind (events_at n) (λ es. done (h, es)) goes_on any any any (Laws-events n) (λ es. Laws-done (h, es) any) (λ t g. refl))
-      goes_on_no_header
+    (λ h. Laws-bind (events_at n) (λ es. done (h, es)) goes_on any any any (Laws-events n) (λ es. Laws-done (h, es) any) (λ t g. refl))
+    goes_on_no_header
 
 -- the parts of a script that was read
 record Parts (n : ℕ) (h : List HeaderItem) (es : List Event) (ts rest : List Item) : Type 0 where
@@ -225,8 +225,7 @@ fault_is ts t rest e =
     let F = (Laws-script 4096).failed ts (t ∷ rest) e in
     let L = F.live in
     let S = script_sound L.value.0 L.value.1 (F.front ++ (L.more ++ [])) (L.reads [] tt) in
-    let more : L.more ++ [] ≡ L.more = append-nil L.more in
-    (
+    let more : L.more ++ [] ≡ L.more = append-nil L.more in (
       F.front,
       F.parts,
       record {

@@ -58,5 +58,5 @@ symbol_no_start octet plus star = record {
   num_is = apart is_num_kind is_symbol_kind is_num (is_symbol octet) refl num_kind (symbol_kind octet);
   plus_is = symbol_apart 43 octet plus;
   star_is = symbol_apart 42 octet star;
-  end_is = λ t h. end_no_token (λ kind text. is_symbol_kind kind && bytes_eq text (octet ∷ [])) t h
+  end_is = λ t h. end_no_token (λ kind text. is_symbol_kind kind && bytes_eq text (octet ∷ [])) t h;
 }

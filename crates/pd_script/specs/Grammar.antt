@@ -128,10 +128,10 @@ IsNegative = do
   line ← IsSymbol 45
   n ← IsInt
   either
-    (do
-      name ← IsErrorName
-      made (outcomes.Negative n (Some name)))
-    (made (outcomes.Negative n None))
+      (do
+        name ← IsErrorName
+        made (outcomes.Negative n (Some name)))
+      (made (outcomes.Negative n None))
 
 unfoldable pub IsOutcome : Spelling Outcome
 IsOutcome = either IsWhole (either IsHexadecimal IsNegative)

@@ -131,8 +131,8 @@ flags_of text = record {
   rst = list_any (λ octet. octet == 82) text;
   psh = list_any (λ octet. octet == 80) text;
   ack = false;
-  other = list_any (λ octet. (octet == 85) || (octet == 69) || (octet == 87) || (octet == 67)) text
-  }
+  other = list_any (λ octet. (octet == 85) || (octet == 69) || (octet == 87) || (octet == 67)) text;
+}
 
 -- with the point
 abbrev pub with_ack : Flags → Flags

@@ -15,9 +15,9 @@ use crate::calls::{ErrorName, Function};
 use crate::drafts::Inside;
 use crate::names::OptionName;
 use crate::packets::Flags;
+use crate::script_events::Action;
 use crate::script_header::HeaderItem;
 use crate::stops::Stop;
-use crate::script_events::Action;
 use crate::token_tests::{
     code_of, command_of, dots_line, error_of, flags_of, function_of, header_item_of, hex_of,
     int_equal_of, int_from_of, int_of, is_code, is_command, is_dots, is_hex, is_int, is_named,

@@ -47,7 +47,10 @@ fn option_name(option: &OptionName) -> &'static [u8]
 pub fn option_named(name: &[u8]) -> Option<OptionName>
     ensures { result ≡ option_named name.now }
 {
-    OPTIONS.iter().copied().find(|option| option_name(option) == name)
+    OPTIONS
+        .iter()
+        .copied()
+        .find(|option| option_name(option) == name)
 }
 
 /// The calls that have names.
@@ -127,19 +130,28 @@ fn error_name(error: &ErrorName) -> &'static [u8]
 fn find_function(name: &[u8]) -> Option<Function>
     ensures { result ≡ find (λ f. bytes_eq (function_name f) name.now) named_functions }
 {
-    FUNCTIONS.iter().copied().find(|function| function_name(function) == name)
+    FUNCTIONS
+        .iter()
+        .copied()
+        .find(|function| function_name(function) == name)
 }
 
 fn find_constant(name: &[u8]) -> Option<Constant>
     ensures { result ≡ find (λ c. bytes_eq (constant_name c) name.now) named_constants }
 {
-    CONSTANTS.iter().copied().find(|constant| constant_name(constant) == name)
+    CONSTANTS
+        .iter()
+        .copied()
+        .find(|constant| constant_name(constant) == name)
 }
 
 fn find_error(name: &[u8]) -> Option<ErrorName>
     ensures { result ≡ find (λ e. bytes_eq (error_name e) name.now) named_errors }
 {
-    ERRORS.iter().copied().find(|error| error_name(error) == name)
+    ERRORS
+        .iter()
+        .copied()
+        .find(|error| error_name(error) == name)
 }
 
 /// The call of a name.

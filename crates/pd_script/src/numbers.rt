@@ -29,9 +29,12 @@ fn digit_value(octet: u8) -> u64
 fn value_after(radix: u64, value: u64, digits: &[u8]) -> u64
     ensures { result ≡ fold (capped_digit radix) value digits.now }
 {
-    digits
-        .iter()
-        .fold(value, |value, digit| value.saturating_mul(radix).saturating_add(digit_value(*digit)))
+    digits.iter().fold(
+        value,
+        |value, digit| value
+            .saturating_mul(radix)
+            .saturating_add(digit_value(*digit)),
+    )
 }
 
 /// The number in digits; one above the greatest `u64` stands as that.
@@ -77,18 +80,21 @@ fn decimals(text: &[u8]) -> &[u8]
     ensures { result.now ≡ drop (whole_len text.now + 1) text.now }
 {
     let len = whole_len(text);
-    if len < text.len() { &text[len + 1..] } else { &[] }
+    if len < text.len() {
+        &text[len + 1..]
+    } else {
+        &[]
+    }
 }
 
 /// The number that six decimals write behind the digits of `value`; those not written are zeros.
 fn six_decimals_after(value: u64, decimals: &[u8]) -> u64
     ensures { result ≡ fold (capped_digit 10) value (take 6 (decimals.now ++ replicate 6 48)) }
 {
-    decimals
-        .iter()
-        .chain(b"000000".iter())
-        .take(6)
-        .fold(value, |value, digit| value.saturating_mul(10).saturating_add(digit_value(*digit)))
+    decimals.iter().chain(b"000000".iter()).take(6).fold(
+        value,
+        |value, digit| value.saturating_mul(10).saturating_add(digit_value(*digit)),
+    )
 }
 
 /// The microseconds of seconds in digits, or in digits with a point; more than the greatest `u64` stand as that.

@@ -8,8 +8,8 @@ ghost use Rattle.pd_script.specs.Values.{number, hex_number, microseconds, funct
 
 use crate::calls::{ErrorName, Function};
 use crate::names::{OptionName, error_named, function_named, option_named};
-use crate::packets::Flags;
 use crate::numbers::{GREATEST, TIME_LIMIT, hex_number, microseconds, number};
+use crate::packets::Flags;
 use crate::script_events::Action;
 use crate::script_header::{HeaderItem, HeaderKind};
 use pd_lex::{Token, TokenKind};
@@ -61,7 +61,8 @@ pub fn is_hex(lines: &Lines, token: &Token) -> bool
 pub fn is_num(lines: &Lines, token: &Token) -> bool
     ensures { result ≡ is_num (lexeme (lexeme_of lines.now token.now)) }
 {
-    matches!(token.kind, TokenKind::Int | TokenKind::Decimal) && microseconds(token.text(lines)) < TIME_LIMIT
+    matches!(token.kind, TokenKind::Int | TokenKind::Decimal)
+        && microseconds(token.text(lines)) < TIME_LIMIT
 }
 
 /// Three points.
@@ -103,7 +104,11 @@ pub fn is_named(lines: &Lines, token: &Token, name: &[u8]) -> bool
 pub fn named_line(lines: &Lines, token: &Token, name: &[u8]) -> Option<usize>
     ensures { result ≡ given (is_named name.now) (λ t. line_of t) (lexeme (lexeme_of lines.now token.now)) }
 {
-    if is_named(lines, token, name) { Some(token.line) } else { None }
+    if is_named(lines, token, name) {
+        Some(token.line)
+    } else {
+        None
+    }
 }
 
 /// The number of a token, if it is an Int that is at least another.
@@ -165,7 +170,11 @@ pub fn option_of(lines: &Lines, token: &Token) -> Option<OptionName>
 pub fn symbol_line(lines: &Lines, token: &Token, octet: u8) -> Option<usize>
     ensures { result ≡ given (is_symbol octet) (λ t. line_of t) (lexeme (lexeme_of lines.now token.now)) }
 {
-    if is_symbol(lines, token, octet) { Some(token.line) } else { None }
+    if is_symbol(lines, token, octet) {
+        Some(token.line)
+    } else {
+        None
+    }
 }
 
 /// The number of a token, if it is an Int of at most 4,294,967,295.
@@ -199,7 +208,11 @@ pub fn num_of(lines: &Lines, token: &Token) -> Option<(usize, u64)>
         return None;
     }
     let time = microseconds(token.text(lines));
-    if time < TIME_LIMIT { Some((token.line, time)) } else { None }
+    if time < TIME_LIMIT {
+        Some((token.line, time))
+    } else {
+        None
+    }
 }
 
 /// The microseconds of a token, if it is such a number of at least so many.
@@ -211,7 +224,11 @@ pub fn num_from_of(lines: &Lines, token: &Token, least: u64) -> Option<u64>
         return None;
     }
     let time = microseconds(token.text(lines));
-    if time < TIME_LIMIT && least <= time { Some(time) } else { None }
+    if time < TIME_LIMIT && least <= time {
+        Some(time)
+    } else {
+        None
+    }
 }
 
 /// The line of a token, if it is three points.
@@ -219,7 +236,11 @@ pub fn num_from_of(lines: &Lines, token: &Token, least: u64) -> Option<u64>
 pub fn dots_line(lines: &Lines, token: &Token) -> Option<usize>
     ensures { result ≡ given is_dots (λ t. line_of t) (lexeme (lexeme_of lines.now token.now)) }
 {
-    if is_dots(lines, token) { Some(token.line) } else { None }
+    if is_dots(lines, token) {
+        Some(token.line)
+    } else {
+        None
+    }
 }
 
 /// What a token does, if it is a shell command.
@@ -227,7 +248,11 @@ pub fn dots_line(lines: &Lines, token: &Token) -> Option<usize>
 pub fn command_of(lines: &Lines, token: &Token) -> Option<Action>
     ensures { result ≡ given is_command (λ t. Action.Command) (lexeme (lexeme_of lines.now token.now)) }
 {
-    if is_command(lines, token) { Some(Action::Command) } else { None }
+    if is_command(lines, token) {
+        Some(Action::Command)
+    } else {
+        None
+    }
 }
 
 /// What a token does, if it is code.
@@ -235,7 +260,11 @@ pub fn command_of(lines: &Lines, token: &Token) -> Option<Action>
 pub fn code_of(lines: &Lines, token: &Token) -> Option<Action>
     ensures { result ≡ given is_code (λ t. Action.Code) (lexeme (lexeme_of lines.now token.now)) }
 {
-    if is_code(lines, token) { Some(Action::Code) } else { None }
+    if is_code(lines, token) {
+        Some(Action::Code)
+    } else {
+        None
+    }
 }
 
 /// The call that a token names, if it is a word.
