@@ -166,7 +166,7 @@ and-false-right true b h = h
 and-false-right false b h = refl
 
 -- a text that is this one is no other
-text_apart : (text a b : List ℕ) → bytes_eq a b ≡ false → bytes_eq text a ≡ true → bytes_eq text b ≡ false
+pub text_apart : (text a b : List ℕ) → bytes_eq a b ≡ false → bytes_eq text a ≡ true → bytes_eq text b ≡ false
 text_apart text a b other h = let same : text ≡ a = (bytes_eq-Decides text a).0 h in rw same other
 
 pub symbol_apart : (a b : ℕ) → bytes_eq (a ∷ []) (b ∷ []) ≡ false → (t : Item) → is_symbol a t ≡ true → is_symbol b t ≡ false

@@ -8,7 +8,8 @@ use Rattle.pd_lex.specs.Places.{first_place}
 use Rattle.pd_lex.specs.Tokens.{Item, Lexeme, lexeme, ending, bad, line_of}
 use Rattle.pd_script.specs.Items.{is_symbol, is_plain, is_any_int, is_word}
 use Rattle.pd_script.specs.Reader.{Read, Reader, Move, stuck, ends, goes, onto, moved, machine_at, when, done, one, ◌>>=◌}
-use Rattle.pd_script.specs.Reading.{symbol_at, arguments_at, no_arguments_at}
+use Rattle.pd_script.specs.TokenReading.{symbol_at}
+use Rattle.pd_script.specs.Reading.{arguments_at, no_arguments_at}
 use Rattle.pd_script.specs.declared.drafts.Inside.{Inside}
 use Rattle.pd_script.specs.Brackets.{fresh, argument_move, move_within, led, parted, pairs_after, opened_by, is_closing, closed, closing_octet, single_draft, longer_draft, drafted, is_empty}
 use Rattle.pd_script.specs.declared.calls.Argument.{Argument}

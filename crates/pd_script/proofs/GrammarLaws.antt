@@ -10,8 +10,12 @@ use Rattle.pd_script.specs.Items.{is_token, is_int, is_hex, is_num, is_num_from,
 use Rattle.pd_script.specs.Values.{number, hex_number, microseconds, error_named, function_named}
 use Rattle.pd_script.specs.Reader.{Read, Reader, then_read, ◌>>=◌, done, one, next_is, when, machine_at}
 use Rattle.pd_script.specs.Brackets.{note_move}
-use Rattle.pd_script.specs.Reading.{symbol_at, int_at, hex_at, num_at, num_from_at, dots_at, function_at, error_at, absolute_range_at, absolute_at, plus_num_from_at, relative_range_at, relative_at, any_time_at, time_at, relative_until_at, absolute_until_at, until_at, maybe_until_at, whole_at, hexadecimal_at, named_error_at, negative_at, outcome_at, arguments_at, note_at, maybe_note_at, call_at, call_action_at, command_at, code_at, action_at, event_at}
-use Rattle.pd_script.specs.Grammar.{Spelling, token, made, in_turn, either, IsSymbol, IsInt, IsHex, IsNum, IsNumFrom, IsDots, IsFunction, IsErrorName, IsAbsoluteRange, IsAbsolute, IsPlusNumFrom, IsRelativeRange, IsRelative, IsAnyTime, IsTime, IsRelativeUntil, IsAbsoluteUntil, IsUntil, IsMaybeUntil, IsWhole, IsHexadecimal, IsNegative, IsOutcome, IsNote, IsCall, IsCallAction, IsCommand, IsCode, IsAction, IsEvent}
+use Rattle.pd_script.specs.TokenReading.{symbol_at, int_at, dots_at}
+use Rattle.pd_script.specs.Reading.{hex_at, num_at, num_from_at, function_at, error_at, absolute_range_at, absolute_at, plus_num_from_at, relative_range_at, relative_at, any_time_at, time_at, relative_until_at, absolute_until_at, until_at, maybe_until_at, whole_at, hexadecimal_at, named_error_at, negative_at, outcome_at, arguments_at, note_at, maybe_note_at, call_at, call_action_at, command_at, code_at, inbound_at, outbound_at, action_at, event_at}
+use Rattle.pd_script.specs.PacketReading.{packet_at}
+use Rattle.pd_script.specs.PacketGrammar.{IsPacket}
+use Rattle.pd_script.specs.Spelling.{Spelling, token, made, in_turn, either, IsSymbol, IsInt, IsDots}
+use Rattle.pd_script.specs.Grammar.{IsHex, IsNum, IsNumFrom, IsFunction, IsErrorName, IsAbsoluteRange, IsAbsolute, IsPlusNumFrom, IsRelativeRange, IsRelative, IsAnyTime, IsTime, IsRelativeUntil, IsAbsoluteUntil, IsUntil, IsMaybeUntil, IsWhole, IsHexadecimal, IsNegative, IsOutcome, IsNote, IsCall, IsCallAction, IsCommand, IsCode, IsInbound, IsOutbound, IsAction, IsEvent}
 use Rattle.pd_script.specs.Arguments.{IsArguments, IsInNote}
 use Rattle.pd_script.specs.declared.timing.Time.{Time}
 use Rattle.pd_script.specs.declared.timing.Time.TheVariants as times
@@ -27,28 +31,8 @@ use Rattle.pd_script.proofs.Apart.{IsOf, no_kind, and-left, and-right, or-left, 
 use Rattle.pd_script.proofs.ArgumentLaws.{a_token, a_word, Laws-arguments}
 use Rattle.pd_script.proofs.ArgumentSound.{arguments_sound, arguments_complete, arguments_take}
 use Rattle.pd_script.proofs.NoteLaws.{Reads-in_note}
-
-all : (f : Item → Bool) → Within f any
-all f t h = refl
-
-abbrev pub but : (Item → Bool) → Item → Bool
-but test t = not (test t)
-
--- a value, and then whatever may follow it
-last : {A B : Type 0} (p : Reader A) (v : A → B) (P : Spelling A) (f s : Item → Bool) → Reads p P f any → Reads (p >>= λ a. done (v a)) (in_turn P (λ a. made (v a))) f s
-last p v P f s r = Reads-bind p (λ a. done (v a)) P (λ a. made (v a)) f any s s r (λ a. Reads-done (v a) s) (all s)
-
--- a tail that may be left out
-tail : {A : Type 0} (test : Item → Bool) (p : Reader A) (P : Spelling A) (v : A) → Reads p P test (but test) → ((w : A) (rest : List Item) → p [] ≡ Ok (w, rest) → ⊥) → Reads (when test p (done v)) (either P (made v)) any (but test)
-tail test p P v r some = Reads-when test p (done v) P (made v) test (but test) any (but test) r (Reads-done v (but test)) (λ t h. h) (λ t h. not-true (test t) h) some (all test) (all (but test))
-
--- ---- single tokens
-
-symbol : (octet : ℕ) → is_symbol octet (a_token kinds.Symbol (octet ∷ [])) ≡ true → is_plain (a_token kinds.Symbol (octet ∷ [])) ≡ true → Reads (symbol_at octet) (IsSymbol octet) (is_symbol octet) any
-symbol octet h g = last (one (is_symbol octet)) (λ t. line_of t) (token (is_symbol octet)) (is_symbol octet) any (Reads-one is_symbol_kind (is_symbol octet) (a_token kinds.Symbol (octet ∷ [])) (symbol_kind octet) h g)
-
-int : Reads int_at IsInt is_int any
-int = last (one is_int) (λ t. number (text_of t)) (token is_int) is_int any (Reads-one is_int_kind is_int (a_token kinds.Int (48 ∷ [])) int_kind refl refl)
+use Rattle.pd_script.proofs.TokenLaws.{all, but, last, tail, symbol, int, dots, NoStart, goes_on_not, symbol_no_start}
+use Rattle.pd_script.proofs.PacketLaws.{Reads-packet}
 
 hex : Reads hex_at IsHex is_hex any
 hex = last (one is_hex) (λ t. hex_number (text_of t)) (token is_hex) is_hex any (Reads-one is_hex_kind is_hex (a_token kinds.Hex (48 ∷ 120 ∷ 48 ∷ [])) hex_kind refl refl)
@@ -80,9 +64,6 @@ num_bound (bad line) h = absurd cc
 -- a number that was read has its bound
 num_small : (ts : List Item) (v : ℕ × ℕ) (rest : List Item) → IsNum v ts rest → v.1 ≤ 4294967295999999
 num_small ts v rest h = subst (λ (x : ℕ × ℕ). x.1 ≤ 4294967295999999) h.3.0 (num_bound h.0 h.2.1)
-
-dots : Reads dots_at IsDots is_dots any
-dots = last (one is_dots) (λ t. line_of t) (token is_dots) is_dots any (Reads-one is_dots_kind is_dots (a_token kinds.Dots (46 ∷ 46 ∷ 46 ∷ [])) dots_kind refl refl)
 
 function : Reads function_at IsFunction is_word any
 function = last (one is_word) (λ t. function_named (text_of t)) (token is_word) is_word any (Reads-one is_word_kind is_word a_word word_kind refl refl)
@@ -172,27 +153,6 @@ Reads-time =
 
 num_no_tilde : (t : Item) → is_num t ≡ true → is_symbol 126 t ≡ false
 num_no_tilde = apart is_num_kind is_symbol_kind is_num (is_symbol 126) refl num_kind (symbol_kind 126)
-
--- a test that no item passes that begins an event, nor the end
-pub record NoStart (test : Item → Bool) : Type 0 where
-  pub num_is : (t : Item) → is_num t ≡ true → test t ≡ false
-  pub plus_is : (t : Item) → is_symbol 43 t ≡ true → test t ≡ false
-  pub star_is : (t : Item) → is_symbol 42 t ≡ true → test t ≡ false
-  pub end_is : (t : Item) → is_end t ≡ true → test t ≡ false
-
-pub goes_on_not : (test : Item → Bool) → NoStart test → (t : Item) → goes_on t ≡ true → test t ≡ false
-goes_on_not test n t h = or-elim-no (starts_event t) (is_end t) (test t) (λ g. or-elim-no (starts_number_is t) (is_symbol 42 t) (test t) (λ k. or-elim-no (is_num t) (is_symbol 43 t) (test t) (n.num_is t) (n.plus_is t) k) (n.star_is t) g) (n.end_is t) h
-  where
-    starts_number_is : Item → Bool
-    starts_number_is u = is_num u || is_symbol 43 u
-
-symbol_no_start : (octet : ℕ) → bytes_eq (43 ∷ []) (octet ∷ []) ≡ false → bytes_eq (42 ∷ []) (octet ∷ []) ≡ false → NoStart (is_symbol octet)
-symbol_no_start octet plus star = record {
-  num_is = apart is_num_kind is_symbol_kind is_num (is_symbol octet) refl num_kind (symbol_kind octet);
-  plus_is = symbol_apart 43 octet plus;
-  star_is = symbol_apart 42 octet star;
-  end_is = λ t h. end_no_token (λ kind text. is_symbol_kind kind && bytes_eq text (octet ∷ [])) t h;
-}
 
 word_no_start : NoStart is_word
 word_no_start = record {
@@ -302,11 +262,68 @@ code = last (one is_code) (λ t. actions.Code) (token is_code) is_code goes_on (
 call_action : Reads call_action_at IsCallAction is_word goes_on
 call_action = Reads-bind call_at (λ call. done (actions.Call call)) IsCall (λ call. made (actions.Call call)) is_word goes_on goes_on goes_on Reads-call (λ call. Reads-done (actions.Call call) goes_on) (λ t h. h)
 
-abbrev pub starts_code_or_call : Item → Bool
-starts_code_or_call t = is_code t || is_word t
+inbound : Reads inbound_at IsInbound (is_symbol 60) goes_on
+inbound =
+    Reads-bind (symbol_at 60) _ (IsSymbol 60) _ (is_symbol 60) any any goes_on (symbol 60 refl refl)
+    (λ line. Reads-bind (packet_at true) (λ p. done (actions.Inbound p)) (IsPacket true) (λ p. made (actions.Inbound p)) any goes_on goes_on goes_on (Reads-packet true) (λ p. Reads-done (actions.Inbound p) goes_on) (λ t h. h))
+    (all any)
+
+outbound : Reads outbound_at IsOutbound (is_symbol 62) goes_on
+outbound =
+    Reads-bind (symbol_at 62) _ (IsSymbol 62) _ (is_symbol 62) any any goes_on (symbol 62 refl refl)
+    (λ line. Reads-bind (packet_at false) (λ p. done (actions.Outbound p)) (IsPacket false) (λ p. made (actions.Outbound p)) any goes_on goes_on goes_on (Reads-packet false) (λ p. Reads-done (actions.Outbound p) goes_on) (λ t h. h))
+    (all any)
+
+abbrev pub starts_outbound_or_call : Item → Bool
+starts_outbound_or_call t = is_symbol 62 t || is_word t
+
+abbrev pub starts_packet_or_call : Item → Bool
+starts_packet_or_call t = is_symbol 60 t || starts_outbound_or_call t
+
+abbrev pub starts_code_or_other : Item → Bool
+starts_code_or_other t = is_code t || starts_packet_or_call t
 
 abbrev pub starts_action : Item → Bool
-starts_action t = is_command t || starts_code_or_call t
+starts_action t = is_command t || starts_code_or_other t
+
+-- what holds of each that begins an action
+each_action : (c : Bool) (t : Item) → (is_command t ≡ true → c ≡ true) → (is_code t ≡ true → c ≡ true) → (is_symbol 60 t ≡ true → c ≡ true) → (is_symbol 62 t ≡ true → c ≡ true) → (is_word t ≡ true → c ≡ true) → starts_action t ≡ true → c ≡ true
+each_action c t f1 f2 f3 f4 f5 h =
+    or-elim (is_command t) (starts_code_or_other t) c f1 (λ g. or-elim (is_code t) (starts_packet_or_call t) c f2 (λ k. or-elim (is_symbol 60 t) (starts_outbound_or_call t) c f3 (λ m. or-elim (is_symbol 62 t) (is_word t) c f4 f5 m) k) g) h
+
+no_kinds : (f g : TokenKind → Bool) (p q : Item → Bool) → no_kind f g ≡ true → IsOf f p → IsOf g q → (t : Item) → p t ≡ true → not (q t) ≡ true
+no_kinds f g p q none fp gq t h = not-false (q t) (apart f g p q none fp gq t h)
+
+word_no_angle : (octet : ℕ) (t : Item) → is_word t ≡ true → is_symbol octet t ≡ false
+word_no_angle octet t h = apart is_word_kind is_symbol_kind is_word (is_symbol octet) refl word_kind (symbol_kind octet) t h
+
+Reads-outbound_or_call : Reads (when (is_symbol 62) outbound_at call_action_at) (either IsOutbound IsCallAction) starts_outbound_or_call goes_on
+Reads-outbound_or_call =
+    Reads-when (is_symbol 62) outbound_at call_action_at IsOutbound IsCallAction (is_symbol 62) is_word starts_outbound_or_call goes_on
+    outbound
+    call_action
+    (λ t h. h)
+    (word_no_angle 62)
+    (λ w rest e. absurd cc)
+    (λ t h. or-left (is_symbol 62 t) (is_word t) h)
+    (λ t h. or-right (is_symbol 62 t) (is_word t) h)
+
+Reads-packet_or_call : Reads (when (is_symbol 60) inbound_at (when (is_symbol 62) outbound_at call_action_at)) (either IsInbound (either IsOutbound IsCallAction)) starts_packet_or_call goes_on
+Reads-packet_or_call =
+    Reads-when (is_symbol 60) inbound_at (when (is_symbol 62) outbound_at call_action_at) IsInbound (either IsOutbound IsCallAction) (is_symbol 60) starts_outbound_or_call starts_packet_or_call goes_on
+    inbound
+    Reads-outbound_or_call
+    (λ t h. h)
+    (λ t h. or-elim-no (is_symbol 62 t) (is_word t) (is_symbol 60 t) (symbol_apart 62 60 refl t) (word_no_angle 60 t) h)
+    (λ w rest e. absurd cc)
+    (λ t h. or-left (is_symbol 60 t) (starts_outbound_or_call t) h)
+    (λ t h. or-right (is_symbol 60 t) (starts_outbound_or_call t) h)
+
+angle_no_code : (octet : ℕ) (t : Item) → is_symbol octet t ≡ true → is_code t ≡ false
+angle_no_code octet t h = apart is_symbol_kind is_code_kind (is_symbol octet) is_code refl (symbol_kind octet) code_kind t h
+
+angle_no_command : (octet : ℕ) (t : Item) → is_symbol octet t ≡ true → is_command t ≡ false
+angle_no_command octet t h = apart is_symbol_kind is_command_kind (is_symbol octet) is_command refl (symbol_kind octet) command_kind t h
 
 word_no_code : (t : Item) → is_word t ≡ true → is_code t ≡ false
 word_no_code = apart is_word_kind is_code_kind is_word is_code refl word_kind code_kind
@@ -317,28 +334,28 @@ word_no_command = apart is_word_kind is_command_kind is_word is_command refl wor
 code_no_command : (t : Item) → is_code t ≡ true → is_command t ≡ false
 code_no_command = apart is_code_kind is_command_kind is_code is_command refl code_kind command_kind
 
-Reads-code_or_call : Reads (when is_code code_at call_action_at) (either IsCode IsCallAction) starts_code_or_call goes_on
-Reads-code_or_call =
-    Reads-when is_code code_at call_action_at IsCode IsCallAction is_code is_word starts_code_or_call goes_on
+Reads-code_or_other : Reads (when is_code code_at (when (is_symbol 60) inbound_at (when (is_symbol 62) outbound_at call_action_at))) (either IsCode (either IsInbound (either IsOutbound IsCallAction))) starts_code_or_other goes_on
+Reads-code_or_other =
+    Reads-when is_code code_at (when (is_symbol 60) inbound_at (when (is_symbol 62) outbound_at call_action_at)) IsCode (either IsInbound (either IsOutbound IsCallAction)) is_code starts_packet_or_call starts_code_or_other goes_on
     code
-    call_action
+    Reads-packet_or_call
     (λ t h. h)
-    word_no_code
+    (λ t h. or-elim-no (is_symbol 60 t) (starts_outbound_or_call t) (is_code t) (angle_no_code 60 t) (λ g. or-elim-no (is_symbol 62 t) (is_word t) (is_code t) (angle_no_code 62 t) (word_no_code t) g) h)
     (λ w rest e. absurd cc)
-    (λ t h. or-left (is_code t) (is_word t) h)
-    (λ t h. or-right (is_code t) (is_word t) h)
+    (λ t h. or-left (is_code t) (starts_packet_or_call t) h)
+    (λ t h. or-right (is_code t) (starts_packet_or_call t) h)
 
 pub Reads-action : Reads action_at IsAction starts_action goes_on
 unfolding action_at IsAction
 Reads-action =
-    Reads-when is_command command_at (when is_code code_at call_action_at) IsCommand (either IsCode IsCallAction) is_command starts_code_or_call starts_action goes_on
+    Reads-when is_command command_at (when is_code code_at (when (is_symbol 60) inbound_at (when (is_symbol 62) outbound_at call_action_at))) IsCommand (either IsCode (either IsInbound (either IsOutbound IsCallAction))) is_command starts_code_or_other starts_action goes_on
     command
-    Reads-code_or_call
+    Reads-code_or_other
     (λ t h. h)
-    (λ t h. or-elim-no (is_code t) (is_word t) (is_command t) (code_no_command t) (word_no_command t) h)
+    (λ t h. or-elim-no (is_code t) (starts_packet_or_call t) (is_command t) (code_no_command t) (λ g. or-elim-no (is_symbol 60 t) (starts_outbound_or_call t) (is_command t) (angle_no_command 60 t) (λ k. or-elim-no (is_symbol 62 t) (is_word t) (is_command t) (angle_no_command 62 t) (word_no_command t) k) g) h)
     (λ w rest e. absurd cc)
-    (λ t h. or-left (is_command t) (starts_code_or_call t) h)
-    (λ t h. or-right (is_command t) (starts_code_or_call t) h)
+    (λ t h. or-left (is_command t) (starts_code_or_other t) h)
+    (λ t h. or-right (is_command t) (starts_code_or_other t) h)
 
 -- ---- events
 
@@ -361,17 +378,15 @@ Reads-until =
     (λ line. last (when (is_symbol 43) relative_until_at absolute_until_at) (λ u. Some u) (either IsRelativeUntil IsAbsoluteUntil) any starts_action Reads-until_number)
     (all any)
 
-command_no_dots : (t : Item) → is_command t ≡ true → is_dots t ≡ false
-command_no_dots = apart is_command_kind is_dots_kind is_command is_dots refl command_kind dots_kind
-
-code_no_dots : (t : Item) → is_code t ≡ true → is_dots t ≡ false
-code_no_dots = apart is_code_kind is_dots_kind is_code is_dots refl code_kind dots_kind
-
-word_no_dots : (t : Item) → is_word t ≡ true → is_dots t ≡ false
-word_no_dots = apart is_word_kind is_dots_kind is_word is_dots refl word_kind dots_kind
-
 action_no_dots : (t : Item) → starts_action t ≡ true → is_dots t ≡ false
-action_no_dots t h = or-elim-no (is_command t) (starts_code_or_call t) (is_dots t) (command_no_dots t) (λ g. or-elim-no (is_code t) (is_word t) (is_dots t) (code_no_dots t) (word_no_dots t) g) h
+action_no_dots t h =
+    not-true (is_dots t) (each_action (not (is_dots t)) t
+    (no_kinds is_command_kind is_dots_kind is_command is_dots refl command_kind dots_kind t)
+    (no_kinds is_code_kind is_dots_kind is_code is_dots refl code_kind dots_kind t)
+    (no_kinds is_symbol_kind is_dots_kind (is_symbol 60) is_dots refl (symbol_kind 60) dots_kind t)
+    (no_kinds is_symbol_kind is_dots_kind (is_symbol 62) is_dots refl (symbol_kind 62) dots_kind t)
+    (no_kinds is_word_kind is_dots_kind is_word is_dots refl word_kind dots_kind t)
+    h)
 
 abbrev follows_time : Item → Bool
 follows_time t = is_dots t || starts_action t
@@ -380,14 +395,17 @@ pub Reads-maybe_until : Reads maybe_until_at IsMaybeUntil follows_time starts_ac
 unfolding maybe_until_at IsMaybeUntil
 Reads-maybe_until = Reads-optional is_dots starts_action until_at IsUntil None Reads-until action_no_dots (λ w rest e. absurd cc)
 
-no_tilde : (f : TokenKind → Bool) (test : Item → Bool) → no_kind f is_symbol_kind ≡ true → IsOf f test → (t : Item) → test t ≡ true → but_tilde t ≡ true
-no_tilde f test other kind t h = not-false (is_symbol 126 t) (apart f is_symbol_kind test (is_symbol 126) other kind (symbol_kind 126) t h)
-
 time_then : (t : Item) → follows_time t ≡ true → but_tilde t ≡ true
 time_then t h =
-    or-elim (is_dots t) (starts_action t) (but_tilde t) (no_tilde is_dots_kind is_dots refl dots_kind t) (λ g.
-    or-elim (is_command t) (starts_code_or_call t) (but_tilde t) (no_tilde is_command_kind is_command refl command_kind t) (λ k.
-    or-elim (is_code t) (is_word t) (but_tilde t) (no_tilde is_code_kind is_code refl code_kind t) (no_tilde is_word_kind is_word refl word_kind t) k) g) h
+    or-elim (is_dots t) (starts_action t) (but_tilde t)
+    (no_kinds is_dots_kind is_symbol_kind is_dots (is_symbol 126) refl dots_kind (symbol_kind 126) t)
+    (each_action (but_tilde t) t
+    (no_kinds is_command_kind is_symbol_kind is_command (is_symbol 126) refl command_kind (symbol_kind 126) t)
+    (no_kinds is_code_kind is_symbol_kind is_code (is_symbol 126) refl code_kind (symbol_kind 126) t)
+    (λ g. not-false (is_symbol 126 t) (symbol_apart 60 126 refl t g))
+    (λ g. not-false (is_symbol 126 t) (symbol_apart 62 126 refl t g))
+    (no_kinds is_word_kind is_symbol_kind is_word (is_symbol 126) refl word_kind (symbol_kind 126) t))
+    h
 
 pub Reads-event : Reads event_at IsEvent starts_event goes_on
 unfolding event_at IsEvent

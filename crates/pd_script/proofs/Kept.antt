@@ -23,7 +23,8 @@ use Rattle.pd_script.specs.Faults.{IsHeader, AreEvents, IsScript, Begins, IsFaul
 use Rattle.pd_script.proofs.Laws.{Laws, Took, Full, Stops, Stops-any, any, ok, then_ok, value_is, rest_is}
 use Rattle.pd_script.proofs.Apart.{or-no, not-true, not-false}
 use Rattle.pd_script.proofs.ArgumentLaws.{a_token}
-use Rattle.pd_script.proofs.GrammarLaws.{but, Reads-action, Reads-event}
+use Rattle.pd_script.proofs.TokenLaws.{but}
+use Rattle.pd_script.proofs.GrammarLaws.{Reads-action, Reads-event}
 use Rattle.pd_script.proofs.ScriptLaws.{header_at, header_took, header_sound, Laws-events, Ends, events_complete, script_at, script_at_fault, script_is, fault_is, fault_somewhere, IsClosed}
 
 -- ---- the fault that is found is the one that reading meets

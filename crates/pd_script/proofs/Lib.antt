@@ -15,3 +15,6 @@ pub mod ScriptLaws
 pub mod Kept
 pub mod TextItems
 pub mod NoteLaws
+pub mod Repeating
+pub mod TokenLaws
+pub mod PacketLaws

@@ -7,7 +7,7 @@ use Rattle.pd_lex.specs.declared.token.TokenKind.{TokenKind}
 use Rattle.pd_lex.specs.Tokens.{Item}
 use Rattle.pd_script.specs.Items.{is_plain}
 use Rattle.pd_script.specs.Reader.{Read, Reader, then_read, ◌>>=◌, done, one, next_is, when}
-use Rattle.pd_script.specs.Grammar.{Spelling, token, made, in_turn, either}
+use Rattle.pd_script.specs.Spelling.{Spelling, token, made, in_turn, either}
 use Rattle.pd_script.proofs.Apart.{IsOf, is_lexeme, lexical, or-left, or-right}
 use Rattle.pd_script.proofs.Laws.{Laws, Laws-one, Laws-done, Laws-bind_if, Laws-when, goes_p, goes_q, Stops, Stops-within, Within, any, then_ok, ok, widen, narrow, value_is, rest_is}
 
@@ -114,3 +114,12 @@ Reads-narrow s r l w = record { laws = narrow s r l.laws w; sound = l.sound; com
 -- a part that may be left out before certain items
 pub Reads-optional : {A : Type 0} (test s : Item → Bool) (p : Reader A) (P : Spelling A) (v : A) → Reads p P test s → ((t : Item) → s t ≡ true → test t ≡ false) → ((w : A) (rest : List Item) → p [] ≡ ok w rest → ⊥) → Reads (when test p (done v)) (either P (made v)) (λ t. test t || s t) s
 Reads-optional test s p P v r other some = Reads-when test p (done v) P (made v) test s (λ t. test t || s t) s r (Reads-done v s) (λ t h. h) other some (λ t h. or-left (test t) (s t) h) (λ t h. or-right (test t) (s t) h)
+
+-- of spellings that mean the same
+pub Reads-same : {A : Type 0} {p : Reader A} {P : Spelling A} {f s : Item → Bool} (Q : Spelling A) → Reads p P f s → ((v : A) (ts rest : List Item) → P v ts rest → Q v ts rest) → ((v : A) (ts rest : List Item) → Q v ts rest → P v ts rest) → Reads p Q f s
+Reads-same Q r to from = record {
+  laws = r.laws;
+  sound = λ ts v rest e. to v ts rest (r.sound ts v rest e);
+  complete = λ ts v rest h stops. r.complete ts v rest (from v ts rest h) stops;
+  takes = λ ts v rest h. r.takes ts v rest (from v ts rest h);
+}

@@ -16,7 +16,8 @@ use Rattle.pd_script.specs.Grammar.{IsEvent}
 use Rattle.pd_script.specs.Faults.{IsHeader, AreEvents, IsScript, Begins, IsFault}
 use Rattle.pd_script.proofs.Laws.{Laws, Laws-one, Laws-bind, Laws-done, Laws-when, Took, Stops, Stops-any, Within, any, ok, widen, then_ok, value_is, rest_is, next-yes}
 use Rattle.pd_script.proofs.Apart.{IsOf, and-left, and-right, or-left, or-right, or-elim-no, not-true, not-false, apart, num_kind, symbol_kind, end_no_token, is_lexeme, lexical}
-use Rattle.pd_script.proofs.GrammarLaws.{but, NoStart, goes_on_not, Reads-event, end_no_start}
+use Rattle.pd_script.proofs.TokenLaws.{but, NoStart, goes_on_not}
+use Rattle.pd_script.proofs.GrammarLaws.{Reads-event, end_no_start}
 
 -- ---- headers
 

@@ -21,7 +21,8 @@ use Rattle.pd_script.specs.Items.{starts_event, is_end}
 use Rattle.pd_script.specs.Header.{behind_header}
 use Rattle.pd_script.specs.Reader.{Read, next_is}
 use Rattle.pd_script.specs.Reading.{next_line, event_at}
-use Rattle.pd_script.specs.Grammar.{made, either, IsAbsoluteRange, IsRelativeRange, IsTime, IsEvent}
+use Rattle.pd_script.specs.Spelling.{made, either}
+use Rattle.pd_script.specs.Grammar.{IsAbsoluteRange, IsRelativeRange, IsTime, IsEvent}
 use Rattle.pd_script.specs.Script.{found_in, followed as followed_by, may_follow, with_event, at_end, script_in, script_of}
 use Rattle.pd_script.specs.declared.script_header.HeaderItem.{HeaderItem}
 use Rattle.pd_script.specs.declared.parsing.Parsed.{Parsed}

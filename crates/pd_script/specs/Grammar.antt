@@ -1,8 +1,10 @@
--- The grammar: which items spell what. It knows sequences and alternatives, and no lookahead.
+-- The grammar: which items spell a time, a call and an event.
 use Rattle.std.specs.Prelude.{◌≡◌, ℕ, ◌≤◌, Bool, true, false, List, [], ◌∷◌, ◌++◌, length, Option, Some, None, ◌⊎◌}
 use Rattle.pd_lex.specs.Tokens.{Item, line_of}
 use Rattle.pd_script.specs.Items.{is_int, is_hex, is_num, is_num_from, is_dots, is_command, is_code, is_word, is_symbol, is_end, text_of}
 use Rattle.pd_script.specs.Values.{number, hex_number, microseconds, function_named, error_named}
+use Rattle.pd_script.specs.Spelling.{Spelling, token, made, in_turn, ◌>>=◌, either, IsSymbol, IsInt, IsDots}
+use Rattle.pd_script.specs.PacketGrammar.{IsPacket}
 use Rattle.pd_script.specs.Arguments.{IsArguments, IsInNote}
 use Rattle.pd_script.specs.declared.timing.Time.{Time}
 use Rattle.pd_script.specs.declared.timing.Time.TheVariants as times
@@ -17,44 +19,6 @@ use Rattle.pd_script.specs.declared.calls.Outcome.TheVariants as outcomes
 use Rattle.pd_script.specs.declared.script_events.Action.{Action}
 use Rattle.pd_script.specs.declared.script_events.Action.TheVariants as actions
 use Rattle.pd_script.specs.declared.script_events.Event.{Event}
-
--- a value, items that begin with a spelling of it, and what is left of them
-abbrev pub Spelling : Type 0 → Type 1
-Spelling A = A → List Item → List Item → Type 0
-
--- one token of a kind
-abbrev pub token : (Item → Bool) → Spelling Item
-token test t ts rest = (ts ≡ t ∷ rest) × (test t ≡ true)
-
--- a value that takes no token
-abbrev pub made : {A : Type 0} → A → Spelling A
-made x v ts rest = (x ≡ v) × (ts ≡ rest)
-
--- one spelling and then another, which may depend on what the first spells
-abbrev pub in_turn : {A B : Type 0} → Spelling A → (A → Spelling B) → Spelling B
-in_turn {A = A} first second v ts rest = (a : A) × (middle : List Item) × first a ts middle × second a v middle rest
-
-infixl 10 ◌>>=◌
-abbrev pub ◌>>=◌ : {A B : Type 0} → Spelling A → (A → Spelling B) → Spelling B
-first >>= second = in_turn first second
-
--- one spelling or another
-abbrev pub either : {A : Type 0} → Spelling A → Spelling A → Spelling A
-either one other v ts rest = one v ts rest ⊎ other v ts rest
-
--- ---- tokens
-
--- the symbol of an octet, with its line
-abbrev pub IsSymbol : ℕ → Spelling ℕ
-IsSymbol octet = do
-  t ← token (is_symbol octet)
-  made (line_of t)
-
--- a whole number of at most 4,294,967,295
-abbrev pub IsInt : Spelling ℕ
-IsInt = do
-  t ← token is_int
-  made (number (text_of t))
 
 -- a hexadecimal number of at most 4,294,967,295
 abbrev pub IsHex : Spelling ℕ
@@ -124,11 +88,6 @@ IsAnyTime = do
 -- a time, with the line of its first token
 unfoldable pub IsTime : Spelling (ℕ × Time)
 IsTime = either IsAnyTime (either IsRelative IsAbsolute)
-
-abbrev pub IsDots : Spelling ℕ
-IsDots = do
-  t ← token is_dots
-  made (line_of t)
 
 abbrev pub IsRelativeUntil : Spelling Until
 IsRelativeUntil = do
@@ -212,8 +171,22 @@ IsCode = do
   t ← token is_code
   made actions.Code
 
+-- `<` and a packet that arrives
+abbrev pub IsInbound : Spelling Action
+IsInbound = do
+  line ← IsSymbol 60
+  packet ← IsPacket true
+  made (actions.Inbound packet)
+
+-- `>` and a packet that leaves
+abbrev pub IsOutbound : Spelling Action
+IsOutbound = do
+  line ← IsSymbol 62
+  packet ← IsPacket false
+  made (actions.Outbound packet)
+
 unfoldable pub IsAction : Spelling Action
-IsAction = either IsCommand (either IsCode IsCallAction)
+IsAction = either IsCommand (either IsCode (either IsInbound (either IsOutbound IsCallAction)))
 
 -- an event has the line of its first token
 unfoldable pub IsEvent : Spelling Event

@@ -1,12 +1,12 @@
 -- What an item of a text can be for the grammar.
-use Rattle.std.specs.Prelude.{ℕ, ◌+◌, ◌&&◌, ◌||◌, ◌==◌, not, nat_le, nat_lt, nat_eq, Bool, true, false, List, [], ◌∷◌, length, drop, Option, Some, None, if◌then◌else◌}
+use Rattle.std.specs.Prelude.{ℕ, ◌+◌, ◌&&◌, ◌||◌, ◌==◌, not, nat_le, nat_lt, nat_eq, Bool, true, false, List, [], ◌∷◌, length, drop, is_some, Option, Some, None, if◌then◌else◌}
 use Rattle.std.specs.List.{list_all, starts_with}
 use Rattle.std.specs.Str.{bytes_eq}
 use Rattle.pd_lex.specs.declared.token.TokenKind.{TokenKind}
 use Rattle.pd_lex.specs.declared.token.TokenKind.TheVariants as kinds
 use Rattle.pd_lex.specs.Octets.{is_digit, is_hex_digit, is_word as is_word_octet, is_printable}
 use Rattle.pd_lex.specs.Tokens.{Lexeme, Item, lexeme, ending, bad}
-use Rattle.pd_script.specs.Values.{number, hex_number, microseconds, whole_len, whole_digits}
+use Rattle.pd_script.specs.Values.{number, hex_number, microseconds, whole_len, whole_digits, is_flag, option_named}
 
 abbrev pub is_int_kind : TokenKind → Bool
 is_int_kind kinds.Int = true
@@ -64,6 +64,14 @@ is_any_int t = is_token (λ kind text. is_int_kind kind) t
 abbrev pub is_int : Item → Bool
 is_int t = is_token (λ kind text. is_int_kind kind && is_small (number text)) t
 
+-- one that is at least another
+abbrev pub is_int_from : ℕ → Item → Bool
+is_int_from least t = is_int t && nat_le least (number (text_of t))
+
+-- one that is just this number
+abbrev pub is_int_of : ℕ → Item → Bool
+is_int_of n t = is_int t && (number (text_of t) == n)
+
 -- a Hex, where numbers have a bound
 abbrev pub is_hex : Item → Bool
 is_hex t = is_token (λ kind text. is_hex_kind kind && is_small (hex_number text)) t
@@ -100,6 +108,18 @@ is_code t = is_token (λ kind text. is_code_kind kind) t
 
 abbrev pub is_word : Item → Bool
 is_word t = is_token (λ kind text. is_word_kind kind) t
+
+-- this word
+abbrev pub is_named : List ℕ → Item → Bool
+is_named name t = is_token (λ kind text. is_word_kind kind && bytes_eq text name) t
+
+-- a word of flags' letters alone
+abbrev pub is_flags : Item → Bool
+is_flags t = is_token (λ kind text. is_word_kind kind && list_all is_flag text) t
+
+-- a word that names a TCP option
+abbrev pub is_option : Item → Bool
+is_option t = is_token (λ kind text. is_word_kind kind && is_some (option_named text)) t
 
 -- the symbol of an octet
 abbrev pub is_symbol : ℕ → Item → Bool

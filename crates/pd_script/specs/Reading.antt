@@ -6,6 +6,8 @@ use Rattle.pd_script.specs.Values.{number, hex_number, microseconds, function_na
 use Rattle.pd_script.specs.Header.{header_item}
 use Rattle.pd_script.specs.declared.script_header.HeaderItem.{HeaderItem}
 use Rattle.pd_script.specs.Reader.{Read, Reader, ◌>>=◌, done, one, next_is, when, machine_at}
+use Rattle.pd_script.specs.TokenReading.{symbol_at, int_at, dots_at}
+use Rattle.pd_script.specs.PacketReading.{packet_at}
 use Rattle.pd_script.specs.Brackets.{fresh, argument_move, note_move}
 use Rattle.pd_script.specs.declared.timing.Time.{Time}
 use Rattle.pd_script.specs.declared.timing.Time.TheVariants as times
@@ -31,18 +33,6 @@ abbrev pub header_item_at : Reader HeaderItem
 header_item_at = do
   t ← one is_header
   done (header_item t)
-
--- a symbol, which gives its line
-abbrev pub symbol_at : ℕ → Reader ℕ
-symbol_at octet = do
-  t ← one (is_symbol octet)
-  done (line_of t)
-
--- a whole number
-abbrev pub int_at : Reader ℕ
-int_at = do
-  t ← one is_int
-  done (number (text_of t))
 
 -- a hexadecimal number
 abbrev pub hex_at : Reader ℕ
@@ -110,11 +100,6 @@ any_time_at = do
 -- a time, and the line of its first token
 unfoldable pub time_at : Reader (ℕ × Time)
 time_at = when (is_symbol 42) any_time_at (when (is_symbol 43) relative_at absolute_at)
-
-abbrev pub dots_at : Reader ℕ
-dots_at = do
-  t ← one is_dots
-  done (line_of t)
 
 abbrev pub relative_until_at : Reader Until
 relative_until_at = do
@@ -207,8 +192,20 @@ code_at = do
   t ← one is_code
   done actions.Code
 
+abbrev pub inbound_at : Reader Action
+inbound_at = do
+  line ← symbol_at 60
+  packet ← packet_at true
+  done (actions.Inbound packet)
+
+abbrev pub outbound_at : Reader Action
+outbound_at = do
+  line ← symbol_at 62
+  packet ← packet_at false
+  done (actions.Outbound packet)
+
 unfoldable pub action_at : Reader Action
-action_at = when is_command command_at (when is_code code_at call_action_at)
+action_at = when is_command command_at (when is_code code_at (when (is_symbol 60) inbound_at (when (is_symbol 62) outbound_at call_action_at)))
 
 unfoldable pub event_at : Reader Event
 event_at = do

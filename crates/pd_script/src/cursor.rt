@@ -2,22 +2,26 @@
 ghost use Rattle.std.specs.Prelude.{◌≡◌, Ok, Err, IfSome, IfNone};
 ghost use Rattle.pd_lex.specs.Places.{first_place};
 ghost use Rattle.pd_lex.specs.Tokens.{items};
-ghost use Rattle.pd_script.specs.Items.{is_int, is_hex, is_dots, is_command, is_code, is_word, is_symbol, is_end, starts_event, goes_on};
+ghost use Rattle.pd_script.specs.Items.{is_int, is_named, is_hex, is_dots, is_command, is_code, is_word, is_symbol, is_end, starts_event, goes_on};
 ghost use Rattle.pd_script.specs.Reader.{next_is};
-ghost use Rattle.pd_script.specs.Reading.{next_line, header_item_at, symbol_at, int_at, hex_at, num_at, num_from_at, dots_at, command_at, code_at, function_at, error_at};
+ghost use Rattle.pd_script.specs.TokenReading.{symbol_at, int_at, dots_at};
+ghost use Rattle.pd_script.specs.PacketReading.{int_from_at, int_of_at, named_at, letters_at, option_name_at};
+ghost use Rattle.pd_script.specs.Reading.{next_line, header_item_at, hex_at, num_at, num_from_at, command_at, code_at, function_at, error_at};
 ghost use Rattle.pd_script.specs.Brackets.{part_at, note_part_at, behind_token};
 ghost use Rattle.pd_script.specs.Cursor.{Leaves};
 
 use crate::brackets::{MAX_DEPTH, OpenPairs};
 use crate::calls::{ErrorName, Function};
 use crate::drafts::Inside;
+use crate::names::OptionName;
+use crate::packets::Flags;
 use crate::script_events::Action;
 use crate::script_header::HeaderItem;
 use crate::stops::Stop;
 use crate::token_tests::{
-    code_of, command_of, dots_line, error_of, function_of, header_item_of, hex_of, int_of, is_code,
-    is_command, is_dots, is_hex, is_int, is_num, is_symbol, is_word, num_from_of, num_of,
-    symbol_line,
+    code_of, command_of, dots_line, error_of, flags_of, function_of, header_item_of, hex_of,
+    int_equal_of, int_from_of, int_of, is_code, is_command, is_dots, is_hex, is_int, is_named,
+    is_num, is_symbol, is_word, named_line, num_from_of, num_of, option_of, symbol_line,
 };
 use pd_lex::{Lexed, Place, next_token};
 use pd_text::Lines;
@@ -256,6 +260,86 @@ impl<'a> Cursor<'a> {
     {
         match &self.next {
             Lexed::Token(token, _) => is_code(self.lines, token),
+            _ => false,
+        }
+    }
+
+    /// Takes a whole number that is at least another.
+    pub fn int_from(&mut self, least: u32) -> Result<u32, Stop>
+        ensures { Leaves result self.new (int_from_at least self.old) }
+    {
+        let Lexed::Token(token, after) = self.next else {
+            return Err(Stop::Syntax);
+        };
+        let Some(number) = int_from_of(self.lines, &token, least) else {
+            return Err(Stop::Syntax);
+        };
+        self.next = next_token(self.lines, after);
+        Ok(number)
+    }
+
+    /// Takes a whole number that is just this one.
+    pub fn int_equal(&mut self, wanted: u32) -> Result<u32, Stop>
+        ensures { Leaves result self.new (int_of_at wanted self.old) }
+    {
+        let Lexed::Token(token, after) = self.next else {
+            return Err(Stop::Syntax);
+        };
+        let Some(number) = int_equal_of(self.lines, &token, wanted) else {
+            return Err(Stop::Syntax);
+        };
+        self.next = next_token(self.lines, after);
+        Ok(number)
+    }
+
+    /// Takes this word, and answers its line.
+    pub fn named(&mut self, name: &[u8]) -> Result<usize, Stop>
+        ensures { Leaves result self.new (named_at name.now self.old) }
+    {
+        let Lexed::Token(token, after) = self.next else {
+            return Err(Stop::Syntax);
+        };
+        let Some(line) = named_line(self.lines, &token, name) else {
+            return Err(Stop::Syntax);
+        };
+        self.next = next_token(self.lines, after);
+        Ok(line)
+    }
+
+    /// Takes the letters of flags.
+    pub fn letters(&mut self) -> Result<Flags, Stop>
+        ensures { Leaves result self.new (letters_at self.old) }
+    {
+        let Lexed::Token(token, after) = self.next else {
+            return Err(Stop::Syntax);
+        };
+        let Some(flags) = flags_of(self.lines, &token) else {
+            return Err(Stop::Syntax);
+        };
+        self.next = next_token(self.lines, after);
+        Ok(flags)
+    }
+
+    /// Takes the name of a TCP option.
+    pub fn option_name(&mut self) -> Result<OptionName, Stop>
+        ensures { Leaves result self.new (option_name_at self.old) }
+    {
+        let Lexed::Token(token, after) = self.next else {
+            return Err(Stop::Syntax);
+        };
+        let Some(option) = option_of(self.lines, &token) else {
+            return Err(Stop::Syntax);
+        };
+        self.next = next_token(self.lines, after);
+        Ok(option)
+    }
+
+    /// Whether this word stands here.
+    pub fn is_named(&self, name: &[u8]) -> bool
+        ensures { result ≡ next_is (is_named name.now) self.now }
+    {
+        match &self.next {
+            Lexed::Token(token, _) => is_named(self.lines, token, name),
             _ => false,
         }
     }

@@ -125,6 +125,14 @@ impl<'a> Cursor<'a> {
         if self.is_code() {
             return self.code();
         }
+        if self.is_symbol(b'<') {
+            self.symbol(b'<')?;
+            return Ok(Action::Inbound(self.packet(alloc, true)?));
+        }
+        if self.is_symbol(b'>') {
+            self.symbol(b'>')?;
+            return Ok(Action::Outbound(self.packet(alloc, false)?));
+        }
         Ok(Action::Call(self.call(alloc)?))
     }
 

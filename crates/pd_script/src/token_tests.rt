@@ -1,13 +1,15 @@
 //! What a token is for the grammar.
-ghost use Rattle.std.specs.Prelude.{◌≡◌, ◌≤◌, true};
+ghost use Rattle.std.specs.Prelude.{◌≡◌, ◌≤◌, true, unwrap_or};
+ghost use Rattle.std.specs.List.{list_all};
 ghost use Rattle.pd_lex.specs.Tokens.{lexeme, lexeme_of, line_of};
-ghost use Rattle.pd_script.specs.Items.{is_int, is_any_int, is_hex, is_num, is_num_from, is_dots, is_command, is_code, is_word, is_symbol, is_header, given, text_of};
+ghost use Rattle.pd_script.specs.Items.{is_int, is_any_int, is_hex, is_num, is_num_from, is_dots, is_command, is_code, is_word, is_symbol, is_named, is_int_from, is_int_of, is_flags, is_option, is_header, given, text_of};
 ghost use Rattle.pd_script.specs.Header.{header_item};
-ghost use Rattle.pd_script.specs.Values.{number, hex_number, microseconds, function_named, error_named};
+ghost use Rattle.pd_script.specs.Values.{number, hex_number, microseconds, function_named, error_named, is_flag, flags_of, option_named};
 
 use crate::calls::{ErrorName, Function};
-use crate::names::{error_named, function_named};
+use crate::names::{OptionName, error_named, function_named, option_named};
 use crate::numbers::{GREATEST, TIME_LIMIT, hex_number, microseconds, number};
+use crate::packets::Flags;
 use crate::script_events::Action;
 use crate::script_header::{HeaderItem, HeaderKind};
 use pd_lex::{Token, TokenKind};
@@ -87,6 +89,80 @@ pub fn is_code(lines: &Lines, token: &Token) -> bool
 {
     let _ = lines;
     matches!(token.kind, TokenKind::Code)
+}
+
+/// Whether it is this word.
+#[tactic(auto, unfolding(pd_lex::specs::Tokens::lexeme_of))]
+pub fn is_named(lines: &Lines, token: &Token, name: &[u8]) -> bool
+    ensures { result ≡ is_named name.now (lexeme (lexeme_of lines.now token.now)) }
+{
+    matches!(token.kind, TokenKind::Word) && token.text(lines) == name
+}
+
+/// The line of a token, if it is this word.
+#[tactic(auto, unfolding(pd_lex::specs::Tokens::lexeme_of))]
+pub fn named_line(lines: &Lines, token: &Token, name: &[u8]) -> Option<usize>
+    ensures { result ≡ given (is_named name.now) (λ t. line_of t) (lexeme (lexeme_of lines.now token.now)) }
+{
+    if is_named(lines, token, name) {
+        Some(token.line)
+    } else {
+        None
+    }
+}
+
+/// The number of a token, if it is an Int that is at least another.
+#[tactic(auto, unfolding(pd_lex::specs::Tokens::lexeme_of))]
+pub fn int_from_of(lines: &Lines, token: &Token, least: u32) -> Option<u32>
+    ensures { result ≡ given (is_int_from least) (λ t. number (text_of t)) (lexeme (lexeme_of lines.now token.now)) }
+{
+    let number = int_of(lines, token)?;
+    if least <= number { Some(number) } else { None }
+}
+
+/// The number of a token, if it is an Int of just this number.
+#[tactic(auto, unfolding(pd_lex::specs::Tokens::lexeme_of))]
+pub fn int_equal_of(lines: &Lines, token: &Token, wanted: u32) -> Option<u32>
+    ensures { result ≡ given (is_int_of wanted) (λ t. number (text_of t)) (lexeme (lexeme_of lines.now token.now)) }
+{
+    let number = int_of(lines, token)?;
+    if number == wanted { Some(number) } else { None }
+}
+
+/// The flags that a token names, if it is a word of their letters.
+#[tactic(auto, unfolding(pd_lex::specs::Tokens::lexeme_of))]
+pub fn flags_of(lines: &Lines, token: &Token) -> Option<Flags>
+    ensures { result ≡ given is_flags (λ t. flags_of (text_of t)) (lexeme (lexeme_of lines.now token.now)) }
+{
+    if matches!(token.kind, TokenKind::Word) && all_flags(token.text(lines)) {
+        Some(Flags::of_letters(token.text(lines)))
+    } else {
+        None
+    }
+}
+
+fn is_flag(octet: u8) -> bool
+    ensures { result ≡ is_flag octet }
+{
+    matches!(octet, b'F' | b'S' | b'R' | b'P' | b'U' | b'E' | b'W' | b'C')
+}
+
+fn all_flags(octets: &[u8]) -> bool
+    ensures { result ≡ list_all is_flag octets.now }
+{
+    octets.iter().all(|octet| is_flag(*octet))
+}
+
+/// The TCP option that a token names, if it is such a word.
+#[tactic(auto, unfolding(pd_lex::specs::Tokens::lexeme_of))]
+pub fn option_of(lines: &Lines, token: &Token) -> Option<OptionName>
+    ensures { result ≡ given is_option (λ t. unwrap_or (option_named (text_of t)) OptionName.Nop) (lexeme (lexeme_of lines.now token.now)) }
+{
+    if matches!(token.kind, TokenKind::Word) {
+        option_named(token.text(lines))
+    } else {
+        None
+    }
 }
 
 /// The line of a token, if it is the symbol of this octet.
