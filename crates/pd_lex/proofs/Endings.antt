@@ -1,5 +1,5 @@
 -- The end of what was opened: in a line, or in the lines after it; and what is left behind it is the last part of the text.
-use Rattle.std.proofs.Common.{◌≡◌, ℕ, zero, suc, ◌+◌, ◌-◌, ◌<◌, ◌≤◌, Bool, true, false, ◌&&◌, cond, eqb, List, [], ◌∷◌, ◌++◌, length, take, drop, Option, Some, None, refl, ap, arith}
+use Rattle.std.proofs.Common.{◌≡◌, ℕ, suc, ◌≤◌, Bool, true, false, ◌&&◌, cond, eqb, List, [], ◌∷◌, ◌++◌, length, drop, Option, Some, None, refl, arith}
 use Rattle.pd_lex.specs.declared.scan.Opener.{Opener}
 use Rattle.pd_lex.specs.declared.scan.Opener.TheVariants.{Comment, Quote, Backquote, Brace}
 use Rattle.pd_lex.specs.Pieces.{after_pair, after_quote, after_backquote, after_end}

@@ -1,11 +1,10 @@
 -- A piece has an octet at least, and leaves the last part of the text.
-use Rattle.std.proofs.Common.{◌≡◌, ℕ, zero, suc, ◌+◌, ◌-◌, ◌<◌, ◌≤◌, Bool, true, false, ◌&&◌, cond, nat_lt, nat_eq, ◌==◌, List, [], ◌∷◌, ◌++◌, length, take, drop, Option, Some, None, refl, sym, ap, subst, ◌∙◌, arith}
+use Rattle.std.proofs.Common.{◌≡◌, ℕ, ◌+◌, ◌-◌, ◌<◌, ◌≤◌, Bool, true, false, ◌&&◌, cond, nat_lt, nat_eq, ◌==◌, List, [], ◌∷◌, ◌++◌, length, take, drop, Option, Some, None, refl, sym, ap, ◌∙◌, arith}
 use Rattle.std.specs.List.{prefix_len, list_all, starts_with}
 use Rattle.std.proofs.lemmas.List.{drop-drop, length-drop, take-append-drop}
 use Rattle.std.proofs.lemmas.List.Sums.{prefix_len-le-length}
 use Rattle.std.proofs.lemmas.Bool.Decides.{nat_tests}
-use Rattle.pd_lex.specs.declared.token.TokenKind.{TokenKind}
-use Rattle.pd_lex.specs.declared.token.TokenKind.TheVariants.{Int, Hex, Word, Decimal, Dots, Opt, Str, Cmd, Code, Symbol}
+use Rattle.pd_lex.specs.declared.token.TokenKind.TheVariants.{Int, Hex, Word, Decimal, Dots, Opt, Symbol}
 use Rattle.pd_lex.specs.declared.scan.Piece.{Piece}
 use Rattle.pd_lex.specs.declared.scan.Piece.TheVariants.{Blank, Whole, Open, Stray}
 use Rattle.pd_lex.specs.declared.scan.Opener.{Opener}
@@ -53,7 +52,7 @@ pub value_fits : (s : List ℕ) → value_len s ≤ length s
 value_fits [] = omega arith
 value_fits (b ∷ s) = let run = prefix_len-le-length is_solid s in grind (arith, nat_tests)
 
-run_begins : (p : ℕ → Bool) (b : ℕ) (s : List ℕ) → p b ≡ true → 0 < prefix_len p (b ∷ s)
+pub run_begins : (p : ℕ → Bool) (b : ℕ) (s : List ℕ) → p b ≡ true → 0 < prefix_len p (b ∷ s)
 run_begins p b s h = rw h (omega arith)
 
 word_within : (b : ℕ) (s : List ℕ) → is_word b ≡ true → IsWithin (b ∷ s) (word_piece (b ∷ s))
@@ -76,7 +75,7 @@ word_within b s h =
 pub symbol_within : (b : ℕ) (s : List ℕ) → IsWithin (b ∷ s) (Whole Symbol 1)
 symbol_within b s = record { some = omega arith; fits = omega arith }
 
-positive : (n : ℕ) → nat_lt 0 n ≡ true → 0 < n
+pub positive : (n : ℕ) → nat_lt 0 n ≡ true → 0 < n
 positive n h = grind (arith, nat_tests)
 
 point_within : (b : ℕ) (s : List ℕ) → IsWithin (b ∷ s) (point_piece (b ∷ s))

@@ -1,7 +1,7 @@
 -- The piece at the front of a line is that at the front of all that is left: no such piece goes past a newline.
-use Rattle.std.proofs.Common.{◌≡◌, ℕ, suc, ◌+◌, ◌-◌, ◌<◌, ◌≤◌, Bool, true, false, cond, List, [], ◌∷◌, ◌++◌, length, take, drop, refl, ap, arith}
-use Rattle.std.specs.List.{prefix_len, list_all, starts_with}
-use Rattle.std.proofs.lemmas.List.{drop-append-le, length-drop, take-append-le}
+use Rattle.std.proofs.Common.{◌≡◌, ℕ, ◌+◌, Bool, false, cond, List, [], ◌∷◌, ◌++◌, drop, refl, ap, arith}
+use Rattle.std.specs.List.{prefix_len}
+use Rattle.std.proofs.lemmas.List.{drop-append-le, take-append-le}
 use Rattle.std.proofs.lemmas.List.Sums.{prefix_len-le-length}
 use Rattle.pd_lex.specs.Octets.{is_digit, is_word, is_solid, is_inside_line}
 use Rattle.pd_lex.specs.Pieces.{fraction_len, value_len, word_piece, point_piece, dash_piece, piece}

@@ -1,13 +1,14 @@
 -- The items from a place on, one piece at a time.
-use Rattle.std.proofs.Common.{◌≡◌, ℕ, zero, suc, ◌+◌, ◌-◌, ◌<◌, ◌≤◌, Bool, true, false, List, [], ◌∷◌, ◌++◌, length, max, refl, sym, ap, subst, ◌∙◌, arith}
+use Rattle.std.proofs.Common.{◌≡◌, ℕ, zero, suc, ◌<◌, ◌≤◌, true, List, [], ◌∷◌, length, max, refl, sym, ap, subst, ◌∙◌, arith, ◌⊎◌, inl, inr}
 use Rattle.std.specs.List.{list_all}
 use Rattle.pd_text.specs.Text.{is_line}
 use Rattle.pd_lex.specs.declared.token.TokenKind.{TokenKind}
 use Rattle.pd_lex.specs.declared.token.Place.{Place}
-use Rattle.pd_lex.specs.Places.{standing, octets_from, place_after, before}
+use Rattle.pd_lex.specs.Places.{standing, octets_from, place_after, before, IsPlace}
 use Rattle.pd_lex.specs.Pieces.{Front, nothing, gap, token, stray, front}
-use Rattle.pd_lex.specs.Tokens.{Lexeme, Item, lexeme, ending, bad, followed, items_within, items}
-use Rattle.pd_lex.specs.Scanned.{IsPlace, IsLeftAt}
+use Rattle.pd_lex.specs.Tokens.{Item, lexeme, ending, bad, followed, items_within, items}
+use Rattle.pd_lex.specs.Spellings.{IsStuck}
+use Rattle.std.proofs.lemmas.Bool.{cases_lt}
 use Rattle.pd_lex.proofs.Rests.{standing_place, octets_past, advance, same_place}
 use Rattle.pd_lex.proofs.Fronts.{IsRest, IsRest-cut, IsRest-shorter, LeavesRest, front_leaves}
 
@@ -80,3 +81,20 @@ module _ (lines : List (List ℕ)) (plain : list_all is_line lines ≡ true) whe
 
   pub items_at_stray : (p : Place) → IsPlace lines p → front (octets_from lines p) ≡ stray → items lines p ≡ bad p.line ∷ []
   items_at_stray p h e = items_at p h ∙ one_piece (max 1 (length lines)) p (octets_from lines p) ∙ rw e refl
+
+  token_shorter : (p q : Place) (kind : TokenKind) → front (octets_from lines p) ≡ token kind (octets_from lines q) → length (octets_from lines q) < length (octets_from lines p)
+  token_shorter p q kind e = IsRest-shorter (octets_from lines p) (octets_from lines q) (rest_of_token (octets_from lines p) (octets_from lines q) kind e)
+
+  -- a place from which something is left lies in a line of the text
+  line_within : (p : Place) → IsPlace lines p → 0 < length (octets_from lines p) → (1 ≤ p.line) × (p.line ≤ length lines)
+  line_within p h some = by_lines (cases_lt (length lines) p.line)
+    where
+      by_lines : ((length lines < p.line) ⊎ (p.line ≤ length lines)) → (1 ≤ p.line) × (p.line ≤ length lines)
+      by_lines (inl lt) = absurd (omega (arith, ap length (octets_past lines p lt)))
+      by_lines (inr le) = (h.from_one, le)
+
+  pub token_line : (p q : Place) (kind : TokenKind) → IsPlace lines p → front (octets_from lines p) ≡ token kind (octets_from lines q) → (1 ≤ p.line) × (p.line ≤ length lines)
+  token_line p q kind h e = line_within p h (omega (arith, token_shorter p q kind e))
+
+  pub stuck_line : (p : Place) → IsPlace lines p → IsStuck (octets_from lines p) → (1 ≤ p.line) × (p.line ≤ length lines)
+  stuck_line p h stuck = line_within p h stuck.some

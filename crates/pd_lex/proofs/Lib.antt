@@ -5,3 +5,7 @@ pub mod Rests
 pub mod Fronts
 pub mod Items
 pub mod Steps
+pub mod Texts
+pub mod Bounds
+pub mod Spelled
+pub mod Longest

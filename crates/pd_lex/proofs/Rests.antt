@@ -1,13 +1,13 @@
 -- What is left of a text at a place, and that no two places leave the same.
-use Rattle.std.proofs.Common.{◌≡◌, ℕ, zero, suc, ◌+◌, ◌-◌, ◌<◌, ◌≤◌, Bool, true, false, cond, eqb, ◌==◌, not, ◌&&◌, List, [], ◌∷◌, ◌++◌, length, get_or, take, drop, min, refl, sym, ap, subst, ◌∙◌, arith, length-append, ◌⊎◌, inl, inr}
+use Rattle.std.proofs.Common.{◌≡◌, ℕ, zero, suc, ◌+◌, ◌-◌, ◌<◌, ◌≤◌, Bool, true, false, ◌==◌, not, ◌&&◌, List, [], ◌∷◌, ◌++◌, length, get_or, drop, min, refl, sym, ap, subst, ◌∙◌, arith, length-append, ◌⊎◌, inl, inr}
 use Rattle.std.proofs.lemmas.List.{drop_more, drop-append-le, drop-drop, length-drop, drop_all, get_or_past}
-use Rattle.std.proofs.lemmas.Bool.{cases_lt, cases_eq}
+use Rattle.std.proofs.lemmas.Bool.{cases_lt}
 use Rattle.std.proofs.lemmas.Bool.Decides.{nat_tests}
 use Rattle.pd_lex.specs.declared.token.Place.{Place}
-use Rattle.pd_lex.specs.Places.{first_place, joined, line_at, standing, octets_from, place_after, before}
+use Rattle.pd_lex.specs.Places.{first_place, joined, line_at, standing, octets_from, place_after, IsPlace}
 use Rattle.std.specs.List.{list_all}
 use Rattle.pd_text.specs.Text.{is_line}
-use Rattle.pd_lex.specs.Scanned.{IsPlace, IsLeftAt}
+use Rattle.pd_lex.specs.Scanned.{IsLeftAt}
 
 min_within : (a b : ℕ) → a ≤ b → min a b ≡ a
 min_within a b h = omega arith
@@ -63,6 +63,14 @@ next_line lines p h le =
     let e : p.line + 1 - 1 ≡ p.line = omega arith in
     subst (λ (n : ℕ). IsLeftAt lines (record { line = p.line + 1; at = 0 }) (joined (drop n lines))) e s
 
+pub and_first : (a b : Bool) → (a && b) ≡ true → a ≡ true
+and_first true b h = refl
+and_first false b h = absurd cc
+
+pub and_second : (a b : Bool) → (a && b) ≡ true → b ≡ true
+and_second true b h = h
+and_second false b h = absurd cc
+
 -- the octet at a place is no newline within the line
 no_newline_at : (s : List ℕ) (n b : ℕ) (t : List ℕ) → is_line s ≡ true → drop n s ≡ b ∷ t → (b == 10) ≡ false
 no_newline_at [] zero b t h e = absurd cc
@@ -72,24 +80,12 @@ no_newline_at (x ∷ s) zero b t h e = let same : x ≡ b = ap (λ (l : List ℕ
     not_true : (a b : Bool) → (not a && b) ≡ true → a ≡ false
     not_true true b h = absurd cc
     not_true false b h = refl
-no_newline_at (x ∷ s) (suc n) b t h e = no_newline_at s n b t (and_right (not (x == 10)) (list_all (λ y. not (y == 10)) s) h) e
-  where
-    and_right : (a b : Bool) → (a && b) ≡ true → b ≡ true
-    and_right true b h = h
-    and_right false b h = absurd cc
+no_newline_at (x ∷ s) (suc n) b t h e = no_newline_at s n b t (and_second (not (x == 10)) (list_all (λ y. not (y == 10)) s) h) e
 
-line_is_line : (lines : List (List ℕ)) (n : ℕ) → list_all is_line lines ≡ true → is_line (get_or lines n []) ≡ true
+pub line_is_line : (lines : List (List ℕ)) (n : ℕ) → list_all is_line lines ≡ true → is_line (get_or lines n []) ≡ true
 line_is_line [] n h = refl
 line_is_line (l ∷ lines) zero h = and_first (is_line l) (list_all is_line lines) h
-  where
-    and_first : (a b : Bool) → (a && b) ≡ true → a ≡ true
-    and_first true b h = refl
-    and_first false b h = absurd cc
 line_is_line (l ∷ lines) (suc n) h = line_is_line lines n (and_second (is_line l) (list_all is_line lines) h)
-  where
-    and_second : (a b : Bool) → (a && b) ≡ true → b ≡ true
-    and_second true b h = h
-    and_second false b h = absurd cc
 
 -- one octet further on
 module _ (lines : List (List ℕ)) (plain : list_all is_line lines ≡ true) where
@@ -123,7 +119,7 @@ less_left zero lines = omega arith
 less_left (suc k) [] = omega arith
 less_left (suc k) (l ∷ lines) = let more = less_left k lines in omega (arith, more, length-append l (10 ∷ joined lines))
 
-left_at_most : (lines : List (List ℕ)) (p : Place) (n : ℕ) → IsPlace lines p → n < p.line → length (octets_from lines p) ≤ length (joined (drop n lines))
+pub left_at_most : (lines : List (List ℕ)) (p : Place) (n : ℕ) → IsPlace lines p → n < p.line → length (octets_from lines p) ≤ length (joined (drop n lines))
 left_at_most lines p n h lt =
     let e = octets_at lines p h in
     let sum : n + (p.line - 1 - n) ≡ p.line - 1 = omega arith in
@@ -131,11 +127,11 @@ left_at_most lines p n h lt =
     let less2 : length (joined (drop (p.line - 1) lines)) ≤ length (joined (drop n lines)) = rw (← sum, ← drop-drop (p.line - 1 - n) n lines) less in
     omega (arith, less2, ap length e, length-drop p.at (joined (drop (p.line - 1) lines)))
 
-left_here : (lines : List (List ℕ)) (p : Place) → IsPlace lines p → p.line ≤ length lines → length (octets_from lines p) ≡ length (line_at lines p.line) - p.at + 1 + length (joined (drop p.line lines))
+pub left_here : (lines : List (List ℕ)) (p : Place) → IsPlace lines p → p.line ≤ length lines → length (octets_from lines p) ≡ length (line_at lines p.line) - p.at + 1 + length (joined (drop p.line lines))
 left_here lines p h le =
     omega (arith, ap length (octets_in_line lines p h le), length-append (drop p.at (line_at lines p.line)) (10 ∷ joined (drop p.line lines)), length-drop p.at (line_at lines p.line))
 
-later_less : (lines : List (List ℕ)) (p q : Place) → IsPlace lines p → IsPlace lines q → p.line < q.line → length (octets_from lines q) < length (octets_from lines p)
+pub later_less : (lines : List (List ℕ)) (p q : Place) → IsPlace lines p → IsPlace lines q → p.line < q.line → length (octets_from lines q) < length (octets_from lines p)
 later_less lines p q h g lt =
     let a = left_at_most lines q p.line g lt in
     let b = left_here lines p h (omega (arith, g.within)) in

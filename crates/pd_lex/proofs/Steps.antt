@@ -1,18 +1,15 @@
 -- The steps of the lexer, line by line, against what is left of the text.
-use Rattle.std.proofs.Common.{◌≡◌, ℕ, zero, suc, ◌+◌, ◌-◌, ◌<◌, ◌≤◌, Bool, true, false, List, [], ◌∷◌, ◌++◌, length, take, drop, nat_eq, Option, Some, None, refl, sym, ap, subst, ◌∙◌, arith}
-use Rattle.std.specs.List.{starts_with}
-use Rattle.std.proofs.lemmas.List.{drop-append-le, drop-drop, length-drop, nil_from_length}
+use Rattle.std.proofs.Common.{◌≡◌, ℕ, ◌+◌, ◌-◌, ◌<◌, ◌≤◌, List, [], ◌∷◌, ◌++◌, length, drop, Option, Some, None, refl, ap, ◌∙◌, arith}
+use Rattle.std.proofs.lemmas.List.{drop-append-le, length-drop}
 use Rattle.pd_lex.specs.declared.token.Place.{Place}
 use Rattle.pd_lex.specs.declared.token.TokenKind.{TokenKind}
 use Rattle.pd_lex.specs.declared.scan.Opener.{Opener}
 use Rattle.pd_lex.specs.declared.scan.Opener.TheVariants.{Comment, Quote, Backquote, Brace}
-use Rattle.pd_lex.specs.declared.scan.Piece.{Piece}
 use Rattle.pd_lex.specs.declared.scan.Piece.TheVariants.{Blank, Whole, Open, Stray}
-use Rattle.pd_lex.specs.declared.step.Step.{Step}
 use Rattle.pd_lex.specs.declared.step.Step.TheVariants as steps
-use Rattle.pd_lex.specs.Places.{joined, line_at, octets_from}
-use Rattle.pd_lex.specs.Pieces.{piece, after_end, opener_len, Front, nothing, gap, token, stray, closed, parted, front}
-use Rattle.pd_lex.specs.Scanned.{piece_len, IsPlace, IsLeftAt, IsClosed, IsStep, closing_step}
+use Rattle.pd_lex.specs.Places.{joined, line_at, octets_from, IsPlace}
+use Rattle.pd_lex.specs.Pieces.{piece, after_end, opener_len, closed, parted, front}
+use Rattle.pd_lex.specs.Scanned.{IsLeftAt, IsClosed, IsStep, closing_step}
 use Rattle.pd_lex.proofs.InLine.{piece_in_line}
 use Rattle.pd_lex.proofs.Endings.{end_in_line, end_past_line, end_suffix, end_of_nothing}
 use Rattle.pd_lex.proofs.Rests.{octets_in_line, octets_past, further_in_line, next_line}

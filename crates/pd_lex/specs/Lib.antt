@@ -3,5 +3,7 @@ pub mod Kinds
 pub mod Octets
 pub mod Pieces
 pub mod Scanned
+pub mod Spellings
+pub mod Next
 pub mod Places
 pub mod Tokens

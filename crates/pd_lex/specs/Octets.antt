@@ -28,3 +28,7 @@ is_inside_line b = not (b == 10)
 -- a printable octet but the space
 abbrev pub is_printable : ℕ → Bool
 is_printable b = nat_le 33 b && nat_le b 126
+
+-- no backquote
+abbrev pub is_no_backquote : ℕ → Bool
+is_no_backquote b = not (b == 96)

@@ -1,5 +1,5 @@
 -- What stands at the front of a text: a blank, a comment or a token.
-use Rattle.std.specs.Prelude.{ℕ, ◌+◌, ◌-◌, Bool, ◌&&◌, nat_lt, nat_eq, ◌==◌, List, [], ◌∷◌, length, take, drop, Option, Some, None, if◌then◌else◌}
+use Rattle.std.specs.Prelude.{ℕ, ◌+◌, Bool, ◌&&◌, nat_lt, nat_eq, ◌==◌, List, [], ◌∷◌, length, take, drop, Option, Some, None, if◌then◌else◌}
 use Rattle.std.specs.List.{prefix_len, list_all, starts_with}
 use Rattle.pd_lex.specs.declared.token.TokenKind.{TokenKind}
 use Rattle.pd_lex.specs.declared.token.TokenKind.TheVariants.{Int, Hex, Word, Decimal, Dots, Opt, Str, Cmd, Code, Symbol}
@@ -11,7 +11,7 @@ use Rattle.pd_lex.specs.Octets.{is_digit, is_hex_digit, is_word, is_blank, is_so
 
 -- `0x` and one or more hexadecimal digits
 abbrev pub is_hex : List ℕ → Bool
-is_hex s = starts_with nat_eq s (48 ∷ 120 ∷ []) && nat_lt 0 (prefix_len is_hex_digit (drop 2 s)) && list_all is_hex_digit (drop 2 s)
+is_hex s = starts_with nat_eq s (48 ∷ 120 ∷ []) && nat_lt 2 (length s) && list_all is_hex_digit (drop 2 s)
 
 -- the length of a point with one or more digits, or 0
 abbrev pub fraction_len : List ℕ → ℕ

@@ -1,5 +1,5 @@
 -- What the steps of the lexer answer, against what is left of the text.
-use Rattle.std.specs.Prelude.{◌≡◌, ℕ, ◌+◌, ◌≤◌, true, List, [], length, Option, Some, None}
+use Rattle.std.specs.Prelude.{◌≡◌, ℕ, true, List, [], Option, Some, None}
 use Rattle.pd_lex.specs.declared.token.TokenKind.TheVariants.{Str, Cmd, Code}
 use Rattle.pd_lex.specs.declared.token.Place.{Place}
 use Rattle.pd_lex.specs.declared.scan.Piece.{Piece}
@@ -9,7 +9,7 @@ use Rattle.pd_lex.specs.declared.scan.Opener.TheVariants as openers
 use Rattle.pd_lex.specs.declared.step.Step.{Step}
 use Rattle.pd_lex.specs.declared.step.Step.TheVariants as steps
 use Rattle.pd_lex.specs.Kinds.{stays_in_line}
-use Rattle.pd_lex.specs.Places.{line_at, octets_from}
+use Rattle.pd_lex.specs.Places.{octets_from, IsPlace}
 use Rattle.pd_lex.specs.Pieces.{opener_len, gap, token, stray, front}
 
 -- how many octets of the line a piece or its opener has
@@ -18,12 +18,6 @@ piece_len (pieces.Blank n) = n
 piece_len (pieces.Whole kind n) = n
 piece_len (pieces.Open o) = opener_len o
 piece_len pieces.Stray = 1
-
--- a place of the text or just behind it
-pub record IsPlace (lines : List (List ℕ)) (p : Place) : Type 0 where
-  pub from_one : 1 ≤ p.line
-  pub within : p.line ≤ length lines + 1
-  pub at : p.at ≤ length (line_at lines p.line)
 
 -- the place from which this much is left
 pub record IsLeftAt (lines : List (List ℕ)) (p : Place) (rest : List ℕ) : Type 0 where

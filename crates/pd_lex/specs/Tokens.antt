@@ -5,7 +5,7 @@ use Rattle.pd_lex.specs.declared.token.Place.{Place}
 use Rattle.pd_lex.specs.declared.token.Token.{Token}
 use Rattle.pd_lex.specs.declared.token.Lexed.{Lexed}
 use Rattle.pd_lex.specs.declared.token.Lexed.TheVariants as lexed
-use Rattle.pd_lex.specs.Places.{standing, octets_from, place_after, before}
+use Rattle.pd_lex.specs.Places.{standing, octets_from, place_after, before, between}
 use Rattle.pd_lex.specs.Pieces.{Front, nothing, gap, token, stray, front}
 
 -- a token: its kind, its octets as written, newlines among them, and the place of the first
@@ -45,7 +45,7 @@ items lines p = items_within (length (octets_from lines p)) (max 1 (length lines
 
 -- a token of the code as one of these
 unfoldable pub lexeme_of : List (List ℕ) → Token → Lexeme
-lexeme_of lines t = record { kind = t.kind; text = before (octets_from lines t.span.from) (octets_from lines t.span.to); from = t.span.from }
+lexeme_of lines t = record { kind = t.kind; text = between lines t.span.from t.span.to; from = t.span.from }
 
 -- the answer is the next item, and the place behind it that from which the others follow
 abbrev pub IsNext : List (List ℕ) → Place → Lexed → Type 0

@@ -4,6 +4,7 @@
 mod ending;
 mod next;
 mod scan;
+mod standing;
 mod step;
 mod token;
 

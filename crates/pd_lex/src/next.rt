@@ -1,31 +1,11 @@
 //! The next token of a text.
-ghost use Rattle.std.specs.Prelude.{◌≡◌, ◌<◌, length, IfSome, IfNone};
-ghost use Rattle.pd_text.specs.Text.{AreLines};
-ghost use Rattle.pd_lex.specs.Places.{standing};
 ghost use Rattle.pd_lex.specs.Tokens.{IsNext};
-ghost use Rattle.pd_lex.specs.Scanned.{IsPlace};
+ghost use Rattle.pd_lex.specs.Next.{IsCut, HasLine};
 
+use crate::standing::standing_place;
 use crate::step::{Step, step_at};
 use crate::token::{Lexed, Place, Span, Token};
 use pd_text::Lines;
-
-/// Where a place stands in a text; `None` past the last line.
-#[tactic(auto, unfolding(crate::specs::Places::standing))]
-fn standing_place(lines: &Lines, place: Place) -> Option<Place>
-    ensures some { IfSome result (λ p. p ≡ standing lines.now place) }
-    ensures place { IfSome result (IsPlace lines.now) }
-    ensures none { IfNone result (length lines.now < place.line) }
-    ensures lines { AreLines lines.now }
-{
-    match lines.line(place.line) {
-        Some(line) => Some(Place {
-            line: place.line,
-            at: place.at.min(line.len()),
-        }),
-        None if place.line == 0 => Some(Place::first()),
-        None => None,
-    }
-}
 
 /// The first token from a place on, with the place behind it: blanks and comments are passed over.
 /// At a place of line 0 it starts at the text's first octet, past the end of a line at that line's
@@ -33,6 +13,8 @@ fn standing_place(lines: &Lines, place: Place) -> Option<Place>
 /// begins none, or where a comment, a string, a command or code is opened and never closed.
 pub fn next_token(lines: &Lines, place: Place) -> Lexed
     ensures next { IsNext lines.now place result }
+    ensures cut { IsCut lines.now place result }
+    ensures line { HasLine lines.now result }
 {
     let Some(mut here) = standing_place(lines, place) else {
         return Lexed::End;

@@ -1,11 +1,12 @@
 //! One step over a text: the piece at a place.
-ghost use Rattle.std.specs.Prelude.{◌≡◌, ◌+◌, ◌≤◌, ◌<◌, ◌^◌, length, drop, IfSome, IfNone};
-ghost use Rattle.pd_lex.specs.Places.{line_at, octets_from};
+ghost use Rattle.std.specs.Prelude.{◌≡◌, ◌+◌, length};
+ghost use Rattle.pd_lex.specs.Places.{octets_from, IsPlace};
 ghost use Rattle.pd_lex.specs.Pieces.{after_end};
-ghost use Rattle.pd_lex.specs.Scanned.{IsPlace, IsClosed, IsStep, closing_step};
+ghost use Rattle.pd_lex.specs.Scanned.{IsClosed, IsStep, closing_step};
 
 use crate::ending::behind_end;
 use crate::scan::{Opener, Piece, piece_at};
+use crate::standing::rest_of_line;
 use crate::token::{Place, TokenKind};
 use pd_text::Lines;
 
@@ -20,21 +21,6 @@ pub enum Step {
     Token(TokenKind, Place),
     /// Something that begins no token.
     Stray,
-}
-
-/// What is left of the line of a place; `None` past the last line.
-fn rest_of_line<'a>(lines: &'a Lines, place: Place) -> Option<&'a [u8]>
-    requires { IsPlace lines.now place }
-    ensures rest { IfSome result (λ r. r.now ≡ drop place.at (line_at lines.now place.line)) }
-    ensures line { IfSome result (λ r. place.line ≤ length lines.now) }
-    ensures few { length lines.now ≤ 4096 }
-    ensures small { length (line_at lines.now place.line) < 2 ^ 64 }
-    ensures past { IfNone result (length lines.now < place.line) }
-{
-    match lines.line(place.line) {
-        Some(line) => Some(&line[place.at..]),
-        None => None,
-    }
 }
 
 /// The place behind the end of what was opened before a place, if it ends.

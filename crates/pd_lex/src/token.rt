@@ -1,7 +1,10 @@
 //! Tokens, their places, and what the lexer answers.
 ghost use Rattle.std.specs.Prelude.{◌≡◌, true};
 ghost use Rattle.pd_lex.specs.Kinds.{stays_in_line};
-ghost use Rattle.pd_lex.specs.Places.{first_place};
+ghost use Rattle.pd_lex.specs.Places.{first_place, first_line};
+
+use crate::standing::first_part;
+use pd_text::Lines;
 
 /// What a token is, in packetdrill's grammar.
 #[derive(Clone, Copy, Debug, PartialEq, Eq)]
@@ -60,6 +63,20 @@ pub struct Token {
     pub line: usize,
     ghost line_is: { line ≡ span.from.line },
     ghost in_line: { stays_in_line kind ≡ true → span.to.line ≡ span.from.line },
+}
+
+impl Token {
+    ghost use Rattle.pd_lex.specs.Tokens.{lexeme_of};
+
+    /// The token's octets as written; of one that goes on into further lines those in its first
+    /// line.
+    pub fn text<'a>(&self, lines: &'a Lines) -> &'a [u8]
+        ensures text { result.now ≡ first_line (lexeme_of lines.now self.now).text }
+        ensures whole { stays_in_line self.now.kind ≡ true
+            → result.now ≡ (lexeme_of lines.now self.now).text }
+    {
+        first_part(lines, self.span.from, self.span.to)
+    }
 }
 
 /// What stands at a place, once blanks and comments are passed over.

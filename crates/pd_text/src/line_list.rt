@@ -58,7 +58,7 @@ impl LineList {
         ensures { IfOk result (λ list. list ≡ self.now) }
     {
         let mut lines = Vec::new(*self.lines.allocator());
-        push_copies(&mut lines, self.lines.as_slice())?;
+        push_copies(&mut lines, self.as_slice())?;
         Ok(LineList { lines })
     }
 }

@@ -107,7 +107,7 @@ impl Lines {
     fn is_in_range(&self, edit: &LineEdit) -> bool
         ensures { result ≡ is_in_range self.now edit.now }
     {
-        let len = self.lines.len();
+        let len = self.len();
         edit.from >= 1 && edit.from <= len + 1 && edit.remove <= len + 1 - edit.from
     }
 

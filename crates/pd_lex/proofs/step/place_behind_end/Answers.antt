@@ -1,10 +1,9 @@
 -- Each line either has the end or is passed over.
-use Rattle.std.proofs.Common.{◌≡◌, ◌∙◌, ◌+◌, ap, sym, length, drop, Some, None, arith}
+use Rattle.std.proofs.Common.{◌≡◌, ◌∙◌, ap, length, drop, Some, None, arith}
 use Rattle.std.specs.Option.{option_copied}
 use Rattle.std.proofs.lemmas.List.{length-drop}
-use Rattle.pd_lex.specs.Places.{line_at, octets_from}
+use Rattle.pd_lex.specs.Places.{line_at}
 use Rattle.pd_lex.specs.Pieces.{after_end}
-use Rattle.pd_lex.specs.Scanned.{IsPlace, IsClosed}
 use Rattle.pd_lex.proofs.Endings.{end_suffix}
 use Rattle.pd_lex.proofs.Steps.{closed_at, not_closed_at, not_closed}
 use Rattle.pd_lex.proofs.step.place_behind_end.Goals as goal
@@ -27,7 +26,7 @@ loop-line-preserved c =
     let e : after_end c.args.opener (drop c.loop-line.at (line_at c.args.lines.now c.loop-line.line)) ≡ None = cc (ap option_copied c.in_default.is, c.behind_end.ensures.after, here) in
     record {
       place = record { from_one = omega arith; within = omega arith; at = omega arith };
-      same = c.loop-line.invariant.same ∙ not_closed_at c.args.lines.now (record { line = c.loop-line.line; at = c.loop-line.at }) c.loop-line.invariant.place (omega arith) c.args.opener e
+      same = c.loop-line.invariant.same ∙ not_closed_at c.args.lines.now (record { line = c.loop-line.line; at = c.loop-line.at }) c.loop-line.invariant.place (omega arith) c.args.opener e;
     }
 
 pub returns : goal.returns

@@ -1,13 +1,9 @@
 -- Each piece of the line as a step over the text.
-use Rattle.std.proofs.Common.{◌≡◌, ◌∙◌, sym, ap, ◌+◌, ◌≤◌, ◌<◌, length, drop, arith, Some, None, ℕ, List, true, false, ◌==◌}
+use Rattle.std.proofs.Common.{◌≡◌, ◌∙◌, sym, ◌<◌, length, arith, ℕ, true, false, ◌==◌}
 use Rattle.std.proofs.lemmas.Bool.Decides.{nat_tests}
 use Rattle.std.proofs.lemmas.List.{nil_from_length}
-use Rattle.pd_lex.specs.declared.scan.Piece.TheVariants.{Blank, Whole, Open, Stray}
-use Rattle.pd_lex.specs.Places.{line_at, octets_from}
-use Rattle.pd_lex.specs.Pieces.{piece, opener_len}
-use Rattle.pd_lex.specs.Scanned.{IsPlace, IsStep}
 use Rattle.pd_lex.proofs.Rests.{octets_past}
-use Rattle.pd_lex.proofs.Steps.{inside_place, step_newline, step_blank, step_whole, step_stray, step_closed, step_open}
+use Rattle.pd_lex.proofs.Steps.{step_newline, step_blank, step_whole, step_stray, step_closed, step_open}
 use Rattle.pd_lex.proofs.step.step_at.Goals as goal
 
 none_left : (n : ℕ) → true ≡ (n == 0) → n ≡ 0

@@ -1,0 +1,11 @@
+-- The lemmas.
+pub mod Laws
+pub mod Machines
+pub mod Apart
+pub mod ArgumentLaws
+pub mod GrammarLaws
+pub mod Capped
+pub mod Taking
+pub mod ArgumentSteps
+pub mod Finding
+pub mod Few
