@@ -11,7 +11,9 @@ const STORED: &[u8] = b"add a 3
 
 /// How many octets stand before the command is whole, up to the last line, and before the last line is an event.
 const COMMAND: usize = 7;
+
 const LAST_LINE: usize = 77;
+
 const EVENT: usize = 96;
 
 #[test]
@@ -26,7 +28,8 @@ fn an_input_may_end_after_each_octet(rt: HostRuntime) -> Result<(), Fail> {
         } else {
             ("pass 3", "", 0)
         };
-        let said = run(rt.alloc(), &[], &STORED[..end])?;
+        let input = STORED.get(..end).ok_or("a cut behind the end")?;
+        let said = run(rt.alloc(), &[], input)?;
         let output = String::from_utf8(said.output)?;
         if verdict.is_empty() {
             assert!(rt; output.is_empty(), "cut at {end}");

@@ -24,11 +24,11 @@ mod said;
 #[cfg(test)]
 mod settings;
 #[cfg(test)]
+mod stopped;
+#[cfg(test)]
 mod stories;
 #[cfg(test)]
 mod streams;
-#[cfg(test)]
-mod stopped;
 #[cfg(test)]
 mod texts;
 #[cfg(test)]

@@ -5,8 +5,11 @@ use std::alloc::{AllocError, Global};
 use std::process::Abort;
 use std::test::Fail;
 
-const EMPTY_PASSES: &str = "a pass 0\ntotal 1 pass 1 fail 0 syntax 0 unsupported 0 limit 0 pending 0\n";
+const EMPTY_PASSES: &str =
+    "a pass 0\ntotal 1 pass 1 fail 0 syntax 0 unsupported 0 limit 0 pending 0\n";
+
 const NOTHING: &str = "total 0 pass 0 fail 0 syntax 0 unsupported 0 limit 0 pending 0\n";
+
 const TOO_LARGE: &str =
     "refused 2 TooLarge\ntotal 0 pass 0 fail 0 syntax 0 unsupported 0 limit 0 pending 0\n";
 
@@ -55,9 +58,21 @@ fn a_text_has_4096_lines_and_65536_octets_at_most(rt: HostRuntime) -> Result<(),
     check_input(&rt, &octets, EMPTY_PASSES, "", 0)?;
     let octets = [("add a 1\n", 1), (" ", 65_535), ("\r\r\n", 1)];
     check_input(&rt, &octets, TOO_LARGE, "", 0)?;
-    let octets = [("add a 2\n", 1), (" ", 32_767), ("\n", 1), ("\t", 32_767), ("\n", 1)];
+    let octets = [
+        ("add a 2\n", 1),
+        (" ", 32_767),
+        ("\n", 1),
+        ("\t", 32_767),
+        ("\n", 1),
+    ];
     check_input(&rt, &octets, EMPTY_PASSES, "", 0)?;
-    let octets = [("add a 2\n", 1), (" ", 32_767), ("\n", 1), ("\t", 32_768), ("\n", 1)];
+    let octets = [
+        ("add a 2\n", 1),
+        (" ", 32_767),
+        ("\n", 1),
+        ("\t", 32_768),
+        ("\n", 1),
+    ];
     check_input(&rt, &octets, TOO_LARGE, "", 0)?;
     let octets = [("add a 1\n", 1), ("x", 1_000_000), ("\n", 1)];
     check_input(&rt, &octets, TOO_LARGE, "", 0)
@@ -79,20 +94,27 @@ fn lines_over_the_limits_are_refused_before_all_else(rt: HostRuntime) -> Result<
     let edits = [
         ("add a 4096\n", 1),
         ("\n", 4096),
-        ("edit a 4097 0 1\n\nedit a 4098 0 1\n\nedit a 7 1 1\n// x\n", 1),
+        (
+            "edit a 4097 0 1\n\nedit a 4098 0 1\n\nedit a 7 1 1\n// x\n",
+            1,
+        ),
     ];
     let refused = format!(in rt.alloc(); "refused 2 TooLarge\nrefused 1 BadRange\n{EMPTY_PASSES}")?;
     check_input(&rt, &edits, refused.as_str(), "", 0)?;
     let edits = [
         ("add a 1\n", 1),
         (" ", 65_534),
-        ("\nedit a 2 0 1\n\nedit a 1 0 1\n \nedit a 2 0 1\n\nedit a 1 1 0\nedit a 2 0 1\n,\n", 1),
+        (
+            "\nedit a 2 0 1\n\nedit a 1 0 1\n \nedit a 2 0 1\n\nedit a 1 1 0\nedit a 2 0 1\n,\n",
+            1,
+        ),
     ];
     let refused = format!(in rt.alloc(); "refused 2 TooLarge\nrefused 2 TooLarge\n{SECOND_FAILS}")?;
     check_input(&rt, &edits, refused.as_str(), "", 1)
 }
 
-const SECOND_FAILS: &str = "a syntax 2\ntotal 1 pass 0 fail 0 syntax 1 unsupported 0 limit 0 pending 0\n";
+const SECOND_FAILS: &str =
+    "a syntax 2\ntotal 1 pass 0 fail 0 syntax 1 unsupported 0 limit 0 pending 0\n";
 
 #[test]
 fn a_command_line_has_256_octets_at_most(rt: HostRuntime) -> Result<(), Fail> {
@@ -128,9 +150,11 @@ fn there_are_1024_scripts_at_most(rt: HostRuntime) -> Result<(), Fail> {
     input.extend_from_slice(b"add a/b 0\nadd s7 0\nadd t 0\nremove s0\nadd t 0\nadd s0 0\n")?;
     let said = run(rt.alloc(), &[], input.as_slice())?;
     let output = String::from_utf8(said.output)?;
-    let refused = "refused 8 TooManyScripts\nrefused 5 BadName\nrefused 6 NameTaken\nrefused 8 TooManyScripts\nrefused 8 TooManyScripts\ns1 pass 0\n";
+    let refused =
+        "refused 8 TooManyScripts\nrefused 5 BadName\nrefused 6 NameTaken\nrefused 8 TooManyScripts\nrefused 8 TooManyScripts\ns1 pass 0\n";
     assert!(rt; output.as_str().starts_with(refused));
-    let last = "s1023 pass 0\nt pass 0\ntotal 1024 pass 1024 fail 0 syntax 0 unsupported 0 limit 0 pending 0\n";
+    let last =
+        "s1023 pass 0\nt pass 0\ntotal 1024 pass 1024 fail 0 syntax 0 unsupported 0 limit 0 pending 0\n";
     assert!(rt; output.as_str().ends_with(last));
     assert_eq!(rt; said.status, 0);
     Ok(())
@@ -144,20 +168,48 @@ fn a_script_has_4096_events_and_brackets_16_deep_at_most(rt: HostRuntime) -> Res
     check_pieces(&rt, &[("0%{}%", 4096), ("\n,", 1)], "syntax 2")?;
     check_pieces(&rt, &[("0%{}%", 4096), ("\n0", 1)], "syntax 2")?;
     let socket = "0 socket(..., SOCK_STREAM, 0) = 3";
-    check_pieces(&rt, &[(socket, 1), ("\n0 bind(4,1,1)=-1", 3500)], "pass 3501")?;
+    check_pieces(
+        &rt,
+        &[(socket, 1), ("\n0 bind(4,1,1)=-1", 3500)],
+        "pass 3501",
+    )?;
 
     check_pieces(&rt, &[(socket, 1), ("(", 16), (")", 16)], "pass 1")?;
     check_pieces(&rt, &[(socket, 1), ("(", 17), (")", 17)], "syntax 1")?;
     check_pieces(&rt, &[(socket, 1), ("(\n", 17), (")", 17)], "syntax 17")?;
     check_pieces(&rt, &[(socket, 1), ("\n([{(", 4), (")}])", 4)], "pass 1")?;
     check_pieces(&rt, &[(socket, 1), ("\n([{(", 4), ("\n{", 1)], "syntax 6")?;
-    check_pieces(&rt, &[(socket, 1), ("(", 1), ("([{}])", 100), (")", 1)], "pass 1")?;
+    check_pieces(
+        &rt,
+        &[(socket, 1), ("(", 1), ("([{}])", 100), (")", 1)],
+        "pass 1",
+    )?;
 
-    check_pieces(&rt, &[("0 f(", 1), ("(", 16), (")", 16), (") = 0", 1)], "unsupported 1")?;
-    check_pieces(&rt, &[("0 f(", 1), ("(", 17), (")", 17), (") = 0", 1)], "syntax 1")?;
-    check_pieces(&rt, &[("0 f(", 1), ("\n[", 16), ("]", 16), (") = 0", 1)], "unsupported 1")?;
-    check_pieces(&rt, &[("0 f(", 1), ("\n{", 17), ("}", 17), (") = 0", 1)], "syntax 18")?;
-    check_pieces(&rt, &[("0 f(1", 1), (", ([{}])", 1000), (") = 0", 1)], "unsupported 1")
+    check_pieces(
+        &rt,
+        &[("0 f(", 1), ("(", 16), (")", 16), (") = 0", 1)],
+        "unsupported 1",
+    )?;
+    check_pieces(
+        &rt,
+        &[("0 f(", 1), ("(", 17), (")", 17), (") = 0", 1)],
+        "syntax 1",
+    )?;
+    check_pieces(
+        &rt,
+        &[("0 f(", 1), ("\n[", 16), ("]", 16), (") = 0", 1)],
+        "unsupported 1",
+    )?;
+    check_pieces(
+        &rt,
+        &[("0 f(", 1), ("\n{", 17), ("}", 17), (") = 0", 1)],
+        "syntax 18",
+    )?;
+    check_pieces(
+        &rt,
+        &[("0 f(1", 1), (", ([{}])", 1000), (") = 0", 1)],
+        "unsupported 1",
+    )
 }
 
 /// Runs a text made of pieces as a script and compares the report.
@@ -185,7 +237,10 @@ fn a_history_has_65536_acts_and_outstanding_jobs_at_most(rt: HostRuntime) -> Res
         ("add a 0\n", 1),
         ("set mss 1\n", 100),
         ("set nagle true\n", 65_533),
-        ("settle\nset nagle true\nadd b 0\nremove a\nedit a 1 0 0\nadd a 0\nedit a 2 0 0\nset mss 1\n", 1),
+        (
+            "settle\nset nagle true\nadd b 0\nremove a\nedit a 1 0 0\nadd a 0\nedit a 2 0 0\nset mss 1\n",
+            1,
+        ),
     ];
     let mut output = String::new(rt.alloc());
     for _turn in 0..100 {

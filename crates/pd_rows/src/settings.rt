@@ -3,6 +3,7 @@ use crate::said::run;
 use crate::stories::check_stories;
 use crate::streams::{Sink, Source};
 use pd_cli::run_program;
+use std::process::Abort;
 use std::test::Fail;
 
 const NOTHING: &str = "total 0 pass 0 fail 0 syntax 0 unsupported 0 limit 0 pending 0\n";
@@ -12,28 +13,52 @@ fn a_setting_has_a_range(rt: HostRuntime) -> Result<(), Fail> {
     for row in RANGES.lines() {
         let (refusal, setting) = row.split_once(": ").ok_or("a row without a colon")?;
         let (key, value) = setting.split_once(' ').ok_or("a row without a value")?;
-        let input = format!(in rt.alloc(); "set {key} {value}\n")?;
-        let by_command = run(rt.alloc(), &[], input.as_bytes())?;
-        let text = format!(in rt.alloc(); "{key} = {value}")?;
-        let by_word = run(rt.alloc(), &["--settings", text.as_str()], b"")?;
-        let (command_output, word_output, errors) = if refusal == "ok" {
-            (NOTHING.to_string(rt.alloc())?, NOTHING, String::new(rt.alloc()))
-        } else {
-            (
-                format!(in rt.alloc(); "refused {refusal}\n{NOTHING}")?,
-                "",
-                format!(in rt.alloc(); "pdregress: {refusal}\n")?,
-            )
-        };
-        let said = String::from_utf8(by_command.output)?;
-        assert_eq!(rt; said.as_str(), command_output.as_str(), "set {setting}");
-        assert_eq!(rt; by_command.status, 0, "set {setting}");
-        let said = String::from_utf8(by_word.output)?;
-        assert_eq!(rt; said.as_str(), word_output, "the text {text}");
-        let said = String::from_utf8(by_word.errors)?;
-        assert_eq!(rt; said.as_str(), errors.as_str(), "the text {text}");
-        let status = if refusal == "ok" { 0 } else { 2 };
-        assert_eq!(rt; by_word.status, status, "the text {text}");
+        check_by_command(&rt, refusal, key, value)?;
+        check_by_word(&rt, refusal, key, value)?;
+    }
+    Ok(())
+}
+
+/// Sets a key to a value by a command.
+fn check_by_command(
+    rt: &(impl Abort + AllocGlobal),
+    refusal: &str,
+    key: &str,
+    value: &str,
+) -> Result<(), Fail> {
+    let input = format!(in rt.alloc(); "set {key} {value}\n")?;
+    let said = run(rt.alloc(), &[], input.as_bytes())?;
+    let wanted = if refusal == "ok" {
+        NOTHING.to_string(rt.alloc())?
+    } else {
+        format!(in rt.alloc(); "refused {refusal}\n{NOTHING}")?
+    };
+    let output = String::from_utf8(said.output)?;
+    assert_eq!(rt; output.as_str(), wanted.as_str(), "of {key} {value}");
+    assert_eq!(rt; said.status, 0, "of {key} {value}");
+    Ok(())
+}
+
+/// Sets a key to a value by the program's word.
+fn check_by_word(
+    rt: &(impl Abort + AllocGlobal),
+    refusal: &str,
+    key: &str,
+    value: &str,
+) -> Result<(), Fail> {
+    let text = format!(in rt.alloc(); "{key} = {value}")?;
+    let said = run(rt.alloc(), &["--settings", text.as_str()], b"")?;
+    let output = String::from_utf8(said.output)?;
+    let errors = String::from_utf8(said.errors)?;
+    if refusal == "ok" {
+        assert_eq!(rt; output.as_str(), NOTHING, "of {key} {value}");
+        assert!(rt; errors.is_empty(), "of {key} {value}");
+        assert_eq!(rt; said.status, 0, "of {key} {value}");
+    } else {
+        let wanted = format!(in rt.alloc(); "pdregress: {refusal}\n")?;
+        assert!(rt; output.is_empty(), "of {key} {value}");
+        assert_eq!(rt; errors.as_str(), wanted.as_str(), "of {key} {value}");
+        assert_eq!(rt; said.status, 2, "of {key} {value}");
     }
     Ok(())
 }

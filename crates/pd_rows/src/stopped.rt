@@ -35,7 +35,10 @@ fn a_read_that_fails_stops_the_run(rt: HostRuntime) -> Result<(), Fail> {
             let status = run_program(rt.alloc(), &[], &mut source, &mut output, &mut errors);
             assert_eq!(rt; status, 2, "call {call} of {most}");
             assert_eq!(rt; errors.taken.as_slice(), b"pdregress: 17 Read\n".as_slice());
-            assert!(rt; OUTPUT.starts_with(output.taken.as_slice()), "call {call} of {most}");
+            assert!(rt;
+                OUTPUT.starts_with(output.taken.as_slice()),
+                "call {call} of {most}"
+            );
             assert_eq!(rt; source.calls, call);
         }
         let mut source = Source::new(INPUT, most, Some(calls + 1));
@@ -82,7 +85,10 @@ fn check_written(
         assert_eq!(rt; status, 2);
         assert!(rt; OUTPUT.starts_with(output.taken.as_slice()));
         assert!(rt; output.taken.len() < OUTPUT.len());
-        assert_eq!(rt; errors.taken.as_slice(), b"pdregress: 18 Write\n".as_slice());
+        assert_eq!(rt;
+            errors.taken.as_slice(),
+            b"pdregress: 18 Write\n".as_slice()
+        );
     }
     Ok(output.calls)
 }

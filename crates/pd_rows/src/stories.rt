@@ -8,6 +8,7 @@ use std::test::Fail;
 /// A run to come, and what it is to say.
 #[derive(Drop)]
 struct Story {
+    title: String,
     words: Vec<String>,
     input: Vec<u8>,
     output: Vec<u8>,
@@ -17,6 +18,7 @@ struct Story {
 impl Story {
     fn new(alloc: Global) -> Story {
         Story {
+            title: String::new(alloc),
             words: Vec::new(alloc),
             input: Vec::new(alloc),
             output: Vec::new(alloc),
@@ -28,6 +30,7 @@ impl Story {
     fn take(&mut self, alloc: Global, mark: &str, line: &str) -> Result<(), Fail> {
         let octets = unescape(alloc, line)?;
         match mark {
+            "#" => self.title = String::from_utf8(octets)?,
             "$" => self.words.push(String::from_utf8(octets)?)?,
             "<" => add_line(&mut self.input, octets.as_slice())?,
             "~" => self.input.extend_from_slice(octets.as_slice())?,
@@ -39,14 +42,20 @@ impl Story {
     }
 
     /// Runs the program and compares what it says.
-    fn check(self, rt: &(impl Abort + AllocGlobal), status: &str, title: &str) -> Result<(), Fail> {
-        let Story { words, input, output, errors } = self;
+    fn check(self, rt: &(impl Abort + AllocGlobal), status: &str) -> Result<(), Fail> {
+        let Story {
+            title,
+            words,
+            input,
+            output,
+            errors,
+        } = self;
         let words: Vec<&str> = words.iter().map(|word| word.as_str()).collect(rt.alloc())?;
         let said = run(rt.alloc(), words.as_slice(), input.as_slice())?;
-        check_octets(rt, said.output, output, title)?;
-        check_octets(rt, said.errors, errors, title)?;
+        check_octets(rt, said.output, output, title.as_str())?;
+        check_octets(rt, said.errors, errors, title.as_str())?;
         let said_status = said.status.to_string(rt.alloc())?;
-        assert_eq!(rt; said_status.as_str(), status, "of {title}");
+        assert_eq!(rt; said_status.as_str(), status, "of {}", title.as_str());
         Ok(())
     }
 }
@@ -68,14 +77,12 @@ fn add_line(octets: &mut Vec<u8>, line: &[u8]) -> Result<(), AllocError> {
 /// error text, and `=` the status, which ends the story.
 pub fn check_stories(rt: &(impl Abort + AllocGlobal), table: &str) -> Result<(), Fail> {
     let mut story = Story::new(rt.alloc());
-    let mut title = "";
     for line in table.lines() {
         let (mark, rest) = line.split_once(' ').unwrap_or((line, ""));
         match mark {
             "" => {}
-            "#" => title = rest,
             "=" => {
-                story.check(rt, rest, title)?;
+                story.check(rt, rest)?;
                 story = Story::new(rt.alloc());
             }
             _ => story.take(rt.alloc(), mark, rest)?,
