@@ -12,11 +12,11 @@ use Rattle.pd_book.specs.declared.act.Act.TheVariants.{Add, Edit, Remove, Set, S
 use Rattle.pd_book.specs.declared.act.Ruling.{Ruling}
 use Rattle.pd_book.specs.declared.row.Row.{Row}
 use Rattle.pd_book.specs.declared.task.Task.{Task}
-use Rattle.pd_book.specs.Acts.{Named, texts, text_of, now, stands, answered, busy, waits, next, since, starts, finished, started, jobs, job, without, ruling}
+use Rattle.pd_book.specs.Acts.{Named, present, texts, text_of, now, stands, answered, busy, waits, next, since, starts, finished, started, jobs, job, without, ruling}
 use Rattle.pd_book.specs.Report.{row, shown, owed}
 use Rattle.pd_book.specs.Story.{Story, told}
 use Rattle.pd_book.specs.Refusals.{next_job}
-use Rattle.pd_cli.specs.Output.{turned}
+use Rattle.pd_cli.specs.Output.{after_turn}
 use Rattle.pd_cli.specs.Steps.{IsQuiet}
 
 pub some_same : {A : Type 0} (a b : A) → Some a ≡ Some b → a ≡ b
@@ -197,8 +197,8 @@ job_from P story task h f = go (next story.past) refl h
     go None e k = absurd cc
     go (Some script) e k = subst P (some_same (task_for story script) task k) (f script e)
 
-pub turn_less : (story : Story) (task : Task) → next_job story ≡ Some task → owed story.opening (turned story task).past < owed story.opening story.past
-turn_less story task h = job_from (λ t. owed story.opening (turned story t).past < owed story.opening story.past) story task h (λ script e. less_owed story.opening story.past (started story.past + 1) (ruling (Start (started story.past + 1) script.0 ∷ story.past) (task_for story script)) script e)
+pub turn_less : (story : Story) (task : Task) → next_job story ≡ Some task → owed story.opening (after_turn story task).past < owed story.opening story.past
+turn_less story task h = job_from (λ t. owed story.opening (after_turn story t).past < owed story.opening story.past) story task h (λ script e. less_owed story.opening story.past (started story.past + 1) (ruling (Start (started story.past + 1) script.0 ∷ story.past) (task_for story script)) script e)
 
 one_job : (story : Story) (script : Named) → IsQuiet story → next story.past ≡ Some script → jobs story.opening (Start (started story.past + 1) script.0 ∷ story.past) ≡ task_for story script ∷ []
 one_job story script q e =
@@ -209,5 +209,5 @@ one_job story script q e =
 pub started_job : (story : Story) (task : Task) → IsQuiet story → next_job story ≡ Some task → job story.opening (Start task.number task.name ∷ story.past) task.number ≡ Some task
 started_job story task q h = job_from (λ t. job story.opening (Start t.number t.name ∷ story.past) t.number ≡ Some t) story task h (λ script e. rw (one_job story script q e, same_number (started story.past + 1)) refl)
 
-pub quiet_turned : (story : Story) (task : Task) → IsQuiet story → next_job story ≡ Some task → IsQuiet (turned story task)
-quiet_turned story task q h = job_from (λ t. IsQuiet (turned story t)) story task h (λ script e. rw (one_job story script q e, same_number (started story.past + 1)) refl)
+pub quiet_turned : (story : Story) (task : Task) → IsQuiet story → next_job story ≡ Some task → IsQuiet (after_turn story task)
+quiet_turned story task q h = job_from (λ t. IsQuiet (after_turn story t)) story task h (λ script e. rw (one_job story script q e, same_number (started story.past + 1)) refl)

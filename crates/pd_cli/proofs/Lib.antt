@@ -3,6 +3,7 @@ pub mod Chains
 pub mod Counts
 pub mod Cuts
 pub mod Digits
+pub mod Ending
 pub mod Fronts
 pub mod Gather
 pub mod Known

@@ -14,7 +14,7 @@ use Rattle.pd_book.specs.Acts.{jobs, job, ruling, next, Named}
 use Rattle.pd_book.specs.Story.{Story, told, told_start}
 use Rattle.pd_book.specs.Report.{owed}
 use Rattle.pd_book.specs.Refusals.{next_job, start_refusal, full, fault_of}
-use Rattle.pd_cli.specs.Output.{refused, turned, turn, settled, settled_in, acted, effect, reported, report}
+use Rattle.pd_cli.specs.Output.{refused, after_turn, turn, settled, settled_in, acted, effect, reported, report}
 use Rattle.pd_cli.specs.Steps.{RepliesTo, IsQuiet, Turns, SettlesTo, Fails}
 use Rattle.pd_cli.specs.declared.command.Command.{Command}
 use Rattle.pd_cli.specs.declared.command.Command.TheVariants.{Settle}
@@ -29,7 +29,7 @@ GoesOn first story = (turns : ℕ) × (owed story.opening story.past ≤ turns) 
 pub goes_first : (story : Story) → GoesOn story story
 goes_first story = (owed story.opening story.past, omega arith, refl)
 
-turned_in : (turns : ℕ) (story : Story) (task : Task) → next_job story ≡ Some task → start_refusal story ≡ None → settled_in (suc turns) story ≡ settled_in turns (turned story task)
+turned_in : (turns : ℕ) (story : Story) (task : Task) → next_job story ≡ Some task → start_refusal story ≡ None → settled_in (suc turns) story ≡ settled_in turns (after_turn story task)
 turned_in turns story task h k = rw (h, k) refl
 
 pub goes_on : (first story next : Story) → GoesOn first story → Turns (Ok true) story next → GoesOn first next
@@ -37,7 +37,7 @@ goes_on first story next g t =
     let less = turn_less story t.0 t.1 in
     rw t.3 (go g.0 g.1 g.2 less)
   where
-    go : (turns : ℕ) → owed story.opening story.past ≤ turns → settled first ≡ settled_in turns story → owed story.opening (turned story t.0).past < owed story.opening story.past → GoesOn first (turned story t.0)
+    go : (turns : ℕ) → owed story.opening story.past ≤ turns → settled first ≡ settled_in turns story → owed story.opening (after_turn story t.0).past < owed story.opening story.past → GoesOn first (after_turn story t.0)
     go zero le e lt = absurd (omega arith)
     go (suc turns) le e lt = (turns, omega arith, e ∙ turned_in turns story t.0 t.1 t.2)
 
@@ -62,7 +62,7 @@ goes_stop first story next BadCommand g t = absurd t
 goes_stop first story next Truncated g t = absurd t
 goes_stop first story next HistoryFull g t = go g.0 g.1 g.2 (turn_less story t.0 t.1)
   where
-    go : (turns : ℕ) → owed story.opening story.past ≤ turns → settled first ≡ settled_in turns story → owed story.opening (turned story t.0).past < owed story.opening story.past → settled first ≡ Err HistoryFull
+    go : (turns : ℕ) → owed story.opening story.past ≤ turns → settled first ≡ settled_in turns story → owed story.opening (after_turn story t.0).past < owed story.opening story.past → settled first ≡ Err HistoryFull
     go zero le e lt = absurd (omega arith)
     go (suc turns) le e lt = e ∙ rw (t.1, t.2) refl
 

@@ -12,12 +12,12 @@ use Rattle.pd_book.specs.declared.faults.BookFault.TheVariants as book
 use Rattle.pd_book.specs.declared.task.Task.{Task}
 use Rattle.pd_book.specs.Story.{Story, told}
 use Rattle.pd_book.specs.Report.{owed}
-use Rattle.pd_book.specs.Refusals.{add_refusal, book_edit_refusal, remove_refusal, set_refusal, start_refusal, next_job}
+use Rattle.pd_book.specs.Refusals.{add_refusal, edit_refusal, remove_refusal, set_refusal, start_refusal, next_job}
 use Rattle.pd_cli.specs.Input.{IfKnown, to_come}
 use Rattle.pd_cli.specs.Report.{rendered}
 use Rattle.pd_cli.specs.Commands.{Item, does, stops, commands}
 use Rattle.pd_cli.specs.Taking.{Gives, FaultIn}
-use Rattle.pd_cli.specs.Output.{Outcome, output, outcome, ahead, follow, acted, effect, reported, report, all_pass, turn, turned, settled, settled_in, Answers}
+use Rattle.pd_cli.specs.Output.{Outcome, output, outcome, ahead, follow, acted, effect, reported, report, all_pass, turn, after_turn, settled, settled_in, Answers}
 use Rattle.pd_cli.specs.Steps.{IsQuiet, Does, Ends}
 use Rattle.pd_cli.specs.declared.command.Command.{Command}
 use Rattle.pd_cli.specs.declared.command.Command.TheVariants.{Add, Edit, Remove, Set, Show, Settle}
@@ -36,14 +36,14 @@ ok_same : {A E : Type 0} (a b : A) → ◌≡◌ {A = Result A E} (Ok a) (Ok b) 
 ok_same {A = A} {E = E} a b e = ap (λ (r : Result A E). got a r) e
 
 quiet_turn : (story new : Story) (o : Option Task) (refusal : Option BookFault) (rest : Story → Result Story ServeFault) → next_job story ≡ o → IsQuiet story
-    → ((task : Task) → IsQuiet (turned story task) → rest (turned story task) ≡ Ok new → IsQuiet new) → turn story o refusal rest ≡ Ok new → IsQuiet new
+    → ((task : Task) → IsQuiet (after_turn story task) → rest (after_turn story task) ≡ Ok new → IsQuiet new) → turn story o refusal rest ≡ Ok new → IsQuiet new
 quiet_turn story new None refusal rest n q f e = subst IsQuiet (ok_same story new e) q
 quiet_turn story new (Some task) (Some fault) rest n q f e = absurd cc
 quiet_turn story new (Some task) None rest n q f e = f task (quiet_turned story task q n) e
 
 quiet_settled : (turns : ℕ) (story new : Story) → IsQuiet story → settled_in turns story ≡ Ok new → IsQuiet new
 quiet_settled zero story new q e = subst IsQuiet (ok_same story new e) q
-quiet_settled (suc turns) story new q e = quiet_turn story new (next_job story) (start_refusal story) (λ next. settled_in turns next) refl q (λ task h k. quiet_settled turns (turned story task) new h k) e
+quiet_settled (suc turns) story new q e = quiet_turn story new (next_job story) (start_refusal story) (λ next. settled_in turns next) refl q (λ task h k. quiet_settled turns (after_turn story task) new h k) e
 
 quiet_acted : (story new : Story) (refusal : Option BookFault) (a : Option Act) (octets : List ℕ) → IsQuiet story → IfSome a (λ x. IsQuiet (told story x)) → acted story refusal a ≡ (octets, new) → IsQuiet new
 quiet_acted story new (Some fault) a octets q h e = subst IsQuiet (ap (λ (p : List ℕ × Story). p.1) e) q
@@ -62,7 +62,7 @@ pub quiet_after : (story new : Story) (command : Command) (octets : List ℕ) �
 quiet_after story new (Add name None) octets q e = quiet_acted story new (Some book.TooLarge) None octets q tt (ok_same _ _ e)
 quiet_after story new (Add name (Some text)) octets q e = quiet_acted story new (add_refusal story name) (Some (act.Add name text)) octets q q (ok_same _ _ e)
 quiet_after story new (Edit name None) octets q e = quiet_acted story new (Some book.TooLarge) None octets q tt (ok_same _ _ e)
-quiet_after story new (Edit name (Some edit)) octets q e = quiet_acted story new (book_edit_refusal story name edit) (Some (act.Edit name edit)) octets q q (ok_same _ _ e)
+quiet_after story new (Edit name (Some edit)) octets q e = quiet_acted story new (edit_refusal story name edit) (Some (act.Edit name edit)) octets q q (ok_same _ _ e)
 quiet_after story new (Remove name) octets q e = quiet_acted story new (remove_refusal story name) (Some (act.Remove name)) octets q q (ok_same _ _ e)
 quiet_after story new (Set key value) octets q e = quiet_acted story new (set_refusal story key value) (option_map (λ k. act.Set k value) (key_named key)) octets q (quiet_set story value (key_named key) q) (ok_same _ _ e)
 quiet_after story new Show octets q e = subst IsQuiet (ap (λ (p : List ℕ × Story). p.1) (ok_same (rendered (report story), story) (octets, new) e)) q
@@ -188,7 +188,7 @@ served_end settings (Ok passed) story new more w0 w w1 all u s g a d =
 served_end settings (Err fault) story new more w0 w w1 all u s g a d = served_stop settings fault story new Settle more w0 w w1 all u s (next_last u g) a d
 
 -- nothing was written at the start
-appends_none : (w : Option (List ℕ)) → Appends w w []
+pub appends_none : (w : Option (List ℕ)) → Appends w w []
 appends_none None = tt
 appends_none (Some octets) = sym (append-nil octets)
 

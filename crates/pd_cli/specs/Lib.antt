@@ -3,6 +3,8 @@ pub mod Commands
 pub mod Input
 pub mod Output
 pub mod Pieces
+pub mod Program
+pub mod ProgramFaults
 pub mod Report
 pub mod Requests
 pub mod Steps

@@ -11,10 +11,10 @@ use Rattle.pd_book.specs.declared.faults.BookFault.{BookFault}
 use Rattle.pd_book.specs.declared.faults.BookFault.TheVariants as book
 use Rattle.pd_book.specs.declared.row.Row.{Row}
 use Rattle.pd_book.specs.declared.task.Task.{Task}
-use Rattle.pd_book.specs.Acts.{ruling}
 use Rattle.pd_book.specs.Story.{Story, told}
+use Rattle.pd_book.specs.Turns.{turned}
 use Rattle.pd_book.specs.Report.{Shown, shown, owed}
-use Rattle.pd_book.specs.Refusals.{add_refusal, book_edit_refusal, remove_refusal, set_refusal, start_refusal, next_job}
+use Rattle.pd_book.specs.Refusals.{add_refusal, edit_refusal, remove_refusal, set_refusal, start_refusal, next_job}
 use Rattle.pd_cli.specs.Report.{is_of, rendered}
 use Rattle.pd_cli.specs.Commands.{Item, does, stops, commands}
 use Rattle.pd_cli.specs.declared.command.Command.{Command}
@@ -48,17 +48,15 @@ report story = shown story.opening story.past
 abbrev pub all_pass : Shown → Bool
 all_pass shown = list_all (λ (row : Row). is_of class.Pass row.verdict) shown.rows
 
--- a start of this job, then its finish
-abbrev pub turned : Story → Task → Story
-turned story task =
-    let begun : Story = told story (act.Start task.number task.name) in
-    told begun (act.Finish task.number (ruling begun.past task))
+-- the story after a start of this job and its finish
+abbrev pub after_turn : Story → Task → Story
+after_turn story task = record { opening = story.opening; past = turned story.past task }
 
 -- one turn of settling: nothing is owed, or the start is refused, or the job is started and finished
 abbrev pub turn : Story → Option Task → Option BookFault → (Story → Result Story ServeFault) → Result Story ServeFault
 turn story None refusal rest = Ok story
 turn story (Some task) (Some fault) rest = Err HistoryFull
-turn story (Some task) None rest = rest (turned story task)
+turn story (Some task) None rest = rest (after_turn story task)
 
 -- at most so many turns
 abbrev pub settled_in : ℕ → Story → Result Story ServeFault
@@ -86,7 +84,7 @@ abbrev pub effect : Story → Command → Result (List ℕ × Story) ServeFault
 effect story (Add name None) = Ok (acted story (Some book.TooLarge) None)
 effect story (Add name (Some text)) = Ok (acted story (add_refusal story name) (Some (act.Add name text)))
 effect story (Edit name None) = Ok (acted story (Some book.TooLarge) None)
-effect story (Edit name (Some edit)) = Ok (acted story (book_edit_refusal story name edit) (Some (act.Edit name edit)))
+effect story (Edit name (Some edit)) = Ok (acted story (edit_refusal story name edit) (Some (act.Edit name edit)))
 effect story (Remove name) = Ok (acted story (remove_refusal story name) (Some (act.Remove name)))
 effect story (Set key value) = Ok (acted story (set_refusal story key value) (option_map (λ k. act.Set k value) (key_named key)))
 effect story Show = Ok (rendered (report story), story)

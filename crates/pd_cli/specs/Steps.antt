@@ -6,7 +6,7 @@ use Rattle.pd_book.specs.declared.task.Task.{Task}
 use Rattle.pd_book.specs.Acts.{jobs}
 use Rattle.pd_book.specs.Story.{Story}
 use Rattle.pd_book.specs.Refusals.{next_job, start_refusal}
-use Rattle.pd_cli.specs.Output.{refused, turned, settled, effect, report, all_pass}
+use Rattle.pd_cli.specs.Output.{refused, after_turn, settled, effect, report, all_pass}
 use Rattle.pd_cli.specs.declared.command.Command.{Command}
 use Rattle.pd_cli.specs.declared.command.Command.TheVariants.{Settle}
 use Rattle.pd_cli.specs.declared.faults.ServeFault.{ServeFault}
@@ -23,7 +23,7 @@ IsQuiet story = jobs story.opening story.past ≡ []
 
 -- one turn of settling: whether there was a job
 abbrev pub Turns : Result Bool ServeFault → Story → Story → Type 0
-Turns (Ok true) old new = (task : Task) × (next_job old ≡ Some task) × (start_refusal old ≡ None) × (new ≡ turned old task)
+Turns (Ok true) old new = (task : Task) × (next_job old ≡ Some task) × (start_refusal old ≡ None) × (new ≡ after_turn old task)
 Turns (Ok false) old new = (next_job old ≡ None) × (new ≡ old)
 Turns (Err HistoryFull) old new = (task : Task) × (next_job old ≡ Some task) × (start_refusal old ≡ Some book.HistoryFull)
 Turns (Err OutOfMemory) old new = Unit {0}

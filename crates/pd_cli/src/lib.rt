@@ -2,20 +2,28 @@
 #![tactic(auto)]
 
 mod acts;
+mod chosen;
 mod command;
 mod faults;
 mod gathered;
 mod intake;
 mod numbers;
+mod program_faults;
 mod rendering;
 mod requests;
 mod serving;
 mod settling;
+mod whole_program;
+mod word_options;
 mod writing;
 
+pub use chosen::Options;
 pub use command::{Command, next_command};
 pub use faults::ServeFault;
 pub use intake::Intake;
+pub use program_faults::ProgramFault;
 pub use rendering::render;
 pub use requests::Word;
 pub use serving::serve_alone;
+pub use whole_program::{program, run};
+pub use word_options::options;

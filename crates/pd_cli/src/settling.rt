@@ -22,7 +22,7 @@ fn turn(alloc: Global, book: &mut Book) -> Result<bool, ServeFault>
         Err(BookFault::HistoryFull) => return Err(ServeFault::HistoryFull),
         Err(_) => return Err(ServeFault::OutOfMemory),
     };
-    let mut stepper = Plain { steps: 0 };
+    let mut stepper = Plain::new();
     match run_job(alloc, job, &mut stepper) {
         Ok(done) => {
             let _ruling = book.finish(&done).unwrap();

@@ -13,6 +13,7 @@ use Rattle.pd_lex.specs.Octets.{is_digit, is_hex_digit, is_word, is_blank, is_so
 use Rattle.pd_lex.specs.Pieces.{is_hex, fraction_len, value_len, word_piece, point_piece, dash_piece, piece, after_pair, after_quote, after_backquote, after_end, opener_text, opener_len, Front, nothing, gap, token, stray, closed, parted, front}
 use Rattle.pd_lex.specs.Scanned.{piece_len}
 use Rattle.pd_lex.specs.Spellings.{IsValue, IsQuoted, empty, plain, escaped, HasNoPair, IsSpelled, IsPiece, IsOpened, Fits}
+use Rattle.pd_lex.proofs.Endings.{and-false}
 use Rattle.pd_lex.proofs.Fronts.{IsWithin, piece_within, IsShaped, at_blank, at_word, at_point, at_dash, at_line_comment, at_opener, at_symbol, at_stray, shaped, run_begins, positive}
 use Rattle.pd_lex.proofs.Rests.{and_first, and_second}
 
@@ -218,10 +219,6 @@ same_octet a = grind (arith, nat_tests)
 
 other_order : (x y : ℕ) → eqb x y ≡ false → eqb y x ≡ false
 other_order x y h = grind (arith, nat_tests)
-
-and-false : (t : Bool) → (t && false) ≡ false
-and-false true = refl
-and-false false = refl
 
 pair_test : (x y b c : ℕ) → ((x ≡ b) × (y ≡ c) → ⊥) → (eqb x b && (eqb y c && true)) ≡ false
 pair_test x y b c none = by_tests (eqb_tells x b) (eqb_tells y c)

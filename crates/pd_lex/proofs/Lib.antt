@@ -9,3 +9,5 @@ pub mod Texts
 pub mod Bounds
 pub mod Spelled
 pub mod Longest
+pub mod Order
+pub mod Agreement

@@ -287,7 +287,7 @@ IsWell s (gap rest) = IsPiece None (before s rest)
 IsWell s (token kind rest) = IsSpelled kind (before s rest) × (kind ≡ Symbol → ¬ IsOpened s)
 IsWell s stray = Unit {0}
 
-before_is : (s text rest : List ℕ) → s ≡ text ++ rest → before s rest ≡ text
+pub before_is : (s text rest : List ℕ) → s ≡ text ++ rest → before s rest ≡ text
 before_is s text rest e =
     let n : length s - length rest ≡ length text = omega (arith, ap length e, length-append text rest) in
     rw (n, e) (take_at text rest (length text) refl)

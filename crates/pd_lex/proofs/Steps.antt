@@ -35,7 +35,7 @@ pub not_closed : (lines : List (List ℕ)) (p : Place) (o : Opener) → length l
 not_closed lines p o lt = rw (octets_past lines p lt) (end_of_nothing o)
 
 module _ (lines : List (List ℕ)) (p : Place) (h : IsPlace lines p) (le : p.line ≤ length lines) where
-  front_is : (b : ℕ) (s : List ℕ) → b ∷ s ≡ drop p.at (line_at lines p.line) → front (octets_from lines p) ≡ parted (b ∷ s ++ 10 ∷ joined (drop p.line lines)) (piece (b ∷ s))
+  pub front_is : (b : ℕ) (s : List ℕ) → b ∷ s ≡ drop p.at (line_at lines p.line) → front (octets_from lines p) ≡ parted (b ∷ s ++ 10 ∷ joined (drop p.line lines)) (piece (b ∷ s))
   unfolding front
   front_is b s e = rw (octets_in_line lines p h le, ← e, piece_in_line b s (joined (drop p.line lines))) refl
 

@@ -100,7 +100,7 @@ is_place_by : (lines : List (List ℕ)) (t : Bool) (p : Place) → (t ≡ false 
 is_place_by lines true p h = record { from_one = omega arith; within = omega arith; at = omega arith }
 is_place_by lines false p h = h refl
 
-standing_is_place : (lines : List (List ℕ)) (p : Place) → p.line ≤ length lines → IsPlace lines (standing lines p)
+pub standing_is_place : (lines : List (List ℕ)) (p : Place) → p.line ≤ length lines → IsPlace lines (standing lines p)
 unfolding standing
 standing_is_place lines p le = is_place_by lines (p.line == 0) (record { line = p.line; at = min p.at (length (line_at lines p.line)) }) (λ not. record { from_one = is_positive p.line not; within = omega arith; at = omega arith })
   where

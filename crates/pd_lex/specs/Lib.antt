@@ -5,5 +5,6 @@ pub mod Pieces
 pub mod Scanned
 pub mod Spellings
 pub mod Next
+pub mod Agreement
 pub mod Places
 pub mod Tokens

@@ -4,7 +4,9 @@ use Rattle.std.specs.Prelude.{not, ◌&&◌, ◌||◌, ◌==◌}
 use Rattle.pd_lex.specs.declared.token.TokenKind.{TokenKind}
 use Rattle.pd_lex.specs.declared.token.TokenKind.TheVariants as kinds
 use Rattle.pd_lex.specs.Tokens.{Item, lexeme, ending, bad}
-use Rattle.pd_script.specs.Items.{is_token, is_int, is_hex, is_num, is_word, is_symbol, is_int_kind, is_hex_kind, is_num_kind, is_word_kind, is_symbol_kind, is_end, starts_event, goes_on}
+use Rattle.std.specs.Str.{bytes_eq}
+use Rattle.std.proofs.lemmas.Slice.Eq.{bytes_eq-Decides}
+use Rattle.pd_script.specs.Items.{is_token, is_any_int, is_int, is_hex, is_num, is_word, is_symbol, is_int_kind, is_hex_kind, is_num_kind, is_word_kind, is_symbol_kind, is_end, starts_event, goes_on}
 
 -- ---- tests
 
@@ -92,6 +94,19 @@ apart f g p q none fp gq t h = by_test (q t) refl
     by_test true e = absurd (other t (fp.kind t h) (gq.kind t e))
     by_test false e = e
 
+-- ---- tokens, that is neither the end nor a bad place
+
+abbrev pub is_lexeme : Item → Bool
+is_lexeme t = is_token (λ kind text. true) t
+
+pub lexical : (f : TokenKind → Bool) (test : Item → Bool) → IsOf f test → (t : Item) → test t ≡ true → is_lexeme t ≡ true
+lexical f test k t h = at t (k.kind t h)
+  where
+    at : (u : Item) → is_token (λ kind text. f kind) u ≡ true → is_lexeme u ≡ true
+    at (lexeme x) g = refl
+    at (ending line) g = g
+    at (bad line) g = g
+
 -- ---- the kinds of the tests
 
 pub int_kind : IsOf is_int_kind is_int
@@ -133,3 +148,24 @@ pub end_no_token : (test : TokenKind → List ℕ → Bool) (t : Item) → is_en
 end_no_token test (lexeme x) h = absurd cc
 end_no_token test (ending line) h = refl
 end_no_token test (bad line) h = absurd cc
+
+-- ---- symbols and words are told apart by their octets
+
+pub and-false-right : (a b : Bool) → b ≡ false → (a && b) ≡ false
+and-false-right true b h = h
+and-false-right false b h = refl
+
+-- a text that is this one is no other
+text_apart : (text a b : List ℕ) → bytes_eq a b ≡ false → bytes_eq text a ≡ true → bytes_eq text b ≡ false
+text_apart text a b other h = let same : text ≡ a = (bytes_eq-Decides text a).0 h in rw same other
+
+pub symbol_apart : (a b : ℕ) → bytes_eq (a ∷ []) (b ∷ []) ≡ false → (t : Item) → is_symbol a t ≡ true → is_symbol b t ≡ false
+symbol_apart a b other (lexeme x) h = and-false-right (is_symbol_kind x.kind) (bytes_eq x.text (b ∷ [])) (text_apart x.text (a ∷ []) (b ∷ []) other (and-right (is_symbol_kind x.kind) _ h))
+symbol_apart a b other (ending line) h = refl
+symbol_apart a b other (bad line) h = refl
+
+pub symbol_no_int : (a : ℕ) (t : Item) → is_symbol a t ≡ true → is_any_int t ≡ false
+symbol_no_int a t h = apart is_symbol_kind is_int_kind (is_symbol a) is_any_int refl (symbol_kind a) (record { kind = λ x g. g }) t h
+
+pub symbol_no_word : (a : ℕ) (t : Item) → is_symbol a t ≡ true → is_word t ≡ false
+symbol_no_word a t h = apart is_symbol_kind is_word_kind (is_symbol a) is_word refl (symbol_kind a) word_kind t h

@@ -45,7 +45,7 @@ one_of : (b : Bool) (x y : Draft) → is_empty x ≡ false → is_empty y ≡ fa
 one_of true x y h g = h
 one_of false x y h g = g
 
-is_empty-longer_draft : (d : Draft) (t : Item) → is_empty (longer_draft d t) ≡ false
+pub is_empty-longer_draft : (d : Draft) (t : Item) → is_empty (longer_draft d t) ≡ false
 is_empty-longer_draft drafts.Empty t = one_of (is_any_int t) _ _ refl (one_of (is_word t) _ _ refl (one_of (is_symbol 91 t) _ _ refl refl))
 is_empty-longer_draft (drafts.Single a) t = refl
 is_empty-longer_draft drafts.Opened t = one_of (is_any_int t) _ _ refl refl

@@ -49,7 +49,7 @@ pub record Laws {A : Type 0} (p : Reader A) (f s : Item → Bool) : Type 0 where
 abbrev pub Within : (Item → Bool) → (Item → Bool) → Type 0
 Within f s = (t : Item) → f t ≡ true → s t ≡ true
 
-Stops-within : (f s : Item → Bool) (ts : List Item) → Within f s → Stops f ts → Stops s ts
+pub Stops-within : (f s : Item → Bool) (ts : List Item) → Within f s → Stops f ts → Stops s ts
 Stops-within f s [] w h = tt
 Stops-within f s (t ∷ ts) w h = w t h
 
@@ -207,7 +207,7 @@ Laws-bind p q fp sp fq sq lp lq goes = Laws-bind_if p q (λ v. Unit {0}) fp sp f
 pick : {A : Type 0} (test : Item → Bool) (p q : Reader A) (ts : List Item) (b : Bool) → next_is test ts ≡ b → when test p q ts ≡ cond b (p ts) (q ts)
 pick test p q ts b h = rw h refl
 
-next-yes : (test f : Item → Bool) (ts : List Item) → Within f test → (ts ≡ [] → ⊥) → Stops f ts → next_is test ts ≡ true
+pub next-yes : (test f : Item → Bool) (ts : List Item) → Within f test → (ts ≡ [] → ⊥) → Stops f ts → next_is test ts ≡ true
 next-yes test f [] w h g = absurd (h refl)
 next-yes test f (t ∷ ts) w h g = w t g
 
@@ -216,10 +216,10 @@ next-not test f [] w g = refl
 next-not test f (t ∷ ts) w g = w t g
 
 module _ {A : Type 0} (test : Item → Bool) (p q : Reader A) (fp fq f s : Item → Bool) (lp : Laws p fp s) (lq : Laws q fq s) (p_test : Within fp test) (q_test : (t : Item) → fq t ≡ true → test t ≡ false) (p_some : (v : A) (rest : List Item) → p [] ≡ ok v rest → ⊥) (p_f : Within fp f) (q_f : Within fq f) where
-  goes_p : (ts : List Item) (v : A) (rest : List Item) → p ts ≡ ok v rest → Stops s rest → when test p q ts ≡ ok v rest
+  pub goes_p : (ts : List Item) (v : A) (rest : List Item) → p ts ≡ ok v rest → Stops s rest → when test p q ts ≡ ok v rest
   goes_p ts v rest e h = pick test p q ts true (next-yes test fp ts p_test (λ g. p_some v rest (subst (λ (x : List Item). p x ≡ ok v rest) g e)) (lp.begins ts v rest e h)) ∙ e
 
-  goes_q : (ts : List Item) (v : A) (rest : List Item) → q ts ≡ ok v rest → Stops s rest → when test p q ts ≡ ok v rest
+  pub goes_q : (ts : List Item) (v : A) (rest : List Item) → q ts ≡ ok v rest → Stops s rest → when test p q ts ≡ ok v rest
   goes_q ts v rest e h = pick test p q ts false (next-not test fq ts q_test (lq.begins ts v rest e h)) ∙ e
 
   next_again : (b : Bool) (ts front rest : List Item) (t : Item) (old more : List Item) → next_is test ts ≡ b → ts ≡ front ++ rest → rest ≡ t ∷ old → next_is test (front ++ t ∷ more) ≡ b

@@ -9,3 +9,8 @@ pub mod Taking
 pub mod ArgumentSteps
 pub mod Finding
 pub mod Few
+pub mod Matches
+pub mod ArgumentSound
+pub mod HeaderLaws
+pub mod ScriptLaws
+pub mod Kept

@@ -4,7 +4,7 @@ use Rattle.pd_lex.specs.Tokens.{Item}
 use Rattle.pd_script.specs.Reader.{Read, Reader, Move, stuck, ends, goes, onto, moved, machine_at}
 use Rattle.pd_script.proofs.Laws.{Laws, Took, Failed, Full, ok, fault, any, value_is, rest_is, Stops, Stops-any}
 
-onto_ok : {A : Type 0} (front : List A) (r : Read (List A)) (v : List A) (rest : List Item) → onto front r ≡ ok v rest → (w : List A) × (r ≡ ok w rest) × (front ++ w ≡ v)
+pub onto_ok : {A : Type 0} (front : List A) (r : Read (List A)) (v : List A) (rest : List Item) → onto front r ≡ ok v rest → (w : List A) × (r ≡ ok w rest) × (front ++ w ≡ v)
 onto_ok {A = A} front (Ok x) v rest e =
     (x.0, ap (λ (y : List Item). ok x.0 y) (rest_is (front ++ x.0) v x.1 rest e), value_is (front ++ x.0) v x.1 rest e)
 onto_ok front (Err f) v rest e = absurd cc

@@ -79,6 +79,15 @@ is_word t = is_token (λ kind text. is_word_kind kind) t
 abbrev pub is_symbol : ℕ → Item → Bool
 is_symbol octet t = is_token (λ kind text. is_symbol_kind kind && bytes_eq text (octet ∷ [])) t
 
+-- what a header item is: an option or a command
+abbrev pub is_header_kind : TokenKind → Bool
+is_header_kind kinds.Opt = true
+is_header_kind kinds.Cmd = true
+is_header_kind _ = false
+
+abbrev pub is_header : Item → Bool
+is_header t = is_token (λ kind text. is_header_kind kind) t
+
 -- what an event begins with
 abbrev pub starts_event : Item → Bool
 starts_event t = is_num t || is_symbol 43 t

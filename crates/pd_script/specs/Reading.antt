@@ -1,8 +1,10 @@
 -- The grammar, read from left to right.
 use Rattle.std.specs.Prelude.{ℕ, zero, suc, ◌||◌, Bool, true, false, List, [], ◌∷◌, Option, Some, None, Result, Ok, Err, if◌then◌else◌}
 use Rattle.pd_lex.specs.Tokens.{Item, line_of}
-use Rattle.pd_script.specs.Items.{is_int, is_hex, is_num, is_word, is_symbol, is_end, starts_event, goes_on, text_of}
+use Rattle.pd_script.specs.Items.{is_int, is_hex, is_num, is_word, is_symbol, is_header, is_end, starts_event, goes_on, text_of}
 use Rattle.pd_script.specs.Values.{number, hex_number, microseconds, function_named, error_named}
+use Rattle.pd_script.specs.Header.{header_item}
+use Rattle.pd_script.specs.declared.script_header.HeaderItem.{HeaderItem}
 use Rattle.pd_script.specs.Reader.{Read, Reader, ◌>>=◌, done, one, next_is, when, machine_at}
 use Rattle.pd_script.specs.Brackets.{fresh, argument_move}
 use Rattle.pd_script.specs.declared.timing.Time.{Time}
@@ -21,6 +23,12 @@ use Rattle.pd_script.specs.declared.script_events.Event.{Event}
 abbrev pub next_line : List Item → ℕ
 next_line [] = 0
 next_line (t ∷ ts) = line_of t
+
+-- an option or a command of the header
+abbrev pub header_item_at : Reader HeaderItem
+header_item_at = do
+  t ← one is_header
+  done (header_item t)
 
 -- a symbol, which gives its line
 abbrev pub symbol_at : ℕ → Reader ℕ

@@ -3,6 +3,7 @@ use Rattle.std.specs.Prelude.{ℕ, zero, suc, Bool, List, [], ◌∷◌, ◌++�
 use Rattle.pd_lex.specs.Tokens.{Item, line_of, items}
 use Rattle.pd_lex.specs.Places.{first_place}
 use Rattle.pd_script.specs.Items.{is_end, starts_event, goes_on}
+use Rattle.pd_script.specs.Header.{header_of, behind_header}
 use Rattle.pd_script.specs.Reader.{Read, next_is}
 use Rattle.pd_script.specs.Reading.{next_line, event_at}
 use Rattle.pd_script.specs.declared.script_events.Event.{Event}
@@ -35,8 +36,12 @@ unfoldable pub found_in : ℕ → List Item → Found
 found_in zero ts = at_end ts
 found_in (suc n) ts = if next_is starts_event ts then with_event (found_in n) (followed (may_follow n) (event_at ts)) else at_end ts
 
--- what a text is read as: it has at most 4,096 events
+-- what the items of a text are read as: a header, and at most 4,096 events
+unfoldable pub script_in : List Item → Parsed
+script_in ts =
+    let found = found_in 4096 (behind_header ts) in
+    record { header = header_of ts; events = found.events; fault = found.fault }
+
+-- what a text is read as
 unfoldable pub script_of : List (List ℕ) → Parsed
-script_of lines =
-    let found = found_in 4096 (items lines first_place) in
-    record { header = []; events = found.events; fault = found.fault }
+script_of lines = script_in (items lines first_place)

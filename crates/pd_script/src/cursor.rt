@@ -1,19 +1,20 @@
 //! A cursor over the tokens of a text.
-ghost use Rattle.std.specs.Prelude.{◌≡◌};
+ghost use Rattle.std.specs.Prelude.{◌≡◌, Ok, Err, IfSome, IfNone};
 ghost use Rattle.pd_lex.specs.Places.{first_place};
 ghost use Rattle.pd_lex.specs.Tokens.{items};
 ghost use Rattle.pd_script.specs.Items.{is_int, is_hex, is_word, is_symbol, is_end, starts_event, goes_on};
 ghost use Rattle.pd_script.specs.Reader.{next_is};
-ghost use Rattle.pd_script.specs.Reading.{next_line, symbol_at, int_at, hex_at, num_at, function_at, error_at};
+ghost use Rattle.pd_script.specs.Reading.{next_line, header_item_at, symbol_at, int_at, hex_at, num_at, function_at, error_at};
 ghost use Rattle.pd_script.specs.Brackets.{part_at, behind_token};
 ghost use Rattle.pd_script.specs.Cursor.{Leaves};
 
 use crate::brackets::MAX_DEPTH;
 use crate::calls::{ErrorName, Function};
 use crate::drafts::Inside;
+use crate::script_header::HeaderItem;
 use crate::stops::Stop;
 use crate::token_tests::{
-    error_of, function_of, hex_of, int_of, is_hex, is_int, is_num, is_symbol, is_word, num_of, symbol_line,
+    error_of, function_of, header_item_of, hex_of, int_of, is_hex, is_int, is_num, is_symbol, is_word, num_of, symbol_line,
 };
 use pd_lex::{Lexed, Place, next_token};
 use pd_text::Lines;
@@ -192,6 +193,20 @@ impl<'a> Cursor<'a> {
         };
         self.next = next_token(self.lines, after);
         Ok(name)
+    }
+
+    /// Takes an option or a command of the header, if one stands here.
+    pub fn header_item(&mut self) -> Option<HeaderItem>
+        ensures some { IfSome result (λ item. header_item_at self.old ≡ Ok (item, self.new)) }
+        ensures none { IfNone result (header_item_at self.old ≡ Err self.new) }
+        ensures same { IfNone result (self.new ≡ self.old) }
+    {
+        let Lexed::Token(token, after) = self.next else {
+            return None;
+        };
+        let item = header_item_of(self.lines, &token)?;
+        self.next = next_token(self.lines, after);
+        Some(item)
     }
 
     /// Goes over a token.

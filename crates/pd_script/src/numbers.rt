@@ -2,6 +2,9 @@
 ghost use Rattle.std.specs.Prelude.{◌≡◌, ◌+◌, ◌-◌, ◌*◌, ◌^◌, ◌≤◌, ◌++◌, min, fold, length, drop, take, replicate};
 ghost use Rattle.std.specs.Char.{digit_value};
 ghost use Rattle.std.specs.Str.Parse.{digits_value, digits_value_after};
+ghost use Rattle.std.specs.List.{list_all};
+ghost use Rattle.pd_lex.specs.Octets.{is_digit};
+ghost use Rattle.pd_script.specs.Items.{is_digits};
 ghost use Rattle.pd_script.specs.Values.{number, hex_number, capped_number, capped_digit, whole_len, whole_digits, microseconds};
 
 /// The greatest number of a time, a packet or a result.
@@ -91,4 +94,23 @@ pub fn microseconds(text: &[u8]) -> u64
     ensures { result ≡ microseconds text.now }
 {
     six_decimals_after(number(whole_digits(text)), decimals(text))
+}
+
+fn is_digit_octet(octet: u8) -> bool
+    ensures { result ≡ is_digit octet }
+{
+    matches!(octet, b'0'..=b'9')
+}
+
+fn all_digits(octets: &[u8]) -> bool
+    ensures { result ≡ list_all is_digit octets.now }
+{
+    octets.iter().all(|octet| is_digit_octet(*octet))
+}
+
+/// Whether the octets are digits, one or more.
+pub fn is_digits(octets: &[u8]) -> bool
+    ensures { result ≡ is_digits octets.now }
+{
+    0 < octets.len() && all_digits(octets)
 }

@@ -1,6 +1,7 @@
 //! Reading a whole script.
-ghost use Rattle.std.specs.Prelude.{◌≡◌, ◌≤◌, length, IfOk};
+ghost use Rattle.std.specs.Prelude.{◌≡◌, ◌≤◌, length, IfOk, OnOk};
 ghost use Rattle.pd_script.specs.Items.{starts_event};
+ghost use Rattle.pd_script.specs.Header.{header_of, behind_header};
 ghost use Rattle.pd_script.specs.Reader.{next_is};
 ghost use Rattle.pd_script.specs.Reading.{event_at};
 ghost use Rattle.pd_script.specs.Script.{followed, may_follow, at_end, found_in, script_of};
@@ -18,6 +19,18 @@ use std::alloc::{AllocError, Global};
 pub const MAX_EVENTS: usize = 4_096;
 
 impl<'a> Cursor<'a> {
+    /// Takes the header.
+    fn header(&mut self, alloc: Global) -> Result<Header, AllocError>
+        ensures header { IfOk result (λ header. header ≡ header_of self.old) }
+        ensures behind { OnOk result (self.new ≡ behind_header self.old) }
+    {
+        let mut header = Header::new(alloc);
+        'items: while let Some(item) = self.header_item() {
+            header.push(item)?;
+        }
+        Ok(header)
+    }
+
     fn may_follow(&self, left: usize) -> bool
         ensures { result ≡ next_is (may_follow left) self.now }
     {
@@ -70,13 +83,13 @@ impl<'a> Cursor<'a> {
 ///
 /// # Errors
 /// Where a growth is refused.
-#[tactic(auto, using(crate::proofs::Few::script_few), unfolding(crate::specs::Script::script_of))]
+#[tactic(auto, using(crate::proofs::Few::script_few), unfolding(crate::specs::Script::script_of, crate::specs::Script::script_in))]
 pub fn parse(alloc: Global, lines: &Lines) -> Result<Parsed, AllocError>
     ensures script { IfOk result (λ parsed. parsed ≡ script_of lines.now) }
     ensures few { IfOk result (λ parsed. length parsed.events ≤ 4096) }
 {
     let mut cursor = Cursor::new(lines);
-    let header = Header::new(alloc);
+    let header = cursor.header(alloc)?;
     let Found { events, fault } = cursor.events(alloc)?;
     Ok(Parsed {
         header,

@@ -1,6 +1,7 @@
 //! The header of a script.
 ghost use Rattle.std.specs.Prelude.{◌≡◌, [], ◌∷◌, ◌++◌, length, OnOk};
 
+use crate::numbers::{is_digits, number};
 use std::alloc::{AllocError, Global};
 use std::marker::Model;
 
@@ -36,6 +37,36 @@ impl Model for Header {
     ghost Value = { List HeaderItem };
 
     ghost view = { λ h. h.items.items };
+}
+
+/// The greatest tolerance, in microseconds.
+const MAX_TOLERANCE: u64 = 1_000_000;
+
+/// What stands before the number of a tolerance.
+const TOLERANCE: &[u8] = b"--tolerance_usecs=";
+
+impl HeaderKind {
+    ghost use Rattle.std.specs.Prelude.{ℕ, List};
+    ghost use Rattle.pd_script.specs.Header.{option_kind};
+
+    /// The kind of an option that is written so.
+    #[tactic(auto, unfolding(crate::specs::Header::option_kind))]
+    pub fn of_option(text: &[u8]) -> HeaderKind
+        ensures { result ≡ option_kind text.now }
+    {
+        if !text.starts_with(TOLERANCE) {
+            return HeaderKind::OtherOption;
+        }
+        let digits = &text[TOLERANCE.len()..];
+        if !is_digits(digits) {
+            return HeaderKind::OtherOption;
+        }
+        let number = number(digits);
+        if number > MAX_TOLERANCE {
+            return HeaderKind::OtherOption;
+        }
+        HeaderKind::Tolerance(number)
+    }
 }
 
 impl Header {

@@ -1,12 +1,14 @@
 //! What a token is for the grammar.
 ghost use Rattle.std.specs.Prelude.{◌≡◌, ◌≤◌, true};
 ghost use Rattle.pd_lex.specs.Tokens.{lexeme, lexeme_of, line_of};
-ghost use Rattle.pd_script.specs.Items.{is_int, is_any_int, is_hex, is_num, is_word, is_symbol, given, text_of};
+ghost use Rattle.pd_script.specs.Items.{is_int, is_any_int, is_hex, is_num, is_word, is_symbol, is_header, given, text_of};
+ghost use Rattle.pd_script.specs.Header.{header_item};
 ghost use Rattle.pd_script.specs.Values.{number, hex_number, microseconds, function_named, error_named};
 
 use crate::calls::{ErrorName, Function};
 use crate::names::{error_named, function_named};
 use crate::numbers::{GREATEST, hex_number, microseconds, number, whole_digits};
+use crate::script_header::{HeaderItem, HeaderKind};
 use pd_lex::{Token, TokenKind};
 use pd_text::Lines;
 
@@ -126,4 +128,20 @@ pub fn error_of(lines: &Lines, token: &Token) -> Option<ErrorName>
     } else {
         None
     }
+}
+
+/// What a token is in the header, if it is an option or a command.
+#[tactic(auto, unfolding(pd_lex::specs::Tokens::lexeme_of))]
+pub fn header_item_of(lines: &Lines, token: &Token) -> Option<HeaderItem>
+    ensures { result ≡ given is_header (λ t. header_item t) (lexeme (lexeme_of lines.now token.now)) }
+{
+    let kind = match token.kind {
+        TokenKind::Opt => HeaderKind::of_option(token.text(lines)),
+        TokenKind::Cmd => HeaderKind::Command,
+        _ => return None,
+    };
+    Some(HeaderItem {
+        line: token.line,
+        kind,
+    })
 }

@@ -1,0 +1,50 @@
+-- What the program writes, and its status.
+use Rattle.std.specs.Prelude.{◌≡◌, ℕ, Bool, true, false, ◌⊎◌, List, [], take, Option, Some, None, Result, Ok, Err}
+use Rattle.toml.specs.Data.{Members}
+use Rattle.toml.specs.Parse.{parse_document}
+use Rattle.pd_settings.specs.declared.faults.SettingsFault.{SettingsFault}
+use Rattle.pd_settings.specs.declared.fields.Settings.{Settings}
+use Rattle.pd_settings.specs.Table.{from_table_of}
+use Rattle.pd_cli.specs.Output.{Outcome, output, Answers}
+use Rattle.pd_cli.specs.ProgramFaults.{of_settings, fault_line}
+use Rattle.pd_cli.specs.declared.faults.ServeFault.TheVariants.{OutOfMemory}
+use Rattle.pd_cli.specs.declared.program_faults.ProgramFault.{ProgramFault}
+use Rattle.pd_cli.specs.declared.program_faults.ProgramFault.TheVariants.{UnknownKey, BadValue, NotToml, Serving}
+
+-- the answer for the settings of a document
+abbrev pub chosen : Result Settings SettingsFault → Result Settings ProgramFault
+chosen (Ok settings) = Ok settings
+chosen (Err fault) = Err (of_settings fault)
+
+abbrev pub settings_of : Option Members → Result Settings ProgramFault
+settings_of None = Err NotToml
+settings_of (Some entries) = chosen (from_table_of entries)
+
+-- the settings of a TOML text, or the fault of that text
+abbrev pub settings_in : List ℕ → Result Settings ProgramFault
+settings_in text = settings_of (parse_document text)
+
+-- where the settings are good the input is served with them; where they are not, nothing is written,
+-- and the run ends with their fault or for want of memory
+abbrev pub Runs : Result Settings ProgramFault → Result Bool ProgramFault → List ℕ → List ℕ → Type 0
+Runs (Ok settings) (Ok passed) octets input = Answers (Ok passed) octets (output settings input)
+Runs (Ok settings) (Err (Serving fault)) octets input = Answers (Err fault) octets (output settings input)
+Runs (Ok settings) (Err fault) octets input = ⊥
+Runs (Err fault) end octets input = (octets ≡ []) × ((end ≡ Err fault) ⊎ (end ≡ Err (Serving OutOfMemory)))
+
+-- the status: 0 where each row of the last report passes, 1 where one does not, 2 at a fault
+abbrev pub status_of : Result Bool ProgramFault → ℕ
+status_of (Ok true) = 0
+status_of (Ok false) = 1
+status_of (Err fault) = 2
+
+-- what stands on standard error: the line of a fault
+abbrev pub said_of : Result Bool ProgramFault → List ℕ
+said_of (Ok passed) = []
+said_of (Err fault) = fault_line fault
+
+-- a run with this settings text wrote these octets, said some first octets of what it has to say,
+-- and gave this status
+abbrev pub Ran : ℕ → List ℕ → List ℕ → List ℕ → List ℕ → Type 0
+Ran status octets said text input =
+    (end : Result Bool ProgramFault) × (status ≡ status_of end) × ((n : ℕ) × (said ≡ take n (said_of end))) × Runs (settings_in text) end octets input

@@ -1,0 +1,49 @@
+//! The program's words, read by `clap`.
+use crate::chosen::Options;
+use clap::{Arg, ArgAction, Command, Error};
+use std::alloc::Global;
+use std::convert::AsStr;
+
+/// What `--help` says first.
+const ABOUT: &str =
+    "Runs packetdrill scripts against a verified TCP sender and prints their verdicts.";
+
+/// What `--help` says last.
+const COMMANDS: &str = "\
+Commands come on standard input, one a line, their words parted by spaces:
+  add NAME COUNT               adds a script: the next COUNT lines are its text
+  edit NAME FROM REMOVE COUNT  removes REMOVE lines from line FROM on, and
+                               inserts the next COUNT lines there
+  remove NAME                  removes a script
+  set KEY VALUE                sets a setting: digits, true or false
+  show                         prints the report as it stands
+  settle                       runs what is owed, and prints the report
+The end of input acts as settle. The status is 0 if each script of the last
+report passes, 1 if not, 2 at a fault, which is named on standard error.
+
+Example:
+  printf 'add a 1\\n0 socket(..., SOCK_STREAM, IPPROTO_TCP) = 3\\n' | pdregress --settings 'tolerance_us = 5000'
+prints
+  a pass 1
+  total 1 pass 1 fail 0 syntax 0 unsupported 0 limit 0 pending 0";
+
+/// Reads the program's words, of which the first is its own name.
+///
+/// # Errors
+/// What `clap` says of the words, the text of `--help` among it.
+pub fn options<'a, S: AsStr>(alloc: Global, words: &'a [S]) -> Result<Options<'a>, Error> {
+    let settings = Arg::new(alloc, "settings")
+        .long("settings")
+        .value_name("TEXT")
+        .help("Settings at the start, as a TOML text")
+        .default_value("")
+        .action(ArgAction::Set);
+    let command = Command::new(alloc, "pdregress")
+        .about(ABOUT)
+        .after_help(COMMANDS)
+        .arg(settings)?;
+    let matches = command.try_get_matches_from(words)?;
+    Ok(Options {
+        settings: matches.get_str("settings").unwrap_or(""),
+    })
+}
