@@ -14,3 +14,4 @@ pub mod ArgumentSound
 pub mod HeaderLaws
 pub mod ScriptLaws
 pub mod Kept
+pub mod TextItems

@@ -69,7 +69,7 @@ header_complete (i ∷ hs) ts rest h stops =
     let e = header_complete hs h.1 rest h.5 stops in
     rw (h.2, h.3, h.4, value_is _ _ _ _ e, rest_is _ _ _ _ e) refl
 
-header_takes : (hs : List HeaderItem) (ts rest : List Item) → IsHeader hs ts rest → (front : List Item) × (ts ≡ front ++ rest) × (list_all is_lexeme front ≡ true)
+pub header_takes : (hs : List HeaderItem) (ts rest : List Item) → IsHeader hs ts rest → (front : List Item) × (ts ≡ front ++ rest) × (list_all is_lexeme front ≡ true)
 header_takes [] ts rest h = ([], h, refl)
 header_takes (i ∷ hs) ts rest h =
     let R = header_takes hs h.1 rest h.5 in
@@ -164,7 +164,7 @@ events_complete (suc n) (e ∷ es) ts rest h le =
     let first : event_at ts ≡ ok e middle = Reads-event.complete ts e middle h.goes.1 stops in
     rw (event_starts ts e middle first stops, first, others) refl
 
-events_take : (es : List Event) (ts rest : List Item) → AreEvents es ts rest → (front : List Item) × (ts ≡ front ++ rest) × (list_all is_lexeme front ≡ true)
+pub events_take : (es : List Event) (ts rest : List Item) → AreEvents es ts rest → (front : List Item) × (ts ≡ front ++ rest) × (list_all is_lexeme front ≡ true)
 events_take [] ts rest h = ([], h, refl)
 events_take (e ∷ es) ts rest h =
     let first = Reads-event.takes ts e h.0 h.1 in
@@ -244,7 +244,7 @@ fault_is ts t rest e =
 
 -- ---- the items of a text: tokens, and then the end or a bad place
 
-pub IsClosed : List Item → Type 0
+unfoldable pub IsClosed : List Item → Type 0
 IsClosed [] = ⊥
 IsClosed (lexeme x ∷ ts) = IsClosed ts
 IsClosed (ending line ∷ ts) = ts ≡ []

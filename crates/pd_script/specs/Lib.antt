@@ -10,3 +10,4 @@ pub mod Grammar
 pub mod Reading
 pub mod Script
 pub mod Faults
+pub mod Range

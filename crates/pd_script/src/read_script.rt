@@ -1,5 +1,9 @@
 //! Reading a whole script.
 ghost use Rattle.std.specs.Prelude.{◌≡◌, ◌≤◌, length, IfOk, OnOk};
+ghost use Rattle.pd_lex.specs.Places.{first_place};
+ghost use Rattle.pd_lex.specs.Tokens.{items};
+ghost use Rattle.pd_script.specs.Faults.{IsRead};
+ghost use Rattle.pd_script.specs.Range.{HasLines};
 ghost use Rattle.pd_script.specs.Items.{starts_event};
 ghost use Rattle.pd_script.specs.Header.{header_of, behind_header};
 ghost use Rattle.pd_script.specs.Reader.{next_is};
@@ -83,10 +87,23 @@ impl<'a> Cursor<'a> {
 ///
 /// # Errors
 /// Where a growth is refused.
-#[tactic(auto, using(crate::proofs::Few::script_few), unfolding(crate::specs::Script::script_of, crate::specs::Script::script_in))]
+#[tactic(auto, unfolding(crate::specs::Script::script_of, crate::specs::Script::script_in))]
 pub fn parse(alloc: Global, lines: &Lines) -> Result<Parsed, AllocError>
     ensures script { IfOk result (λ parsed. parsed ≡ script_of lines.now) }
-    ensures few { IfOk result (λ parsed. length parsed.events ≤ 4096) }
+
+    // What was read is spelled so, or the fault is the first item at which no script goes on.
+    ensures read { IfOk result (λ parsed. IsRead (items lines.now first_place) parsed parsed.fault) }
+    ensures limit { IfOk result (λ parsed. length parsed.events ≤ 4096) }
+    ensures lines { IfOk result (λ parsed. HasLines lines.now parsed) }
+{
+    let parsed = read(alloc, lines)?;
+    let _ = lines.line(1);
+    Ok(parsed)
+}
+
+#[tactic(auto, unfolding(crate::specs::Script::script_of, crate::specs::Script::script_in))]
+fn read(alloc: Global, lines: &Lines) -> Result<Parsed, AllocError>
+    ensures { IfOk result (λ parsed. parsed ≡ script_of lines.now) }
 {
     let mut cursor = Cursor::new(lines);
     let header = cursor.header(alloc)?;

@@ -1,0 +1,184 @@
+-- The items of a text: tokens, and then the end or a bad place, each in a line of the text.
+use Rattle.std.proofs.Common.{◌≡◌, ℕ, zero, suc, ◌+◌, ◌-◌, ◌≤◌, ◌<◌, Bool, true, false, cond, List, [], ◌∷◌, ◌++◌, length, max, Option, Some, None, Result, Ok, Err, refl, sym, ap, subst, ◌∙◌, arith, inl, inr}
+use Rattle.std.proofs.lemmas.Bool.{cases_lt}
+use Rattle.std.specs.Prelude.{All, IfSome, ◌⊎◌}
+use Rattle.std.specs.List.{list_all}
+use Rattle.std.proofs.lemmas.List.{length-append}
+use Rattle.std.proofs.lemmas.List.Elements.{All-nil, All-cons}
+use Rattle.pd_text.specs.Text.{is_line}
+use Rattle.pd_lex.specs.declared.token.Place.{Place}
+use Rattle.pd_lex.specs.Places.{IsPlace, first_place, standing, octets_from, place_after, before, line_at}
+use Rattle.pd_lex.specs.Pieces.{Front, nothing, gap, token, stray, front}
+use Rattle.pd_lex.specs.Scanned.{IsLeftAt}
+use Rattle.pd_lex.specs.Tokens.{Item, lexeme, ending, bad, line_of, followed, items_within, items}
+use Rattle.pd_lex.proofs.Rests.{advance, octets_past, standing_place}
+use Rattle.pd_lex.proofs.Fronts.{IsRest, IsRest-cut, LeavesRest, front_leaves}
+use Rattle.pd_script.specs.declared.timing.Time.{Time}
+use Rattle.pd_script.specs.declared.script_events.Event.{Event}
+use Rattle.pd_script.specs.declared.parsing.Found.{Found}
+use Rattle.pd_script.specs.Items.{starts_event, is_end}
+use Rattle.pd_script.specs.Header.{behind_header}
+use Rattle.pd_script.specs.Reader.{Read, next_is}
+use Rattle.pd_script.specs.Reading.{next_line, event_at}
+use Rattle.pd_script.specs.Grammar.{IsTime, IsEvent}
+use Rattle.pd_script.specs.Script.{found_in, followed as followed_by, may_follow, with_event, at_end, script_in, script_of}
+use Rattle.pd_script.specs.declared.script_header.HeaderItem.{HeaderItem}
+use Rattle.pd_script.specs.declared.parsing.Parsed.{Parsed}
+use Rattle.pd_script.specs.Faults.{IsHeader, AreEvents, IsScript, IsFault, IsKept, IsRead}
+use Rattle.pd_script.specs.Range.{IsLineOf, HasLines}
+use Rattle.pd_script.proofs.Laws.{ok}
+use Rattle.pd_script.proofs.GrammarLaws.{Reads-event}
+use Rattle.pd_script.proofs.ScriptLaws.{IsClosed, header_takes, events_take}
+use Rattle.pd_script.proofs.Kept.{script_read}
+
+-- ---- the last item
+
+module _ (last : ℕ) where
+  followed_closed : (k : ℕ) (p : Place) (s : List ℕ) (f : Front) → ((q : Place) (r : List ℕ) → IsClosed (items_within k last q r)) → IsClosed (followed (items_within k last) last p s f)
+  unfolding IsClosed
+  followed_closed k p s nothing ih = refl
+  followed_closed k p s (gap rest) ih = ih (place_after p (before s rest)) rest
+  followed_closed k p s (token kind rest) ih = ih (place_after p (before s rest)) rest
+  followed_closed k p s stray ih = refl
+
+  within_closed : (k : ℕ) (p : Place) (s : List ℕ) → IsClosed (items_within k last p s)
+  unfolding items_within IsClosed
+  within_closed zero p s = refl
+  within_closed (suc k) p s = followed_closed k p s (front s) (within_closed k)
+
+pub items_closed : (lines : List (List ℕ)) (p : Place) → IsClosed (items lines p)
+unfolding items
+items_closed lines p = within_closed (max 1 (length lines)) (length (octets_from lines p)) (standing lines p) (octets_from lines p)
+
+-- ---- lines
+
+-- each item is in a line
+pub AreLinesOf : List (List ℕ) → List Item → Type 0
+AreLinesOf lines [] = Unit {0}
+AreLinesOf lines (t ∷ ts) = IsLineOf lines (line_of t) × AreLinesOf lines ts
+
+module _ (lines : List (List ℕ)) (plain : list_all is_line lines ≡ true) where
+  abbrev within : ℕ → Place → List ℕ → List Item
+  within k p s = items_within k (max 1 (length lines)) p s
+
+  last_is : IsLineOf lines (max 1 (length lines))
+  last_is = (omega arith, omega arith)
+
+  here_is : (p : Place) → IsPlace lines p → p.line ≤ length lines → IsLineOf lines p.line
+  here_is p h le = (h.from_one, omega arith)
+
+  -- something stands in a line of the text
+  some_left : (p : Place) (f : Front) → front (octets_from lines p) ≡ f → (f ≡ nothing → ⊥) → p.line ≤ length lines
+  unfolding front
+  some_left p f is some = either (cases_lt (length lines) p.line)
+    where
+      either : ((length lines < p.line) ⊎ (p.line ≤ length lines)) → p.line ≤ length lines
+      either (inl lt) = absurd (some (sym is ∙ rw (octets_past lines p lt) refl))
+      either (inr le) = le
+
+  followed_lines : (k : ℕ) (p : Place) → IsPlace lines p → (f : Front) → front (octets_from lines p) ≡ f → ((q : Place) → IsPlace lines q → AreLinesOf lines (within k q (octets_from lines q))) → AreLinesOf lines (followed (λ q r. within k q r) (max 1 (length lines)) p (octets_from lines p) f)
+  unfolding AreLinesOf
+  followed_lines k p h nothing is ih = (last_is, tt)
+  followed_lines k p h (gap rest) is ih =
+      let r : IsRest (octets_from lines p) rest = subst (LeavesRest (octets_from lines p)) is (front_leaves (octets_from lines p)) in
+      let q = advance lines plain p (before (octets_from lines p) rest) rest h (IsRest-cut (octets_from lines p) rest r) in
+      subst (λ (x : List ℕ). AreLinesOf lines (within k (place_after p (before (octets_from lines p) rest)) x)) q.left (ih (place_after p (before (octets_from lines p) rest)) q.place)
+  followed_lines k p h (token kind rest) is ih =
+      let r : IsRest (octets_from lines p) rest = subst (LeavesRest (octets_from lines p)) is (front_leaves (octets_from lines p)) in
+      let q = advance lines plain p (before (octets_from lines p) rest) rest h (IsRest-cut (octets_from lines p) rest r) in
+      (here_is p h (some_left p (token kind rest) is (λ e. cc)), subst (λ (x : List ℕ). AreLinesOf lines (within k (place_after p (before (octets_from lines p) rest)) x)) q.left (ih (place_after p (before (octets_from lines p) rest)) q.place))
+  followed_lines k p h stray is ih = (here_is p h (some_left p stray is (λ e. cc)), tt)
+
+  within_lines : (k : ℕ) (p : Place) → IsPlace lines p → AreLinesOf lines (within k p (octets_from lines p))
+  unfolding items_within AreLinesOf
+  within_lines zero p h = (last_is, tt)
+  within_lines (suc k) p h = followed_lines k p h (front (octets_from lines p)) refl (within_lines k)
+
+  pub items_lines : AreLinesOf lines (items lines first_place)
+  unfolding items
+  items_lines =
+      let h : IsPlace lines first_place = record { from_one = omega arith; within = omega arith; at = omega arith } in
+      rw (standing_place lines first_place h) (within_lines (length (octets_from lines first_place)) first_place h)
+
+-- ---- lines of events and of the fault
+
+AreLinesOf-behind : (lines : List (List ℕ)) (xs ys : List Item) → AreLinesOf lines (xs ++ ys) → AreLinesOf lines ys
+unfolding AreLinesOf
+AreLinesOf-behind lines [] ys h = h
+AreLinesOf-behind lines (x ∷ xs) ys h = AreLinesOf-behind lines xs ys h.1
+
+time_line : (v : ℕ × Time) (ts rest : List Item) → IsTime v ts rest → (t : Item) × (us : List Item) × (ts ≡ t ∷ us) × (v.0 ≡ line_of t)
+unfolding IsTime
+time_line v ts rest (inl h) =
+    let hs = h.2 in
+    let hn = h.3 in
+    (hs.0, hs.1, hs.2.0, sym (ap (λ (x : ℕ × Time). x.0) hn.3.0) ∙ sym hs.3.0)
+time_line v ts rest (inr h) =
+    let hn = h.2 in
+    (hn.0, hn.1, hn.2.0, sym (ap (λ (x : ℕ × Time). x.0) h.3.0) ∙ sym (ap (λ (x : ℕ × ℕ). x.0) hn.3.0))
+
+event_line : (e : Event) (ts rest : List Item) → IsEvent e ts rest → (t : Item) × (us : List Item) × (ts ≡ t ∷ us) × (e.line ≡ line_of t)
+unfolding IsEvent
+event_line e ts rest h =
+    let T = time_line h.0 ts h.1 h.2 in
+    (T.0, T.1, T.2, sym (ap (λ (x : Event). x.line) h.3.3.0) ∙ T.3)
+
+AreLinesOf-front : (lines : List (List ℕ)) (xs ys : List Item) → AreLinesOf lines (xs ++ ys) → AreLinesOf lines xs
+unfolding AreLinesOf
+AreLinesOf-front lines [] ys h = tt
+AreLinesOf-front lines (x ∷ xs) ys h = (h.0, AreLinesOf-front lines xs ys h.1)
+
+AreLinesOf-first : (lines : List (List ℕ)) (t : Item) (ts : List Item) → AreLinesOf lines (t ∷ ts) → IsLineOf lines (line_of t)
+unfolding AreLinesOf
+AreLinesOf-first lines t ts h = h.0
+
+events_lines : (lines : List (List ℕ)) (es : List Event) (ts rest : List Item) → AreEvents es ts rest → AreLinesOf lines ts → All (λ (e : Event). IsLineOf lines e.line) es
+events_lines lines [] ts rest h in_lines = All-nil (λ (e : Event). IsLineOf lines e.line)
+events_lines lines (e ∷ es) ts rest h in_lines =
+    let L = event_line e ts h.0 h.1 in
+    let F = Reads-event.takes ts e h.0 h.1 in
+    let first : IsLineOf lines (line_of L.0) = AreLinesOf-first lines L.0 L.1 (subst (λ (x : List Item). AreLinesOf lines x) L.2 in_lines) in
+    let others = events_lines lines es h.0 rest h.2 (AreLinesOf-behind lines F.0 h.0 (subst (λ (x : List Item). AreLinesOf lines x) F.1 in_lines)) in
+    All-cons (λ (x : Event). IsLineOf lines x.line) e es (subst (λ (n : ℕ). IsLineOf lines n) (sym L.3) first) others
+
+behind_header_lines : (lines : List (List ℕ)) (hs : List HeaderItem) (ts behind : List Item) → IsHeader hs ts behind → AreLinesOf lines ts → AreLinesOf lines behind
+behind_header_lines lines hs ts behind h in_lines =
+    let F = header_takes hs ts behind h in
+    AreLinesOf-behind lines F.0 behind (subst (λ (x : List Item). AreLinesOf lines x) F.1 in_lines)
+
+lines_by : (lines : List (List ℕ)) (ts : List Item) (parsed : Parsed) (fault : Option ℕ) → parsed.fault ≡ fault → IsRead ts parsed fault → AreLinesOf lines ts → HasLines lines parsed
+lines_by lines ts parsed None e r in_lines =
+    record { events = events_lines lines parsed.events r.behind (r.end ∷ []) r.goes (behind_header_lines lines parsed.header ts r.behind r.begins in_lines); fault = rw e tt }
+lines_by lines ts parsed (Some line) e r in_lines =
+    let whole : AreLinesOf lines (r.0 ++ r.1 ∷ r.2) = subst (λ (x : List Item). AreLinesOf lines x) r.3 in_lines in
+    let K = r.6 in
+    let at : IsLineOf lines (line_of r.1) = AreLinesOf-first lines r.1 r.2 (AreLinesOf-behind lines r.0 (r.1 ∷ r.2) whole) in
+    record { events = events_lines lines parsed.events K.behind K.others K.goes (behind_header_lines lines parsed.header r.0 K.behind K.begins (AreLinesOf-front lines r.0 (r.1 ∷ r.2) whole)); fault = rw e (subst (λ (n : ℕ). IsLineOf lines n) (sym r.4) at) }
+
+-- ---- the number of events
+
+few_events : (n : ℕ) (ts : List Item) → length (found_in n ts).events ≤ n
+unfolding found_in
+few_events zero ts = omega arith
+few_events (suc n) ts = by_test (next_is starts_event ts) (few_events n)
+  where
+    by_read : (r : Read Event) → ((us : List Item) → length (found_in n us).events ≤ n) → length (with_event (found_in n) r).events ≤ suc n
+    by_read (Ok x) ih = omega (arith, ih x.1)
+    by_read (Err rest) ih = omega arith
+
+    by_test : (b : Bool) → ((us : List Item) → length (found_in n us).events ≤ n) → length (cond b (with_event (found_in n) (followed_by (may_follow n) (event_at ts))) (at_end ts)).events ≤ suc n
+    by_test true ih = by_read (followed_by (may_follow n) (event_at ts)) ih
+    by_test false ih = omega arith
+
+-- ---- what parsing answers
+
+pub script_is_read : (lines : List (List ℕ)) → IsRead (items lines first_place) (script_of lines) (script_of lines).fault
+unfolding script_of
+script_is_read lines = script_read (items lines first_place) (items_closed lines first_place)
+
+pub script_has_lines : (lines : List (List ℕ)) → list_all is_line lines ≡ true → HasLines lines (script_of lines)
+script_has_lines lines plain = lines_by lines (items lines first_place) (script_of lines) (script_of lines).fault refl (script_is_read lines) (items_lines lines plain)
+
+pub script_is_short : (lines : List (List ℕ)) → length (script_of lines).events ≤ 4096
+unfolding script_of script_in
+script_is_short lines = few_events 4096 (behind_header (items lines first_place))
