@@ -1,6 +1,6 @@
 //! Inputs and texts that end too soon: cut after each octet.
 use crate::said::{report, run};
-use crate::texts::check_text;
+use crate::texts::note_difference;
 use std::test::Fail;
 
 const STORED: &[u8] = b"add a 3
@@ -48,6 +48,7 @@ fn an_input_may_end_after_each_octet(rt: HostRuntime) -> Result<(), Fail> {
 fn a_text_may_end_after_each_octet(rt: HostRuntime) -> Result<(), Fail> {
     let mut text: Vec<u8> = Vec::new(rt.alloc());
     let mut line = 1usize;
+    let mut wrong = String::new(rt.alloc());
     for row in MARKED.lines() {
         let (whole, octets) = row.split_once(" | ").ok_or("a row without a verdict")?;
         let cut = format!(in rt.alloc(); "syntax {line}")?;
@@ -59,13 +60,14 @@ fn a_text_may_end_after_each_octet(rt: HostRuntime) -> Result<(), Fail> {
                 _ => {
                     text.push(octet)?;
                     let verdict = if is_read { whole } else { cut.as_str() };
-                    check_text(&rt, verdict, text.as_slice(), row)?;
+                    note_difference(rt.alloc(), &mut wrong, verdict, text.as_slice(), row)?;
                 }
             }
         }
         text.push(b'\n')?;
         line = line.saturating_add(1);
     }
+    assert!(rt; wrong.is_empty(), "{}", wrong.as_str());
     Ok(())
 }
 

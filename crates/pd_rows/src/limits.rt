@@ -1,6 +1,6 @@
 //! Limits: each at its bound and one past it.
 use crate::said::run;
-use crate::texts::check_text;
+use crate::texts::note_difference;
 use std::alloc::{AllocError, Global};
 use std::process::Abort;
 use std::test::Fail;
@@ -219,19 +219,28 @@ fn check_pieces(
     verdict: &str,
 ) -> Result<(), Fail> {
     let text = pieces(rt.alloc(), parts)?;
-    check_text(rt, verdict, text.as_slice(), verdict)
+    let mut wrong = String::new(rt.alloc());
+    note_difference(rt.alloc(), &mut wrong, verdict, text.as_slice(), verdict)?;
+    assert!(rt; wrong.is_empty(), "{}", wrong.as_str());
+    Ok(())
+}
+
+const FULL: &str = "pdregress: 11 HistoryFull\n";
+
+const REFUSED: &str = "refused 11 HistoryFull\n";
+
+#[test]
+fn a_history_has_65536_acts_at_most(rt: HostRuntime) -> Result<(), Fail> {
+    let act = "edit a 1 0 0\n";
+    check_input(&rt, &[("add a 0\n", 1), (act, 65_535)], "", FULL, 2)?;
+    check_input(&rt, &[("add a 0\n", 1), (act, 65_536)], REFUSED, FULL, 2)?;
+    let act = "set nagle true\n";
+    check_input(&rt, &[("add a 0\n", 1), (act, 65_535)], "", FULL, 2)?;
+    check_input(&rt, &[("add a 0\n", 1), (act, 65_536)], REFUSED, FULL, 2)
 }
 
 #[test]
-fn a_history_has_65536_acts_and_outstanding_jobs_at_most(rt: HostRuntime) -> Result<(), Fail> {
-    let full = "pdregress: 11 HistoryFull\n";
-    for act in ["edit a 1 0 0\n", "set nagle true\n"] {
-        check_input(&rt, &[("add a 0\n", 1), (act, 65_533)], EMPTY_PASSES, "", 0)?;
-        check_input(&rt, &[("add a 0\n", 1), (act, 65_534)], "", full, 2)?;
-        check_input(&rt, &[("add a 0\n", 1), (act, 65_535)], "", full, 2)?;
-        let refused = "refused 11 HistoryFull\n";
-        check_input(&rt, &[("add a 0\n", 1), (act, 65_536)], refused, full, 2)?;
-    }
+fn a_full_history_shows_what_is_answered(rt: HostRuntime) -> Result<(), Fail> {
     // A refused act leaves no trace, and a full history still shows what is answered.
     let answered = [
         ("add a 0\n", 1),

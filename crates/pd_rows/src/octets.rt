@@ -1,18 +1,18 @@
 //! Each octet but the newline at one place of a text, for places in each of the states of the lexer.
 use crate::escapes::unescape;
-use crate::texts::check_text;
+use crate::texts::note_difference;
 use std::alloc::{AllocError, Global};
-use std::process::Abort;
 use std::test::Fail;
 
 #[test]
 fn each_octet_has_its_verdict_at_each_place(rt: HostRuntime) -> Result<(), Fail> {
     let mut place = Place::new(rt.alloc());
+    let mut wrong = String::new(rt.alloc());
     for row in PLACES.lines() {
         let (mark, rest) = row.split_once(' ').unwrap_or((row, ""));
         match mark {
             "=" => {
-                place.check(&rt)?;
+                place.check(rt.alloc(), &mut wrong)?;
                 place = Place::of(rt.alloc(), rest)?;
             }
             "-" => place.except(rt.alloc(), rest)?,
@@ -20,12 +20,15 @@ fn each_octet_has_its_verdict_at_each_place(rt: HostRuntime) -> Result<(), Fail>
             _ => {}
         }
     }
-    place.check(&rt)
+    place.check(rt.alloc(), &mut wrong)?;
+    assert!(rt; wrong.is_empty(), "{}", wrong.as_str());
+    Ok(())
 }
 
 /// A text with an octet left open, the verdict with most octets there, and the exceptions.
 #[derive(Drop)]
 struct Place {
+    place: &'static str,
     front: Vec<u8>,
     back: Vec<u8>,
     most: &'static str,
@@ -38,6 +41,7 @@ struct Place {
 impl Place {
     fn new(alloc: Global) -> Place {
         Place {
+            place: "",
             front: Vec::new(alloc),
             back: Vec::new(alloc),
             most: "",
@@ -54,6 +58,7 @@ impl Place {
         place.front = unescape(alloc, front)?;
         place.back = unescape(alloc, back)?;
         place.most = most;
+        place.place = text;
         Ok(place)
     }
 
@@ -84,15 +89,16 @@ impl Place {
         Ok(text)
     }
 
-    fn check(&self, rt: &(impl Abort + AllocGlobal)) -> Result<(), Fail> {
+    fn check(&self, alloc: Global, wrong: &mut String) -> Result<(), AllocError> {
         if self.most.is_empty() {
             return Ok(());
         }
         for octet in 0..=255u8 {
             if octet != b'\n' {
-                let text = self.text(rt.alloc(), octet)?;
-                let row = format!(in rt.alloc(); "octet {octet} at {}", self.most)?;
-                check_text(rt, self.verdict(octet), text.as_slice(), row.as_str())?;
+                let text = self.text(alloc, octet)?;
+                let row = format!(in alloc; "octet {octet} at {}", self.place)?;
+                let verdict = self.verdict(octet);
+                note_difference(alloc, wrong, verdict, text.as_slice(), row.as_str())?;
             }
         }
         Ok(())

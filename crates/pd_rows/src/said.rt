@@ -1,6 +1,6 @@
 //! Runs of the program over memory, and what it said.
 use crate::streams::{Sink, Source};
-use pd_cli::run_program;
+use pd_cli::program;
 use std::alloc::{AllocError, Global};
 
 /// What the program wrote and its exit status.
@@ -11,12 +11,27 @@ pub struct Said {
     pub status: u8,
 }
 
+/// The words of a run: the program's name and these.
+pub fn named<'a>(alloc: Global, words: &[&'a str]) -> Result<Vec<&'a str>, AllocError> {
+    let mut all: Vec<&'a str> = Vec::new(alloc);
+    all.push("pdregress")?;
+    all.extend_from_slice(words)?;
+    Ok(all)
+}
+
 /// Runs the program with these words on this input.
 pub fn run(alloc: Global, words: &[&str], input: &[u8]) -> Result<Said, AllocError> {
+    let words = named(alloc, words)?;
     let mut source = Source::new(input, 4096, None);
     let mut output = Sink::new(alloc, 1_048_576, None);
     let mut errors = Sink::new(alloc, 1_048_576, None);
-    let status = run_program(alloc, words, &mut source, &mut output, &mut errors);
+    let status = program(
+        alloc,
+        words.as_slice(),
+        &mut source,
+        &mut output,
+        &mut errors,
+    );
     Ok(Said {
         output: output.taken,
         errors: errors.taken,

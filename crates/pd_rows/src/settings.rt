@@ -1,8 +1,8 @@
 //! Settings: their ranges, by command and by the program's word, and the faults of words and settings texts.
-use crate::said::run;
+use crate::said::{named, run};
 use crate::stories::check_stories;
 use crate::streams::{Sink, Source};
-use pd_cli::run_program;
+use pd_cli::program;
 use std::process::Abort;
 use std::test::Fail;
 
@@ -70,28 +70,39 @@ fn a_settings_text_is_a_table_of_toml(rt: HostRuntime) -> Result<(), Fail> {
 
 #[test]
 fn a_fault_of_the_words_is_told_before_anything_is_read(rt: HostRuntime) -> Result<(), Fail> {
-    let words: [&[&str]; 8] = [
-        &["--help"],
-        &["-h"],
-        &["--bogus"],
-        &["word"],
-        &["--settings"],
-        &["--settings", "", "word"],
-        &["--settings", "", "--settings", ""],
-        &["--settings", "mss = 63"],
-    ];
-    for row in words {
+    for row in WORDS.lines() {
+        let words: Vec<&str> = row.split(' ').collect(rt.alloc())?;
+        let words = named(rt.alloc(), words.as_slice())?;
         let mut source = Source::new(b"add a 0\n", 4096, None);
         let mut output = Sink::new(rt.alloc(), 4096, None);
         let mut errors = Sink::new(rt.alloc(), 4096, None);
-        let status = run_program(rt.alloc(), row, &mut source, &mut output, &mut errors);
-        assert_eq!(rt; status, 2);
-        assert_eq!(rt; source.calls, 0);
-        assert!(rt; output.taken.is_empty());
-        assert!(rt; !errors.taken.is_empty());
+        let status = program(
+            rt.alloc(),
+            words.as_slice(),
+            &mut source,
+            &mut output,
+            &mut errors,
+        );
+        assert_eq!(rt; status, 2, "of {row}");
+        assert_eq!(rt; source.calls, 0, "of {row}");
+        assert!(rt; output.taken.is_empty(), "of {row}");
+        assert!(rt; !errors.taken.is_empty(), "of {row}");
     }
     Ok(())
 }
+
+// Words that `clap` refuses, and a settings text that isn't one.
+const WORDS: &str = "\
+--help
+-h
+--version
+--bogus
+word
+--settings
+--settings a=1 word
+--settings mss=64 --settings mss=64
+--settings mss=63
+--setting mss=64";
 
 // What refuses a setting, or `ok`, and the setting: both ends of each range and one past each.
 const RANGES: &str = "\
