@@ -8,7 +8,6 @@ pub mod Capped
 pub mod Taking
 pub mod ArgumentSteps
 pub mod Finding
-pub mod Few
 pub mod Matches
 pub mod ArgumentSound
 pub mod HeaderLaws
