@@ -10,6 +10,8 @@ mod events;
 #[cfg(test)]
 mod limits;
 #[cfg(test)]
+mod memory;
+#[cfg(test)]
 mod octets;
 #[cfg(test)]
 mod packets;

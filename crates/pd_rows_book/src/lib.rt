@@ -6,6 +6,8 @@ mod jobs;
 #[cfg(test)]
 mod making;
 #[cfg(test)]
+mod memory;
+#[cfg(test)]
 mod model;
 #[cfg(test)]
 mod parts;

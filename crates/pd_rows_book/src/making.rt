@@ -1,10 +1,10 @@
 //! Names, texts, edits and results for the tests of a book.
-ghost use Rattle.std.specs.Prelude.{◌≡◌};
+ghost use Rattle.std.specs.Prelude.{◌≡◌, true, IfOk, IsTrue};
 ghost use Rattle.pd_text.specs.Text.{is_line};
 
 use pd_book::{Book, Done, Job, run_job};
 use pd_run::{Plain, Stepper, Verdict};
-use pd_text::{LineEdit, LineList, Lines, Name};
+use pd_text::{LineEdit, LineList, Lines, Name, TextFault};
 use std::alloc::{AllocError, Global};
 use std::test::Fail;
 
@@ -28,22 +28,21 @@ fn owned(alloc: Global, octets: &[u8]) -> Result<Vec<u8>, AllocError>
     Ok(own)
 }
 
-/// An edit that removes lines and inserts at most one.
+/// An edit that removes lines and inserts at most one, which holds no newline.
 pub fn edit(
     alloc: Global,
     from: usize,
     remove: usize,
     line: Option<&[u8]>,
-) -> Result<LineEdit, Fail> {
+) -> Result<LineEdit, AllocError> {
     let mut insert = LineList::new(Vec::new(alloc));
     if let Some(line) = line {
-        let mut lines = Vec::new(alloc);
         let line = owned(alloc, line)?;
-        if !is_line(line.as_slice()) {
-            Err("a newline in a line")?;
+        if is_line(line.as_slice()) {
+            let mut lines = Vec::new(alloc);
+            lines.push(line)?;
+            insert = LineList::new(lines);
         }
-        lines.push(line)?;
-        insert = LineList::new(lines);
     }
     Ok(LineEdit {
         from,
@@ -59,7 +58,7 @@ fn is_line(octets: &[u8]) -> bool
 }
 
 /// The text of these octets, made line by line.
-pub fn text(alloc: Global, octets: &[u8]) -> Result<Lines, Fail> {
+pub fn text(alloc: Global, octets: &[u8]) -> Result<Lines, TextFault> {
     let mut text = Lines::new(Vec::new(alloc))?;
     if octets.is_empty() {
         return Ok(text);
