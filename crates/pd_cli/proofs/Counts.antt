@@ -1,5 +1,5 @@
 -- A turn of settling leaves less owed, and no job outstanding.
-use Rattle.std.proofs.Common.{◌≡◌, ℕ, ◌+◌, ◌<◌, ◌≤◌, ◌==◌, Bool, true, false, not, ◌&&◌, ◌||◌, List, [], ◌∷◌, ◌++◌, map, find, filter, count_by, cond, Option, Some, None, is_none, is_some, option_map, unwrap_or, refl, sym, ap, subst, ◌∙◌, arith, if◌then◌else◌}
+use Rattle.std.proofs.Common.{◌≡◌, ℕ, ◌+◌, ◌<◌, ◌≤◌, ◌==◌, Bool, true, false, not, ◌&&◌, ◌||◌, List, [], ◌∷◌, map, find, cond, Option, Some, None, is_none, is_some, option_map, unwrap_or, refl, sym, ap, subst, ◌∙◌, arith}
 use Rattle.std.specs.List.{list_any}
 use Rattle.std.specs.Map.{lookup}
 use Rattle.std.specs.Str.{bytes_eq}
@@ -12,9 +12,9 @@ use Rattle.pd_book.specs.declared.act.Act.TheVariants.{Add, Edit, Remove, Set, S
 use Rattle.pd_book.specs.declared.act.Ruling.{Ruling}
 use Rattle.pd_book.specs.declared.row.Row.{Row}
 use Rattle.pd_book.specs.declared.task.Task.{Task}
-use Rattle.pd_book.specs.Acts.{Named, present, texts, text_of, now, stands, answered, busy, waits, next, since, starts, finished, started, jobs, job, without, ruling}
-use Rattle.pd_book.specs.Report.{row, shown, owed}
-use Rattle.pd_book.specs.Story.{Story, told}
+use Rattle.pd_book.specs.Acts.{Named, texts, text_of, now, stands, answered, busy, waits, next, since, starts, finished, started, jobs, job, ruling}
+use Rattle.pd_book.specs.Report.{row, owed}
+use Rattle.pd_book.specs.Story.{Story}
 use Rattle.pd_book.specs.Refusals.{next_job}
 use Rattle.pd_cli.specs.Output.{after_turn}
 use Rattle.pd_cli.specs.Steps.{IsQuiet}

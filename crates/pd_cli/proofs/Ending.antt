@@ -1,5 +1,5 @@
 -- How a run of the program ends.
-use Rattle.std.proofs.Common.{◌≡◌, ℕ, Bool, ◌⊎◌, inl, inr, List, [], ◌++◌, length, take, Option, Some, None, Result, Ok, Err, OnOk, OnErr, IfSome, IsErrAnd, refl, sym, ap, subst, ◌∙◌, arith}
+use Rattle.std.proofs.Common.{◌≡◌, ℕ, Bool, ◌⊎◌, inl, inr, List, [], length, take, Option, Some, None, Result, Ok, Err, OnOk, OnErr, IfSome, IsErrAnd, refl, sym, ap, subst, arith}
 use Rattle.std.proofs.lemmas.List.{take_all}
 use Rattle.std.specs.Io.KnownBytes.{Appends}
 use Rattle.pd_settings.specs.declared.fields.Settings.{Settings}
@@ -8,7 +8,7 @@ use Rattle.pd_cli.specs.Program.{settings_in, Runs, status_of, said_of, Ran}
 use Rattle.pd_cli.specs.declared.faults.ServeFault.{ServeFault}
 use Rattle.pd_cli.specs.declared.faults.ServeFault.TheVariants.{OutOfMemory}
 use Rattle.pd_cli.specs.declared.program_faults.ProgramFault.{ProgramFault}
-use Rattle.pd_cli.specs.declared.program_faults.ProgramFault.TheVariants.{UnknownKey, BadValue, NotToml, Serving}
+use Rattle.pd_cli.specs.declared.program_faults.ProgramFault.TheVariants.{Serving}
 
 -- a line that was written as far as the writer took it
 pub tell_from : (r : Result (Unit {0}) ServeFault) (line : List ℕ) (w w1 : Option (List ℕ)) → OnOk r (Appends w w1 line) → OnErr r ((n : ℕ) × Appends w w1 (take n line)) → (n : ℕ) × Appends w w1 (take n line)

@@ -1,5 +1,6 @@
 -- The lemmas of the proofs.
 pub mod Chains
+pub mod SettingsText
 pub mod Counts
 pub mod Cuts
 pub mod Digits

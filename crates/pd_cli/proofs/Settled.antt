@@ -1,23 +1,20 @@
 -- Settling turn by turn, and what acts print.
-use Rattle.std.proofs.Common.{◌≡◌, ◌≢◌, ℕ, ◌<◌, ◌≤◌, Bool, true, false, List, [], ◌∷◌, ◌++◌, Option, Some, None, Result, Ok, Err, OnOk, OnErr, IfErr, IfOk, IsOk, IsErrAnd, is_some, option_map, unwrap_or, refl, sym, ap, subst, ◌∙◌, arith, suc, zero, cond, nat_le, if◌then◌else◌}
+use Rattle.std.proofs.Common.{◌≡◌, ℕ, ◌<◌, ◌≤◌, true, false, List, Option, Some, None, Result, Ok, Err, OnOk, OnErr, IfErr, IfOk, IsOk, IsErrAnd, option_map, refl, sym, ap, ◌∙◌, arith, suc, zero}
 use Rattle.std.specs.Option.{IsSomeAnd}
 use Rattle.pd_settings.specs.declared.keys.Key.{Key}
 use Rattle.pd_settings.specs.declared.values.Value.{Value}
-use Rattle.pd_book.specs.declared.act.Act.{Act}
 use Rattle.pd_book.specs.declared.act.Act.TheVariants as act
 use Rattle.pd_book.specs.declared.act.Ruling.{Ruling}
 use Rattle.pd_book.specs.declared.faults.BookFault.{BookFault}
 use Rattle.pd_book.specs.declared.faults.BookFault.TheVariants as book
 use Rattle.pd_book.specs.declared.faults.FinishFault.{FinishFault}
 use Rattle.pd_book.specs.declared.task.Task.{Task}
-use Rattle.pd_book.specs.Acts.{jobs, job, ruling, next, Named}
+use Rattle.pd_book.specs.Acts.{job, ruling, next, Named}
 use Rattle.pd_book.specs.Story.{Story, told, told_start}
 use Rattle.pd_book.specs.Report.{owed}
 use Rattle.pd_book.specs.Refusals.{next_job, start_refusal, full, fault_of}
-use Rattle.pd_cli.specs.Output.{refused, after_turn, turn, settled, settled_in, acted, effect, reported, report}
-use Rattle.pd_cli.specs.Steps.{RepliesTo, IsQuiet, Turns, SettlesTo, Fails}
-use Rattle.pd_cli.specs.declared.command.Command.{Command}
-use Rattle.pd_cli.specs.declared.command.Command.TheVariants.{Settle}
+use Rattle.pd_cli.specs.Output.{after_turn, settled, settled_in, acted}
+use Rattle.pd_cli.specs.Steps.{RepliesTo, IsQuiet, Turns, SettlesTo}
 use Rattle.pd_cli.specs.declared.faults.ServeFault.{ServeFault}
 use Rattle.pd_cli.specs.declared.faults.ServeFault.TheVariants.{HistoryFull, BadCommand, Truncated, Read, Write, OutOfMemory}
 use Rattle.pd_cli.proofs.Counts.{turn_less, started_job, quiet_turned}

@@ -5,6 +5,7 @@ pub mod Output
 pub mod Pieces
 pub mod Program
 pub mod ProgramFaults
+pub mod ProgramWords
 pub mod Report
 pub mod Requests
 pub mod Steps

@@ -1,9 +1,8 @@
 -- What serving writes, and how it ends.
-use Rattle.std.specs.Prelude.{◌≡◌, ℕ, Bool, List, [], ◌∷◌, ◌++◌, codes, Option, Some, None, option_map, Result, Ok, Err, suc, zero}
+use Rattle.std.specs.Prelude.{◌≡◌, ℕ, Bool, List, [], ◌∷◌, ◌++◌, codes, Option, Some, None, option_map, Result, Ok, Err, IfSome, suc, zero}
 use Rattle.std.specs.List.{list_all}
-use Rattle.pd_text.specs.declared.line_edit.LineEdit.{LineEdit}
+use Rattle.std.specs.Io.KnownBytes.{Appends}
 use Rattle.pd_settings.specs.declared.fields.Settings.{Settings}
-use Rattle.pd_settings.specs.declared.values.Value.{Value}
 use Rattle.pd_settings.specs.Keys.{key_named}
 use Rattle.pd_book.specs.declared.act.Act.{Act}
 use Rattle.pd_book.specs.declared.act.Act.TheVariants as act
@@ -124,3 +123,8 @@ Answers (Err Truncated) octets outcome = (outcome.written ≡ octets) × (outcom
 Answers (Err Read) octets outcome = (more : List ℕ) × (outcome.written ≡ octets ++ more)
 Answers (Err Write) octets outcome = (more : List ℕ) × (outcome.written ≡ octets ++ more)
 Answers (Err OutOfMemory) octets outcome = (more : List ℕ) × (outcome.written ≡ octets ++ more)
+
+-- a writer got the output of an input, or where serving stopped for a read, a write or memory a prefix of it
+abbrev pub Serves : Result Bool ServeFault → Settings → Option (List ℕ) → Option (List ℕ) → Option (List ℕ) → Type 0
+Serves result settings input before after =
+    (octets : List ℕ) × Appends before after octets × IfSome input (λ input. Answers result octets (output settings input))

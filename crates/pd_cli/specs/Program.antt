@@ -1,15 +1,16 @@
 -- What the program writes, and its status.
-use Rattle.std.specs.Prelude.{◌≡◌, ℕ, Bool, true, false, ◌⊎◌, List, [], take, Option, Some, None, Result, Ok, Err}
+use Rattle.std.specs.Prelude.{◌≡◌, ℕ, Bool, true, false, ◌⊎◌, List, [], take, Option, Some, None, Result, Ok, Err, IfSome}
+use Rattle.std.specs.Io.KnownBytes.{Appends}
 use Rattle.toml.specs.Data.{Members}
 use Rattle.toml.specs.Parse.{parse_document}
 use Rattle.pd_settings.specs.declared.faults.SettingsFault.{SettingsFault}
 use Rattle.pd_settings.specs.declared.fields.Settings.{Settings}
 use Rattle.pd_settings.specs.Table.{from_table_of}
-use Rattle.pd_cli.specs.Output.{Outcome, output, Answers}
+use Rattle.pd_cli.specs.Output.{output, Answers}
 use Rattle.pd_cli.specs.ProgramFaults.{of_settings, fault_line}
 use Rattle.pd_cli.specs.declared.faults.ServeFault.TheVariants.{OutOfMemory}
 use Rattle.pd_cli.specs.declared.program_faults.ProgramFault.{ProgramFault}
-use Rattle.pd_cli.specs.declared.program_faults.ProgramFault.TheVariants.{UnknownKey, BadValue, NotToml, Serving}
+use Rattle.pd_cli.specs.declared.program_faults.ProgramFault.TheVariants.{NotToml, Serving}
 
 -- the answer for the settings of a document
 abbrev pub chosen : Result Settings SettingsFault → Result Settings ProgramFault
@@ -48,3 +49,12 @@ said_of (Err fault) = fault_line fault
 abbrev pub Ran : ℕ → List ℕ → List ℕ → List ℕ → List ℕ → Type 0
 Ran status octets said text input =
     (end : Result Bool ProgramFault) × (status ≡ status_of end) × ((n : ℕ) × (said ≡ take n (said_of end))) × Runs (settings_in text) end octets input
+
+-- a run with this settings text wrote and said so on the two writers, and gave this status
+abbrev pub Finishes : ℕ → List ℕ → Option (List ℕ) → Option (List ℕ) → Option (List ℕ) → Option (List ℕ) → Option (List ℕ) → Type 0
+Finishes status text input out_before out_after err_before err_after =
+    (octets : List ℕ) × (said : List ℕ) × Appends out_before out_after octets × Appends err_before err_after said × IfSome input (Ran status octets said text)
+
+-- words that are refused: status 2, and nothing is written but on standard error
+abbrev pub Refuses : ℕ → Option (List ℕ) → Option (List ℕ) → Type 0
+Refuses status before after = (status ≡ 2) × Appends before after []

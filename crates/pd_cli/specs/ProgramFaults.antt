@@ -2,7 +2,6 @@
 use Rattle.std.specs.Prelude.{ℕ, List, ◌++◌, codes}
 use Rattle.pd_settings.specs.declared.faults.SettingsFault.{SettingsFault}
 use Rattle.pd_settings.specs.declared.faults.SettingsFault.TheVariants as settings
-use Rattle.pd_cli.specs.declared.faults.ServeFault.{ServeFault}
 use Rattle.pd_cli.specs.declared.faults.ServeFault.TheVariants.{HistoryFull, BadCommand, Truncated, Read, Write, OutOfMemory}
 use Rattle.pd_cli.specs.declared.program_faults.ProgramFault.{ProgramFault}
 use Rattle.pd_cli.specs.declared.program_faults.ProgramFault.TheVariants.{UnknownKey, BadValue, NotToml, Serving}

@@ -1,7 +1,7 @@
 //! Serving the commands of a reader to a writer.
 ghost use Rattle.std.specs.Prelude.{◌≡◌, ℕ, List, Ok, IfOk, IfErr, IfSome};
 ghost use Rattle.std.specs.Io.KnownBytes.{Appends};
-ghost use Rattle.pd_cli.specs.Output.{effect, output, Answers};
+ghost use Rattle.pd_cli.specs.Output.{effect, Serves};
 ghost use Rattle.pd_cli.specs.Steps.{IsQuiet, Fails, Does, Ends};
 
 use crate::acts::{add, edit, remove, set};
@@ -29,8 +29,7 @@ pub fn serve_alone<R: Read, W: Write>(
     reader: &mut R,
     writer: &mut W,
 ) -> Result<bool, ServeFault>
-    ensures { let before = W.contents writer.old in
-        (octets : List ℕ) × Appends before (W.contents writer.new) octets × IfSome (R.remaining reader.old) (λ input. Answers result octets (output settings input)) }
+    ensures { Serves result settings (R.remaining reader.old) (W.contents writer.old) (W.contents writer.new) }
 {
     let mut intake = Intake::new(alloc);
     let mut book = Book::new(alloc, cache, settings);

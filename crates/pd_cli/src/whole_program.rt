@@ -1,8 +1,9 @@
 //! The whole program, over words, a reader and two writers.
-ghost use Rattle.std.specs.Prelude.{◌≡◌, ◌⊎◌, ℕ, List, [], take, Ok, Err, IfOk, IfErr, IfSome};
+ghost use Rattle.std.specs.Prelude.{◌≡◌, ◌⊎◌, ℕ, List, [], take, Ok, Err, IfOk, IfErr, IfSome, map};
 ghost use Rattle.std.specs.Io.KnownBytes.{Appends};
 ghost use Rattle.pd_cli.specs.ProgramFaults.{fault_line};
-ghost use Rattle.pd_cli.specs.Program.{settings_in, Runs, status_of, said_of, Ran};
+ghost use Rattle.pd_cli.specs.ProgramWords.{settings_text};
+ghost use Rattle.pd_cli.specs.Program.{settings_in, Runs, status_of, Refuses, Finishes};
 
 use crate::chosen::Options;
 use crate::faults::ServeFault;
@@ -30,8 +31,10 @@ pub fn program<S: AsStr, R: Read, W: Write, E: Write>(
     out: &mut W,
     err: &mut E,
 ) -> u8
-    ensures { let before = W.contents out.old in
-        (octets : List ℕ) × Appends before (W.contents out.new) octets × ((result ≡ 2) × (octets ≡ []) ⊎ (said : List ℕ) × Appends (E.contents err.old) (E.contents err.new) said × (text : List ℕ) × IfSome (R.remaining reader.old) (Ran result octets said text)) }
+    ensures { let text = settings_text (map S.text words.now) in
+        let input = R.remaining reader.old in
+        Refuses result (W.contents out.old) (W.contents out.new)
+        ⊎ Finishes result text input (W.contents out.old) (W.contents out.new) (E.contents err.old) (E.contents err.new) }
 {
     match options(alloc, words) {
         Ok(options) => run(alloc, &options, reader, out, err),
@@ -53,9 +56,9 @@ pub fn run<R: Read, W: Write, E: Write>(
     out: &mut W,
     err: &mut E,
 ) -> u8
-    ensures { let before = W.contents out.old in
-        let quiet = E.contents err.old in
-        (octets : List ℕ) × (said : List ℕ) × Appends before (W.contents out.new) octets × Appends quiet (E.contents err.new) said × IfSome (R.remaining reader.old) (Ran result octets said options.now.settings.now) }
+    ensures { let text = options.now.settings.now in
+        let input = R.remaining reader.old in
+        Finishes result text input (W.contents out.old) (W.contents out.new) (E.contents err.old) (E.contents err.new) }
 {
     match serve(alloc, options.settings, reader, out) {
         Ok(passed) => status(passed),

@@ -1,4 +1,7 @@
 //! The program's words, read by `clap`.
+ghost use Rattle.std.specs.Prelude.{◌≡◌, IfOk, map};
+ghost use Rattle.pd_cli.specs.ProgramWords.{settings_text};
+
 use crate::chosen::Options;
 use clap::{Arg, ArgAction, Command, Error};
 use std::alloc::Global;
@@ -31,7 +34,9 @@ prints
 ///
 /// # Errors
 /// What `clap` says of the words, the text of `--help` among it.
-pub fn options<'a, S: AsStr>(alloc: Global, words: &'a [S]) -> Result<Options<'a>, Error> {
+pub fn options<'a, S: AsStr>(alloc: Global, words: &'a [S]) -> Result<Options<'a>, Error>
+    ensures { IfOk result (λ options. options.settings.now ≡ settings_text (map S.text words.entry.now)) }
+{
     let settings = Arg::new(alloc, "settings")
         .long("settings")
         .value_name("TEXT")
@@ -39,9 +44,9 @@ pub fn options<'a, S: AsStr>(alloc: Global, words: &'a [S]) -> Result<Options<'a
         .default_value("")
         .action(ArgAction::Set);
     let command = Command::new(alloc, "pdregress")
+        .arg(settings)?
         .about(ABOUT)
-        .after_help(COMMANDS)
-        .arg(settings)?;
+        .after_help(COMMANDS);
     let matches = command.try_get_matches_from(words)?;
     Ok(Options {
         settings: matches.get_str("settings").unwrap_or(""),

@@ -1,5 +1,5 @@
 -- Texts that are equal in their first lines have the same tokens there.
-use Rattle.std.proofs.Common.{◌≡◌, ℕ, zero, suc, ◌-◌, ◌<◌, ◌≤◌, Bool, true, false, cond, ◌==◌, List, [], ◌∷◌, ◌++◌, length, take, drop, min, Option, Some, None, refl, sym, ap, subst, ◌∙◌, arith, length-append, append_assoc, ◌⊎◌, inl, inr}
+use Rattle.std.proofs.Common.{◌≡◌, ℕ, zero, suc, ◌-◌, ◌<◌, ◌≤◌, Bool, true, false, cond, ◌==◌, List, [], ◌∷◌, ◌++◌, length, take, drop, min, max, Option, Some, None, refl, sym, ap, subst, ◌∙◌, arith, length-append, append_assoc, ◌⊎◌, inl, inr}
 use Rattle.std.specs.List.{list_all}
 use Rattle.std.proofs.lemmas.List.{drop-append-le, length-drop, append_cancel_right, get_or_append_left, nil_from_length, take-append-drop, length-take-le}
 use Rattle.std.proofs.lemmas.Bool.Decides.{nat_tests}
@@ -69,11 +69,11 @@ front_goes_on x y (b ∷ c) =
     rw (piece_in_line b c x, piece_in_line b c y) (piece_goes_on x y (b ∷ c) (piece (b ∷ c)) w.fits)
 
 -- far behind the first lines nothing is claimed
-far : (same n : ℕ) (xs others : List Item) → same < n → IsInOrder n xs → AgreeTo same xs others
-far same n [] others lt h = tt
-far same n (lexeme x ∷ xs) others lt h = λ le. absurd (omega (arith, h.0, h.1))
-far same n (ending last ∷ xs) others lt h = tt
-far same n (bad line ∷ xs) others lt h = tt
+far : (same n last : ℕ) (xs others : List Item) → same < n → IsInOrder n last xs → AgreeTo same xs others
+far same n last [] others lt h = tt
+far same n last (lexeme x ∷ xs) others lt h = λ le. absurd (omega (arith, h.0, h.2))
+far same n last (ending line ∷ xs) others lt h = tt
+far same n last (bad line ∷ xs) others lt h = tt
 
 -- a text in two parts
 joined-append : (xs ys : List (List ℕ)) → joined (xs ++ ys) ≡ joined xs ++ joined ys
@@ -159,7 +159,7 @@ module _ (cs xs ys : List (List ℕ)) (plain_x : list_all is_line (cs ++ xs) ≡
       let other = items_behind_gap (cs ++ ys) plain_y p hy b.0 b.1 in
       rw (other, b.2) (ih there (place_in_front cs xs there q.place near) near (omega (arith, ap length q.left)))
       in
-      let beyond : length cs < there.line → AgreeTo (length cs) (items (cs ++ xs) there) (items (cs ++ ys) p) = λ lt. far (length cs) there.line (items (cs ++ xs) there) (items (cs ++ ys) p) lt (items_rise (cs ++ xs) plain_x there q.place) in
+      let beyond : length cs < there.line → AgreeTo (length cs) (items (cs ++ xs) there) (items (cs ++ ys) p) = λ lt. far (length cs) there.line (max 1 (length (cs ++ xs))) (items (cs ++ xs) there) (items (cs ++ ys) p) lt (items_rise (cs ++ xs) plain_x there q.place) in
       rw is (by_line (length cs) there.line (AgreeTo (length cs) (items (cs ++ xs) there) (items (cs ++ ys) p)) beyond near)
   agree_by k p h le short ih (token kind rest) e =
       let hx = place_in_whole cs xs p h le in
@@ -202,7 +202,7 @@ module _ (cs xs ys : List (List ℕ)) (plain_x : list_all is_line (cs ++ xs) ≡
           let q = standing (cs ++ xs) p in
           let h : IsPlace (cs ++ xs) q = standing_is_place (cs ++ xs) p le in
           let is = items_from (cs ++ xs) plain_x p q h refl in
-          let beyond : length cs < q.line → AgreeTo (length cs) (items (cs ++ xs) q) (items (cs ++ ys) p) = λ lt. far (length cs) q.line (items (cs ++ xs) q) (items (cs ++ ys) p) lt (items_rise (cs ++ xs) plain_x q h) in
+          let beyond : length cs < q.line → AgreeTo (length cs) (items (cs ++ xs) q) (items (cs ++ ys) p) = λ lt. far (length cs) q.line (max 1 (length (cs ++ xs))) (items (cs ++ xs) q) (items (cs ++ ys) p) lt (items_rise (cs ++ xs) plain_x q h) in
           let near : q.line ≤ length cs → AgreeTo (length cs) (items (cs ++ xs) q) (items (cs ++ ys) p) = λ close.
           let front = place_in_front cs xs q h close in
           let same = standing_same p (omega (arith, standing_rises (cs ++ xs) p)) in

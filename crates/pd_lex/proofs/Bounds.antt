@@ -12,7 +12,7 @@ use Rattle.pd_lex.specs.declared.scan.Opener.TheVariants.{Comment, Quote, Backqu
 use Rattle.pd_lex.specs.Octets.{is_digit, is_hex_digit, is_word, is_blank, is_solid, is_inside_line, is_no_backquote, is_printable}
 use Rattle.pd_lex.specs.Pieces.{is_hex, fraction_len, value_len, word_piece, point_piece, dash_piece, piece, after_pair, after_quote, after_backquote, after_end, opener_text, opener_len, Front, nothing, gap, token, stray, closed, parted, front}
 use Rattle.pd_lex.specs.Scanned.{piece_len}
-use Rattle.pd_lex.specs.Spellings.{IsValue, IsQuoted, empty, plain, escaped, HasNoPair, IsSpelled, IsPiece, IsOpened, Fits}
+use Rattle.pd_lex.specs.Spellings.{IsValue, IsQuoted, empty, plain, escaped, HasNo, IsSpelled, IsPiece, IsOpened, Fits}
 use Rattle.pd_lex.proofs.Endings.{and-false}
 use Rattle.pd_lex.proofs.Fronts.{IsWithin, piece_within, IsShaped, at_blank, at_word, at_point, at_dash, at_line_comment, at_opener, at_symbol, at_stray, shaped, run_begins, positive}
 use Rattle.pd_lex.proofs.Rests.{and_first, and_second}
@@ -61,10 +61,10 @@ run_up_to : (p : ℕ → Bool) (text : List ℕ) (b : ℕ) (more : List ℕ) →
 run_up_to p [] b more h stop = rw stop refl
 run_up_to p (c ∷ text) b more h stop = rw (and_first (p c) (list_all p text) h, run_up_to p text b more (and_second (p c) (list_all p text) h) stop) (omega arith)
 
-word_is_no_blank : (b : ℕ) → is_word b ≡ true → is_blank b ≡ false
+pub word_is_no_blank : (b : ℕ) → is_word b ≡ true → is_blank b ≡ false
 word_is_no_blank b h = grind (arith, nat_tests)
 
-digit_is_word : (b : ℕ) → is_digit b ≡ true → is_word b ≡ true
+pub digit_is_word : (b : ℕ) → is_digit b ≡ true → is_word b ≡ true
 digit_is_word b h = rw h refl
 
 at_a_word : (b : ℕ) (s : List ℕ) → is_word b ≡ true → piece (b ∷ s) ≡ word_piece (b ∷ s)
@@ -83,11 +83,11 @@ run_taken [] more some all = absurd (omega arith)
 run_taken (b ∷ text) more some all =
     front_takes b (text ++ more) (length (b ∷ text)) (rw (at_a_word b (text ++ more) (and_first (is_word b) (list_all is_word text) all)) (word_long (b ∷ text ++ more) (length (b ∷ text)) (run_at_least is_word (b ∷ text) more all)))
 
-all_also : (p q : ℕ → Bool) → ((b : ℕ) → p b ≡ true → q b ≡ true) → (text : List ℕ) → list_all p text ≡ true → list_all q text ≡ true
+pub all_also : (p q : ℕ → Bool) → ((b : ℕ) → p b ≡ true → q b ≡ true) → (text : List ℕ) → list_all p text ≡ true → list_all q text ≡ true
 all_also p q also [] h = refl
 all_also p q also (b ∷ text) h = rw (also b (and_first (p b) (list_all p text) h), all_also p q also text (and_second (p b) (list_all p text) h)) refl
 
-hex_digit_is_word : (b : ℕ) → is_hex_digit b ≡ true → is_word b ≡ true
+pub hex_digit_is_word : (b : ℕ) → is_hex_digit b ≡ true → is_word b ≡ true
 hex_digit_is_word b h = grind (arith, nat_tests)
 
 int_taken : (text more : List ℕ) → 0 < length text → list_all is_digit text ≡ true → Takes (text ++ more) (length text) (front (text ++ more))
@@ -228,16 +228,16 @@ pair_test x y b c none = by_tests (eqb_tells x b) (eqb_tells y c)
     by_tests (inl t) (inr f) = rw (f.0, and-false) refl
     by_tests (inl t) (inl u) = absurd (none (t.1, u.1))
 
-no_pair_here : (x y b : ℕ) (body more : List ℕ) → eqb x y ≡ false → HasNoPair x y (b ∷ body) → starts_with nat_eq (b ∷ (body ++ x ∷ y ∷ more)) (x ∷ y ∷ []) ≡ false
+no_pair_here : (x y b : ℕ) (body more : List ℕ) → eqb x y ≡ false → HasNo (x ∷ y ∷ []) (b ∷ body) → starts_with nat_eq (b ∷ (body ++ x ∷ y ∷ more)) (x ∷ y ∷ []) ≡ false
 no_pair_here x y b [] more apart none = rw (other_order x y apart, and-false) refl
 no_pair_here x y b (c ∷ body) more apart none = pair_test x y b c (λ e. none [] body (let first = e.0 in let second = e.1 in cc))
 
-HasNoPair-tail : (x y b : ℕ) (body : List ℕ) → HasNoPair x y (b ∷ body) → HasNoPair x y body
-HasNoPair-tail x y b body none front back e = none (b ∷ front) back (ap (λ (l : List ℕ). b ∷ l) e)
+HasNo-tail : (x y b : ℕ) (body : List ℕ) → HasNo (x ∷ y ∷ []) (b ∷ body) → HasNo (x ∷ y ∷ []) body
+HasNo-tail x y b body none front back e = none (b ∷ front) back (ap (λ (l : List ℕ). b ∷ l) e)
 
-pair_ends : (x y : ℕ) (body more : List ℕ) → eqb x y ≡ false → HasNoPair x y body → after_pair x y (body ++ x ∷ y ∷ more) ≡ Some more
+pair_ends : (x y : ℕ) (body more : List ℕ) → eqb x y ≡ false → HasNo (x ∷ y ∷ []) body → after_pair x y (body ++ x ∷ y ∷ more) ≡ Some more
 pair_ends x y [] more apart none = rw (same_octet x, same_octet y) refl
-pair_ends x y (b ∷ body) more apart none = rw (no_pair_here x y b body more apart none) (pair_ends x y body more apart (HasNoPair-tail x y b body none))
+pair_ends x y (b ∷ body) more apart none = rw (no_pair_here x y b body more apart none) (pair_ends x y body more apart (HasNo-tail x y b body none))
 
 str_taken : (body more : List ℕ) → IsQuoted body → Takes (34 ∷ body ++ 34 ∷ more) (length (34 ∷ body ++ 34 ∷ [])) (front (34 ∷ body ++ 34 ∷ more))
 unfolding piece
@@ -247,11 +247,11 @@ cmd_taken : (body more : List ℕ) → list_all is_no_backquote body ≡ true �
 unfolding piece
 cmd_taken body more h = closed_taken 96 (body ++ 96 ∷ more) Backquote (length (96 ∷ body ++ 96 ∷ [])) more refl (backquote_ends body more h) (omega (arith, length-append body (96 ∷ []), length-append body (96 ∷ more)))
 
-code_taken : (body more : List ℕ) → HasNoPair 125 37 body → Takes (37 ∷ 123 ∷ body ++ 125 ∷ 37 ∷ more) (length (37 ∷ 123 ∷ body ++ 125 ∷ 37 ∷ [])) (front (37 ∷ 123 ∷ body ++ 125 ∷ 37 ∷ more))
+code_taken : (body more : List ℕ) → HasNo (125 ∷ 37 ∷ []) body → Takes (37 ∷ 123 ∷ body ++ 125 ∷ 37 ∷ more) (length (37 ∷ 123 ∷ body ++ 125 ∷ 37 ∷ [])) (front (37 ∷ 123 ∷ body ++ 125 ∷ 37 ∷ more))
 unfolding piece
 code_taken body more h = closed_taken 37 (123 ∷ body ++ 125 ∷ 37 ∷ more) Brace (length (37 ∷ 123 ∷ body ++ 125 ∷ 37 ∷ [])) more refl (pair_ends 125 37 body more refl h) (omega (arith, length-append body (125 ∷ 37 ∷ []), length-append body (125 ∷ 37 ∷ more)))
 
-block_comment_taken : (body more : List ℕ) → HasNoPair 42 47 body → Takes (47 ∷ 42 ∷ body ++ 42 ∷ 47 ∷ more) (length (47 ∷ 42 ∷ body ++ 42 ∷ 47 ∷ [])) (front (47 ∷ 42 ∷ body ++ 42 ∷ 47 ∷ more))
+block_comment_taken : (body more : List ℕ) → HasNo (42 ∷ 47 ∷ []) body → Takes (47 ∷ 42 ∷ body ++ 42 ∷ 47 ∷ more) (length (47 ∷ 42 ∷ body ++ 42 ∷ 47 ∷ [])) (front (47 ∷ 42 ∷ body ++ 42 ∷ 47 ∷ more))
 unfolding piece
 block_comment_taken body more h = closed_taken 47 (42 ∷ body ++ 42 ∷ 47 ∷ more) Comment (length (47 ∷ 42 ∷ body ++ 42 ∷ 47 ∷ [])) more refl (pair_ends 42 47 body more refl h) (omega (arith, length-append body (42 ∷ 47 ∷ []), length-append body (42 ∷ 47 ∷ more)))
 

@@ -86,7 +86,7 @@ module _ (lines : List (List ℕ)) (plain : list_all is_line lines ≡ true) whe
   token_shorter p q kind e = IsRest-shorter (octets_from lines p) (octets_from lines q) (rest_of_token (octets_from lines p) (octets_from lines q) kind e)
 
   -- a place from which something is left lies in a line of the text
-  line_within : (p : Place) → IsPlace lines p → 0 < length (octets_from lines p) → (1 ≤ p.line) × (p.line ≤ length lines)
+  pub line_within : (p : Place) → IsPlace lines p → 0 < length (octets_from lines p) → (1 ≤ p.line) × (p.line ≤ length lines)
   line_within p h some = by_lines (cases_lt (length lines) p.line)
     where
       by_lines : ((length lines < p.line) ⊎ (p.line ≤ length lines)) → (1 ≤ p.line) × (p.line ≤ length lines)

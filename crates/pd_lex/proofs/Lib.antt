@@ -11,3 +11,4 @@ pub mod Spelled
 pub mod Longest
 pub mod Order
 pub mod Agreement
+pub mod KindOf

@@ -7,6 +7,7 @@ use Rattle.pd_lex.specs.Pieces.{gap, token, stray, front}
 use Rattle.pd_lex.specs.Spellings.{IsPiece, IsOpened, Fits, IsLongest, IsStuck, Skips, here, past}
 use Rattle.pd_lex.proofs.Fronts.{IsRest, IsRest-cut, LeavesRest, front_leaves}
 use Rattle.pd_lex.proofs.Bounds.{Takes, bound}
+use Rattle.pd_lex.proofs.KindOf.{one_kind}
 use Rattle.pd_lex.proofs.Spelled.{IsWell, front_well}
 
 longest_by : (s rest : List ℕ) (kind : Option TokenKind) → IsRest s rest → IsPiece kind (before s rest) → (kind ≡ Some Symbol → ¬ IsOpened s) → ((other : Option TokenKind) (prefix : List ℕ) → Fits s other prefix → length prefix + length rest ≤ length s) → IsLongest s kind (before s rest) rest
@@ -17,6 +18,7 @@ longest_by s rest kind left spelled unopened bounded =
       cut = cut;
       fits = record { more = rest; cut = cut; spelled = spelled; unopened = unopened };
       longest = λ other prefix fits. omega (arith, sum, bounded other prefix fits);
+      only = λ other is. one_kind other kind (before s rest) is spelled;
     }
 
 pub longest_gap : (s rest : List ℕ) → front s ≡ gap rest → IsLongest s None (before s rest) rest
@@ -31,7 +33,7 @@ longest_token s rest kind e =
     same_kind : (a b : TokenKind) → ◌≡◌ {A = Option TokenKind} (Some a) (Some b) → a ≡ b
     same_kind a b is = cc
 
-not_empty : (s : List ℕ) → front s ≡ stray → 0 < length s
+pub not_empty : (s : List ℕ) → front s ≡ stray → 0 < length s
 unfolding front
 not_empty [] e = absurd cc
 not_empty (b ∷ s) e = omega arith

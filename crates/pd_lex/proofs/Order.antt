@@ -1,5 +1,5 @@
 -- The tokens of a text come in the order of their lines.
-use Rattle.std.proofs.Common.{◌≡◌, ℕ, zero, suc, ◌+◌, ◌<◌, ◌≤◌, Bool, true, false, cond, ◌==◌, List, [], ◌∷◌, ◌++◌, length, drop, min, Option, Some, None, refl, sym, ap, subst, ◌∙◌, arith, ◌⊎◌, inl, inr}
+use Rattle.std.proofs.Common.{◌≡◌, ℕ, zero, suc, ◌+◌, ◌<◌, ◌≤◌, Bool, true, false, cond, ◌==◌, List, [], ◌∷◌, ◌++◌, length, drop, min, max, Option, Some, None, refl, sym, ap, subst, ◌∙◌, arith, ◌⊎◌, inl, inr}
 use Rattle.std.specs.List.{list_all}
 use Rattle.std.proofs.lemmas.List.{drop-append-le, nil_from_length}
 use Rattle.std.proofs.lemmas.Bool.{cases_lt}
@@ -18,7 +18,8 @@ use Rattle.pd_lex.specs.Pieces.{piece, after_end, opener_len, Front, nothing, ga
 use Rattle.pd_lex.specs.Tokens.{Item, lexeme, ending, bad, items}
 use Rattle.pd_lex.specs.Scanned.{IsLeftAt}
 use Rattle.pd_lex.specs.Agreement.{IsInOrder}
-use Rattle.pd_lex.proofs.Items.{items_from, items_past, items_over_gap, items_at_token, items_at_end, items_at_stray}
+use Rattle.pd_lex.proofs.Longest.{not_empty}
+use Rattle.pd_lex.proofs.Items.{line_within, items_from, items_past, items_over_gap, items_at_token, items_at_end, items_at_stray}
 use Rattle.pd_lex.proofs.Texts.{standing_is_place}
 use Rattle.pd_lex.proofs.Rests.{octets_in_line, octets_past, advance, further_in_line, same_place}
 use Rattle.pd_lex.proofs.Steps.{front_is}
@@ -111,11 +112,11 @@ module _ (lines : List (List ℕ)) (plain : list_all is_line lines ≡ true) (p 
   token_stays = by_line (length lines) p.line ((place_after p (before (octets_from lines p) rest)).line ≡ p.line) (λ lt. absurd (nothing_is_no_token kind rest (ap front (sym (octets_past lines p lt)) ∙ e))) (λ le. line_stays le (drop p.at (line_at lines p.line)) refl)
 
 -- tokens come in order
-pub rises_from : (n m : ℕ) (xs : List Item) → n ≤ m → IsInOrder m xs → IsInOrder n xs
-rises_from n m [] le h = tt
-rises_from n m (lexeme x ∷ xs) le h = (omega (arith, h.0), h.1, h.2, h.3)
-rises_from n m (ending last ∷ xs) le h = tt
-rises_from n m (bad line ∷ xs) le h = omega (arith, h)
+pub rises_from : (n m last : ℕ) (xs : List Item) → n ≤ m → IsInOrder m last xs → IsInOrder n last xs
+rises_from n m last [] le h = tt
+rises_from n m last (lexeme x ∷ xs) le h = (omega (arith, h.0), h.1, h.2, h.3, h.4)
+rises_from n m last (ending line ∷ xs) le h = h
+rises_from n m last (bad line ∷ xs) le h = (omega (arith, h.0), h.1)
 
 closed_some : (o : Opener) (r : Option (List ℕ)) → closed o r ≡ nothing → ⊥
 closed_some o None e = cc
@@ -136,27 +137,30 @@ nothing_left [] e = refl
 nothing_left (b ∷ s) e = absurd (parted_some (b ∷ s) (piece (b ∷ s)) e)
 
 module _ (lines : List (List ℕ)) (plain : list_all is_line lines ≡ true) where
-  rises_by : (k : ℕ) (p : Place) → IsPlace lines p → length (octets_from lines p) ≤ suc k → ((q : Place) → IsPlace lines q → length (octets_from lines q) ≤ k → IsInOrder q.line (items lines q)) → (f : Front) → front (octets_from lines p) ≡ f → IsInOrder p.line (items lines p)
-  rises_by k p h le ih nothing e = rw (items_at_end lines plain p h (nothing_left (octets_from lines p) e)) tt
+  rises_by : (k : ℕ) (p : Place) → IsPlace lines p → length (octets_from lines p) ≤ suc k → ((q : Place) → IsPlace lines q → length (octets_from lines q) ≤ k → IsInOrder q.line (max 1 (length lines)) (items lines q)) → (f : Front) → front (octets_from lines p) ≡ f → IsInOrder p.line (max 1 (length lines)) (items lines p)
+  rises_by k p h le ih nothing e = rw (items_at_end lines plain p h (nothing_left (octets_from lines p) e)) refl
   rises_by k p h le ih (gap rest) e =
       let r = gap_rest lines plain p h rest e in
       let q = left_behind lines plain p h rest r in
       let less = IsRest-shorter (octets_from lines p) rest r in
       let more = ih (place_after p (before (octets_from lines p) rest)) q.place (omega (arith, ap length q.left)) in
-      rw (items_behind_gap lines plain p h rest e) (rises_from p.line (place_after p (before (octets_from lines p) rest)).line (items lines (place_after p (before (octets_from lines p) rest))) (after_rises p (before (octets_from lines p) rest)) more)
+      rw (items_behind_gap lines plain p h rest e) (rises_from p.line (place_after p (before (octets_from lines p) rest)).line (max 1 (length lines)) (items lines (place_after p (before (octets_from lines p) rest))) (after_rises p (before (octets_from lines p) rest)) more)
   rises_by k p h le ih (token kind rest) e =
       let r = token_rest lines plain p h rest kind e in
       let q = left_behind lines plain p h rest r in
       let less = IsRest-shorter (octets_from lines p) rest r in
       let more = ih (place_after p (before (octets_from lines p) rest)) q.place (omega (arith, ap length q.left)) in
-      rw (items_behind_token lines plain p h rest kind e) (omega arith, after_rises p (before (octets_from lines p) rest), token_stays lines plain p h rest kind e, more)
-  rises_by k p h le ih stray e = rw (items_at_stray lines plain p h e) (omega arith)
+      let here = line_within lines plain p h (omega (arith, less)) in
+      rw (items_behind_token lines plain p h rest kind e) (omega arith, omega (arith, here.1), after_rises p (before (octets_from lines p) rest), token_stays lines plain p h rest kind e, more)
+  rises_by k p h le ih stray e =
+      let here = line_within lines plain p h (not_empty (octets_from lines p) e) in
+      rw (items_at_stray lines plain p h e) (omega arith, omega (arith, here.1))
 
-  rises_within : (k : ℕ) (p : Place) → IsPlace lines p → length (octets_from lines p) ≤ k → IsInOrder p.line (items lines p)
-  rises_within zero p h le = rw (items_at_end lines plain p h (nil_from_length (octets_from lines p) (omega arith))) tt
+  rises_within : (k : ℕ) (p : Place) → IsPlace lines p → length (octets_from lines p) ≤ k → IsInOrder p.line (max 1 (length lines)) (items lines p)
+  rises_within zero p h le = rw (items_at_end lines plain p h (nil_from_length (octets_from lines p) (omega arith))) refl
   rises_within (suc k) p h le = rises_by k p h le (rises_within k) (front (octets_from lines p)) refl
 
-  pub items_rise : (p : Place) → IsPlace lines p → IsInOrder p.line (items lines p)
+  pub items_rise : (p : Place) → IsPlace lines p → IsInOrder p.line (max 1 (length lines)) (items lines p)
   items_rise p h = rises_within (length (octets_from lines p)) p h (omega arith)
 
 -- a place stands no earlier than it says
@@ -171,13 +175,13 @@ standing_rises lines p = by_test (p.line == 0) refl
     by_test true e = omega (arith, is_zero p.line e)
     by_test false e = omega arith
 
-pub rise : (lines : List (List ℕ)) (p : Place) → list_all is_line lines ≡ true → IsInOrder p.line (items lines p)
-rise lines p plain = by_line (length lines) p.line (IsInOrder p.line (items lines p)) past within
+pub rise : (lines : List (List ℕ)) (p : Place) → list_all is_line lines ≡ true → IsInOrder p.line (max 1 (length lines)) (items lines p)
+rise lines p plain = by_line (length lines) p.line (IsInOrder p.line (max 1 (length lines)) (items lines p)) past within
   where
-    past : length lines < p.line → IsInOrder p.line (items lines p)
-    past lt = rw (items_past lines plain p lt) tt
+    past : length lines < p.line → IsInOrder p.line (max 1 (length lines)) (items lines p)
+    past lt = rw (items_past lines plain p lt) refl
 
-    within : p.line ≤ length lines → IsInOrder p.line (items lines p)
+    within : p.line ≤ length lines → IsInOrder p.line (max 1 (length lines)) (items lines p)
     within le =
         let h = standing_is_place lines p le in
-        rw (items_from lines plain p (standing lines p) h refl) (rises_from p.line (standing lines p).line (items lines (standing lines p)) (standing_rises lines p) (items_rise lines plain (standing lines p) h))
+        rw (items_from lines plain p (standing lines p) h refl) (rises_from p.line (standing lines p).line (max 1 (length lines)) (items lines (standing lines p)) (standing_rises lines p) (items_rise lines plain (standing lines p) h))

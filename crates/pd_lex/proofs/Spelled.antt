@@ -16,7 +16,7 @@ use Rattle.pd_lex.specs.declared.scan.Opener.TheVariants.{Comment, Quote, Backqu
 use Rattle.pd_lex.specs.Octets.{is_digit, is_hex_digit, is_word, is_solid, is_inside_line, is_no_backquote, is_printable}
 use Rattle.pd_lex.specs.Places.{before}
 use Rattle.pd_lex.specs.Pieces.{is_hex, fraction_len, value_len, word_piece, point_piece, dash_piece, piece, after_pair, after_quote, after_backquote, after_end, opener_text, opener_len, Front, nothing, gap, token, stray, closed, parted, front}
-use Rattle.pd_lex.specs.Spellings.{AreAll, AreSome, IsHex, IsValue, IsOpt, IsQuoted, empty, plain, escaped, IsStr, IsCmd, HasNoPair, IsCode, IsSpelled, IsLineComment, IsBlockComment, IsPiece, IsOpened}
+use Rattle.pd_lex.specs.Spellings.{AreAll, AreSome, IsHex, IsValue, IsOpt, IsQuoted, empty, plain, escaped, IsStr, IsCmd, HasNo, IsCode, IsSpelled, IsLineComment, IsBlockComment, IsPiece, IsOpened}
 use Rattle.pd_lex.proofs.Fronts.{IsWithin, piece_within, IsOther, IsShaped, at_blank, at_word, at_point, at_dash, at_line_comment, at_opener, at_symbol, at_stray, shaped, run_begins, positive}
 use Rattle.pd_lex.proofs.Bounds.{begins_pair, begins_one, same_octet}
 use Rattle.pd_lex.proofs.Rests.{and_first, and_second}
@@ -75,7 +75,7 @@ take_sum n m s le =
     rw (len, whole) at e
 
 -- letters, digits and `_`
-hex_is : (s : List ℕ) → is_hex s ≡ true → IsHex s
+pub hex_is : (s : List ℕ) → is_hex s ≡ true → IsHex s
 hex_is [] h = absurd cc
 hex_is (b ∷ s) h =
     let start = starts_with nat_eq (b ∷ s) (48 ∷ 120 ∷ []) in
@@ -91,7 +91,7 @@ hex_is (b ∷ s) h =
     longer : (n : ℕ) → nat_lt 2 n ≡ true → 2 < n
     longer n h = grind (arith, nat_tests)
 
-is_hex_of : (digits : List ℕ) → 0 < length digits → list_all is_hex_digit digits ≡ true → is_hex (48 ∷ 120 ∷ digits) ≡ true
+pub is_hex_of : (digits : List ℕ) → 0 < length digits → list_all is_hex_digit digits ≡ true → is_hex (48 ∷ 120 ∷ digits) ≡ true
 is_hex_of digits some all = rw (longer (length (48 ∷ 120 ∷ digits)) (omega arith), all) refl
   where
     longer : (n : ℕ) → 2 < n → nat_lt 2 n ≡ true
@@ -174,8 +174,14 @@ dash_sound s =
     (λ _. dash_symbol s)
 
 -- comments to the end of the line
+take_one_more : (n b : ℕ) (s : List ℕ) → take (1 + n) (b ∷ s) ≡ b ∷ take n s
+take_one_more n b s = rw one-add refl
+
 line_comment_sound : (s more : List ℕ) → s ≡ 47 ∷ 47 ∷ more → IsLineComment (take (prefix_len is_inside_line s) s)
-line_comment_sound s more is = (take (prefix_len is_inside_line more) more, rw (is, one-add) (rw one-add refl), run_passes is_inside_line more)
+line_comment_sound s more is =
+    let n = prefix_len is_inside_line more in
+    let slashes = take_one_more (1 + n) 47 (47 ∷ more) ∙ ap (λ (l : List ℕ). 47 ∷ l) (take_one_more n 47 more) in
+    (take n more, rw is slashes, run_passes is_inside_line more)
 
 pair_begins : (s more : List ℕ) (x y : ℕ) → s ≡ x ∷ y ∷ more → starts_with nat_eq s (x ∷ y ∷ []) ≡ true
 pair_begins s more x y is = rw (is, same_octet x, same_octet y) refl
@@ -249,14 +255,14 @@ backquote_before : (s r : List ℕ) → after_backquote s ≡ Some r → Backquo
 backquote_before [] r e = absurd cc
 backquote_before (b ∷ s) r e = backquote_step b s r e (backquote_before s r) (eqb_tells b 96)
 
-none_in_nothing : (x y : ℕ) → HasNoPair x y []
+none_in_nothing : (x y : ℕ) → HasNo (x ∷ y ∷ []) []
 none_in_nothing x y [] back e = cc
 none_in_nothing x y (f ∷ front) back e = cc
 
 abbrev pub PairBefore : ℕ → ℕ → List ℕ → List ℕ → Type 0
-PairBefore x y s r = (body : List ℕ) × (s ≡ body ++ x ∷ y ∷ r) × HasNoPair x y body
+PairBefore x y s r = (body : List ℕ) × (s ≡ body ++ x ∷ y ∷ r) × HasNo (x ∷ y ∷ []) body
 
-no_pair_first : (x y b : ℕ) (s body r : List ℕ) → starts_with nat_eq (b ∷ s) (x ∷ y ∷ []) ≡ false → s ≡ body ++ x ∷ y ∷ r → HasNoPair x y body → HasNoPair x y (b ∷ body)
+no_pair_first : (x y b : ℕ) (s body r : List ℕ) → starts_with nat_eq (b ∷ s) (x ∷ y ∷ []) ≡ false → s ≡ body ++ x ∷ y ∷ r → HasNo (x ∷ y ∷ []) body → HasNo (x ∷ y ∷ []) (b ∷ body)
 no_pair_first x y b s body r fails is none [] back e =
     let first : b ≡ x = ap (λ (l : List ℕ). get_or l 0 0) e in
     let second : body ≡ y ∷ back = ap (drop 1) e in

@@ -1,5 +1,5 @@
 -- The items of texts that are equal in their first lines.
-use Rattle.std.specs.Prelude.{◌≡◌, ℕ, ◌≤◌, true, List, [], ◌∷◌, length, take}
+use Rattle.std.specs.Prelude.{◌≡◌, ℕ, ◌≤◌, true, List, [], ◌∷◌, length, take, max}
 use Rattle.pd_text.specs.Text.{AreLines}
 use Rattle.pd_lex.specs.declared.token.Place.{Place}
 use Rattle.pd_lex.specs.Kinds.{stays_in_line}
@@ -10,24 +10,24 @@ use Rattle.pd_lex.specs.Tokens.{Lexeme, Item, lexeme, ending, bad, items}
 abbrev pub last_line : Lexeme → ℕ
 last_line x = (place_after x.from x.text).line
 
--- the items come in order: a token begins in this line or in a later one, and no later one before the line of its end;
--- a token of a kind that stays in its line ends where it begins
-abbrev pub IsInOrder : ℕ → List Item → Type 0
-IsInOrder line [] = Unit {0}
-IsInOrder line (lexeme x ∷ items) = (line ≤ x.from.line) × (x.from.line ≤ last_line x) × (stays_in_line x.kind ≡ true → last_line x ≡ x.from.line) × IsInOrder (last_line x) items
-IsInOrder line (ending last ∷ items) = Unit {0}
-IsInOrder line (bad n ∷ items) = line ≤ n
+-- the items come in order, from this line to the last: a token begins in this line or a later one, and those after it
+-- not before the line of its end; a token of a kind that stays in its line ends where it begins
+abbrev pub IsInOrder : ℕ → ℕ → List Item → Type 0
+IsInOrder line last [] = Unit {0}
+IsInOrder line last (lexeme x ∷ items) = (line ≤ x.from.line) × (x.from.line ≤ last) × (x.from.line ≤ last_line x) × (stays_in_line x.kind ≡ true → last_line x ≡ x.from.line) × IsInOrder (last_line x) last items
+IsInOrder line last (ending n ∷ items) = n ≡ last
+IsInOrder line last (bad n ∷ items) = (line ≤ n) × (n ≤ last)
 
 -- as long as the tokens of one list end within the first `same` lines, the other list has the same
 abbrev pub AgreeTo : ℕ → List Item → List Item → Type 0
 AgreeTo same [] others = Unit {0}
 AgreeTo same (lexeme x ∷ items) others = last_line x ≤ same → (rest : List Item) × (others ≡ lexeme x ∷ rest) × AgreeTo same items rest
-AgreeTo same (ending last ∷ items) others = Unit {0}
+AgreeTo same (ending n ∷ items) others = Unit {0}
 AgreeTo same (bad n ∷ items) others = Unit {0}
 
--- the items of every text come in order, from every place
+-- the items of every text come in order, from every place; an empty text has line 1
 abbrev pub ItemsAreInOrder : Type 0
-ItemsAreInOrder = (lines : List (List ℕ)) (p : Place) → AreLines lines → IsInOrder p.line (items lines p)
+ItemsAreInOrder = (lines : List (List ℕ)) (p : Place) → AreLines lines → IsInOrder p.line (max 1 (length lines)) (items lines p)
 
 -- texts whose first `same` lines are equal have the same tokens there, from every place
 abbrev pub FirstLinesAgree : Type 0

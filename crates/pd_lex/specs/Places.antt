@@ -2,7 +2,7 @@
 use Rattle.std.specs.Prelude.{ℕ, ◌+◌, ◌-◌, ◌≤◌, List, [], ◌∷◌, ◌++◌, length, take, drop, get_or, min, if◌then◌else◌, ◌==◌}
 use Rattle.std.specs.List.{prefix_len}
 use Rattle.pd_lex.specs.declared.token.Place.{Place}
-use Rattle.pd_lex.specs.Octets.{is_inside_line}
+use Rattle.pd_lex.specs.Octets.{newline, is_inside_line}
 
 -- line 1, octet 0
 abbrev pub first_place : Place
@@ -11,7 +11,7 @@ first_place = record { line = 1; at = 0 }
 -- the octets of a text: each line with its newline
 abbrev pub joined : List (List ℕ) → List ℕ
 joined [] = []
-joined (line ∷ lines) = line ++ 10 ∷ joined lines
+joined (line ∷ lines) = line ++ newline ∷ joined lines
 
 -- a line, counted from 1; past the last line nothing
 abbrev pub line_at : List (List ℕ) → ℕ → List ℕ
@@ -34,7 +34,7 @@ octets_from lines p = drop (standing lines p).at (joined (drop ((standing lines 
 -- the place behind some octets: a newline leads to the start of the next line
 abbrev pub place_after : Place → List ℕ → Place
 place_after p [] = p
-place_after p (b ∷ s) = place_after (if b == 10 then record { line = p.line + 1; at = 0 } else record { line = p.line; at = p.at + 1 }) s
+place_after p (b ∷ s) = place_after (if b == newline then record { line = p.line + 1; at = 0 } else record { line = p.line; at = p.at + 1 }) s
 
 -- what stands before the last part of a list
 abbrev pub before : List ℕ → List ℕ → List ℕ

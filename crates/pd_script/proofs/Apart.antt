@@ -6,7 +6,7 @@ use Rattle.pd_lex.specs.declared.token.TokenKind.TheVariants as kinds
 use Rattle.pd_lex.specs.Tokens.{Item, lexeme, ending, bad}
 use Rattle.std.specs.Str.{bytes_eq}
 use Rattle.std.proofs.lemmas.Slice.Eq.{bytes_eq-Decides}
-use Rattle.pd_script.specs.Items.{is_token, is_any_int, is_int, is_hex, is_num, is_word, is_symbol, is_int_kind, is_hex_kind, is_num_kind, is_word_kind, is_symbol_kind, is_end, starts_event, goes_on}
+use Rattle.pd_script.specs.Items.{is_token, is_any_int, is_int, is_hex, is_num, is_dots, is_command, is_code, is_word, is_symbol, is_dots_kind, is_command_kind, is_code_kind, is_int_kind, is_hex_kind, is_num_kind, is_word_kind, is_symbol_kind, is_end, starts_event, goes_on}
 
 -- ---- tests
 
@@ -90,6 +90,7 @@ apart f g p q none fp gq t h = by_test (q t) refl
     other (lexeme x) a b = let no = apart_kind (f x.kind) (g x.kind) (each_kind (λ k. not (f k && g k)) none x.kind) a in absurd cc
     other (ending line) a b = absurd cc
     other (bad line) a b = absurd cc
+
     by_test : (b : Bool) → q t ≡ b → q t ≡ false
     by_test true e = absurd (other t (fp.kind t h) (gq.kind t e))
     by_test false e = e
@@ -136,6 +137,15 @@ num_kind = record { kind = at }
 pub word_kind : IsOf is_word_kind is_word
 word_kind = record { kind = λ x h. h }
 
+pub dots_kind : IsOf is_dots_kind is_dots
+dots_kind = record { kind = λ x h. h }
+
+pub command_kind : IsOf is_command_kind is_command
+command_kind = record { kind = λ x h. h }
+
+pub code_kind : IsOf is_code_kind is_code
+code_kind = record { kind = λ x h. h }
+
 pub symbol_kind : (octet : ℕ) → IsOf is_symbol_kind (is_symbol octet)
 symbol_kind octet = record { kind = at }
   where
@@ -156,7 +166,7 @@ and-false-right true b h = h
 and-false-right false b h = refl
 
 -- a text that is this one is no other
-text_apart : (text a b : List ℕ) → bytes_eq a b ≡ false → bytes_eq text a ≡ true → bytes_eq text b ≡ false
+pub text_apart : (text a b : List ℕ) → bytes_eq a b ≡ false → bytes_eq text a ≡ true → bytes_eq text b ≡ false
 text_apart text a b other h = let same : text ≡ a = (bytes_eq-Decides text a).0 h in rw same other
 
 pub symbol_apart : (a b : ℕ) → bytes_eq (a ∷ []) (b ∷ []) ≡ false → (t : Item) → is_symbol a t ≡ true → is_symbol b t ≡ false

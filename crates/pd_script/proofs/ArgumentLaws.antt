@@ -8,7 +8,8 @@ use Rattle.pd_lex.specs.Places.{first_place}
 use Rattle.pd_lex.specs.Tokens.{Item, Lexeme, lexeme, ending, bad, line_of}
 use Rattle.pd_script.specs.Items.{is_symbol, is_plain, is_any_int, is_word}
 use Rattle.pd_script.specs.Reader.{Read, Reader, Move, stuck, ends, goes, onto, moved, machine_at, when, done, one, ◌>>=◌}
-use Rattle.pd_script.specs.Reading.{symbol_at, arguments_at, no_arguments_at}
+use Rattle.pd_script.specs.TokenReading.{symbol_at}
+use Rattle.pd_script.specs.Reading.{arguments_at, no_arguments_at}
 use Rattle.pd_script.specs.declared.drafts.Inside.{Inside}
 use Rattle.pd_script.specs.Brackets.{fresh, argument_move, move_within, led, parted, pairs_after, opened_by, is_closing, closed, closing_octet, single_draft, longer_draft, drafted, is_empty}
 use Rattle.pd_script.specs.declared.calls.Argument.{Argument}
@@ -32,7 +33,7 @@ abbrev pub a_word : Item
 a_word = a_token kinds.Word (97 ∷ [])
 
 -- the pairs that are open are closed, and then the call's own
-closing : List Bracket → List Item
+unfoldable pub closing : List Bracket → List Item
 closing [] = closer brackets.Round ∷ []
 closing (b ∷ pairs) = closer b ∷ closing pairs
 
@@ -63,7 +64,7 @@ closes (brackets.Round ∷ pairs) d tail h = rw (closes pairs (longer_draft d (c
 closes (brackets.Square ∷ pairs) d tail h = rw (closes pairs (longer_draft d (closer brackets.Square)) tail (is_empty-longer_draft d (closer brackets.Square))) refl
 closes (brackets.Curly ∷ pairs) d tail h = rw (closes pairs (longer_draft d (closer brackets.Curly)) tail (is_empty-longer_draft d (closer brackets.Curly))) refl
 
-plain_closing : (pairs : List Bracket) → list_all is_plain (closing pairs) ≡ true
+pub plain_closing : (pairs : List Bracket) → list_all is_plain (closing pairs) ≡ true
 unfolding closing
 plain_closing [] = refl
 plain_closing (brackets.Round ∷ pairs) = plain_closing pairs
@@ -82,7 +83,7 @@ full_within s =
       more = a_word ∷ closing s.pairs;
       value = drafted (at_close s.pairs d) ∷ [];
       spelled = plain_closing s.pairs;
-      reads = λ tail h. goes_on_by_word s.pairs s.draft (closing s.pairs ++ tail) ∙ rw (closes s.pairs d tail (is_empty-longer_draft s.draft a_word)) refl
+      reads = λ tail h. goes_on_by_word s.pairs s.draft (closing s.pairs ++ tail) ∙ rw (closes s.pairs d tail (is_empty-longer_draft s.draft a_word)) refl;
     }
 
 -- arguments don't begin with the bracket that ends them
@@ -100,13 +101,13 @@ unfolding arguments_at
 Laws-arguments =
     let within : Laws (machine_at argument_move fresh) (λ t. not (is_symbol 41 t)) any = (let l = Laws-machine argument_move full_within fresh in record { took = l.took; failed = l.failed; full = l.full; begins = λ ts v rest e h. begins_within ts v rest e }) in
     Laws-when (is_symbol 41) no_arguments_at (machine_at argument_move fresh) (is_symbol 41) (λ t. not (is_symbol 41 t)) any any
-      (Laws-bind (symbol_at 41) (λ line. done []) (is_symbol 41) any any any
-        (Laws-bind (one (is_symbol 41)) (λ t. done (line_of t)) (is_symbol 41) any any any (Laws-one (is_symbol 41) (closer brackets.Round) refl refl) (λ t. Laws-done (line_of t) any) (λ t h. refl))
-        (λ line. Laws-done [] any)
-        (λ t h. refl))
-      within
-      (λ t h. h)
-      (λ t h. not-true (is_symbol 41 t) h)
-      (λ v rest e. absurd cc)
-      (λ t h. refl)
-      (λ t h. refl)
+    (Laws-bind (symbol_at 41) (λ line. done []) (is_symbol 41) any any any
+    (Laws-bind (one (is_symbol 41)) (λ t. done (line_of t)) (is_symbol 41) any any any (Laws-one (is_symbol 41) (closer brackets.Round) refl refl) (λ t. Laws-done (line_of t) any) (λ t h. refl))
+    (λ line. Laws-done [] any)
+    (λ t h. refl))
+    within
+    (λ t h. h)
+    (λ t h. not-true (is_symbol 41 t) h)
+    (λ v rest e. absurd cc)
+    (λ t h. refl)
+    (λ t h. refl)

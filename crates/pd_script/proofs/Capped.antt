@@ -2,7 +2,7 @@
 use Rattle.std.proofs.Common.{◌≡◌, ℕ, zero, suc, ◌+◌, ◌-◌, ◌*◌, ◌^◌, ◌<◌, ◌≤◌, min, Bool, true, false, List, [], ◌∷◌, ◌++◌, length, refl, sym, ap, subst, ◌∙◌, arith, le_trans, inl, inr}
 use Rattle.std.specs.Prelude.{fold, ◌⊎◌, nat_le, take, drop, replicate}
 use Rattle.std.proofs.lemmas.Bool.Decides.{nat_tests}
-use Rattle.std.proofs.Math.Nat.{le-mul_of_pos_right, mul-le-mul_right, mul_assoc}
+use Rattle.std.proofs.Math.Nat.{le-mul_of_pos_right}
 use Rattle.std.proofs.lemmas.List.{length-take}
 use Rattle.std.specs.Char.{digit_value}
 use Rattle.std.specs.Str.Parse.{digits_value, digits_value_after}
@@ -50,40 +50,14 @@ capped_is r ds h = fold-capped_digit r 0 ds h (omega arith)
 
 pub ruleset capping = (capped_is)
 
-digit_value-le : (d : ℕ) → digit_value d ≤ 36
-digit_value-le d = grind (arith, nat_tests)
-
-tens : ℕ → ℕ
-tens zero = 1
-tens (suc m) = 10 * tens m
-
-one-le-tens : (m : ℕ) → 1 ≤ tens m
-unfolding tens
-one-le-tens zero = omega arith
-one-le-tens (suc m) = omega (arith, one-le-tens m)
-
--- few digits add little
-digits_value_after-le : (m n : ℕ) (ds : List ℕ) → length ds ≤ m → digits_value_after 10 n ds + 4 ≤ (n + 4) * tens m
-unfolding tens
-digits_value_after-le zero n [] h = omega arith
-digits_value_after-le zero n (d ∷ ds) h = absurd (omega arith)
-digits_value_after-le (suc m) n [] h = le-mul_of_pos_right (n + 4) (one-le-tens (suc m))
-digits_value_after-le (suc m) n (d ∷ ds) h =
-    let more : digits_value_after 10 (n * 10 + digit_value d) ds + 4 ≤ (n * 10 + digit_value d + 4) * tens m = digits_value_after-le m (n * 10 + digit_value d) ds (omega arith) in
-    let small : n * 10 + digit_value d + 4 ≤ (n + 4) * 10 = omega (arith, digit_value-le d) in
-    rw (← mul_assoc (n + 4) 10 (tens m)) (le_trans more (mul-le-mul_right (tens m) small))
-
 digits_value_after-append : (r n : ℕ) (ds es : List ℕ) → digits_value_after r n (ds ++ es) ≡ digits_value_after r (digits_value_after r n ds) es
 digits_value_after-append r n [] es = refl
 digits_value_after-append r n (d ∷ ds) es = digits_value_after-append r (n * r + digit_value d) ds es
 
--- seconds of at most 32 bits fit as microseconds
-pub microseconds_is : (text : List ℕ) → number (whole_digits text) ≤ 4294967295 → fold (capped_digit 10) (min (number (whole_digits text)) most) (six_decimals text) ≡ microseconds text
-unfolding microseconds tens
-microseconds_is text h =
+-- the decimals behind the whole part
+pub microseconds_is : (text : List ℕ) → fold (capped_digit 10) (min (number (whole_digits text)) most) (six_decimals text) ≡ min (microseconds text) most
+unfolding microseconds
+microseconds_is text =
     let whole : ℕ = number (whole_digits text) in
-    let same : min whole most ≡ whole = omega arith in
-    let six : length (six_decimals text) ≤ 6 = omega (arith, length-take 6 (drop (whole_len text + 1) text ++ replicate 6 48)) in
-    let bound : digits_value_after 10 whole (six_decimals text) + 4 ≤ (whole + 4) * 1000000 = digits_value_after-le 6 whole (six_decimals text) six in
-    let small : digits_value_after 10 whole (six_decimals text) ≤ most = omega arith in
-    rw (same, fold-capped_digit 10 whole (six_decimals text) (omega arith) (omega arith), digits_value_after-append 10 0 (whole_digits text) (six_decimals text)) (omega arith)
+    let capped : min whole most ≤ most = omega arith in
+    rw (fold-capped_digit 10 (min whole most) (six_decimals text) (omega arith) capped, digits_value_after-append 10 0 (whole_digits text) (six_decimals text)) (digits_value_after-min 10 whole (six_decimals text) (omega arith) (either whole))

@@ -2,25 +2,29 @@
 use Rattle.std.proofs.Common.{◌≡◌, ℕ, zero, suc, ◌+◌, ◌≤◌, Bool, true, false, cond, List, [], ◌∷◌, ◌++◌, length, Option, Some, None, Result, Ok, Err, refl, sym, ap, subst, ◌∙◌, arith, append_assoc, inl, inr}
 use Rattle.std.specs.Prelude.{not, ◌&&◌, ◌||◌, ◌⊎◌}
 use Rattle.std.specs.List.{list_all}
+use Rattle.std.proofs.lemmas.List.Folds.{list_all-append}
 use Rattle.std.proofs.lemmas.List.{append-nil, length-append, append_cancel_right}
 use Rattle.pd_lex.specs.declared.token.TokenKind.TheVariants as kinds
 use Rattle.pd_lex.specs.Tokens.{Item, lexeme, ending, bad, line_of}
 use Rattle.pd_script.specs.declared.script_header.HeaderItem.{HeaderItem}
 use Rattle.pd_script.specs.declared.script_events.Event.{Event}
+use Rattle.pd_script.specs.declared.timing.Time.{Time}
 use Rattle.pd_script.specs.declared.timing.Time.TheVariants as times
+use Rattle.pd_script.specs.declared.timing.Until.{Until}
 use Rattle.pd_script.specs.declared.parsing.Found.{Found}
 use Rattle.pd_script.specs.Values.{microseconds}
-use Rattle.pd_script.specs.Items.{is_header, is_num, is_symbol, is_word, is_end, starts_event, goes_on, text_of}
+use Rattle.pd_script.specs.Items.{is_header, is_plain, is_num, is_symbol, is_word, is_end, starts_event, goes_on, text_of}
 use Rattle.pd_script.specs.Header.{header_of, behind_header}
 use Rattle.pd_script.specs.Reader.{Read, then_read, done, next_is}
 use Rattle.pd_script.specs.Reading.{next_line, time_at, action_at, event_at, end_at, events_at}
-use Rattle.pd_script.specs.Grammar.{IsEvent}
+use Rattle.pd_script.specs.Grammar.{IsTime, IsMaybeUntil, IsEvent}
 use Rattle.pd_script.specs.Script.{found_in, followed, may_follow, with_event, at_end, in_front, script_in}
 use Rattle.pd_script.specs.Faults.{IsHeader, AreEvents, IsScript, Begins, IsFault, IsKept, IsRead}
 use Rattle.pd_script.proofs.Laws.{Laws, Took, Full, Stops, Stops-any, any, ok, then_ok, value_is, rest_is}
 use Rattle.pd_script.proofs.Apart.{or-no, not-true, not-false}
 use Rattle.pd_script.proofs.ArgumentLaws.{a_token}
-use Rattle.pd_script.proofs.GrammarLaws.{but, num_no_plus, Reads-action, Reads-event, goes_on_no_word, end_no_start}
+use Rattle.pd_script.proofs.TokenLaws.{but}
+use Rattle.pd_script.proofs.GrammarLaws.{Reads-action, Reads-event}
 use Rattle.pd_script.proofs.ScriptLaws.{header_at, header_took, header_sound, Laws-events, Ends, events_complete, script_at, script_at_fault, script_is, fault_is, fault_somewhere, IsClosed}
 
 -- ---- the fault that is found is the one that reading meets
@@ -87,18 +91,46 @@ other_is false b h g = g
 a_num : Item
 a_num = a_token kinds.Int (48 ∷ [])
 
-begins_event : (t : Item) → starts_event t ≡ true → Full event_at (but is_word) (t ∷ [])
-unfolding event_at time_at a_num
-begins_event t h = by_test (is_symbol 43 t) refl
+num_spelled : is_num a_num ≡ true
+unfolding a_num microseconds
+num_spelled = refl
+
+num_plain : list_all is_plain (a_num ∷ []) ≡ true
+unfolding a_num
+num_plain = refl
+
+abbrev number_of : Item → ℕ × ℕ
+number_of t = (line_of t, microseconds (text_of t))
+
+-- a spelling of a time, and an action behind it
+after_time : (t : Item) (more : List Item) (time : ℕ × Time) → ((xs : List Item) → IsTime time (t ∷ (more ++ xs)) xs) → list_all is_plain more ≡ true → Full event_at goes_on (t ∷ [])
+unfolding IsEvent IsMaybeUntil
+after_time t more time h plain =
+    let A = Reads-action.laws.full in
+    let e : Event = record { line = time.0; time = time.1; until = None; action = A.value } in
+    record {
+      more = more ++ A.more;
+      value = e;
+      spelled = rw (list_all-append is_plain more A.more, plain, A.spelled) refl;
+      reads = λ tail st. (let xs : List Item = A.more ++ tail in
+          let action = Reads-action.sound xs A.value tail (A.reads tail st) in
+          let none : Option Until = None in
+          let it : IsEvent e (t ∷ (more ++ xs)) tail = (time, xs, h xs, (none, xs, inr (refl, refl), (A.value, tail, action, (refl, refl)))) in
+          rw append_assoc (Reads-event.complete (t ∷ (more ++ xs)) e tail it st));
+    }
+
+begins_event : (t : Item) → starts_event t ≡ true → Full event_at goes_on (t ∷ [])
+unfolding IsTime
+begins_event t h = by_test (is_symbol 42 t) (is_symbol 43 t) refl refl
   where
-    by_test : (b : Bool) → is_symbol 43 t ≡ b → Full event_at (but is_word) (t ∷ [])
-    by_test true plus =
-        let A = Reads-action.laws.full in
-        record { more = a_num ∷ A.more; value = record { line = line_of t; time = times.Relative (microseconds (48 ∷ [])); until = None; action = A.value }; spelled = A.spelled; reads = λ tail st. rw (plus, A.reads tail st) refl }
-    by_test false plus =
-        let A = Reads-action.laws.full in
-        let n : is_num t ≡ true = either_is (is_num t) (is_symbol 43 t) plus h in
-        record { more = A.more; value = record { line = line_of t; time = times.Absolute (microseconds (text_of t)); until = None; action = A.value }; spelled = A.spelled; reads = λ tail st. rw (plus, n, A.reads tail st) refl }
+    by_test : (a b : Bool) → is_symbol 42 t ≡ a → is_symbol 43 t ≡ b → Full event_at goes_on (t ∷ [])
+    by_test true b star plus = after_time t [] (line_of t, times.Any) (λ xs. inl (line_of t, xs, (t, xs, (refl, star), (refl, refl)), (refl, refl))) refl
+    by_test false true star plus =
+        after_time t (a_num ∷ []) (line_of t, times.Relative (number_of a_num).1) (λ xs. inr (inl (line_of t, a_num ∷ xs, (t, a_num ∷ xs, (refl, plus), (refl, refl)), (number_of a_num, xs, (a_num, xs, (refl, num_spelled), (refl, refl)), inr (refl, refl))))) num_plain
+    by_test false false star plus =
+        let some : (is_num t || is_symbol 43 t) ≡ true = either_is (is_num t || is_symbol 43 t) (is_symbol 42 t) star h in
+        let n : is_num t ≡ true = either_is (is_num t) (is_symbol 43 t) plus some in
+        after_time t [] (line_of t, times.Absolute (number_of t).1) (λ xs. inr (inr (number_of t, xs, (t, xs, (refl, n), (refl, refl)), inr (refl, refl)))) refl
 
 both_ways : (n : ℕ) (ts rest : List Item) (es : List Event) → events_at n ts ≡ ok es [] → events_at n ts ≡ Err rest → ⊥
 both_ways n ts rest es h g = absurd (let e = sym h ∙ g in cc)
@@ -148,7 +180,7 @@ kept_at_once front t rest e =
 -- an event that is spelled before a fault, and followed by what may follow one, is read
 read_before : (e : Event) (front : List Item) (next : Item) (more : List Item) (t : Item) (rest : List Item) → IsEvent e front (next ∷ more) → goes_on next ≡ true → event_at (front ++ t ∷ rest) ≡ ok e (next ∷ (more ++ t ∷ rest))
 read_before e front next more t rest h g =
-    let first : event_at front ≡ ok e (next ∷ more) = Reads-event.complete front e (next ∷ more) h (goes_on_no_word next g) in
+    let first : event_at front ≡ ok e (next ∷ more) = Reads-event.complete front e (next ∷ more) h g in
     let P = Reads-event.laws.took front e (next ∷ more) first in
     let parts : front ++ t ∷ rest ≡ P.front ++ next ∷ (more ++ t ∷ rest) = ap (λ (x : List Item). x ++ t ∷ rest) P.parts ∙ append_assoc P.front (next ∷ more) (t ∷ rest) in
     rw parts (P.same next more (more ++ t ∷ rest) refl)
@@ -191,12 +223,12 @@ kept_followed : (n : ℕ) (us front : List Item) (t : Item) (rest : List Item) (
 kept_followed n us front t rest e m true f parts h fault ih =
     let M = (Laws-events n).failed m (t ∷ rest) fault in
     let some : M.front ≡ [] → ⊥ = λ none. (let left : m ≡ t ∷ rest = M.parts ∙ ap (λ (x : List Item). x ++ t ∷ rest) none in
-        not_at_once n t rest (subst (λ (x : List Item). next_is (may_follow n) x ≡ true) left f) (subst (λ (x : List Item). events_at n x ≡ Err (t ∷ rest)) left fault)) in
+    not_at_once n t rest (subst (λ (x : List Item). next_is (may_follow n) x ≡ true) left f) (subst (λ (x : List Item). events_at n x ≡ Err (t ∷ rest)) left fault)) in
     kept_more us front e (found_in n m).events m M.front t rest parts h M.parts some (ih M.front M.parts)
 kept_followed n us front t rest e m false f parts h fault ih =
     let there : m ≡ t ∷ rest = (let both = sym (not_followed n m f) ∙ fault in cc) in
     kept_nothing front (λ d next more spelled g. (let other = sym h ∙ subst (λ (x : List Item). event_at x ≡ ok d (next ∷ (more ++ t ∷ rest))) (sym parts) (read_before d front next more t rest spelled g) in
-        too_long t next more rest (sym there ∙ rest_is e d m (next ∷ (more ++ t ∷ rest)) other)))
+    too_long t next more rest (sym there ∙ rest_is e d m (next ∷ (more ++ t ∷ rest)) other)))
 
 kept_read : (n : ℕ) (us front : List Item) (t : Item) (rest : List Item) (r : Read Event) → event_at us ≡ r → us ≡ front ++ t ∷ rest → then_read r (λ e m. then_read (events_at n m) (λ es left. Ok (e ∷ es, left))) ≡ Err (t ∷ rest) → ((m middle : List Item) → m ≡ middle ++ t ∷ rest → events_at n m ≡ Err (t ∷ rest) → Kept (found_in n m).events middle) → Kept (with_event (found_in n) (followed (may_follow n) r)).events front
 kept_read n us front t rest (Err d) h parts fault ih =

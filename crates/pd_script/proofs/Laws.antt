@@ -257,3 +257,19 @@ module _ {A : Type 0} (test : Item → Bool) (p q : Reader A) (fp fq f s : Item 
 
 pub widen : {A : Type 0} {p : Reader A} {s : Item → Bool} (f g : Item → Bool) → Laws p f s → Within f g → Laws p g s
 widen f g l w = record { took = l.took; failed = l.failed; full = l.full; begins = λ ts v rest e h. Stops-within f g ts w (l.begins ts v rest e h) }
+
+-- before less
+
+Took-narrow : {A : Type 0} {p : Reader A} (s r : Item → Bool) (ts : List Item) (v : A) (rest : List Item) → Within r s → Took p s ts v rest → Took p r ts v rest
+Took-narrow s r ts v rest w T = record { front = T.front; parts = T.parts; same = T.same; again = λ more h. T.again more (Stops-within r s more w h) }
+
+Full-narrow : {A : Type 0} {p : Reader A} (s r : Item → Bool) (front : List Item) → Within r s → Full p s front → Full p r front
+Full-narrow s r front w F = record { more = F.more; value = F.value; spelled = F.spelled; reads = λ tail h. F.reads tail (Stops-within r s tail w h) }
+
+pub narrow : {A : Type 0} {p : Reader A} {f : Item → Bool} (s r : Item → Bool) → Laws p f s → Within r s → Laws p f r
+narrow s r l w = record {
+  took = λ ts v rest e. Took-narrow s r ts v rest w (l.took ts v rest e);
+  failed = λ ts rest e. (let F = l.failed ts rest e in record { front = F.front; parts = F.parts; again = F.again; live = Full-narrow s r F.front w F.live });
+  full = Full-narrow s r [] w l.full;
+  begins = λ ts v rest e h. l.begins ts v rest e (Stops-within r s rest w h);
+}

@@ -14,3 +14,7 @@ pub mod HeaderLaws
 pub mod ScriptLaws
 pub mod Kept
 pub mod TextItems
+pub mod NoteLaws
+pub mod Repeating
+pub mod TokenLaws
+pub mod PacketLaws

@@ -53,8 +53,8 @@ module _ {S A : Type 0} (move : S → Item → Move S A) where
 
     pub Laws-machine : (s : S) → Laws (machine_at move s) any any
     Laws-machine s = record {
-        took = λ ts v rest e. took_at ts s v rest e;
-        failed = λ ts rest e. failed_at ts s rest e;
-        full = full s;
-        begins = λ ts v rest e h. Stops-any ts
-      }
+      took = λ ts v rest e. took_at ts s v rest e;
+      failed = λ ts rest e. failed_at ts s rest e;
+      full = full s;
+      begins = λ ts v rest e h. Stops-any ts;
+    }

@@ -1,15 +1,15 @@
 -- What holds of a reader of a spelling: its law, what it reads is spelled so, and what is spelled so it reads.
 use Rattle.std.proofs.Common.{◌≡◌, ℕ, Bool, true, false, cond, List, [], ◌∷◌, ◌++◌, Result, Ok, Err, refl, sym, ap, subst, ◌∙◌, inl, inr, append_assoc}
-use Rattle.std.specs.Prelude.{◌⊎◌, ◌&&◌}
+use Rattle.std.specs.Prelude.{◌⊎◌, ◌&&◌, ◌||◌}
 use Rattle.std.specs.List.{list_all}
 use Rattle.std.proofs.lemmas.List.Folds.{list_all-append}
 use Rattle.pd_lex.specs.declared.token.TokenKind.{TokenKind}
 use Rattle.pd_lex.specs.Tokens.{Item}
 use Rattle.pd_script.specs.Items.{is_plain}
 use Rattle.pd_script.specs.Reader.{Read, Reader, then_read, ◌>>=◌, done, one, next_is, when}
-use Rattle.pd_script.specs.Grammar.{Spelling, token, made, in_turn, either}
-use Rattle.pd_script.proofs.Apart.{IsOf, is_lexeme, lexical}
-use Rattle.pd_script.proofs.Laws.{Laws, Laws-one, Laws-done, Laws-bind_if, Laws-when, goes_p, goes_q, Stops, Stops-within, Within, any, then_ok, ok, widen, value_is, rest_is}
+use Rattle.pd_script.specs.Spelling.{Spelling, token, made, in_turn, either}
+use Rattle.pd_script.proofs.Apart.{IsOf, is_lexeme, lexical, or-left, or-right}
+use Rattle.pd_script.proofs.Laws.{Laws, Laws-one, Laws-done, Laws-bind_if, Laws-when, goes_p, goes_q, Stops, Stops-within, Within, any, then_ok, ok, widen, narrow, value_is, rest_is}
 
 -- what is spelled takes tokens alone
 abbrev pub Takes : {A : Type 0} → Spelling A → Type 0
@@ -107,3 +107,19 @@ module _ {A : Type 0} (test : Item → Bool) (p q : Reader A) (P Q : Spelling A)
 
 pub Reads-widen : {A : Type 0} {p : Reader A} {P : Spelling A} {s : Item → Bool} (f g : Item → Bool) → Reads p P f s → Within f g → Reads p P g s
 Reads-widen f g r w = record { laws = widen f g r.laws w; sound = r.sound; complete = r.complete; takes = r.takes }
+
+pub Reads-narrow : {A : Type 0} {p : Reader A} {P : Spelling A} {f : Item → Bool} (s r : Item → Bool) → Reads p P f s → Within r s → Reads p P f r
+Reads-narrow s r l w = record { laws = narrow s r l.laws w; sound = l.sound; complete = λ ts v rest h stops. l.complete ts v rest h (Stops-within r s rest w stops); takes = l.takes }
+
+-- a part that may be left out before certain items
+pub Reads-optional : {A : Type 0} (test s : Item → Bool) (p : Reader A) (P : Spelling A) (v : A) → Reads p P test s → ((t : Item) → s t ≡ true → test t ≡ false) → ((w : A) (rest : List Item) → p [] ≡ ok w rest → ⊥) → Reads (when test p (done v)) (either P (made v)) (λ t. test t || s t) s
+Reads-optional test s p P v r other some = Reads-when test p (done v) P (made v) test s (λ t. test t || s t) s r (Reads-done v s) (λ t h. h) other some (λ t h. or-left (test t) (s t) h) (λ t h. or-right (test t) (s t) h)
+
+-- of spellings that mean the same
+pub Reads-same : {A : Type 0} {p : Reader A} {P : Spelling A} {f s : Item → Bool} (Q : Spelling A) → Reads p P f s → ((v : A) (ts rest : List Item) → P v ts rest → Q v ts rest) → ((v : A) (ts rest : List Item) → Q v ts rest → P v ts rest) → Reads p Q f s
+Reads-same Q r to from = record {
+  laws = r.laws;
+  sound = λ ts v rest e. to v ts rest (r.sound ts v rest e);
+  complete = λ ts v rest h stops. r.complete ts v rest (from v ts rest h) stops;
+  takes = λ ts v rest h. r.takes ts v rest (from v ts rest h);
+}

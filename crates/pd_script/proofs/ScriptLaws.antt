@@ -16,7 +16,8 @@ use Rattle.pd_script.specs.Grammar.{IsEvent}
 use Rattle.pd_script.specs.Faults.{IsHeader, AreEvents, IsScript, Begins, IsFault}
 use Rattle.pd_script.proofs.Laws.{Laws, Laws-one, Laws-bind, Laws-done, Laws-when, Took, Stops, Stops-any, Within, any, ok, widen, then_ok, value_is, rest_is, next-yes}
 use Rattle.pd_script.proofs.Apart.{IsOf, and-left, and-right, or-left, or-right, or-elim-no, not-true, not-false, apart, num_kind, symbol_kind, end_no_token, is_lexeme, lexical}
-use Rattle.pd_script.proofs.GrammarLaws.{but, Reads-event, goes_on_no_word, end_no_start}
+use Rattle.pd_script.proofs.TokenLaws.{but, NoStart, goes_on_not}
+use Rattle.pd_script.proofs.GrammarLaws.{Reads-event, end_no_start}
 
 -- ---- headers
 
@@ -52,7 +53,7 @@ Laws-header = record {
   took = λ ts v rest e. subst (λ (x : List HeaderItem). Took header_at (but is_header) ts x rest) (value_is (header_of ts) v (behind_header ts) rest e) (subst (λ (x : List Item). Took header_at (but is_header) ts (header_of ts) x) (rest_is (header_of ts) v (behind_header ts) rest e) (header_took ts));
   failed = λ ts rest e. absurd cc;
   full = record { more = []; value = []; spelled = refl; reads = λ tail h. header_stop tail h };
-  begins = λ ts v rest e h. Stops-any ts
+  begins = λ ts v rest e h. Stops-any ts;
 }
 
 pub header_sound : (ts : List Item) → IsHeader (header_of ts) ts (behind_header ts)
@@ -95,15 +96,15 @@ unfolding events_at
 Laws-events zero = widen is_end goes_on Laws-end (λ t h. or-right (starts_event t) (is_end t) h)
 Laws-events (suc n) =
     Laws-when starts_event (event_and n) end_at starts_event is_end goes_on any
-      (Laws-bind event_at _ starts_event (but is_word) goes_on any Reads-event.laws
-        (λ e. Laws-bind (events_at n) (λ es. done (e ∷ es)) goes_on any any any (Laws-events n) (λ es. Laws-done (e ∷ es) any) (λ t h. refl))
-        goes_on_no_word)
-      Laws-end
-      (λ t h. h)
-      end_no_start
-      (λ w rest e. let b = then_ok (event_at []) (λ a. events_at n >>= (λ es. done (a ∷ es))) (w, rest) e in event_nothing b.0.0 b.0.1 b.1)
-      (λ t h. or-left (starts_event t) (is_end t) h)
-      (λ t h. or-right (starts_event t) (is_end t) h)
+    (Laws-bind event_at _ starts_event goes_on goes_on any Reads-event.laws
+    (λ e. Laws-bind (events_at n) (λ es. done (e ∷ es)) goes_on any any any (Laws-events n) (λ es. Laws-done (e ∷ es) any) (λ t h. refl))
+    (λ t h. h))
+    Laws-end
+    (λ t h. h)
+    end_no_start
+    (λ w rest e. let b = then_ok (event_at []) (λ a. events_at n >>= (λ es. done (a ∷ es))) (w, rest) e in event_nothing b.0.0 b.0.1 b.1)
+    (λ t h. or-left (starts_event t) (is_end t) h)
+    (λ t h. or-right (starts_event t) (is_end t) h)
 
 -- events, and then the end
 pub record Ends (es : List Event) (ts rest : List Item) : Type 0 where
@@ -145,12 +146,8 @@ events_sound (suc n) ts es rest e = by_test (next_is starts_event ts) e (λ us f
     by_test true h ih = and_sound n ts es rest h ih
     by_test false h ih = let S = end_sound ts es rest h in (S.0, omega (arith, S.1))
 
-pub event_starts : (ts : List Item) (e : Event) (rest : List Item) → event_at ts ≡ ok e rest → Stops (but is_word) rest → next_is starts_event ts ≡ true
+pub event_starts : (ts : List Item) (e : Event) (rest : List Item) → event_at ts ≡ ok e rest → Stops goes_on rest → next_is starts_event ts ≡ true
 event_starts ts e rest h stops = next-yes starts_event starts_event ts (λ t g. g) (λ none. event_nothing e rest (subst (λ (x : List Item). event_at x ≡ ok e rest) none h)) (Reads-event.laws.begins ts e rest h stops)
-
-pub Stops-goes_on : (ts : List Item) → Stops goes_on ts → Stops (but is_word) ts
-Stops-goes_on [] h = tt
-Stops-goes_on (t ∷ ts) h = goes_on_no_word t h
 
 pub events_complete : (n : ℕ) (es : List Event) (ts rest : List Item) → Ends es ts rest → length es ≤ n → events_at n ts ≡ ok es rest
 unfolding events_at
@@ -160,7 +157,7 @@ events_complete zero (e ∷ es) ts rest h le = absurd (omega arith)
 events_complete (suc n) (e ∷ es) ts rest h le =
     let middle : List Item = h.goes.0 in
     let others = events_complete n es middle rest (record { last = h.last; goes = h.goes.2; ends = h.ends }) (omega arith) in
-    let stops = Stops-goes_on middle ((Laws-events n).begins middle es rest others (Stops-any rest)) in
+    let stops = (Laws-events n).begins middle es rest others (Stops-any rest) in
     let first : event_at ts ≡ ok e middle = Reads-event.complete ts e middle h.goes.1 stops in
     rw (event_starts ts e middle first stops, first, others) refl
 
@@ -176,23 +173,22 @@ events_take (e ∷ es) ts rest h =
 abbrev pub script_at : ℕ → Reader (List HeaderItem × List Event)
 script_at n = header_at >>= (λ h. events_at n >>= (λ es. done (h, es)))
 
-num_no_header : (t : Item) → is_num t ≡ true → is_header t ≡ false
-num_no_header = apart is_num_kind is_header_kind is_num is_header refl num_kind (record { kind = λ x g. g })
-
-plus_no_header : (t : Item) → is_symbol 43 t ≡ true → is_header t ≡ false
-plus_no_header = apart is_symbol_kind is_header_kind (is_symbol 43) is_header refl (symbol_kind 43) (record { kind = λ x g. g })
-
-start_no_header : (t : Item) → starts_event t ≡ true → is_header t ≡ false
-start_no_header t h = or-elim-no (is_num t) (is_symbol 43 t) (is_header t) (num_no_header t) (plus_no_header t) h
+header_no_start : NoStart is_header
+header_no_start = record {
+  num_is = apart is_num_kind is_header_kind is_num is_header refl num_kind (record { kind = λ x g. g });
+  plus_is = apart is_symbol_kind is_header_kind (is_symbol 43) is_header refl (symbol_kind 43) (record { kind = λ x g. g });
+  star_is = apart is_symbol_kind is_header_kind (is_symbol 42) is_header refl (symbol_kind 42) (record { kind = λ x g. g });
+  end_is = λ t h. end_no_token (λ kind text. is_header_kind kind) t h;
+}
 
 goes_on_no_header : (t : Item) → goes_on t ≡ true → but is_header t ≡ true
-goes_on_no_header t h = not-false (is_header t) (or-elim-no (starts_event t) (is_end t) (is_header t) (start_no_header t) (λ g. end_no_token (λ kind text. is_header_kind kind) t g) h)
+goes_on_no_header t h = not-false (is_header t) (goes_on_not is_header header_no_start t h)
 
 Laws-script : (n : ℕ) → Laws (script_at n) any any
 Laws-script n =
     Laws-bind header_at _ any (but is_header) goes_on any Laws-header
-      (λ h. Laws-bind (events_at n) (λ es. done (h, es)) goes_on any any any (Laws-events n) (λ es. Laws-done (h, es) any) (λ t g. refl))
-      goes_on_no_header
+    (λ h. Laws-bind (events_at n) (λ es. done (h, es)) goes_on any any any (Laws-events n) (λ es. Laws-done (h, es) any) (λ t g. refl))
+    goes_on_no_header
 
 -- the parts of a script that was read
 record Parts (n : ℕ) (h : List HeaderItem) (es : List Event) (ts rest : List Item) : Type 0 where
@@ -229,8 +225,7 @@ fault_is ts t rest e =
     let F = (Laws-script 4096).failed ts (t ∷ rest) e in
     let L = F.live in
     let S = script_sound L.value.0 L.value.1 (F.front ++ (L.more ++ [])) (L.reads [] tt) in
-    let more : L.more ++ [] ≡ L.more = append-nil L.more in
-    (
+    let more : L.more ++ [] ≡ L.more = append-nil L.more in (
       F.front,
       F.parts,
       record {

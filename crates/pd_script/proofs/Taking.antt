@@ -10,7 +10,7 @@ use Rattle.pd_script.specs.Items.{given}
 use Rattle.pd_script.specs.Reader.{Read, Reader, one, done, ◌>>=◌}
 use Rattle.pd_script.specs.declared.stops.Stop.{Stop}
 use Rattle.pd_script.specs.declared.stops.Stop.TheVariants as stops
-use Rattle.pd_script.specs.Cursor.{left, Leaves}
+use Rattle.pd_script.specs.Cursor.{left, Leaves, SkipsNote}
 
 -- what the lexer answers is what is left
 pub left_is : (lines : List (List ℕ)) (p : Place) (next : Lexed) → IsNext lines p next → left lines next ≡ items lines p
@@ -33,6 +33,11 @@ taken test value lines t after next v h n = rw (left_is lines after next n) (by_
 -- another stays where it is
 pub not_taken : {A : Type 0} (test : Item → Bool) (value : Item → A) (t : Item) (ts : List Item) → given test value t ≡ None → (one test >>= (λ x. done (value x))) (t ∷ ts) ≡ Err (t ∷ ts)
 not_taken test value t ts h = by_no_test test value t ts (test t) refl h
+
+-- the same in a note
+pub err_skips : {X : Type 0} (Y : Type 0) (e : Stop) (rest : List Item) (part : Read X) (whole : Read (List ℕ)) → Leaves {X = X} (Err e) rest part → (part ≡ Err rest → whole ≡ Err rest) → SkipsNote {X = Y} (Err e) rest whole
+err_skips Y stops.Syntax rest part whole h f = f h
+err_skips Y stops.OutOfMemory rest part whole h f = tt
 
 -- a fault in a part is a fault of the whole
 pub err_leaves : {X Y : Type 0} (e : Stop) (rest : List Item) (part : Read X) (whole : Read Y) → Leaves {X = X} (Err e) rest part → (part ≡ Err rest → whole ≡ Err rest) → Leaves {X = Y} (Err e) rest whole

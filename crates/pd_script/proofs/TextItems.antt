@@ -14,13 +14,15 @@ use Rattle.pd_lex.specs.Tokens.{Item, lexeme, ending, bad, line_of, followed, it
 use Rattle.pd_lex.proofs.Rests.{advance, octets_past, standing_place}
 use Rattle.pd_lex.proofs.Fronts.{IsRest, IsRest-cut, LeavesRest, front_leaves}
 use Rattle.pd_script.specs.declared.timing.Time.{Time}
+use Rattle.pd_script.specs.declared.timing.Time.TheVariants as times
 use Rattle.pd_script.specs.declared.script_events.Event.{Event}
 use Rattle.pd_script.specs.declared.parsing.Found.{Found}
 use Rattle.pd_script.specs.Items.{starts_event, is_end}
 use Rattle.pd_script.specs.Header.{behind_header}
 use Rattle.pd_script.specs.Reader.{Read, next_is}
 use Rattle.pd_script.specs.Reading.{next_line, event_at}
-use Rattle.pd_script.specs.Grammar.{IsTime, IsEvent}
+use Rattle.pd_script.specs.Spelling.{made, either}
+use Rattle.pd_script.specs.Grammar.{IsAbsoluteRange, IsRelativeRange, IsTime, IsEvent}
 use Rattle.pd_script.specs.Script.{found_in, followed as followed_by, may_follow, with_event, at_end, script_in, script_of}
 use Rattle.pd_script.specs.declared.script_header.HeaderItem.{HeaderItem}
 use Rattle.pd_script.specs.declared.parsing.Parsed.{Parsed}
@@ -107,21 +109,31 @@ unfolding AreLinesOf
 AreLinesOf-behind lines [] ys h = h
 AreLinesOf-behind lines (x ∷ xs) ys h = AreLinesOf-behind lines xs ys h.1
 
+absolute_line : (n : ℕ × ℕ) (v : ℕ × Time) (ts rest : List Item) → either (IsAbsoluteRange n.0 n.1) (made (n.0, times.Absolute n.1)) v ts rest → v.0 ≡ n.0
+absolute_line n v ts rest (inl h) = sym (ap (λ (x : ℕ × Time). x.0) h.3.3.0)
+absolute_line n v ts rest (inr h) = sym (ap (λ (x : ℕ × Time). x.0) h.0)
+
+relative_line : (line first : ℕ) (v : ℕ × Time) (ts rest : List Item) → either (IsRelativeRange line first) (made (line, times.Relative first)) v ts rest → v.0 ≡ line
+relative_line line first v ts rest (inl h) = sym (ap (λ (x : ℕ × Time). x.0) h.3.3.0)
+relative_line line first v ts rest (inr h) = sym (ap (λ (x : ℕ × Time). x.0) h.0)
+
 time_line : (v : ℕ × Time) (ts rest : List Item) → IsTime v ts rest → (t : Item) × (us : List Item) × (ts ≡ t ∷ us) × (v.0 ≡ line_of t)
 unfolding IsTime
 time_line v ts rest (inl h) =
     let hs = h.2 in
-    let hn = h.3 in
-    (hs.0, hs.1, hs.2.0, sym (ap (λ (x : ℕ × Time). x.0) hn.3.0) ∙ sym hs.3.0)
-time_line v ts rest (inr h) =
+    (hs.0, hs.1, hs.2.0, sym (ap (λ (x : ℕ × Time). x.0) h.3.0) ∙ sym hs.3.0)
+time_line v ts rest (inr (inl h)) =
+    let hs = h.2 in
+    (hs.0, hs.1, hs.2.0, relative_line h.0 h.3.0.1 v h.3.1 rest h.3.3 ∙ sym hs.3.0)
+time_line v ts rest (inr (inr h)) =
     let hn = h.2 in
-    (hn.0, hn.1, hn.2.0, sym (ap (λ (x : ℕ × Time). x.0) h.3.0) ∙ sym (ap (λ (x : ℕ × ℕ). x.0) hn.3.0))
+    (hn.0, hn.1, hn.2.0, absolute_line h.0 v h.1 rest h.3 ∙ sym (ap (λ (x : ℕ × ℕ). x.0) hn.3.0))
 
 event_line : (e : Event) (ts rest : List Item) → IsEvent e ts rest → (t : Item) × (us : List Item) × (ts ≡ t ∷ us) × (e.line ≡ line_of t)
 unfolding IsEvent
 event_line e ts rest h =
     let T = time_line h.0 ts h.1 h.2 in
-    (T.0, T.1, T.2, sym (ap (λ (x : Event). x.line) h.3.3.0) ∙ T.3)
+    (T.0, T.1, T.2, sym (ap (λ (x : Event). x.line) h.3.3.3.0) ∙ T.3)
 
 AreLinesOf-front : (lines : List (List ℕ)) (xs ys : List Item) → AreLinesOf lines (xs ++ ys) → AreLinesOf lines xs
 unfolding AreLinesOf

@@ -46,3 +46,12 @@ IsSomeArguments (a ∷ b ∷ more) ts rest = (c : Item) × (middle : List Item) 
 abbrev pub IsArguments : List Argument → List Item → List Item → Type 0
 IsArguments [] ts rest = (c : Item) × (ts ≡ c ∷ rest) × (is_symbol 41 c ≡ true)
 IsArguments (a ∷ more) ts rest = IsSomeArguments (a ∷ more) ts rest
+
+-- any tokens with balanced brackets, and the bracket that ends a note, whose own pair counts among the 16
+pub record IsInNote (nothing : List ℕ) (ts rest : List Item) : Type 0 where
+  pub inside : List Item
+  pub closing : Item
+  pub spelled : ts ≡ inside ++ closing ∷ rest
+  pub balanced : Balances (λ pairs t. false) 15 [] inside
+  pub ends : is_symbol 41 closing ≡ true
+  pub value : nothing ≡ []

@@ -106,3 +106,25 @@ behind_token (bad line ∷ ts) = bad line ∷ ts
 -- between two arguments or behind the last: outside all pairs, before a comma or the bracket that ends them
 abbrev pub is_between : Inside → List Item → Bool
 is_between i ts = (length i.pairs == 0) && (next_is (is_symbol 41) ts || next_is (is_symbol 44) ts)
+
+abbrev pub note_led : Option (List Bracket) → Move (List Bracket) ℕ
+note_led None = stuck
+note_led (Some pairs) = goes pairs []
+
+-- within a note: outside all other pairs its own bracket ends it, which counts among the 16
+abbrev pub note_move : List Bracket → Item → Move (List Bracket) ℕ
+note_move [] t = if is_symbol 41 t then ends [] else note_led (pairs_after 15 [] t)
+note_move (b ∷ pairs) t = note_led (pairs_after 15 (b ∷ pairs) t)
+
+-- a token within a note
+abbrev pub note_part_by : Item → List Item → Option (List Bracket) → Read (List Bracket)
+note_part_by t ts None = Err (t ∷ ts)
+note_part_by t ts (Some pairs) = Ok (pairs, ts)
+
+abbrev pub note_part_at : List Bracket → Reader (List Bracket)
+note_part_at pairs [] = Err []
+note_part_at pairs (t ∷ ts) = note_part_by t ts (pairs_after 15 pairs t)
+
+-- before the bracket that ends a note
+abbrev pub is_last : List Bracket → List Item → Bool
+is_last pairs ts = (length pairs == 0) && next_is (is_symbol 41) ts

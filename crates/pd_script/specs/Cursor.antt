@@ -19,3 +19,9 @@ abbrev pub Leaves : {X : Type 0} → Result X Stop → List Item → Read X → 
 Leaves (Ok x) rest read = read ≡ Ok (x, rest)
 Leaves (Err stops.Syntax) rest read = read ≡ Err rest
 Leaves (Err stops.OutOfMemory) rest read = Unit {0}
+
+-- the same of a note, of which nothing is kept
+abbrev pub SkipsNote : {X : Type 0} → Result X Stop → List Item → Read (List ℕ) → Type 0
+SkipsNote (Ok x) rest read = read ≡ Ok ([], rest)
+SkipsNote (Err stops.Syntax) rest read = read ≡ Err rest
+SkipsNote (Err stops.OutOfMemory) rest read = Unit {0}

@@ -35,8 +35,8 @@ pub record Begins (front : List Item) : Type 0 where
   pub events : List Event
   pub script : IsScript header events (front ++ more)
 
--- the first item at which no script goes on: what stands before it begins a script, which goes on with numbers, words and
--- symbols alone, and with it nothing does
+-- the first item at which no script goes on: what stands before it begins a script, which goes on with plain tokens alone,
+-- and with it nothing does
 pub record IsFault (front : List Item) (t : Item) : Type 0 where
   pub before : Begins front
   pub plain : list_all is_plain before.more ≡ true

@@ -1,11 +1,15 @@
--- The grammar: which items spell what. It knows sequences and alternatives, and no lookahead.
+-- The grammar: which items spell a time, a call and an event.
 use Rattle.std.specs.Prelude.{◌≡◌, ℕ, ◌≤◌, Bool, true, false, List, [], ◌∷◌, ◌++◌, length, Option, Some, None, ◌⊎◌}
 use Rattle.pd_lex.specs.Tokens.{Item, line_of}
-use Rattle.pd_script.specs.Items.{is_int, is_hex, is_num, is_word, is_symbol, is_end, text_of}
+use Rattle.pd_script.specs.Items.{is_int, is_hex, is_num, is_num_from, is_dots, is_command, is_code, is_word, is_symbol, is_end, text_of}
 use Rattle.pd_script.specs.Values.{number, hex_number, microseconds, function_named, error_named}
-use Rattle.pd_script.specs.Arguments.{IsArguments}
+use Rattle.pd_script.specs.Spelling.{Spelling, token, made, in_turn, ◌>>=◌, either, IsSymbol, IsInt, IsDots}
+use Rattle.pd_script.specs.PacketGrammar.{IsPacket}
+use Rattle.pd_script.specs.Arguments.{IsArguments, IsInNote}
 use Rattle.pd_script.specs.declared.timing.Time.{Time}
 use Rattle.pd_script.specs.declared.timing.Time.TheVariants as times
+use Rattle.pd_script.specs.declared.timing.Until.{Until}
+use Rattle.pd_script.specs.declared.timing.Until.TheVariants as untils
 use Rattle.pd_script.specs.declared.calls.Argument.{Argument}
 use Rattle.pd_script.specs.declared.calls.Call.{Call}
 use Rattle.pd_script.specs.declared.calls.ErrorName.{ErrorName}
@@ -15,44 +19,6 @@ use Rattle.pd_script.specs.declared.calls.Outcome.TheVariants as outcomes
 use Rattle.pd_script.specs.declared.script_events.Action.{Action}
 use Rattle.pd_script.specs.declared.script_events.Action.TheVariants as actions
 use Rattle.pd_script.specs.declared.script_events.Event.{Event}
-
--- a value, items that begin with a spelling of it, and what is left of them
-abbrev pub Spelling : Type 0 → Type 1
-Spelling A = A → List Item → List Item → Type 0
-
--- one token of a kind
-abbrev pub token : (Item → Bool) → Spelling Item
-token test t ts rest = (ts ≡ t ∷ rest) × (test t ≡ true)
-
--- a value that takes no token
-abbrev pub made : {A : Type 0} → A → Spelling A
-made x v ts rest = (x ≡ v) × (ts ≡ rest)
-
--- one spelling and then another, which may depend on what the first spells
-abbrev pub in_turn : {A B : Type 0} → Spelling A → (A → Spelling B) → Spelling B
-in_turn {A = A} first second v ts rest = (a : A) × (middle : List Item) × first a ts middle × second a v middle rest
-
-infixl 10 ◌>>=◌
-abbrev pub ◌>>=◌ : {A B : Type 0} → Spelling A → (A → Spelling B) → Spelling B
-first >>= second = in_turn first second
-
--- one spelling or another
-abbrev pub either : {A : Type 0} → Spelling A → Spelling A → Spelling A
-either one other v ts rest = one v ts rest ⊎ other v ts rest
-
--- ---- tokens
-
--- the symbol of an octet, with its line
-abbrev pub IsSymbol : ℕ → Spelling ℕ
-IsSymbol octet = do
-  t ← token (is_symbol octet)
-  made (line_of t)
-
--- a whole number of at most 4,294,967,295
-abbrev pub IsInt : Spelling ℕ
-IsInt = do
-  t ← token is_int
-  made (number (text_of t))
 
 -- a hexadecimal number of at most 4,294,967,295
 abbrev pub IsHex : Spelling ℕ
@@ -78,20 +44,71 @@ IsErrorName = do
 
 -- ---- times
 
+-- seconds of at least so many microseconds
+abbrev pub IsNumFrom : ℕ → Spelling ℕ
+IsNumFrom least = do
+  t ← token (is_num_from least)
+  made (microseconds (text_of t))
+
+-- `~` and a second number, at least the first
+abbrev pub IsAbsoluteRange : ℕ → ℕ → Spelling (ℕ × Time)
+IsAbsoluteRange line first = do
+  tilde ← IsSymbol 126
+  second ← IsNumFrom first
+  made (line, times.AbsoluteRange first second)
+
 abbrev pub IsAbsolute : Spelling (ℕ × Time)
 IsAbsolute = do
   n ← IsNum
-  made (n.0, times.Absolute n.1)
+  either (IsAbsoluteRange n.0 n.1) (made (n.0, times.Absolute n.1))
+
+abbrev pub IsPlusNumFrom : ℕ → Spelling ℕ
+IsPlusNumFrom least = do
+  plus ← IsSymbol 43
+  IsNumFrom least
+
+-- the second number may have a `+` of its own
+abbrev pub IsRelativeRange : ℕ → ℕ → Spelling (ℕ × Time)
+IsRelativeRange line first = do
+  tilde ← IsSymbol 126
+  second ← either (IsPlusNumFrom first) (IsNumFrom first)
+  made (line, times.RelativeRange first second)
 
 abbrev pub IsRelative : Spelling (ℕ × Time)
 IsRelative = do
   line ← IsSymbol 43
   n ← IsNum
-  made (line, times.Relative n.1)
+  either (IsRelativeRange line n.1) (made (line, times.Relative n.1))
+
+abbrev pub IsAnyTime : Spelling (ℕ × Time)
+IsAnyTime = do
+  line ← IsSymbol 42
+  made (line, times.Any)
 
 -- a time, with the line of its first token
 unfoldable pub IsTime : Spelling (ℕ × Time)
-IsTime = either IsRelative IsAbsolute
+IsTime = either IsAnyTime (either IsRelative IsAbsolute)
+
+abbrev pub IsRelativeUntil : Spelling Until
+IsRelativeUntil = do
+  plus ← IsSymbol 43
+  n ← IsNum
+  made (untils.Relative n.1)
+
+abbrev pub IsAbsoluteUntil : Spelling Until
+IsAbsoluteUntil = do
+  n ← IsNum
+  made (untils.Absolute n.1)
+
+-- `...` and the end of a blocking call
+abbrev pub IsUntil : Spelling (Option Until)
+IsUntil = do
+  dots ← IsDots
+  until ← either IsRelativeUntil IsAbsoluteUntil
+  made (Some until)
+
+unfoldable pub IsMaybeUntil : Spelling (Option Until)
+IsMaybeUntil = either IsUntil (made None)
 
 -- ---- calls
 
@@ -111,14 +128,22 @@ IsNegative = do
   line ← IsSymbol 45
   n ← IsInt
   either
-    (do
-      name ← IsErrorName
-      made (outcomes.Negative n (Some name)))
-    (made (outcomes.Negative n None))
+      (do
+        name ← IsErrorName
+        made (outcomes.Negative n (Some name)))
+      (made (outcomes.Negative n None))
 
 unfoldable pub IsOutcome : Spelling Outcome
 IsOutcome = either IsWhole (either IsHexadecimal IsNegative)
 
+-- a note in brackets
+unfoldable pub IsNote : Spelling ℕ
+IsNote = do
+  line ← IsSymbol 40
+  skipped ← IsInNote
+  made line
+
+-- the note may be left out
 unfoldable pub IsCall : Spelling Call
 IsCall = do
   function ← IsFunction
@@ -126,6 +151,7 @@ IsCall = do
   arguments ← IsArguments
   equals ← IsSymbol 61
   outcome ← IsOutcome
+  note ← either IsNote (made 0)
   made (record { function = function; arguments = arguments; result = outcome })
 
 -- ---- events
@@ -135,12 +161,37 @@ IsCallAction = do
   call ← IsCall
   made (actions.Call call)
 
+abbrev pub IsCommand : Spelling Action
+IsCommand = do
+  t ← token is_command
+  made actions.Command
+
+abbrev pub IsCode : Spelling Action
+IsCode = do
+  t ← token is_code
+  made actions.Code
+
+-- `<` and a packet that arrives
+abbrev pub IsInbound : Spelling Action
+IsInbound = do
+  line ← IsSymbol 60
+  packet ← IsPacket true
+  made (actions.Inbound packet)
+
+-- `>` and a packet that leaves
+abbrev pub IsOutbound : Spelling Action
+IsOutbound = do
+  line ← IsSymbol 62
+  packet ← IsPacket false
+  made (actions.Outbound packet)
+
 unfoldable pub IsAction : Spelling Action
-IsAction = IsCallAction
+IsAction = either IsCommand (either IsCode (either IsInbound (either IsOutbound IsCallAction)))
 
 -- an event has the line of its first token
 unfoldable pub IsEvent : Spelling Event
 IsEvent = do
   start ← IsTime
+  until ← IsMaybeUntil
   action ← IsAction
-  made (record { line = start.0; time = start.1; until = None; action = action })
+  made (record { line = start.0; time = start.1; until = until; action = action })

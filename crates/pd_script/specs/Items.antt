@@ -1,12 +1,12 @@
 -- What an item of a text can be for the grammar.
-use Rattle.std.specs.Prelude.{ℕ, ◌+◌, ◌&&◌, ◌||◌, ◌==◌, not, nat_le, nat_lt, nat_eq, Bool, true, false, List, [], ◌∷◌, length, drop, Option, Some, None, if◌then◌else◌}
+use Rattle.std.specs.Prelude.{ℕ, ◌+◌, ◌&&◌, ◌||◌, ◌==◌, not, nat_le, nat_lt, nat_eq, Bool, true, false, List, [], ◌∷◌, length, drop, is_some, Option, Some, None, if◌then◌else◌}
 use Rattle.std.specs.List.{list_all, starts_with}
 use Rattle.std.specs.Str.{bytes_eq}
 use Rattle.pd_lex.specs.declared.token.TokenKind.{TokenKind}
 use Rattle.pd_lex.specs.declared.token.TokenKind.TheVariants as kinds
 use Rattle.pd_lex.specs.Octets.{is_digit, is_hex_digit, is_word as is_word_octet, is_printable}
 use Rattle.pd_lex.specs.Tokens.{Lexeme, Item, lexeme, ending, bad}
-use Rattle.pd_script.specs.Values.{number, hex_number, whole_len, whole_digits}
+use Rattle.pd_script.specs.Values.{number, hex_number, microseconds, whole_len, whole_digits, is_flag, option_named}
 
 abbrev pub is_int_kind : TokenKind → Bool
 is_int_kind kinds.Int = true
@@ -64,16 +64,62 @@ is_any_int t = is_token (λ kind text. is_int_kind kind) t
 abbrev pub is_int : Item → Bool
 is_int t = is_token (λ kind text. is_int_kind kind && is_small (number text)) t
 
+-- one that is at least another
+abbrev pub is_int_from : ℕ → Item → Bool
+is_int_from least t = is_int t && nat_le least (number (text_of t))
+
+-- one that is just this number
+abbrev pub is_int_of : ℕ → Item → Bool
+is_int_of n t = is_int t && (number (text_of t) == n)
+
 -- a Hex, where numbers have a bound
 abbrev pub is_hex : Item → Bool
 is_hex t = is_token (λ kind text. is_hex_kind kind && is_small (hex_number text)) t
 
--- an Int or a Decimal, whose whole part has the bound
+-- an Int or a Decimal, as seconds below 4,294,967,296: its whole part has the bound
 abbrev pub is_num : Item → Bool
-is_num t = is_token (λ kind text. is_num_kind kind && is_small (number (whole_digits text))) t
+is_num t = is_token (λ kind text. is_num_kind kind && nat_lt (microseconds text) 4294967296000000) t
+
+-- one that is at least so many microseconds
+abbrev pub is_num_from : ℕ → Item → Bool
+is_num_from least t = is_num t && nat_le least (microseconds (text_of t))
+
+abbrev pub is_dots_kind : TokenKind → Bool
+is_dots_kind kinds.Dots = true
+is_dots_kind _ = false
+
+abbrev pub is_command_kind : TokenKind → Bool
+is_command_kind kinds.Cmd = true
+is_command_kind _ = false
+
+abbrev pub is_code_kind : TokenKind → Bool
+is_code_kind kinds.Code = true
+is_code_kind _ = false
+
+abbrev pub is_dots : Item → Bool
+is_dots t = is_token (λ kind text. is_dots_kind kind) t
+
+-- a shell command in backquotes
+abbrev pub is_command : Item → Bool
+is_command t = is_token (λ kind text. is_command_kind kind) t
+
+abbrev pub is_code : Item → Bool
+is_code t = is_token (λ kind text. is_code_kind kind) t
 
 abbrev pub is_word : Item → Bool
 is_word t = is_token (λ kind text. is_word_kind kind) t
+
+-- this word
+abbrev pub is_named : List ℕ → Item → Bool
+is_named name t = is_token (λ kind text. is_word_kind kind && bytes_eq text name) t
+
+-- a word of flags' letters alone
+abbrev pub is_flags : Item → Bool
+is_flags t = is_token (λ kind text. is_word_kind kind && list_all is_flag text) t
+
+-- a word that names a TCP option
+abbrev pub is_option : Item → Bool
+is_option t = is_token (λ kind text. is_word_kind kind && is_some (option_named text)) t
 
 -- the symbol of an octet
 abbrev pub is_symbol : ℕ → Item → Bool
@@ -90,7 +136,7 @@ is_header t = is_token (λ kind text. is_header_kind kind) t
 
 -- what an event begins with
 abbrev pub starts_event : Item → Bool
-starts_event t = is_num t || is_symbol 43 t
+starts_event t = is_num t || is_symbol 43 t || is_symbol 42 t
 
 -- what an event or the end begins with
 abbrev pub goes_on : Item → Bool
@@ -100,16 +146,19 @@ goes_on t = starts_event t || is_end t
 abbrev pub is_digits : List ℕ → Bool
 is_digits text = nat_lt 0 (length text) && list_all is_digit text
 
--- the octets spell a token of one of these kinds
+-- the octets spell a token, which is plain
 abbrev pub is_spelled : TokenKind → List ℕ → Bool
 is_spelled kinds.Int text = is_digits text
 is_spelled kinds.Hex text = starts_with nat_eq text (48 ∷ 120 ∷ []) && nat_lt 2 (length text) && list_all is_hex_digit (drop 2 text)
 is_spelled kinds.Word text = nat_lt 0 (length text) && list_all is_word_octet text && not (list_all is_digit text)
 is_spelled kinds.Decimal text = is_digits (whole_digits text) && is_digits (drop (whole_len text + 1) text)
+is_spelled kinds.Dots text = bytes_eq text (46 ∷ 46 ∷ 46 ∷ [])
+is_spelled kinds.Cmd text = bytes_eq text (96 ∷ 96 ∷ [])
+is_spelled kinds.Code text = bytes_eq text (37 ∷ 123 ∷ 125 ∷ 37 ∷ [])
 is_spelled kinds.Symbol text = (length text == 1) && list_all is_printable text && not (list_all is_word_octet text)
 is_spelled _ text = false
 
--- a number, a word or a symbol as it is spelled, or the end
+-- a number, a word, `...`, a symbol, or an empty command or code, as it is spelled; or the end
 abbrev pub is_plain : Item → Bool
 is_plain (lexeme x) = is_spelled x.kind x.text
 is_plain (ending line) = true

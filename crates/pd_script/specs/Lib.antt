@@ -6,7 +6,11 @@ pub mod Reader
 pub mod Cursor
 pub mod Brackets
 pub mod Arguments
+pub mod Spelling
+pub mod PacketGrammar
 pub mod Grammar
+pub mod TokenReading
+pub mod PacketReading
 pub mod Reading
 pub mod Script
 pub mod Faults

@@ -1,14 +1,18 @@
 -- The grammar, read from left to right.
 use Rattle.std.specs.Prelude.{ℕ, zero, suc, ◌||◌, Bool, true, false, List, [], ◌∷◌, Option, Some, None, Result, Ok, Err, if◌then◌else◌}
 use Rattle.pd_lex.specs.Tokens.{Item, line_of}
-use Rattle.pd_script.specs.Items.{is_int, is_hex, is_num, is_word, is_symbol, is_header, is_end, starts_event, goes_on, text_of}
+use Rattle.pd_script.specs.Items.{is_int, is_hex, is_num, is_num_from, is_dots, is_command, is_code, is_word, is_symbol, is_header, is_end, starts_event, goes_on, text_of}
 use Rattle.pd_script.specs.Values.{number, hex_number, microseconds, function_named, error_named}
 use Rattle.pd_script.specs.Header.{header_item}
 use Rattle.pd_script.specs.declared.script_header.HeaderItem.{HeaderItem}
 use Rattle.pd_script.specs.Reader.{Read, Reader, ◌>>=◌, done, one, next_is, when, machine_at}
-use Rattle.pd_script.specs.Brackets.{fresh, argument_move}
+use Rattle.pd_script.specs.TokenReading.{symbol_at, int_at, dots_at}
+use Rattle.pd_script.specs.PacketReading.{packet_at}
+use Rattle.pd_script.specs.Brackets.{fresh, argument_move, note_move}
 use Rattle.pd_script.specs.declared.timing.Time.{Time}
 use Rattle.pd_script.specs.declared.timing.Time.TheVariants as times
+use Rattle.pd_script.specs.declared.timing.Until.{Until}
+use Rattle.pd_script.specs.declared.timing.Until.TheVariants as untils
 use Rattle.pd_script.specs.declared.calls.Argument.{Argument}
 use Rattle.pd_script.specs.declared.calls.Call.{Call}
 use Rattle.pd_script.specs.declared.calls.Function.{Function}
@@ -29,18 +33,6 @@ abbrev pub header_item_at : Reader HeaderItem
 header_item_at = do
   t ← one is_header
   done (header_item t)
-
--- a symbol, which gives its line
-abbrev pub symbol_at : ℕ → Reader ℕ
-symbol_at octet = do
-  t ← one (is_symbol octet)
-  done (line_of t)
-
--- a whole number
-abbrev pub int_at : Reader ℕ
-int_at = do
-  t ← one is_int
-  done (number (text_of t))
 
 -- a hexadecimal number
 abbrev pub hex_at : Reader ℕ
@@ -66,20 +58,69 @@ error_at = do
   t ← one is_word
   done (error_named (text_of t))
 
+-- a number of at least so many microseconds
+abbrev pub num_from_at : ℕ → Reader ℕ
+num_from_at least = do
+  t ← one (is_num_from least)
+  done (microseconds (text_of t))
+
+abbrev pub absolute_range_at : ℕ → ℕ → Reader (ℕ × Time)
+absolute_range_at line first = do
+  tilde ← symbol_at 126
+  second ← num_from_at first
+  done (line, times.AbsoluteRange first second)
+
 abbrev pub absolute_at : Reader (ℕ × Time)
 absolute_at = do
   n ← num_at
-  done (n.0, times.Absolute n.1)
+  when (is_symbol 126) (absolute_range_at n.0 n.1) (done (n.0, times.Absolute n.1))
+
+abbrev pub plus_num_from_at : ℕ → Reader ℕ
+plus_num_from_at least = do
+  plus ← symbol_at 43
+  num_from_at least
+
+abbrev pub relative_range_at : ℕ → ℕ → Reader (ℕ × Time)
+relative_range_at line first = do
+  tilde ← symbol_at 126
+  second ← when (is_symbol 43) (plus_num_from_at first) (num_from_at first)
+  done (line, times.RelativeRange first second)
 
 abbrev pub relative_at : Reader (ℕ × Time)
 relative_at = do
   line ← symbol_at 43
   n ← num_at
-  done (line, times.Relative n.1)
+  when (is_symbol 126) (relative_range_at line n.1) (done (line, times.Relative n.1))
+
+abbrev pub any_time_at : Reader (ℕ × Time)
+any_time_at = do
+  line ← symbol_at 42
+  done (line, times.Any)
 
 -- a time, and the line of its first token
 unfoldable pub time_at : Reader (ℕ × Time)
-time_at = when (is_symbol 43) relative_at absolute_at
+time_at = when (is_symbol 42) any_time_at (when (is_symbol 43) relative_at absolute_at)
+
+abbrev pub relative_until_at : Reader Until
+relative_until_at = do
+  plus ← symbol_at 43
+  n ← num_at
+  done (untils.Relative n.1)
+
+abbrev pub absolute_until_at : Reader Until
+absolute_until_at = do
+  n ← num_at
+  done (untils.Absolute n.1)
+
+abbrev pub until_at : Reader (Option Until)
+until_at = do
+  dots ← dots_at
+  until ← when (is_symbol 43) relative_until_at absolute_until_at
+  done (Some until)
+
+-- the end of a blocking call, which may be left out
+unfoldable pub maybe_until_at : Reader (Option Until)
+maybe_until_at = when is_dots until_at (done None)
 
 abbrev pub whole_at : Reader Outcome
 whole_at = do
@@ -115,6 +156,17 @@ no_arguments_at = do
 unfoldable pub arguments_at : Reader (List Argument)
 arguments_at = when (is_symbol 41) no_arguments_at (machine_at argument_move fresh)
 
+-- a note in brackets, which gives its line
+unfoldable pub note_at : Reader ℕ
+note_at = do
+  line ← symbol_at 40
+  skipped ← machine_at note_move []
+  done line
+
+-- it may be left out
+abbrev pub maybe_note_at : Reader ℕ
+maybe_note_at = when (is_symbol 40) note_at (done 0)
+
 unfoldable pub call_at : Reader Call
 call_at = do
   function ← function_at
@@ -122,6 +174,7 @@ call_at = do
   arguments ← arguments_at
   equals ← symbol_at 61
   outcome ← outcome_at
+  note ← maybe_note_at
   done (record { function = function; arguments = arguments; result = outcome })
 
 abbrev pub call_action_at : Reader Action
@@ -129,14 +182,37 @@ call_action_at = do
   call ← call_at
   done (actions.Call call)
 
+abbrev pub command_at : Reader Action
+command_at = do
+  t ← one is_command
+  done actions.Command
+
+abbrev pub code_at : Reader Action
+code_at = do
+  t ← one is_code
+  done actions.Code
+
+abbrev pub inbound_at : Reader Action
+inbound_at = do
+  line ← symbol_at 60
+  packet ← packet_at true
+  done (actions.Inbound packet)
+
+abbrev pub outbound_at : Reader Action
+outbound_at = do
+  line ← symbol_at 62
+  packet ← packet_at false
+  done (actions.Outbound packet)
+
 unfoldable pub action_at : Reader Action
-action_at = call_action_at
+action_at = when is_command command_at (when is_code code_at (when (is_symbol 60) inbound_at (when (is_symbol 62) outbound_at call_action_at)))
 
 unfoldable pub event_at : Reader Event
 event_at = do
   start ← time_at
+  until ← maybe_until_at
   action ← action_at
-  done (record { line = start.0; time = start.1; until = None; action = action })
+  done (record { line = start.0; time = start.1; until = until; action = action })
 
 abbrev pub end_at : Reader (List Event)
 end_at = do

@@ -1,7 +1,7 @@
 -- What the octets of a token stand for.
-use Rattle.std.specs.Prelude.{codes, ℕ, ◌+◌, ◌-◌, ◌*◌, ◌^◌, ◌==◌, Bool, not, List, [], ◌∷◌, ◌++◌, length, take, drop, replicate, min, find, unwrap_or}
+use Rattle.std.specs.Prelude.{codes, ℕ, ◌+◌, ◌-◌, ◌*◌, ◌^◌, ◌==◌, ◌||◌, Bool, true, false, not, Option, List, [], ◌∷◌, ◌++◌, length, take, drop, replicate, min, find, unwrap_or}
 use Rattle.std.specs.Char.{digit_value}
-use Rattle.std.specs.List.{prefix_len}
+use Rattle.std.specs.List.{prefix_len, list_any}
 use Rattle.std.specs.Str.{bytes_eq}
 use Rattle.std.specs.Str.Parse.{digits_value}
 use Rattle.pd_script.specs.declared.calls.Function.{Function}
@@ -10,6 +10,9 @@ use Rattle.pd_script.specs.declared.calls.Constant.{Constant}
 use Rattle.pd_script.specs.declared.calls.Constant.TheVariants as constants
 use Rattle.pd_script.specs.declared.calls.ErrorName.{ErrorName}
 use Rattle.pd_script.specs.declared.calls.ErrorName.TheVariants as errors
+use Rattle.pd_script.specs.declared.names.OptionName.{OptionName}
+use Rattle.pd_script.specs.declared.names.OptionName.TheVariants as options
+use Rattle.pd_script.specs.declared.packets.Flags.{Flags}
 
 -- the number of a run of digits
 abbrev pub number : List ℕ → ℕ
@@ -97,3 +100,40 @@ error_named text = unwrap_or (find (λ e. bytes_eq (error_name e) text) named_er
 -- a number with one digit more, where one above the greatest of 64 bits stands as that
 abbrev pub capped_digit : ℕ → ℕ → ℕ → ℕ
 capped_digit radix n digit = min (min (n * radix) (2 ^ 64 - 1) + digit_value digit) (2 ^ 64 - 1)
+
+-- the name of a TCP option
+abbrev pub option_name : OptionName → List ℕ
+option_name options.Mss = codes "mss"
+option_name options.Wscale = codes "wscale"
+option_name options.SackOk = codes "sackOK"
+option_name options.Nop = codes "nop"
+option_name options.Eol = codes "eol"
+option_name options.Timestamp = codes "TS"
+option_name options.Sack = codes "sack"
+
+-- the TCP options that have names
+abbrev pub named_options : List OptionName
+named_options = options.Mss ∷ options.Wscale ∷ options.SackOk ∷ options.Nop ∷ options.Eol ∷ options.Timestamp ∷ options.Sack ∷ []
+
+-- the TCP option of a name
+unfoldable pub option_named : List ℕ → Option OptionName
+option_named text = find (λ o. bytes_eq (option_name o) text) named_options
+
+-- the letters of flags: F, S, R, P, U, E, W and C
+abbrev pub is_flag : ℕ → Bool
+is_flag octet = (octet == 70) || (octet == 83) || (octet == 82) || (octet == 80) || (octet == 85) || (octet == 69) || (octet == 87) || (octet == 67)
+
+-- the flags that letters name, without the point
+unfoldable pub flags_of : List ℕ → Flags
+flags_of text = record {
+  syn = list_any (λ octet. octet == 83) text;
+  fin = list_any (λ octet. octet == 70) text;
+  rst = list_any (λ octet. octet == 82) text;
+  psh = list_any (λ octet. octet == 80) text;
+  ack = false;
+  other = list_any (λ octet. (octet == 85) || (octet == 69) || (octet == 87) || (octet == 67)) text;
+}
+
+-- with the point
+abbrev pub with_ack : Flags → Flags
+with_ack f = record f { ack = true }

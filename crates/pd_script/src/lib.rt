@@ -11,6 +11,7 @@ mod packets;
 mod parsing;
 mod read_arguments;
 mod read_events;
+mod read_packets;
 mod read_script;
 mod script_events;
 mod script_header;

@@ -1,9 +1,57 @@
 //! The names of calls, constants and errors.
 ghost use Rattle.std.specs.Prelude.{◌≡◌, find};
 ghost use Rattle.std.specs.Str.{bytes_eq};
-ghost use Rattle.pd_script.specs.Values.{function_name, function_named, named_functions, constant_name, constant_named, named_constants, error_name, error_named, named_errors};
+ghost use Rattle.pd_script.specs.Values.{function_name, function_named, named_functions, constant_name, constant_named, named_constants, error_name, error_named, named_errors, option_name, option_named, named_options};
 
 use crate::calls::{Constant, ErrorName, Function};
+
+/// The name of a TCP option.
+#[derive(Clone, Copy, Debug, PartialEq, Eq)]
+pub enum OptionName {
+    Mss,
+    Wscale,
+    SackOk,
+    Nop,
+    Eol,
+    Timestamp,
+    Sack,
+}
+
+/// The TCP options that have names.
+const OPTIONS: [OptionName; 7] = [
+    OptionName::Mss,
+    OptionName::Wscale,
+    OptionName::SackOk,
+    OptionName::Nop,
+    OptionName::Eol,
+    OptionName::Timestamp,
+    OptionName::Sack,
+];
+
+fn option_name(option: &OptionName) -> &'static [u8]
+    ensures { result.now ≡ option_name option.now }
+{
+    match option {
+        OptionName::Mss => b"mss",
+        OptionName::Wscale => b"wscale",
+        OptionName::SackOk => b"sackOK",
+        OptionName::Nop => b"nop",
+        OptionName::Eol => b"eol",
+        OptionName::Timestamp => b"TS",
+        OptionName::Sack => b"sack",
+    }
+}
+
+/// The TCP option of a name.
+#[tactic(auto, unfolding(crate::specs::Values::option_named))]
+pub fn option_named(name: &[u8]) -> Option<OptionName>
+    ensures { result ≡ option_named name.now }
+{
+    OPTIONS
+        .iter()
+        .copied()
+        .find(|option| option_name(option) == name)
+}
 
 /// The calls that have names.
 const FUNCTIONS: [Function; 8] = [
@@ -82,19 +130,28 @@ fn error_name(error: &ErrorName) -> &'static [u8]
 fn find_function(name: &[u8]) -> Option<Function>
     ensures { result ≡ find (λ f. bytes_eq (function_name f) name.now) named_functions }
 {
-    FUNCTIONS.iter().copied().find(|function| function_name(function) == name)
+    FUNCTIONS
+        .iter()
+        .copied()
+        .find(|function| function_name(function) == name)
 }
 
 fn find_constant(name: &[u8]) -> Option<Constant>
     ensures { result ≡ find (λ c. bytes_eq (constant_name c) name.now) named_constants }
 {
-    CONSTANTS.iter().copied().find(|constant| constant_name(constant) == name)
+    CONSTANTS
+        .iter()
+        .copied()
+        .find(|constant| constant_name(constant) == name)
 }
 
 fn find_error(name: &[u8]) -> Option<ErrorName>
     ensures { result ≡ find (λ e. bytes_eq (error_name e) name.now) named_errors }
 {
-    ERRORS.iter().copied().find(|error| error_name(error) == name)
+    ERRORS
+        .iter()
+        .copied()
+        .find(|error| error_name(error) == name)
 }
 
 /// The call of a name.

@@ -7,7 +7,10 @@ ghost use Rattle.pd_lex.specs.Octets.{is_digit};
 ghost use Rattle.pd_script.specs.Items.{is_digits};
 ghost use Rattle.pd_script.specs.Values.{number, hex_number, capped_number, capped_digit, whole_len, whole_digits, microseconds};
 
-/// The greatest number of a time, a packet or a result.
+/// A time is below so many microseconds.
+pub const TIME_LIMIT: u64 = 4_294_967_296_000_000;
+
+/// The greatest number of a packet or a result.
 pub const GREATEST: u64 = 4_294_967_295;
 
 /// What an octet stands for as a digit in a base up to 36, or 36.
@@ -26,9 +29,12 @@ fn digit_value(octet: u8) -> u64
 fn value_after(radix: u64, value: u64, digits: &[u8]) -> u64
     ensures { result ≡ fold (capped_digit radix) value digits.now }
 {
-    digits
-        .iter()
-        .fold(value, |value, digit| value.saturating_mul(radix).saturating_add(digit_value(*digit)))
+    digits.iter().fold(
+        value,
+        |value, digit| value
+            .saturating_mul(radix)
+            .saturating_add(digit_value(*digit)),
+    )
 }
 
 /// The number in digits; one above the greatest `u64` stands as that.
@@ -63,7 +69,7 @@ fn whole_len(text: &[u8]) -> usize
 }
 
 /// The digits before the point.
-pub fn whole_digits(text: &[u8]) -> &[u8]
+fn whole_digits(text: &[u8]) -> &[u8]
     ensures { result.now ≡ whole_digits text.now }
 {
     &text[..whole_len(text)]
@@ -74,24 +80,26 @@ fn decimals(text: &[u8]) -> &[u8]
     ensures { result.now ≡ drop (whole_len text.now + 1) text.now }
 {
     let len = whole_len(text);
-    if len < text.len() { &text[len + 1..] } else { &[] }
+    if len < text.len() {
+        &text[len + 1..]
+    } else {
+        &[]
+    }
 }
 
 /// The number that six decimals write behind the digits of `value`; those not written are zeros.
 fn six_decimals_after(value: u64, decimals: &[u8]) -> u64
     ensures { result ≡ fold (capped_digit 10) value (take 6 (decimals.now ++ replicate 6 48)) }
 {
-    decimals
-        .iter()
-        .chain(b"000000".iter())
-        .take(6)
-        .fold(value, |value, digit| value.saturating_mul(10).saturating_add(digit_value(*digit)))
+    decimals.iter().chain(b"000000".iter()).take(6).fold(
+        value,
+        |value, digit| value.saturating_mul(10).saturating_add(digit_value(*digit)),
+    )
 }
 
-/// The microseconds of seconds in digits, or in digits with a point.
+/// The microseconds of seconds in digits, or in digits with a point; more than the greatest `u64` stand as that.
 pub fn microseconds(text: &[u8]) -> u64
-    requires { number (whole_digits text.now) ≤ 4294967295 }
-    ensures { result ≡ microseconds text.now }
+    ensures { result ≡ min (microseconds text.now) (2 ^ 64 - 1) }
 {
     six_decimals_after(number(whole_digits(text)), decimals(text))
 }

@@ -1,5 +1,6 @@
 //! Packets as a script writes them.
-ghost use Rattle.std.specs.Prelude.{◌≡◌, [], ◌∷◌, ◌++◌, length, IfOk, OnOk};
+ghost use Rattle.std.specs.Prelude.{◌≡◌, ◌==◌, ◌||◌, [], ◌∷◌, ◌++◌, length, OnOk};
+ghost use Rattle.std.specs.List.{list_any};
 
 use std::alloc::{AllocError, Global};
 use std::marker::Model;
@@ -36,6 +37,46 @@ pub struct Flags {
     pub ack: bool,
     /// One of `U`, `E`, `W` and `C` is written.
     pub other: bool,
+}
+
+/// Whether a letter stands among them.
+fn has(letters: &[u8], letter: u8) -> bool
+    ensures { result ≡ list_any (λ octet. octet == letter) letters.now }
+{
+    letters.iter().any(|octet| *octet == letter)
+}
+
+/// Whether a letter of a flag that isn't run stands among them.
+fn has_other(letters: &[u8]) -> bool
+    ensures { result ≡ list_any (λ octet. (octet == 85) || (octet == 69) || (octet == 87) || (octet == 67)) letters.now }
+{
+    letters.iter().any(|octet| *octet == b'U' || *octet == b'E' || *octet == b'W' || *octet == b'C')
+}
+
+impl Flags {
+    ghost use Rattle.pd_script.specs.Values.{flags_of, with_ack};
+
+    /// The flags that letters name, without ACK.
+    #[tactic(auto, unfolding(crate::specs::Values::flags_of))]
+    pub fn of_letters(letters: &[u8]) -> Flags
+        ensures { result ≡ flags_of letters.now }
+    {
+        Flags {
+            syn: has(letters, b'S'),
+            fin: has(letters, b'F'),
+            rst: has(letters, b'R'),
+            psh: has(letters, b'P'),
+            ack: false,
+            other: has_other(letters),
+        }
+    }
+
+    /// The same flags with ACK.
+    pub fn with_ack(self) -> Flags
+        ensures { result ≡ with_ack self }
+    {
+        Flags { ack: true, ..self }
+    }
 }
 
 /// The TCP options of a packet.

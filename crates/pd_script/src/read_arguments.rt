@@ -1,9 +1,11 @@
 //! Reading the arguments of a call.
-ghost use Rattle.std.specs.Prelude.{◌≡◌};
+ghost use Rattle.std.specs.Prelude.{◌≡◌, []};
 ghost use Rattle.pd_script.specs.Reading.{arguments_at};
-ghost use Rattle.pd_script.specs.Brackets.{is_between};
-ghost use Rattle.pd_script.specs.Cursor.{Leaves};
+ghost use Rattle.pd_script.specs.Brackets.{is_between, is_last, note_move};
+ghost use Rattle.pd_script.specs.Reader.{machine_at};
+ghost use Rattle.pd_script.specs.Cursor.{Leaves, SkipsNote};
 
+use crate::brackets::OpenPairs;
 use crate::calls::Arguments;
 use crate::cursor::Cursor;
 use crate::drafts::Inside;
@@ -43,6 +45,27 @@ impl<'a> Cursor<'a> {
             }
             self.advance();
             inside = Inside::fresh();
+        }
+    }
+
+    /// Whether the bracket that ends a note stands here.
+    fn is_last(&self, pairs: &OpenPairs) -> bool
+        ensures { result ≡ is_last pairs.now self.now }
+    {
+        pairs.is_empty() && self.is_symbol(b')')
+    }
+
+    /// Goes over what stands in a note, and the bracket that ends it.
+    pub fn note_inside(&mut self) -> Result<(), Stop>
+        ensures { SkipsNote result self.new (machine_at note_move [] self.old) }
+    {
+        let mut pairs = OpenPairs::new();
+        'tokens: loop {
+            if self.is_last(&pairs) {
+                self.advance();
+                return Ok(());
+            }
+            pairs = self.note_part(pairs)?;
         }
     }
 }

@@ -1,13 +1,13 @@
 //! Reading the parts of an event.
 ghost use Rattle.std.specs.Prelude.{◌≡◌};
-ghost use Rattle.pd_script.specs.Reading.{time_at, outcome_at, call_at, action_at, event_at};
+ghost use Rattle.pd_script.specs.Reading.{time_at, relative_at, maybe_until_at, note_at, outcome_at, call_at, action_at, event_at};
 ghost use Rattle.pd_script.specs.Cursor.{Leaves};
 
 use crate::calls::{Call, Outcome};
 use crate::cursor::Cursor;
 use crate::script_events::{Action, Event};
 use crate::stops::Stop;
-use crate::timing::Time;
+use crate::timing::{Time, Until};
 use std::alloc::Global;
 
 impl<'a> Cursor<'a> {
@@ -16,13 +16,54 @@ impl<'a> Cursor<'a> {
     fn time(&mut self) -> Result<(usize, Time), Stop>
         ensures { Leaves result self.new (time_at self.old) }
     {
-        if self.is_symbol(b'+') {
-            let line = self.symbol(b'+')?;
-            let (_, microseconds) = self.num()?;
-            return Ok((line, Time::Relative(microseconds)));
+        if self.is_symbol(b'*') {
+            let line = self.symbol(b'*')?;
+            return Ok((line, Time::Any));
         }
-        let (line, microseconds) = self.num()?;
-        Ok((line, Time::Absolute(microseconds)))
+        if self.is_symbol(b'+') {
+            return self.relative_time();
+        }
+        let (line, first) = self.num()?;
+        if !self.is_symbol(b'~') {
+            return Ok((line, Time::Absolute(first)));
+        }
+        self.symbol(b'~')?;
+        let second = self.num_from(first)?;
+        Ok((line, Time::AbsoluteRange(first, second)))
+    }
+
+    fn relative_time(&mut self) -> Result<(usize, Time), Stop>
+        ensures { Leaves result self.new (relative_at self.old) }
+    {
+        let line = self.symbol(b'+')?;
+        let (_, first) = self.num()?;
+        if !self.is_symbol(b'~') {
+            return Ok((line, Time::Relative(first)));
+        }
+        self.symbol(b'~')?;
+        if self.is_symbol(b'+') {
+            self.symbol(b'+')?;
+        }
+        let second = self.num_from(first)?;
+        Ok((line, Time::RelativeRange(first, second)))
+    }
+
+    /// Takes the end of a blocking call, if one is written.
+    #[tactic(auto, unfolding(crate::specs::Reading::maybe_until_at))]
+    fn until(&mut self) -> Result<Option<Until>, Stop>
+        ensures { Leaves result self.new (maybe_until_at self.old) }
+    {
+        if !self.is_dots() {
+            return Ok(None);
+        }
+        self.dots()?;
+        if self.is_symbol(b'+') {
+            self.symbol(b'+')?;
+            let (_, microseconds) = self.num()?;
+            return Ok(Some(Until::Relative(microseconds)));
+        }
+        let (_, microseconds) = self.num()?;
+        Ok(Some(Until::Absolute(microseconds)))
     }
 
     /// Takes the result of a call.
@@ -45,6 +86,16 @@ impl<'a> Cursor<'a> {
         Ok(Outcome::Negative(number, Some(name)))
     }
 
+    /// Goes over a note.
+    #[tactic(auto, unfolding(crate::specs::Reading::note_at))]
+    fn note(&mut self) -> Result<usize, Stop>
+        ensures { Leaves result self.new (note_at self.old) }
+    {
+        let line = self.symbol(b'(')?;
+        self.note_inside()?;
+        Ok(line)
+    }
+
     #[tactic(auto, unfolding(crate::specs::Reading::call_at))]
     fn call(&mut self, alloc: Global) -> Result<Call, Stop>
         ensures { Leaves result self.new (call_at self.old) }
@@ -54,6 +105,9 @@ impl<'a> Cursor<'a> {
         let arguments = self.arguments(alloc)?;
         self.symbol(b'=')?;
         let result = self.outcome()?;
+        if self.is_symbol(b'(') {
+            self.note()?;
+        }
         Ok(Call {
             function,
             arguments,
@@ -65,6 +119,20 @@ impl<'a> Cursor<'a> {
     fn action(&mut self, alloc: Global) -> Result<Action, Stop>
         ensures { Leaves result self.new (action_at self.old) }
     {
+        if self.is_command() {
+            return self.command();
+        }
+        if self.is_code() {
+            return self.code();
+        }
+        if self.is_symbol(b'<') {
+            self.symbol(b'<')?;
+            return Ok(Action::Inbound(self.packet(alloc, true)?));
+        }
+        if self.is_symbol(b'>') {
+            self.symbol(b'>')?;
+            return Ok(Action::Outbound(self.packet(alloc, false)?));
+        }
         Ok(Action::Call(self.call(alloc)?))
     }
 
@@ -74,11 +142,12 @@ impl<'a> Cursor<'a> {
         ensures { Leaves result self.new (event_at self.old) }
     {
         let (line, time) = self.time()?;
+        let until = self.until()?;
         let action = self.action(alloc)?;
         Ok(Event {
             line,
             time,
-            until: None,
+            until,
             action,
         })
     }

@@ -57,7 +57,11 @@ impl<'a> Cursor<'a> {
     fn fault(&self) -> Option<usize>
         ensures { result ≡ (at_end self.now).fault }
     {
-        if self.is_end() { None } else { Some(self.line()) }
+        if self.is_end() {
+            None
+        } else {
+            Some(self.line())
+        }
     }
 
     /// Takes all events.

@@ -1,13 +1,16 @@
 //! What a token is for the grammar.
-ghost use Rattle.std.specs.Prelude.{◌≡◌, ◌≤◌, true};
+ghost use Rattle.std.specs.Prelude.{◌≡◌, ◌≤◌, true, unwrap_or};
+ghost use Rattle.std.specs.List.{list_all};
 ghost use Rattle.pd_lex.specs.Tokens.{lexeme, lexeme_of, line_of};
-ghost use Rattle.pd_script.specs.Items.{is_int, is_any_int, is_hex, is_num, is_word, is_symbol, is_header, given, text_of};
+ghost use Rattle.pd_script.specs.Items.{is_int, is_any_int, is_hex, is_num, is_num_from, is_dots, is_command, is_code, is_word, is_symbol, is_named, is_int_from, is_int_of, is_flags, is_option, is_header, given, text_of};
 ghost use Rattle.pd_script.specs.Header.{header_item};
-ghost use Rattle.pd_script.specs.Values.{number, hex_number, microseconds, function_named, error_named};
+ghost use Rattle.pd_script.specs.Values.{number, hex_number, microseconds, function_named, error_named, is_flag, flags_of, option_named};
 
 use crate::calls::{ErrorName, Function};
-use crate::names::{error_named, function_named};
-use crate::numbers::{GREATEST, hex_number, microseconds, number, whole_digits};
+use crate::names::{OptionName, error_named, function_named, option_named};
+use crate::numbers::{GREATEST, TIME_LIMIT, hex_number, microseconds, number};
+use crate::packets::Flags;
+use crate::script_events::Action;
 use crate::script_header::{HeaderItem, HeaderKind};
 use pd_lex::{Token, TokenKind};
 use pd_text::Lines;
@@ -53,12 +56,113 @@ pub fn is_hex(lines: &Lines, token: &Token) -> bool
     matches!(token.kind, TokenKind::Hex) && hex_number(token.text(lines)) <= GREATEST
 }
 
-/// An Int or a Decimal whose whole part is at most 4,294,967,295.
+/// An Int or a Decimal below 4,294,967,296 seconds.
 #[tactic(auto, unfolding(pd_lex::specs::Tokens::lexeme_of))]
 pub fn is_num(lines: &Lines, token: &Token) -> bool
     ensures { result ≡ is_num (lexeme (lexeme_of lines.now token.now)) }
 {
-    matches!(token.kind, TokenKind::Int | TokenKind::Decimal) && number(whole_digits(token.text(lines))) <= GREATEST
+    matches!(token.kind, TokenKind::Int | TokenKind::Decimal)
+        && microseconds(token.text(lines)) < TIME_LIMIT
+}
+
+/// Three points.
+#[tactic(auto, unfolding(pd_lex::specs::Tokens::lexeme_of))]
+pub fn is_dots(lines: &Lines, token: &Token) -> bool
+    ensures { result ≡ is_dots (lexeme (lexeme_of lines.now token.now)) }
+{
+    let _ = lines;
+    matches!(token.kind, TokenKind::Dots)
+}
+
+/// A shell command.
+#[tactic(auto, unfolding(pd_lex::specs::Tokens::lexeme_of))]
+pub fn is_command(lines: &Lines, token: &Token) -> bool
+    ensures { result ≡ is_command (lexeme (lexeme_of lines.now token.now)) }
+{
+    let _ = lines;
+    matches!(token.kind, TokenKind::Cmd)
+}
+
+#[tactic(auto, unfolding(pd_lex::specs::Tokens::lexeme_of))]
+pub fn is_code(lines: &Lines, token: &Token) -> bool
+    ensures { result ≡ is_code (lexeme (lexeme_of lines.now token.now)) }
+{
+    let _ = lines;
+    matches!(token.kind, TokenKind::Code)
+}
+
+/// Whether it is this word.
+#[tactic(auto, unfolding(pd_lex::specs::Tokens::lexeme_of))]
+pub fn is_named(lines: &Lines, token: &Token, name: &[u8]) -> bool
+    ensures { result ≡ is_named name.now (lexeme (lexeme_of lines.now token.now)) }
+{
+    matches!(token.kind, TokenKind::Word) && token.text(lines) == name
+}
+
+/// The line of a token, if it is this word.
+#[tactic(auto, unfolding(pd_lex::specs::Tokens::lexeme_of))]
+pub fn named_line(lines: &Lines, token: &Token, name: &[u8]) -> Option<usize>
+    ensures { result ≡ given (is_named name.now) (λ t. line_of t) (lexeme (lexeme_of lines.now token.now)) }
+{
+    if is_named(lines, token, name) {
+        Some(token.line)
+    } else {
+        None
+    }
+}
+
+/// The number of a token, if it is an Int that is at least another.
+#[tactic(auto, unfolding(pd_lex::specs::Tokens::lexeme_of))]
+pub fn int_from_of(lines: &Lines, token: &Token, least: u32) -> Option<u32>
+    ensures { result ≡ given (is_int_from least) (λ t. number (text_of t)) (lexeme (lexeme_of lines.now token.now)) }
+{
+    let number = int_of(lines, token)?;
+    if least <= number { Some(number) } else { None }
+}
+
+/// The number of a token, if it is an Int of just this number.
+#[tactic(auto, unfolding(pd_lex::specs::Tokens::lexeme_of))]
+pub fn int_equal_of(lines: &Lines, token: &Token, wanted: u32) -> Option<u32>
+    ensures { result ≡ given (is_int_of wanted) (λ t. number (text_of t)) (lexeme (lexeme_of lines.now token.now)) }
+{
+    let number = int_of(lines, token)?;
+    if number == wanted { Some(number) } else { None }
+}
+
+/// The flags that a token names, if it is a word of their letters.
+#[tactic(auto, unfolding(pd_lex::specs::Tokens::lexeme_of))]
+pub fn flags_of(lines: &Lines, token: &Token) -> Option<Flags>
+    ensures { result ≡ given is_flags (λ t. flags_of (text_of t)) (lexeme (lexeme_of lines.now token.now)) }
+{
+    if matches!(token.kind, TokenKind::Word) && all_flags(token.text(lines)) {
+        Some(Flags::of_letters(token.text(lines)))
+    } else {
+        None
+    }
+}
+
+fn is_flag(octet: u8) -> bool
+    ensures { result ≡ is_flag octet }
+{
+    matches!(octet, b'F' | b'S' | b'R' | b'P' | b'U' | b'E' | b'W' | b'C')
+}
+
+fn all_flags(octets: &[u8]) -> bool
+    ensures { result ≡ list_all is_flag octets.now }
+{
+    octets.iter().all(|octet| is_flag(*octet))
+}
+
+/// The TCP option that a token names, if it is such a word.
+#[tactic(auto, unfolding(pd_lex::specs::Tokens::lexeme_of))]
+pub fn option_of(lines: &Lines, token: &Token) -> Option<OptionName>
+    ensures { result ≡ given is_option (λ t. unwrap_or (option_named (text_of t)) OptionName.Nop) (lexeme (lexeme_of lines.now token.now)) }
+{
+    if matches!(token.kind, TokenKind::Word) {
+        option_named(token.text(lines))
+    } else {
+        None
+    }
 }
 
 /// The line of a token, if it is the symbol of this octet.
@@ -66,7 +170,11 @@ pub fn is_num(lines: &Lines, token: &Token) -> bool
 pub fn symbol_line(lines: &Lines, token: &Token, octet: u8) -> Option<usize>
     ensures { result ≡ given (is_symbol octet) (λ t. line_of t) (lexeme (lexeme_of lines.now token.now)) }
 {
-    if is_symbol(lines, token, octet) { Some(token.line) } else { None }
+    if is_symbol(lines, token, octet) {
+        Some(token.line)
+    } else {
+        None
+    }
 }
 
 /// The number of a token, if it is an Int of at most 4,294,967,295.
@@ -91,7 +199,7 @@ pub fn hex_of(lines: &Lines, token: &Token) -> Option<u32>
     u32::try_from(hex_number(token.text(lines))).ok()
 }
 
-/// The line and the microseconds of a token, if it is an Int or a Decimal whose whole part is at most 4,294,967,295.
+/// The line and the microseconds of a token, if it is an Int or a Decimal below 4,294,967,296 seconds.
 #[tactic(auto, unfolding(pd_lex::specs::Tokens::lexeme_of))]
 pub fn num_of(lines: &Lines, token: &Token) -> Option<(usize, u64)>
     ensures { result ≡ given is_num (λ t. (line_of t, microseconds (text_of t))) (lexeme (lexeme_of lines.now token.now)) }
@@ -99,11 +207,64 @@ pub fn num_of(lines: &Lines, token: &Token) -> Option<(usize, u64)>
     if !matches!(token.kind, TokenKind::Int | TokenKind::Decimal) {
         return None;
     }
-    let text = token.text(lines);
-    if number(whole_digits(text)) > GREATEST {
+    let time = microseconds(token.text(lines));
+    if time < TIME_LIMIT {
+        Some((token.line, time))
+    } else {
+        None
+    }
+}
+
+/// The microseconds of a token, if it is such a number of at least so many.
+#[tactic(auto, unfolding(pd_lex::specs::Tokens::lexeme_of))]
+pub fn num_from_of(lines: &Lines, token: &Token, least: u64) -> Option<u64>
+    ensures { result ≡ given (is_num_from least) (λ t. microseconds (text_of t)) (lexeme (lexeme_of lines.now token.now)) }
+{
+    if !matches!(token.kind, TokenKind::Int | TokenKind::Decimal) {
         return None;
     }
-    Some((token.line, microseconds(text)))
+    let time = microseconds(token.text(lines));
+    if time < TIME_LIMIT && least <= time {
+        Some(time)
+    } else {
+        None
+    }
+}
+
+/// The line of a token, if it is three points.
+#[tactic(auto, unfolding(pd_lex::specs::Tokens::lexeme_of))]
+pub fn dots_line(lines: &Lines, token: &Token) -> Option<usize>
+    ensures { result ≡ given is_dots (λ t. line_of t) (lexeme (lexeme_of lines.now token.now)) }
+{
+    if is_dots(lines, token) {
+        Some(token.line)
+    } else {
+        None
+    }
+}
+
+/// What a token does, if it is a shell command.
+#[tactic(auto, unfolding(pd_lex::specs::Tokens::lexeme_of))]
+pub fn command_of(lines: &Lines, token: &Token) -> Option<Action>
+    ensures { result ≡ given is_command (λ t. Action.Command) (lexeme (lexeme_of lines.now token.now)) }
+{
+    if is_command(lines, token) {
+        Some(Action::Command)
+    } else {
+        None
+    }
+}
+
+/// What a token does, if it is code.
+#[tactic(auto, unfolding(pd_lex::specs::Tokens::lexeme_of))]
+pub fn code_of(lines: &Lines, token: &Token) -> Option<Action>
+    ensures { result ≡ given is_code (λ t. Action.Code) (lexeme (lexeme_of lines.now token.now)) }
+{
+    if is_code(lines, token) {
+        Some(Action::Code)
+    } else {
+        None
+    }
 }
 
 /// The call that a token names, if it is a word.

@@ -1,4 +1,4 @@
-use Rattle.std.proofs.Common.{◌≡◌, Ok, ap, List, ℕ}
+use Rattle.std.proofs.Common.{Ok, ap, List, ℕ}
 use Rattle.pd_settings.specs.Keys.{key_named}
 use Rattle.pd_book.specs.Refusals.{set_refusal}
 use Rattle.pd_book.specs.Story.{Story}

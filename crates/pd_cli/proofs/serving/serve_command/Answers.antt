@@ -1,4 +1,3 @@
-use Rattle.std.proofs.Common.{◌≡◌, ◌∙◌}
 use Rattle.pd_cli.proofs.Written.{does_from}
 use Rattle.pd_cli.proofs.serving.serve_command.Goals as goal
 

@@ -1,4 +1,3 @@
-use Rattle.std.proofs.Common.{◌≡◌}
 use Rattle.pd_cli.proofs.Settled.{goes_on, goes_less, goes_quiet, goes_out}
 use Rattle.pd_cli.proofs.settling.settle.Goals as goal
 

@@ -1,4 +1,3 @@
-use Rattle.std.proofs.Common.{◌≡◌}
 use Rattle.pd_cli.proofs.Settled.{start_full, finish_ok, finish_own, turn_done}
 use Rattle.pd_cli.proofs.settling.turn.Goals as goal
 

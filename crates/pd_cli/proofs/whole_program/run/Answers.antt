@@ -1,4 +1,4 @@
-use Rattle.std.proofs.Common.{[], Ok, Err, take, refl}
+use Rattle.std.proofs.Common.{[], Err, take, refl}
 use Rattle.pd_cli.specs.Program.{said_of}
 use Rattle.pd_cli.proofs.Ending.{ran_from, ran_well}
 use Rattle.pd_cli.proofs.Written.{appends_none}

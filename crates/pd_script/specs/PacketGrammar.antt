@@ -1,0 +1,193 @@
+-- Which items spell a packet.
+use Rattle.std.specs.Prelude.{codes, ℕ, ◌-◌, Bool, true, false, List, [], ◌∷◌, Option, Some, None, unwrap_or}
+use Rattle.pd_lex.specs.Tokens.{Item, line_of}
+use Rattle.pd_script.specs.Items.{is_int_from, is_int_of, is_named, is_flags, is_option, text_of}
+use Rattle.pd_script.specs.Values.{number, flags_of, with_ack, option_named}
+use Rattle.pd_script.specs.Spelling.{Spelling, token, made, in_turn, ◌>>=◌, either, IsSymbol, IsInt, IsDots, Repeats}
+use Rattle.pd_script.specs.declared.names.OptionName.{OptionName}
+use Rattle.pd_script.specs.declared.names.OptionName.TheVariants as names
+use Rattle.pd_script.specs.declared.packets.Flags.{Flags}
+use Rattle.pd_script.specs.declared.packets.Block.{Block}
+use Rattle.pd_script.specs.declared.packets.PacketOption.{PacketOption}
+use Rattle.pd_script.specs.declared.packets.PacketOption.TheVariants as options
+use Rattle.pd_script.specs.declared.packets.Options.{Options}
+use Rattle.pd_script.specs.declared.packets.Options.TheVariants as lists
+use Rattle.pd_script.specs.declared.packets.Packet.{Packet}
+
+-- ---- tokens
+
+-- a whole number that is at least another
+abbrev pub IsIntFrom : ℕ → Spelling ℕ
+IsIntFrom least = do
+  t ← token (is_int_from least)
+  made (number (text_of t))
+
+-- a whole number that is just this one
+abbrev pub IsIntOf : ℕ → Spelling ℕ
+IsIntOf n = do
+  t ← token (is_int_of n)
+  made (number (text_of t))
+
+-- this word, with its line
+abbrev pub IsNamed : List ℕ → Spelling ℕ
+IsNamed name = do
+  t ← token (is_named name)
+  made (line_of t)
+
+-- a word of the letters F, S, R, P, U, E, W and C
+abbrev pub IsLetters : Spelling Flags
+IsLetters = do
+  t ← token is_flags
+  made (flags_of (text_of t))
+
+-- a word that names a TCP option
+abbrev pub IsOptionName : Spelling OptionName
+IsOptionName = do
+  t ← token is_option
+  made (unwrap_or (option_named (text_of t)) names.Nop)
+
+-- ---- flags
+
+-- `-`
+abbrev pub IsNoFlags : Spelling Flags
+IsNoFlags = do
+  line ← IsSymbol 45
+  made (flags_of [])
+
+-- the point, which is the ACK flag
+abbrev pub IsPoint : Flags → Spelling Flags
+IsPoint f = do
+  line ← IsSymbol 46
+  made (with_ack f)
+
+abbrev pub IsLettered : Spelling Flags
+IsLettered = do
+  f ← IsLetters
+  either (IsPoint f) (made f)
+
+unfoldable pub IsFlags : Spelling Flags
+IsFlags = either IsNoFlags (either (IsPoint (flags_of [])) IsLettered)
+
+-- ---- numbers
+
+-- the start, `:`, an end that is at least the start, and in brackets the length, which is end less start
+unfoldable pub IsOctets : Spelling (ℕ × ℕ × ℕ)
+IsOctets = do
+  start ← IsInt
+  colon ← IsSymbol 58
+  end ← IsIntFrom start
+  opening ← IsSymbol 40
+  len ← IsIntOf (end - start)
+  closing ← IsSymbol 41
+  made (start, end, len)
+
+-- a word and a number
+abbrev pub IsNumbered : List ℕ → Spelling (Option ℕ)
+IsNumbered name = do
+  line ← IsNamed name
+  n ← IsInt
+  made (Some n)
+
+unfoldable pub IsAck : Spelling (Option ℕ)
+IsAck = either (IsNumbered (codes "ack")) (made None)
+
+-- an inbound packet has a window, an outbound one may
+unfoldable pub IsWin : Bool → Spelling (Option ℕ)
+IsWin true = IsNumbered (codes "win")
+IsWin false = either (IsNumbered (codes "win")) (made None)
+
+-- ---- options
+
+abbrev pub IsBlock : Spelling Block
+IsBlock = do
+  left ← IsInt
+  colon ← IsSymbol 58
+  right ← IsInt
+  made (record { left = left; right = right })
+
+-- one block or more
+unfoldable pub AreBlocks : Spelling (List Block)
+AreBlocks = do
+  b ← IsBlock
+  bs ← Repeats IsBlock
+  made (b ∷ bs)
+
+abbrev pub IsTimestamp : Spelling PacketOption
+IsTimestamp = do
+  val ← IsNamed (codes "val")
+  v ← IsInt
+  ecr ← IsNamed (codes "ecr")
+  e ← IsInt
+  made (options.Timestamp v e)
+
+-- what stands behind the name of an option
+unfoldable pub IsOptionRest : OptionName → Spelling PacketOption
+IsOptionRest names.Mss = in_turn IsInt (λ n. made (options.Mss n))
+IsOptionRest names.Wscale = in_turn IsInt (λ n. made (options.Wscale n))
+IsOptionRest names.SackOk = made options.SackOk
+IsOptionRest names.Nop = made options.Nop
+IsOptionRest names.Eol = made options.Eol
+IsOptionRest names.Timestamp = IsTimestamp
+IsOptionRest names.Sack = in_turn AreBlocks (λ bs. made (options.Sack bs))
+
+unfoldable pub IsOption : Spelling PacketOption
+IsOption = do
+  name ← IsOptionName
+  IsOptionRest name
+
+abbrev pub IsNextOption : Spelling PacketOption
+IsNextOption = do
+  comma ← IsSymbol 44
+  IsOption
+
+-- one option or more, parted by commas
+unfoldable pub AreOptions : Spelling (List PacketOption)
+AreOptions = do
+  o ← IsOption
+  os ← Repeats IsNextOption
+  made (o ∷ os)
+
+abbrev pub IsListed : Spelling Options
+IsListed = do
+  os ← AreOptions
+  closing ← IsSymbol 62
+  made (lists.Listed os)
+
+abbrev pub IsUnlisted : Spelling Options
+IsUnlisted = do
+  closing ← IsSymbol 62
+  made (lists.Listed [])
+
+-- `...` for any options
+abbrev pub IsAnyOptions : Spelling Options
+IsAnyOptions = do
+  dots ← IsDots
+  closing ← IsSymbol 62
+  made lists.Any
+
+abbrev pub IsList : Spelling Options
+IsList = either IsUnlisted IsListed
+
+-- an inbound packet has no `...`
+abbrev pub IsInsideOptions : Bool → Spelling Options
+IsInsideOptions true = IsList
+IsInsideOptions false = either IsAnyOptions IsList
+
+abbrev pub IsBracketedOptions : Bool → Spelling Options
+IsBracketedOptions inbound = do
+  opening ← IsSymbol 60
+  IsInsideOptions inbound
+
+unfoldable pub IsOptions : Bool → Spelling Options
+IsOptions inbound = either (IsBracketedOptions inbound) (made lists.Absent)
+
+-- ---- packets
+
+unfoldable pub IsPacket : Bool → Spelling Packet
+IsPacket inbound = do
+  flags ← IsFlags
+  octets ← IsOctets
+  ack ← IsAck
+  win ← IsWin inbound
+  options ← IsOptions inbound
+  made (record { flags = flags; start = octets.0; end = octets.1; length = octets.2; ack = ack; win = win; options = options })

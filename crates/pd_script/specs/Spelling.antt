@@ -1,0 +1,53 @@
+-- Which items spell what: sequences and alternatives, and no lookahead.
+use Rattle.std.specs.Prelude.{◌≡◌, ℕ, Bool, true, List, [], ◌∷◌, ◌⊎◌}
+use Rattle.pd_lex.specs.Tokens.{Item, line_of}
+use Rattle.pd_script.specs.Items.{is_int, is_symbol, is_dots, text_of}
+use Rattle.pd_script.specs.Values.{number}
+
+-- a value, items that begin with a spelling of it, and what is left of them
+abbrev pub Spelling : Type 0 → Type 1
+Spelling A = A → List Item → List Item → Type 0
+
+-- one token of a kind
+abbrev pub token : (Item → Bool) → Spelling Item
+token test t ts rest = (ts ≡ t ∷ rest) × (test t ≡ true)
+
+-- a value that takes no token
+abbrev pub made : {A : Type 0} → A → Spelling A
+made x v ts rest = (x ≡ v) × (ts ≡ rest)
+
+-- one spelling and then another, which may depend on what the first spells
+abbrev pub in_turn : {A B : Type 0} → Spelling A → (A → Spelling B) → Spelling B
+in_turn {A = A} first second v ts rest = (a : A) × (middle : List Item) × first a ts middle × second a v middle rest
+
+infixl 10 ◌>>=◌
+abbrev pub ◌>>=◌ : {A B : Type 0} → Spelling A → (A → Spelling B) → Spelling B
+first >>= second = in_turn first second
+
+-- one spelling or another
+abbrev pub either : {A : Type 0} → Spelling A → Spelling A → Spelling A
+either one other v ts rest = one v ts rest ⊎ other v ts rest
+
+-- ---- tokens
+
+-- the symbol of an octet, with its line
+abbrev pub IsSymbol : ℕ → Spelling ℕ
+IsSymbol octet = do
+  t ← token (is_symbol octet)
+  made (line_of t)
+
+-- a whole number of at most 4,294,967,295
+abbrev pub IsInt : Spelling ℕ
+IsInt = do
+  t ← token is_int
+  made (number (text_of t))
+
+abbrev pub IsDots : Spelling ℕ
+IsDots = do
+  t ← token is_dots
+  made (line_of t)
+
+-- none or more spellings, one after the other
+abbrev pub Repeats : {A : Type 0} → Spelling A → Spelling (List A)
+Repeats P [] ts rest = ts ≡ rest
+Repeats P (x ∷ xs) ts rest = (middle : List Item) × P x ts middle × Repeats P xs middle rest
