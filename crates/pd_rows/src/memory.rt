@@ -1,0 +1,52 @@
+//! Want of memory in a run of the program: it is told, what was written is a prefix, and the next run says all. In
+//! the gate there is memory; outside it this test is run with each allocation refused in turn.
+use crate::streams::{Sink, Source};
+use pd_cli::program;
+use std::process::Abort;
+use std::test::Fail;
+
+const INPUT: &[u8] = b"add a 3
+0 socket(..., SOCK_STREAM, IPPROTO_TCP) = 3
++0 bind(3, ..., ...) = 0
++0 listen(3, 1) = 0
+show
+set mss 1
+edit a 3 1 1
++0 listen(3, 8) = 1
+settle
+remove a
+";
+
+const OUTPUT: &[u8] = b"a pending
+total 1 pass 0 fail 0 syntax 0 unsupported 0 limit 0 pending 1
+refused 4 BadValue
+a fail 3 result
+total 1 pass 0 fail 1 syntax 0 unsupported 0 limit 0 pending 0
+total 0 pass 0 fail 0 syntax 0 unsupported 0 limit 0 pending 0
+";
+
+/// Runs the program, and tells whether it found memory.
+fn has_memory(rt: &(impl Abort + AllocGlobal)) -> Result<bool, Fail> {
+    let mut source = Source::new(INPUT, 4096, None);
+    let mut output = Sink::new(rt.alloc(), 4096, None);
+    let mut errors = Sink::new(rt.alloc(), 4096, None);
+    output.taken.reserve(4096)?;
+    errors.taken.reserve(4096)?;
+    let words = ["pdregress", "--settings", "tolerance_us = 5000"];
+    let status = program(rt.alloc(), &words, &mut source, &mut output, &mut errors);
+    if status == 0 {
+        assert_eq!(rt; output.taken.as_slice(), OUTPUT);
+        assert!(rt; errors.taken.is_empty());
+        return Ok(true);
+    }
+    assert_eq!(rt; status, 2);
+    assert!(rt; OUTPUT.starts_with(output.taken.as_slice()));
+    Ok(false)
+}
+
+#[test]
+fn a_run_without_memory_writes_a_prefix(rt: HostRuntime) -> Result<(), Fail> {
+    let found = has_memory(&rt).unwrap_or(false);
+    assert!(rt; found || has_memory(&rt)?);
+    Ok(())
+}
