@@ -1,12 +1,12 @@
 -- Tests of items that no item passes both of.
-use Rattle.std.proofs.Common.{◌≡◌, ℕ, Bool, true, false, List, [], ◌∷◌, refl, sym, ap, subst, ◌∙◌, arith}
-use Rattle.std.specs.Prelude.{not, ◌&&◌, ◌||◌, ◌==◌}
+use Rattle.std.proofs.Common.{◌≡◌, ℕ, Bool, true, false, List, [], ◌∷◌, refl}
+use Rattle.std.specs.Prelude.{not, ◌&&◌, ◌||◌}
 use Rattle.pd_lex.specs.declared.token.TokenKind.{TokenKind}
 use Rattle.pd_lex.specs.declared.token.TokenKind.TheVariants as kinds
 use Rattle.pd_lex.specs.Tokens.{Item, lexeme, ending, bad}
 use Rattle.std.specs.Str.{bytes_eq}
 use Rattle.std.proofs.lemmas.Slice.Eq.{bytes_eq-Decides}
-use Rattle.pd_script.specs.Items.{is_token, is_any_int, is_int, is_hex, is_num, is_dots, is_command, is_code, is_word, is_symbol, is_dots_kind, is_command_kind, is_code_kind, is_int_kind, is_hex_kind, is_num_kind, is_word_kind, is_symbol_kind, is_end, starts_event, goes_on}
+use Rattle.pd_script.specs.Items.{is_token, is_any_int, is_int, is_hex, is_num, is_dots, is_command, is_code, is_word, is_symbol, is_dots_kind, is_command_kind, is_code_kind, is_int_kind, is_hex_kind, is_num_kind, is_word_kind, is_symbol_kind, is_end}
 
 -- ---- tests
 

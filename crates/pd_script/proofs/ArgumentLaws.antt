@@ -1,23 +1,23 @@
 -- The law of the arguments of a call.
-use Rattle.std.proofs.Common.{◌≡◌, ℕ, ◌+◌, ◌<◌, Bool, true, false, cond, List, [], ◌∷◌, ◌++◌, Option, Some, None, Result, Ok, Err, refl, sym, ap, subst, ◌∙◌, arith}
-use Rattle.std.specs.Prelude.{not, ◌&&◌, ◌||◌, ◌==◌, if◌then◌else◌}
+use Rattle.std.proofs.Common.{◌≡◌, ℕ, Bool, true, false, cond, List, [], ◌∷◌, ◌++◌, refl, ◌∙◌}
+use Rattle.std.specs.Prelude.{not}
 use Rattle.std.specs.List.{list_all}
 use Rattle.pd_lex.specs.declared.token.TokenKind.{TokenKind}
 use Rattle.pd_lex.specs.declared.token.TokenKind.TheVariants as kinds
 use Rattle.pd_lex.specs.Places.{first_place}
-use Rattle.pd_lex.specs.Tokens.{Item, Lexeme, lexeme, ending, bad, line_of}
+use Rattle.pd_lex.specs.Tokens.{Item, lexeme, line_of}
 use Rattle.pd_script.specs.Items.{is_symbol, is_plain, is_any_int, is_word}
-use Rattle.pd_script.specs.Reader.{Read, Reader, Move, stuck, ends, goes, onto, moved, machine_at, when, done, one, ◌>>=◌}
+use Rattle.pd_script.specs.Reader.{onto, machine_at, done, one}
 use Rattle.pd_script.specs.TokenReading.{symbol_at}
 use Rattle.pd_script.specs.Reading.{arguments_at, no_arguments_at}
 use Rattle.pd_script.specs.declared.drafts.Inside.{Inside}
-use Rattle.pd_script.specs.Brackets.{fresh, argument_move, move_within, led, parted, pairs_after, opened_by, is_closing, closed, closing_octet, single_draft, longer_draft, drafted, is_empty}
+use Rattle.pd_script.specs.Brackets.{fresh, argument_move, longer_draft, drafted, is_empty}
 use Rattle.pd_script.specs.declared.calls.Argument.{Argument}
 use Rattle.pd_script.specs.declared.brackets.Bracket.{Bracket}
 use Rattle.pd_script.specs.declared.brackets.Bracket.TheVariants as brackets
 use Rattle.pd_script.specs.declared.drafts.Draft.{Draft}
 use Rattle.pd_script.specs.declared.drafts.Draft.TheVariants as drafts
-use Rattle.pd_script.proofs.Laws.{Laws, Laws-one, Laws-done, Laws-bind, Laws-when, Full, Stops, Within, any, ok, Stops-any}
+use Rattle.pd_script.proofs.Laws.{Laws, Laws-one, Laws-done, Laws-bind, Laws-when, Full, Stops, any, ok}
 use Rattle.pd_script.proofs.Machines.{Laws-machine}
 use Rattle.pd_script.proofs.Apart.{not-true, not-false}
 

@@ -1,26 +1,24 @@
 -- The machine reads just the arguments of a call.
-use Rattle.std.proofs.Common.{◌≡◌, ℕ, ◌+◌, ◌<◌, ◌≤◌, Bool, true, false, cond, List, [], ◌∷◌, ◌++◌, length, Option, Some, None, Result, Ok, Err, refl, sym, ap, subst, ◌∙◌, arith, append_assoc, inl, inr}
-use Rattle.std.specs.Prelude.{◌&&◌, ◌||◌, ◌==◌, ◌⊎◌}
+use Rattle.std.proofs.Common.{◌≡◌, ℕ, Bool, true, false, cond, List, [], ◌∷◌, ◌++◌, Option, Some, None, refl, sym, ap, subst, ◌∙◌, append_assoc, inl, inr}
+use Rattle.std.specs.Prelude.{◌⊎◌}
 use Rattle.pd_lex.specs.Tokens.{Item, lexeme, ending, bad}
 use Rattle.std.specs.List.{list_all}
 use Rattle.std.proofs.lemmas.List.Folds.{list_all-append}
-use Rattle.pd_script.specs.Items.{is_symbol, is_symbol_kind, is_any_int, is_word, text_of}
-use Rattle.pd_script.specs.Values.{capped_number, constant_named}
-use Rattle.pd_script.specs.Reader.{Read, Reader, Move, stuck, ends, goes, onto, moved, machine_at, next_is}
-use Rattle.pd_script.specs.declared.drafts.Inside.{Inside}
+use Rattle.pd_script.specs.Items.{is_symbol, is_symbol_kind, is_any_int, is_word}
+use Rattle.pd_script.specs.Reader.{Reader, stuck, ends, goes, moved, machine_at, next_is}
 use Rattle.pd_script.specs.declared.drafts.Draft.{Draft}
 use Rattle.pd_script.specs.declared.drafts.Draft.TheVariants as drafts
 use Rattle.pd_script.specs.declared.brackets.Bracket.{Bracket}
 use Rattle.pd_script.specs.declared.calls.Argument.{Argument}
 use Rattle.pd_script.specs.declared.calls.Argument.TheVariants as arguments
-use Rattle.pd_script.specs.Brackets.{fresh, argument_move, move_within, led, parted, pairs_after, paired, closed, is_closing, opened_by, single_draft, longer_draft, drafted, is_empty}
+use Rattle.pd_script.specs.Brackets.{fresh, argument_move, move_within, led, pairs_after, single_draft, longer_draft, drafted, is_empty}
 use Rattle.pd_script.specs.Arguments.{is_parting, Balances, argument_of, IsArgument, IsSomeArguments, IsArguments}
 use Rattle.pd_script.proofs.Laws.{ok, value_is, rest_is}
 use Rattle.pd_script.specs.Reading.{arguments_at, no_arguments_at}
 use Rattle.pd_script.proofs.ArgumentLaws.{is_empty-longer_draft}
 use Rattle.pd_script.proofs.ArgumentSteps.{onto-nil}
 use Rattle.pd_script.proofs.Machines.{onto_ok}
-use Rattle.pd_script.proofs.Apart.{is_lexeme, lexical, symbol_kind, and-left, and-right, or-no, symbol_apart, symbol_no_int, symbol_no_word}
+use Rattle.pd_script.proofs.Apart.{is_lexeme, lexical, symbol_kind, symbol_apart, symbol_no_int, symbol_no_word}
 
 -- ---- drafts and arguments
 

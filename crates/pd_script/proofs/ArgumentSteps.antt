@@ -1,15 +1,15 @@
 -- One step over the tokens of arguments.
-use Rattle.std.proofs.Common.{◌≡◌, ℕ, ◌+◌, ◌<◌, ◌≤◌, Bool, true, false, cond, List, [], ◌∷◌, ◌++◌, length, Option, Some, None, Result, Ok, Err, refl, sym, ap, subst, ◌∙◌, arith, append_assoc}
-use Rattle.std.specs.Prelude.{◌&&◌, ◌||◌, ◌==◌}
+use Rattle.std.proofs.Common.{◌≡◌, ◌<◌, Bool, true, false, List, [], ◌∷◌, ◌++◌, length, Option, Some, None, Ok, Err, refl, sym, ap, subst, ◌∙◌, arith, append_assoc}
+use Rattle.std.specs.Prelude.{◌||◌, ◌==◌}
 use Rattle.std.proofs.lemmas.Bool.Decides.{nat_tests}
 use Rattle.pd_lex.specs.Tokens.{Item, lexeme, ending, bad}
 use Rattle.pd_script.specs.Items.{is_symbol}
-use Rattle.pd_script.specs.Reader.{Read, Reader, Move, stuck, ends, goes, onto, moved, machine_at, next_is}
+use Rattle.pd_script.specs.Reader.{Read, Reader, stuck, ends, goes, onto, moved, machine_at, next_is}
 use Rattle.pd_script.specs.declared.drafts.Inside.{Inside}
 use Rattle.pd_script.specs.declared.drafts.Draft.{Draft}
 use Rattle.pd_script.specs.declared.brackets.Bracket.{Bracket}
 use Rattle.pd_script.specs.declared.calls.Argument.{Argument}
-use Rattle.pd_script.specs.Brackets.{fresh, argument_move, move_within, led, parted, pairs_after, longer_draft, drafted, is_empty, part_at, part_by, behind_token, is_between}
+use Rattle.pd_script.specs.Brackets.{fresh, argument_move, move_within, led, pairs_after, longer_draft, drafted, is_empty, part_at, part_by, behind_token, is_between}
 use Rattle.pd_script.specs.Reading.{arguments_at}
 use Rattle.pd_script.proofs.Apart.{and-left, and-right, or-no}
 

@@ -1,12 +1,11 @@
 -- Numbers that stop at the greatest of 64 bits.
-use Rattle.std.proofs.Common.{◌≡◌, ℕ, zero, suc, ◌+◌, ◌-◌, ◌*◌, ◌^◌, ◌<◌, ◌≤◌, min, Bool, true, false, List, [], ◌∷◌, ◌++◌, length, refl, sym, ap, subst, ◌∙◌, arith, le_trans, inl, inr}
-use Rattle.std.specs.Prelude.{fold, ◌⊎◌, nat_le, take, drop, replicate}
+use Rattle.std.proofs.Common.{◌≡◌, ℕ, ◌+◌, ◌-◌, ◌*◌, ◌^◌, ◌≤◌, min, Bool, true, false, List, [], ◌∷◌, ◌++◌, refl, ◌∙◌, arith, le_trans, inl, inr}
+use Rattle.std.specs.Prelude.{fold, ◌⊎◌, nat_le}
 use Rattle.std.proofs.lemmas.Bool.Decides.{nat_tests}
 use Rattle.std.proofs.Math.Nat.{le-mul_of_pos_right}
-use Rattle.std.proofs.lemmas.List.{length-take}
 use Rattle.std.specs.Char.{digit_value}
 use Rattle.std.specs.Str.Parse.{digits_value, digits_value_after}
-use Rattle.pd_script.specs.Values.{capped_digit, capped_number, number, whole_digits, six_decimals, whole_len, microseconds}
+use Rattle.pd_script.specs.Values.{capped_digit, number, whole_digits, six_decimals, microseconds}
 
 abbrev most : ℕ
 most = 2 ^ 64 - 1

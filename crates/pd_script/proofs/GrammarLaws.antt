@@ -1,32 +1,27 @@
 -- Each part of the grammar is read.
-use Rattle.std.proofs.Common.{◌≡◌, ℕ, zero, suc, ◌≤◌, ◌<◌, Bool, true, false, cond, List, [], ◌∷◌, ◌++◌, length, Option, Some, None, Result, Ok, Err, refl, sym, ap, subst, ◌∙◌, arith}
-use Rattle.std.specs.Prelude.{not, ◌&&◌, ◌||◌, nat_le, nat_lt, ◌==◌}
-use Rattle.std.specs.Str.{bytes_eq}
+use Rattle.std.proofs.Common.{◌≡◌, ℕ, ◌≤◌, Bool, true, false, List, [], ◌∷◌, Some, None, Ok, refl, subst, arith}
+use Rattle.std.specs.Prelude.{not, ◌||◌, nat_le, nat_lt}
 use Rattle.std.proofs.lemmas.Bool.Decides.{nat_tests}
 use Rattle.pd_lex.specs.declared.token.TokenKind.{TokenKind}
 use Rattle.pd_lex.specs.declared.token.TokenKind.TheVariants as kinds
 use Rattle.pd_lex.specs.Tokens.{Item, lexeme, ending, bad, line_of}
-use Rattle.pd_script.specs.Items.{is_token, is_int, is_hex, is_num, is_num_from, is_dots, is_command, is_code, is_word, is_symbol, is_int_kind, is_hex_kind, is_num_kind, is_dots_kind, is_command_kind, is_code_kind, is_word_kind, is_symbol_kind, is_end, is_plain, starts_event, goes_on, text_of}
-use Rattle.pd_script.specs.Values.{number, hex_number, microseconds, error_named, function_named}
-use Rattle.pd_script.specs.Reader.{Read, Reader, then_read, ◌>>=◌, done, one, next_is, when, machine_at}
+use Rattle.pd_script.specs.Items.{is_int, is_hex, is_num, is_num_from, is_dots, is_command, is_code, is_word, is_symbol, is_int_kind, is_hex_kind, is_num_kind, is_dots_kind, is_command_kind, is_code_kind, is_word_kind, is_symbol_kind, is_end, starts_event, goes_on, text_of}
+use Rattle.pd_script.specs.Values.{hex_number, microseconds, error_named, function_named}
+use Rattle.pd_script.specs.Reader.{done, one, when, machine_at}
 use Rattle.pd_script.specs.Brackets.{note_move}
 use Rattle.pd_script.specs.TokenReading.{symbol_at, int_at, dots_at}
 use Rattle.pd_script.specs.Reading.{hex_at, num_at, num_from_at, function_at, error_at, absolute_range_at, absolute_at, plus_num_from_at, relative_range_at, relative_at, any_time_at, time_at, relative_until_at, absolute_until_at, until_at, maybe_until_at, whole_at, hexadecimal_at, named_error_at, negative_at, outcome_at, arguments_at, note_at, maybe_note_at, call_at, call_action_at, command_at, code_at, inbound_at, outbound_at, action_at, event_at}
 use Rattle.pd_script.specs.PacketReading.{packet_at}
 use Rattle.pd_script.specs.PacketGrammar.{IsPacket}
-use Rattle.pd_script.specs.Spelling.{Spelling, token, made, in_turn, either, IsSymbol, IsInt, IsDots}
+use Rattle.pd_script.specs.Spelling.{token, made, in_turn, either, IsSymbol, IsInt, IsDots}
 use Rattle.pd_script.specs.Grammar.{IsHex, IsNum, IsNumFrom, IsFunction, IsErrorName, IsAbsoluteRange, IsAbsolute, IsPlusNumFrom, IsRelativeRange, IsRelative, IsAnyTime, IsTime, IsRelativeUntil, IsAbsoluteUntil, IsUntil, IsMaybeUntil, IsWhole, IsHexadecimal, IsNegative, IsOutcome, IsNote, IsCall, IsCallAction, IsCommand, IsCode, IsInbound, IsOutbound, IsAction, IsEvent}
 use Rattle.pd_script.specs.Arguments.{IsArguments, IsInNote}
-use Rattle.pd_script.specs.declared.timing.Time.{Time}
 use Rattle.pd_script.specs.declared.timing.Time.TheVariants as times
 use Rattle.pd_script.specs.declared.timing.Until.TheVariants as untils
-use Rattle.pd_script.specs.declared.calls.ErrorName.{ErrorName}
-use Rattle.pd_script.specs.declared.calls.Outcome.{Outcome}
 use Rattle.pd_script.specs.declared.calls.Outcome.TheVariants as outcomes
 use Rattle.pd_script.specs.declared.script_events.Action.TheVariants as actions
-use Rattle.pd_script.specs.declared.script_events.Event.{Event}
-use Rattle.pd_script.proofs.Laws.{Within, any}
-use Rattle.pd_script.proofs.Matches.{Reads, Reads-one, Reads-bind, Reads-bind_if, Reads-done, Reads-when, Reads-widen, Reads-narrow, Reads-optional}
+use Rattle.pd_script.proofs.Laws.{any}
+use Rattle.pd_script.proofs.Matches.{Reads, Reads-one, Reads-bind, Reads-bind_if, Reads-done, Reads-when, Reads-optional}
 use Rattle.pd_script.proofs.Apart.{IsOf, no_kind, and-left, and-right, or-left, or-right, or-elim, or-elim-no, not-true, not-false, apart, int_kind, hex_kind, num_kind, dots_kind, command_kind, code_kind, word_kind, symbol_kind, symbol_apart, symbol_no_word, end_no_token}
 use Rattle.pd_script.proofs.ArgumentLaws.{a_token, a_word, Laws-arguments}
 use Rattle.pd_script.proofs.ArgumentSound.{arguments_sound, arguments_complete, arguments_take}

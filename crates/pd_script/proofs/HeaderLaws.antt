@@ -1,14 +1,12 @@
 -- The header is read as it is spelled.
-use Rattle.std.proofs.Common.{◌≡◌, ℕ, ◌+◌, ◌<◌, Bool, true, false, cond, List, [], ◌∷◌, ◌++◌, length, Result, Ok, Err, refl, sym, ap, subst, ◌∙◌, arith, append_assoc}
+use Rattle.std.proofs.Common.{◌≡◌, ◌<◌, Bool, true, false, List, [], ◌∷◌, ◌++◌, length, Ok, Err, refl, sym, ap, ◌∙◌, arith, append_assoc}
 use Rattle.std.proofs.lemmas.List.{append-nil}
 use Rattle.pd_lex.specs.Tokens.{Item}
 use Rattle.pd_script.specs.declared.script_header.HeaderItem.{HeaderItem}
 use Rattle.pd_script.specs.Items.{is_header}
 use Rattle.pd_script.specs.Header.{header_item, header_of, behind_header}
-use Rattle.pd_script.specs.Reader.{Read, next_is}
 use Rattle.pd_script.specs.Reading.{header_item_at}
-use Rattle.pd_script.specs.Faults.{IsHeader}
-use Rattle.pd_script.proofs.Laws.{Stops, ok, value_is, rest_is}
+use Rattle.pd_script.proofs.Laws.{ok, value_is, rest_is}
 
 -- what was taken of the header, and what is left
 pub record SoFar (taken : List HeaderItem) (now all : List Item) : Type 0 where

@@ -1,11 +1,11 @@
 -- The events that are kept are those before the fault whose next token stands before it too.
-use Rattle.std.proofs.Common.{◌≡◌, ℕ, zero, suc, ◌+◌, ◌≤◌, Bool, true, false, cond, List, [], ◌∷◌, ◌++◌, length, Option, Some, None, Result, Ok, Err, refl, sym, ap, subst, ◌∙◌, arith, append_assoc, inl, inr}
-use Rattle.std.specs.Prelude.{not, ◌&&◌, ◌||◌, ◌⊎◌}
+use Rattle.std.proofs.Common.{◌≡◌, ℕ, zero, suc, Bool, true, false, cond, List, [], ◌∷◌, ◌++◌, length, Option, Some, None, Ok, Err, refl, sym, ap, subst, ◌∙◌, arith, append_assoc, inl, inr}
+use Rattle.std.specs.Prelude.{◌||◌, ◌⊎◌}
 use Rattle.std.specs.List.{list_all}
 use Rattle.std.proofs.lemmas.List.Folds.{list_all-append}
-use Rattle.std.proofs.lemmas.List.{append-nil, length-append, append_cancel_right}
+use Rattle.std.proofs.lemmas.List.{length-append, append_cancel_right}
 use Rattle.pd_lex.specs.declared.token.TokenKind.TheVariants as kinds
-use Rattle.pd_lex.specs.Tokens.{Item, lexeme, ending, bad, line_of}
+use Rattle.pd_lex.specs.Tokens.{Item, ending, line_of}
 use Rattle.pd_script.specs.declared.script_header.HeaderItem.{HeaderItem}
 use Rattle.pd_script.specs.declared.script_events.Event.{Event}
 use Rattle.pd_script.specs.declared.timing.Time.{Time}
@@ -13,19 +13,19 @@ use Rattle.pd_script.specs.declared.timing.Time.TheVariants as times
 use Rattle.pd_script.specs.declared.timing.Until.{Until}
 use Rattle.pd_script.specs.declared.parsing.Found.{Found}
 use Rattle.pd_script.specs.Values.{microseconds}
-use Rattle.pd_script.specs.Items.{is_header, is_plain, is_num, is_symbol, is_word, is_end, starts_event, goes_on, text_of}
+use Rattle.pd_script.specs.Items.{is_header, is_plain, is_num, is_symbol, is_end, starts_event, goes_on, text_of}
 use Rattle.pd_script.specs.Header.{header_of, behind_header}
-use Rattle.pd_script.specs.Reader.{Read, then_read, done, next_is}
-use Rattle.pd_script.specs.Reading.{next_line, time_at, action_at, event_at, end_at, events_at}
+use Rattle.pd_script.specs.Reader.{Read, then_read, next_is}
+use Rattle.pd_script.specs.Reading.{next_line, event_at, end_at, events_at}
 use Rattle.pd_script.specs.Grammar.{IsTime, IsMaybeUntil, IsEvent}
 use Rattle.pd_script.specs.Script.{found_in, followed, may_follow, with_event, at_end, in_front, script_in}
-use Rattle.pd_script.specs.Faults.{IsHeader, AreEvents, IsScript, Begins, IsFault, IsKept, IsRead}
-use Rattle.pd_script.proofs.Laws.{Laws, Took, Full, Stops, Stops-any, any, ok, then_ok, value_is, rest_is}
-use Rattle.pd_script.proofs.Apart.{or-no, not-true, not-false}
+use Rattle.pd_script.specs.Faults.{IsHeader, AreEvents, IsScript, IsKept, IsRead}
+use Rattle.pd_script.proofs.Laws.{Full, Stops, ok, value_is, rest_is}
+use Rattle.pd_script.proofs.Apart.{or-no, not-false}
 use Rattle.pd_script.proofs.ArgumentLaws.{a_token}
 use Rattle.pd_script.proofs.TokenLaws.{but}
 use Rattle.pd_script.proofs.GrammarLaws.{Reads-action, Reads-event}
-use Rattle.pd_script.proofs.ScriptLaws.{header_at, header_took, header_sound, Laws-events, Ends, events_complete, script_at, script_at_fault, script_is, fault_is, fault_somewhere, IsClosed}
+use Rattle.pd_script.proofs.ScriptLaws.{header_at, header_took, header_sound, Laws-events, events_complete, script_at_fault, script_is, fault_is, fault_somewhere, IsClosed}
 
 -- ---- the fault that is found is the one that reading meets
 

@@ -1,8 +1,8 @@
 -- The law of a machine: it needs no item behind its last, and where it is stuck it could have gone on.
-use Rattle.std.proofs.Common.{◌≡◌, ℕ, Bool, true, false, List, [], ◌∷◌, ◌++◌, get_or, Result, Ok, Err, refl, sym, ap, subst, ◌∙◌}
+use Rattle.std.proofs.Common.{◌≡◌, List, [], ◌∷◌, ◌++◌, get_or, Ok, Err, refl, ap, ◌∙◌}
 use Rattle.pd_lex.specs.Tokens.{Item}
 use Rattle.pd_script.specs.Reader.{Read, Reader, Move, stuck, ends, goes, onto, moved, machine_at}
-use Rattle.pd_script.proofs.Laws.{Laws, Took, Failed, Full, ok, fault, any, value_is, rest_is, Stops, Stops-any}
+use Rattle.pd_script.proofs.Laws.{Laws, Took, Failed, Full, ok, fault, any, value_is, rest_is, Stops-any}
 
 pub onto_ok : {A : Type 0} (front : List A) (r : Read (List A)) (v : List A) (rest : List Item) → onto front r ≡ ok v rest → (w : List A) × (r ≡ ok w rest) × (front ++ w ≡ v)
 onto_ok {A = A} front (Ok x) v rest e =

@@ -1,12 +1,12 @@
 -- What holds of a reader of a spelling: its law, what it reads is spelled so, and what is spelled so it reads.
-use Rattle.std.proofs.Common.{◌≡◌, ℕ, Bool, true, false, cond, List, [], ◌∷◌, ◌++◌, Result, Ok, Err, refl, sym, ap, subst, ◌∙◌, inl, inr, append_assoc}
-use Rattle.std.specs.Prelude.{◌⊎◌, ◌&&◌, ◌||◌}
+use Rattle.std.proofs.Common.{◌≡◌, Bool, true, false, cond, List, [], ◌∷◌, ◌++◌, Err, refl, sym, ap, ◌∙◌, inl, inr, append_assoc}
+use Rattle.std.specs.Prelude.{◌||◌}
 use Rattle.std.specs.List.{list_all}
 use Rattle.std.proofs.lemmas.List.Folds.{list_all-append}
 use Rattle.pd_lex.specs.declared.token.TokenKind.{TokenKind}
 use Rattle.pd_lex.specs.Tokens.{Item}
 use Rattle.pd_script.specs.Items.{is_plain}
-use Rattle.pd_script.specs.Reader.{Read, Reader, then_read, ◌>>=◌, done, one, next_is, when}
+use Rattle.pd_script.specs.Reader.{Reader, ◌>>=◌, done, one, next_is, when}
 use Rattle.pd_script.specs.Spelling.{Spelling, token, made, in_turn, either}
 use Rattle.pd_script.proofs.Apart.{IsOf, is_lexeme, lexical, or-left, or-right}
 use Rattle.pd_script.proofs.Laws.{Laws, Laws-one, Laws-done, Laws-bind_if, Laws-when, goes_p, goes_q, Stops, Stops-within, Within, any, then_ok, ok, widen, narrow, value_is, rest_is}

@@ -1,21 +1,21 @@
 -- A note is read as it is spelled.
-use Rattle.std.proofs.Common.{◌≡◌, ℕ, ◌+◌, ◌<◌, Bool, true, false, cond, List, [], ◌∷◌, ◌++◌, length, Option, Some, None, Result, Ok, Err, refl, sym, ap, subst, ◌∙◌, arith, append_assoc}
-use Rattle.std.specs.Prelude.{◌&&◌, ◌||◌, ◌==◌}
+use Rattle.std.proofs.Common.{◌≡◌, ℕ, ◌<◌, Bool, true, false, cond, List, [], ◌∷◌, ◌++◌, length, Option, Some, None, Ok, Err, refl, sym, ap, subst, ◌∙◌, arith, append_assoc}
+use Rattle.std.specs.Prelude.{◌==◌}
 use Rattle.std.specs.List.{list_all}
 use Rattle.std.proofs.lemmas.Bool.Decides.{nat_tests}
 use Rattle.std.proofs.lemmas.List.Folds.{list_all-append}
 use Rattle.pd_lex.specs.Tokens.{Item, lexeme, ending, bad}
 use Rattle.pd_script.specs.declared.brackets.Bracket.{Bracket}
 use Rattle.pd_script.specs.declared.brackets.Bracket.TheVariants as brackets
-use Rattle.pd_script.specs.Items.{is_symbol, is_symbol_kind, is_plain}
+use Rattle.pd_script.specs.Items.{is_symbol, is_symbol_kind}
 use Rattle.pd_script.specs.Brackets.{note_move, note_led, note_part_at, note_part_by, is_last, pairs_after, behind_token}
 use Rattle.pd_script.specs.Arguments.{Balances, IsInNote}
-use Rattle.pd_script.specs.Reader.{Read, Reader, Move, stuck, ends, goes, onto, moved, machine_at, next_is}
-use Rattle.pd_script.proofs.Laws.{Laws, Full, any, ok, value_is, rest_is, Stops}
+use Rattle.pd_script.specs.Reader.{Reader, ends, goes, moved, machine_at}
+use Rattle.pd_script.proofs.Laws.{Full, any, ok, value_is, rest_is}
 use Rattle.pd_script.proofs.Machines.{Laws-machine}
 use Rattle.pd_script.proofs.Matches.{Reads}
 use Rattle.pd_script.proofs.Apart.{and-left, and-right, is_lexeme, lexical, symbol_kind, symbol_apart}
-use Rattle.pd_script.proofs.ArgumentLaws.{closer, closing, plain_closing}
+use Rattle.pd_script.proofs.ArgumentLaws.{closing, plain_closing}
 use Rattle.pd_script.proofs.ArgumentSteps.{onto-nil}
 use Rattle.pd_script.proofs.ArgumentSound.{balanced_lexemes}
 

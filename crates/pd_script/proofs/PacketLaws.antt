@@ -1,6 +1,6 @@
 -- Packets are read as they are spelled.
-use Rattle.std.proofs.Common.{◌≡◌, ℕ, zero, suc, ◌-◌, ◌^◌, ◌≤◌, ◌<◌, Bool, true, false, cond, List, [], ◌∷◌, ◌++◌, length, Option, Some, None, Result, Ok, Err, refl, sym, ap, subst, ◌∙◌, arith}
-use Rattle.std.specs.Prelude.{codes, not, ◌&&◌, ◌||◌, nat_le, nat_lt, ◌==◌, unwrap_or}
+use Rattle.std.proofs.Common.{◌≡◌, ℕ, ◌-◌, ◌≤◌, ◌<◌, Bool, true, false, List, [], ◌∷◌, length, Some, None, Ok, Err, refl, sym, ap, subst, arith}
+use Rattle.std.specs.Prelude.{codes, ◌&&◌, ◌||◌, nat_le, nat_lt, ◌==◌, unwrap_or}
 use Rattle.std.specs.Str.{bytes_eq}
 use Rattle.std.specs.Str.Parse.{AllDigits, digits_value}
 use Rattle.std.specs.Char.{digit_value}
@@ -9,16 +9,15 @@ use Rattle.std.specs.List.{list_all}
 use Rattle.std.proofs.lemmas.Fmt.{decimal_is_IsNumeral}
 use Rattle.std.proofs.lemmas.List.{length-append}
 use Rattle.std.proofs.lemmas.Bool.Decides.{nat_tests}
-use Rattle.pd_lex.specs.declared.token.TokenKind.{TokenKind}
 use Rattle.pd_lex.specs.declared.token.TokenKind.TheVariants as kinds
 use Rattle.pd_lex.specs.Octets.{is_digit}
 use Rattle.pd_lex.specs.Tokens.{Item, lexeme, ending, bad, line_of}
-use Rattle.pd_script.specs.Items.{is_token, is_int, is_int_from, is_int_of, is_named, is_flags, is_option, is_num, is_dots, is_word, is_symbol, is_int_kind, is_num_kind, is_dots_kind, is_word_kind, is_symbol_kind, is_end, is_plain, is_digits, is_small, goes_on, text_of}
+use Rattle.pd_script.specs.Items.{is_token, is_int, is_int_from, is_int_of, is_named, is_flags, is_option, is_num, is_dots, is_symbol, is_int_kind, is_num_kind, is_dots_kind, is_word_kind, is_symbol_kind, is_plain, is_digits, is_small, goes_on, text_of}
 use Rattle.pd_script.specs.Values.{number, flags_of, with_ack, option_named}
-use Rattle.pd_script.specs.Reader.{Reader, ◌>>=◌, done, one, when, onto}
+use Rattle.pd_script.specs.Reader.{Reader, done, one, when, onto}
 use Rattle.pd_script.specs.TokenReading.{symbol_at, int_at, dots_at}
 use Rattle.pd_script.specs.PacketReading.{int_from_at, int_of_at, named_at, letters_at, option_name_at, repeated_at, no_flags_at, point_at, lettered_at, flags_at, octets_at, numbered_at, ack_at, win_at, block_at, blocks_at, timestamp_at, option_rest_at, option_at, next_option_at, some_options_at, listed_at, unlisted_at, any_options_at, list_at, inside_options_at, bracketed_options_at, options_at, packet_at}
-use Rattle.pd_script.specs.Spelling.{Spelling, token, made, in_turn, either, IsSymbol, IsInt, IsDots, Repeats}
+use Rattle.pd_script.specs.Spelling.{Spelling, token, made, either, IsSymbol, IsInt, IsDots, Repeats}
 use Rattle.pd_script.specs.PacketGrammar.{IsIntFrom, IsIntOf, IsNamed, IsLetters, IsOptionName, IsNoFlags, IsPoint, IsLettered, IsFlags, IsOctets, IsNumbered, IsAck, IsWin, IsBlock, AreBlocks, IsTimestamp, IsOptionRest, IsOption, IsNextOption, AreOptions, IsListed, IsUnlisted, IsAnyOptions, IsList, IsInsideOptions, IsBracketedOptions, IsOptions, IsPacket}
 use Rattle.pd_script.specs.declared.names.OptionName.{OptionName}
 use Rattle.pd_script.specs.declared.names.OptionName.TheVariants as names
@@ -26,11 +25,10 @@ use Rattle.pd_script.specs.declared.packets.Flags.{Flags}
 use Rattle.pd_script.specs.declared.packets.Block.{Block}
 use Rattle.pd_script.specs.declared.packets.PacketOption.{PacketOption}
 use Rattle.pd_script.specs.declared.packets.PacketOption.TheVariants as options
-use Rattle.pd_script.specs.declared.packets.Options.{Options}
 use Rattle.pd_script.specs.declared.packets.Options.TheVariants as lists
-use Rattle.pd_script.proofs.Laws.{Within, any, ok}
+use Rattle.pd_script.proofs.Laws.{any, ok}
 use Rattle.pd_script.proofs.Matches.{Reads, Reads-one, Reads-bind, Reads-bind_if, Reads-done, Reads-when, Reads-widen, Reads-narrow, Reads-optional}
-use Rattle.pd_script.proofs.Apart.{IsOf, and-left, and-right, and-false-right, or-left, or-right, or-elim, or-elim-no, not-true, not-false, apart, text_apart, int_kind, num_kind, dots_kind, word_kind, symbol_kind, symbol_apart, symbol_no_word, end_no_token}
+use Rattle.pd_script.proofs.Apart.{IsOf, and-left, and-right, and-false-right, or-left, or-right, or-elim, or-elim-no, not-true, not-false, apart, text_apart, int_kind, num_kind, dots_kind, symbol_kind, symbol_apart, end_no_token}
 use Rattle.pd_script.proofs.ArgumentLaws.{a_token}
 use Rattle.pd_script.proofs.TokenLaws.{all, but, last, tail, symbol, int, dots, NoStart, goes_on_not, symbol_no_start}
 use Rattle.pd_script.proofs.Repeating.{Reads-repeated, cons_is}

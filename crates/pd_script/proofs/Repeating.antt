@@ -1,12 +1,12 @@
 -- Repetitions are read as they are spelled.
-use Rattle.std.proofs.Common.{◌≡◌, ℕ, zero, suc, ◌+◌, ◌<◌, ◌≤◌, Bool, true, false, cond, List, [], ◌∷◌, ◌++◌, length, Result, Ok, Err, refl, sym, ap, subst, ◌∙◌, arith, inl, inr}
-use Rattle.std.specs.Prelude.{◌||◌, ◌⊎◌}
+use Rattle.std.proofs.Common.{◌≡◌, ℕ, zero, suc, ◌+◌, ◌<◌, ◌≤◌, Bool, true, false, cond, List, [], ◌∷◌, ◌++◌, length, Ok, Err, refl, sym, ap, subst, ◌∙◌, arith, inl, inr}
+use Rattle.std.specs.Prelude.{◌||◌}
 use Rattle.std.proofs.lemmas.List.{append_cancel_right}
 use Rattle.pd_lex.specs.Tokens.{Item}
 use Rattle.pd_script.specs.Reader.{Read, Reader, then_read, ◌>>=◌, done, next_is, when, onto}
 use Rattle.pd_script.specs.Spelling.{Spelling, made, in_turn, either, Repeats}
 use Rattle.pd_script.specs.PacketReading.{repeated_within, repeated_at}
-use Rattle.pd_script.proofs.Laws.{Laws, Took, Failed, Full, Stops, Within, ok, then_ok}
+use Rattle.pd_script.proofs.Laws.{Took, Failed, Stops, Within, ok, then_ok}
 use Rattle.pd_script.proofs.Apart.{or-left, or-right}
 use Rattle.pd_script.proofs.Matches.{Reads, Reads-done, Reads-bind, Reads-when, Reads-widen, Reads-same}
 

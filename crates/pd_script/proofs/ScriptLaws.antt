@@ -1,21 +1,18 @@
 -- Whole scripts are read as they are spelled, and a fault is the first item at which none goes on.
-use Rattle.std.proofs.Common.{◌≡◌, ℕ, zero, suc, ◌+◌, ◌≤◌, Bool, true, false, cond, List, [], ◌∷◌, ◌++◌, length, Result, Ok, Err, refl, sym, ap, subst, ◌∙◌, arith, append_assoc, inl, inr}
-use Rattle.std.specs.Prelude.{not, ◌&&◌, ◌||◌, ◌⊎◌}
+use Rattle.std.proofs.Common.{◌≡◌, ℕ, zero, suc, ◌≤◌, Bool, true, false, cond, List, [], ◌∷◌, ◌++◌, length, Ok, Err, refl, sym, ap, subst, ◌∙◌, arith, append_assoc}
 use Rattle.std.specs.List.{list_all}
 use Rattle.std.proofs.lemmas.List.{append-nil, length-append}
 use Rattle.std.proofs.lemmas.List.Folds.{list_all-append}
-use Rattle.pd_lex.specs.declared.token.TokenKind.{TokenKind}
 use Rattle.pd_lex.specs.Tokens.{Item, lexeme, ending, bad}
 use Rattle.pd_script.specs.declared.script_header.HeaderItem.{HeaderItem}
 use Rattle.pd_script.specs.declared.script_events.Event.{Event}
-use Rattle.pd_script.specs.Items.{is_token, is_header, is_header_kind, is_num, is_symbol, is_num_kind, is_symbol_kind, is_word, is_end, is_plain, starts_event, goes_on}
-use Rattle.pd_script.specs.Header.{header_item, header_of, behind_header}
-use Rattle.pd_script.specs.Reader.{Read, Reader, then_read, ◌>>=◌, done, one, next_is, when}
+use Rattle.pd_script.specs.Items.{is_header, is_header_kind, is_num, is_symbol, is_num_kind, is_symbol_kind, is_end, starts_event, goes_on}
+use Rattle.pd_script.specs.Header.{header_of, behind_header}
+use Rattle.pd_script.specs.Reader.{Reader, ◌>>=◌, done, one, next_is}
 use Rattle.pd_script.specs.Reading.{time_at, event_at, end_at, events_at}
-use Rattle.pd_script.specs.Grammar.{IsEvent}
-use Rattle.pd_script.specs.Faults.{IsHeader, AreEvents, IsScript, Begins, IsFault}
-use Rattle.pd_script.proofs.Laws.{Laws, Laws-one, Laws-bind, Laws-done, Laws-when, Took, Stops, Stops-any, Within, any, ok, widen, then_ok, value_is, rest_is, next-yes}
-use Rattle.pd_script.proofs.Apart.{IsOf, and-left, and-right, or-left, or-right, or-elim-no, not-true, not-false, apart, num_kind, symbol_kind, end_no_token, is_lexeme, lexical}
+use Rattle.pd_script.specs.Faults.{IsHeader, AreEvents, IsScript, IsFault}
+use Rattle.pd_script.proofs.Laws.{Laws, Laws-one, Laws-bind, Laws-done, Laws-when, Took, Stops, Stops-any, any, ok, widen, then_ok, value_is, rest_is, next-yes}
+use Rattle.pd_script.proofs.Apart.{and-left, and-right, or-left, or-right, not-true, not-false, apart, num_kind, symbol_kind, end_no_token, is_lexeme, lexical}
 use Rattle.pd_script.proofs.TokenLaws.{but, NoStart, goes_on_not}
 use Rattle.pd_script.proofs.GrammarLaws.{Reads-event, end_no_start}
 

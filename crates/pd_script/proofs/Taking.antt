@@ -1,13 +1,11 @@
 -- A cursor that goes on by one token.
-use Rattle.std.proofs.Common.{◌≡◌, ℕ, Bool, true, false, cond, List, [], ◌∷◌, length, Option, Some, None, Ok, Err, refl, sym, ap, ◌∙◌}
-use Rattle.std.specs.Prelude.{max}
-use Rattle.pd_lex.specs.declared.token.Token.{Token}
+use Rattle.std.proofs.Common.{◌≡◌, ℕ, Bool, true, false, cond, List, ◌∷◌, Some, None, Ok, Err, refl, sym}
 use Rattle.pd_lex.specs.declared.token.Place.{Place}
 use Rattle.pd_lex.specs.declared.token.Lexed.{Lexed}
 use Rattle.pd_lex.specs.declared.token.Lexed.TheVariants as lexed
-use Rattle.pd_lex.specs.Tokens.{Item, lexeme, ending, bad, items, lexeme_of, IsNext}
+use Rattle.pd_lex.specs.Tokens.{Item, items, IsNext}
 use Rattle.pd_script.specs.Items.{given}
-use Rattle.pd_script.specs.Reader.{Read, Reader, one, done, ◌>>=◌}
+use Rattle.pd_script.specs.Reader.{Read, one, done, ◌>>=◌}
 use Rattle.pd_script.specs.declared.stops.Stop.{Stop}
 use Rattle.pd_script.specs.declared.stops.Stop.TheVariants as stops
 use Rattle.pd_script.specs.Cursor.{left, Leaves, SkipsNote}

@@ -1,36 +1,32 @@
 -- The items of a text: tokens, and then the end or a bad place, each in a line of the text.
-use Rattle.std.proofs.Common.{◌≡◌, ℕ, zero, suc, ◌+◌, ◌-◌, ◌≤◌, ◌<◌, Bool, true, false, cond, List, [], ◌∷◌, ◌++◌, length, max, Option, Some, None, Result, Ok, Err, refl, sym, ap, subst, ◌∙◌, arith, inl, inr}
+use Rattle.std.proofs.Common.{◌≡◌, ℕ, zero, suc, ◌≤◌, ◌<◌, Bool, true, false, cond, List, [], ◌∷◌, ◌++◌, length, max, Option, Some, None, Ok, Err, refl, sym, ap, subst, ◌∙◌, arith, inl, inr}
 use Rattle.std.proofs.lemmas.Bool.{cases_lt}
-use Rattle.std.specs.Prelude.{All, IfSome, ◌⊎◌}
+use Rattle.std.specs.Prelude.{All, ◌⊎◌}
 use Rattle.std.specs.List.{list_all}
-use Rattle.std.proofs.lemmas.List.{length-append}
 use Rattle.std.proofs.lemmas.List.Elements.{All-nil, All-cons}
 use Rattle.pd_text.specs.Text.{is_line}
 use Rattle.pd_lex.specs.declared.token.Place.{Place}
-use Rattle.pd_lex.specs.Places.{IsPlace, first_place, standing, octets_from, place_after, before, line_at}
+use Rattle.pd_lex.specs.Places.{IsPlace, first_place, standing, octets_from, place_after, before}
 use Rattle.pd_lex.specs.Pieces.{Front, nothing, gap, token, stray, front}
-use Rattle.pd_lex.specs.Scanned.{IsLeftAt}
-use Rattle.pd_lex.specs.Tokens.{Item, lexeme, ending, bad, line_of, followed, items_within, items}
+use Rattle.pd_lex.specs.Tokens.{Item, line_of, followed, items_within, items}
 use Rattle.pd_lex.proofs.Rests.{advance, octets_past, standing_place}
 use Rattle.pd_lex.proofs.Fronts.{IsRest, IsRest-cut, LeavesRest, front_leaves}
 use Rattle.pd_script.specs.declared.timing.Time.{Time}
 use Rattle.pd_script.specs.declared.timing.Time.TheVariants as times
 use Rattle.pd_script.specs.declared.script_events.Event.{Event}
-use Rattle.pd_script.specs.declared.parsing.Found.{Found}
-use Rattle.pd_script.specs.Items.{starts_event, is_end}
+use Rattle.pd_script.specs.Items.{starts_event}
 use Rattle.pd_script.specs.Header.{behind_header}
 use Rattle.pd_script.specs.Reader.{Read, next_is}
-use Rattle.pd_script.specs.Reading.{next_line, event_at}
+use Rattle.pd_script.specs.Reading.{event_at}
 use Rattle.pd_script.specs.Spelling.{made, either}
 use Rattle.pd_script.specs.Grammar.{IsAbsoluteRange, IsRelativeRange, IsTime, IsEvent}
 use Rattle.pd_script.specs.Script.{found_in, followed as followed_by, may_follow, with_event, at_end, script_in, script_of}
 use Rattle.pd_script.specs.declared.script_header.HeaderItem.{HeaderItem}
 use Rattle.pd_script.specs.declared.parsing.Parsed.{Parsed}
-use Rattle.pd_script.specs.Faults.{IsHeader, AreEvents, IsScript, IsFault, IsKept, IsRead}
+use Rattle.pd_script.specs.Faults.{IsHeader, AreEvents, IsRead}
 use Rattle.pd_script.specs.Range.{IsLineOf, HasLines}
-use Rattle.pd_script.proofs.Laws.{ok}
 use Rattle.pd_script.proofs.GrammarLaws.{Reads-event}
-use Rattle.pd_script.proofs.ScriptLaws.{IsClosed, header_takes, events_take}
+use Rattle.pd_script.proofs.ScriptLaws.{IsClosed, header_takes}
 use Rattle.pd_script.proofs.Kept.{script_read}
 
 -- ---- the last item

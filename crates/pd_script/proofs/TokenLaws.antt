@@ -1,18 +1,17 @@
 -- Single tokens are read, and what may stand around them.
-use Rattle.std.proofs.Common.{◌≡◌, ℕ, ◌≤◌, ◌<◌, Bool, true, false, cond, List, [], ◌∷◌, ◌++◌, length, Option, Some, None, Result, Ok, Err, refl, sym, ap, subst, ◌∙◌, arith}
-use Rattle.std.specs.Prelude.{not, ◌&&◌, ◌||◌, nat_le, nat_lt, ◌==◌}
+use Rattle.std.proofs.Common.{◌≡◌, ℕ, Bool, true, false, List, [], ◌∷◌, Ok, refl}
+use Rattle.std.specs.Prelude.{not, ◌&&◌, ◌||◌}
 use Rattle.std.specs.Str.{bytes_eq}
-use Rattle.pd_lex.specs.declared.token.TokenKind.{TokenKind}
 use Rattle.pd_lex.specs.declared.token.TokenKind.TheVariants as kinds
-use Rattle.pd_lex.specs.Tokens.{Item, lexeme, ending, bad, line_of}
-use Rattle.pd_script.specs.Items.{is_token, is_int, is_num, is_dots, is_word, is_symbol, is_int_kind, is_num_kind, is_dots_kind, is_word_kind, is_symbol_kind, is_end, is_plain, starts_event, goes_on, text_of}
+use Rattle.pd_lex.specs.Tokens.{Item, line_of}
+use Rattle.pd_script.specs.Items.{is_int, is_num, is_dots, is_symbol, is_int_kind, is_num_kind, is_dots_kind, is_symbol_kind, is_end, is_plain, starts_event, goes_on, text_of}
 use Rattle.pd_script.specs.Values.{number}
 use Rattle.pd_script.specs.Reader.{Reader, ◌>>=◌, done, one, when}
 use Rattle.pd_script.specs.TokenReading.{symbol_at, int_at, dots_at}
 use Rattle.pd_script.specs.Spelling.{Spelling, token, made, in_turn, either, IsSymbol, IsInt, IsDots}
 use Rattle.pd_script.proofs.Laws.{Within, any}
 use Rattle.pd_script.proofs.Matches.{Reads, Reads-one, Reads-bind, Reads-done, Reads-when}
-use Rattle.pd_script.proofs.Apart.{IsOf, or-elim-no, not-true, apart, int_kind, num_kind, dots_kind, word_kind, symbol_kind, symbol_apart, end_no_token}
+use Rattle.pd_script.proofs.Apart.{or-elim-no, not-true, apart, int_kind, num_kind, dots_kind, symbol_kind, symbol_apart, end_no_token}
 use Rattle.pd_script.proofs.ArgumentLaws.{a_token}
 
 pub all : (f : Item → Bool) → Within f any

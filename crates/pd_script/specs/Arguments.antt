@@ -1,5 +1,5 @@
 -- Arguments of a call, and what their tokens are.
-use Rattle.std.specs.Prelude.{◌≡◌, ℕ, ◌&&◌, Bool, true, false, List, [], ◌∷◌, ◌++◌, Option, Some, None, ◌⊎◌, if◌then◌else◌}
+use Rattle.std.specs.Prelude.{◌≡◌, ℕ, ◌&&◌, Bool, true, false, List, [], ◌∷◌, ◌++◌, Some, if◌then◌else◌}
 use Rattle.pd_lex.specs.Tokens.{Item}
 use Rattle.pd_script.specs.Items.{is_any_int, is_word, is_symbol, text_of}
 use Rattle.pd_script.specs.Values.{capped_number, constant_named}

@@ -1,6 +1,5 @@
 -- A cursor over the items of a text.
 use Rattle.std.specs.Prelude.{◌≡◌, ℕ, List, [], ◌∷◌, length, max, Result, Ok, Err}
-use Rattle.pd_lex.specs.declared.token.Token.{Token}
 use Rattle.pd_lex.specs.declared.token.Lexed.{Lexed}
 use Rattle.pd_lex.specs.declared.token.Lexed.TheVariants as lexed
 use Rattle.pd_lex.specs.Tokens.{Item, lexeme, ending, bad, items, lexeme_of}

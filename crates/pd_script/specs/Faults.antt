@@ -1,5 +1,5 @@
 -- Scripts, and where a text that is none goes wrong.
-use Rattle.std.specs.Prelude.{◌≡◌, ℕ, ◌≤◌, Bool, true, false, List, [], ◌∷◌, ◌++◌, length, Option, Some, None, ◌⊎◌}
+use Rattle.std.specs.Prelude.{◌≡◌, ℕ, ◌≤◌, true, List, [], ◌∷◌, ◌++◌, length, Option, Some, None, ◌⊎◌}
 use Rattle.std.specs.List.{list_all}
 use Rattle.pd_lex.specs.Tokens.{Item, line_of}
 use Rattle.pd_script.specs.Items.{is_header, is_end, is_plain, goes_on}

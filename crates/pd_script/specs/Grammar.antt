@@ -1,16 +1,15 @@
 -- The grammar: which items spell a time, a call and an event.
-use Rattle.std.specs.Prelude.{◌≡◌, ℕ, ◌≤◌, Bool, true, false, List, [], ◌∷◌, ◌++◌, length, Option, Some, None, ◌⊎◌}
-use Rattle.pd_lex.specs.Tokens.{Item, line_of}
-use Rattle.pd_script.specs.Items.{is_int, is_hex, is_num, is_num_from, is_dots, is_command, is_code, is_word, is_symbol, is_end, text_of}
-use Rattle.pd_script.specs.Values.{number, hex_number, microseconds, function_named, error_named}
-use Rattle.pd_script.specs.Spelling.{Spelling, token, made, in_turn, ◌>>=◌, either, IsSymbol, IsInt, IsDots}
+use Rattle.std.specs.Prelude.{ℕ, true, false, Option, Some, None}
+use Rattle.pd_lex.specs.Tokens.{line_of}
+use Rattle.pd_script.specs.Items.{is_hex, is_num, is_num_from, is_command, is_code, is_word, text_of}
+use Rattle.pd_script.specs.Values.{hex_number, microseconds, function_named, error_named}
+use Rattle.pd_script.specs.Spelling.{Spelling, token, made, ◌>>=◌, either, IsSymbol, IsInt, IsDots}
 use Rattle.pd_script.specs.PacketGrammar.{IsPacket}
 use Rattle.pd_script.specs.Arguments.{IsArguments, IsInNote}
 use Rattle.pd_script.specs.declared.timing.Time.{Time}
 use Rattle.pd_script.specs.declared.timing.Time.TheVariants as times
 use Rattle.pd_script.specs.declared.timing.Until.{Until}
 use Rattle.pd_script.specs.declared.timing.Until.TheVariants as untils
-use Rattle.pd_script.specs.declared.calls.Argument.{Argument}
 use Rattle.pd_script.specs.declared.calls.Call.{Call}
 use Rattle.pd_script.specs.declared.calls.ErrorName.{ErrorName}
 use Rattle.pd_script.specs.declared.calls.Function.{Function}

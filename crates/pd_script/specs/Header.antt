@@ -1,5 +1,5 @@
 -- The header of a script.
-use Rattle.std.specs.Prelude.{codes, ℕ, ◌&&◌, nat_le, nat_eq, Bool, true, false, List, [], ◌∷◌, drop, Option, Some, None, if◌then◌else◌}
+use Rattle.std.specs.Prelude.{codes, ℕ, ◌&&◌, nat_le, nat_eq, List, [], ◌∷◌, drop, if◌then◌else◌}
 use Rattle.std.specs.List.{starts_with}
 use Rattle.pd_lex.specs.declared.token.TokenKind.{TokenKind}
 use Rattle.pd_lex.specs.declared.token.TokenKind.TheVariants as kinds

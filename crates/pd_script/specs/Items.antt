@@ -5,7 +5,7 @@ use Rattle.std.specs.Str.{bytes_eq}
 use Rattle.pd_lex.specs.declared.token.TokenKind.{TokenKind}
 use Rattle.pd_lex.specs.declared.token.TokenKind.TheVariants as kinds
 use Rattle.pd_lex.specs.Octets.{is_digit, is_hex_digit, is_word as is_word_octet, is_printable}
-use Rattle.pd_lex.specs.Tokens.{Lexeme, Item, lexeme, ending, bad}
+use Rattle.pd_lex.specs.Tokens.{Item, lexeme, ending, bad}
 use Rattle.pd_script.specs.Values.{number, hex_number, microseconds, whole_len, whole_digits, is_flag, option_named}
 
 abbrev pub is_int_kind : TokenKind → Bool

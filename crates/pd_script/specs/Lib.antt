@@ -1,4 +1,6 @@
 -- The definitions that the contracts cite.
+pub use Rattle.pd_lex.specs.Places
+pub use Rattle.pd_lex.specs.Tokens
 pub mod Values
 pub mod Items
 pub mod Header

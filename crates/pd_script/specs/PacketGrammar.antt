@@ -1,6 +1,6 @@
 -- Which items spell a packet.
 use Rattle.std.specs.Prelude.{codes, ℕ, ◌-◌, Bool, true, false, List, [], ◌∷◌, Option, Some, None, unwrap_or}
-use Rattle.pd_lex.specs.Tokens.{Item, line_of}
+use Rattle.pd_lex.specs.Tokens.{line_of}
 use Rattle.pd_script.specs.Items.{is_int_from, is_int_of, is_named, is_flags, is_option, text_of}
 use Rattle.pd_script.specs.Values.{number, flags_of, with_ack, option_named}
 use Rattle.pd_script.specs.Spelling.{Spelling, token, made, in_turn, ◌>>=◌, either, IsSymbol, IsInt, IsDots, Repeats}

@@ -1,5 +1,5 @@
 -- Lines of a text.
-use Rattle.std.specs.Prelude.{ℕ, ◌≤◌, List, length, max, All, Option, IfSome}
+use Rattle.std.specs.Prelude.{ℕ, ◌≤◌, List, length, max, All, IfSome}
 use Rattle.pd_script.specs.declared.script_events.Event.{Event}
 use Rattle.pd_script.specs.declared.parsing.Parsed.{Parsed}
 

@@ -1,5 +1,5 @@
 -- Reading from left to right with one item of lookahead: a value and what is left, or what is left at the fault.
-use Rattle.std.specs.Prelude.{ℕ, Bool, true, false, List, [], ◌∷◌, ◌++◌, Result, Ok, Err, if◌then◌else◌}
+use Rattle.std.specs.Prelude.{Bool, false, List, [], ◌∷◌, ◌++◌, Result, Ok, Err, if◌then◌else◌}
 use Rattle.pd_lex.specs.Tokens.{Item}
 
 abbrev pub Read : Type 0 → Type 0

@@ -1,11 +1,11 @@
 -- The grammar, read from left to right.
-use Rattle.std.specs.Prelude.{ℕ, zero, suc, ◌||◌, Bool, true, false, List, [], ◌∷◌, Option, Some, None, Result, Ok, Err, if◌then◌else◌}
+use Rattle.std.specs.Prelude.{ℕ, zero, suc, true, false, List, [], ◌∷◌, Option, Some, None}
 use Rattle.pd_lex.specs.Tokens.{Item, line_of}
-use Rattle.pd_script.specs.Items.{is_int, is_hex, is_num, is_num_from, is_dots, is_command, is_code, is_word, is_symbol, is_header, is_end, starts_event, goes_on, text_of}
-use Rattle.pd_script.specs.Values.{number, hex_number, microseconds, function_named, error_named}
+use Rattle.pd_script.specs.Items.{is_int, is_hex, is_num, is_num_from, is_dots, is_command, is_code, is_word, is_symbol, is_header, is_end, starts_event, text_of}
+use Rattle.pd_script.specs.Values.{hex_number, microseconds, function_named, error_named}
 use Rattle.pd_script.specs.Header.{header_item}
 use Rattle.pd_script.specs.declared.script_header.HeaderItem.{HeaderItem}
-use Rattle.pd_script.specs.Reader.{Read, Reader, ◌>>=◌, done, one, next_is, when, machine_at}
+use Rattle.pd_script.specs.Reader.{Reader, ◌>>=◌, done, one, when, machine_at}
 use Rattle.pd_script.specs.TokenReading.{symbol_at, int_at, dots_at}
 use Rattle.pd_script.specs.PacketReading.{packet_at}
 use Rattle.pd_script.specs.Brackets.{fresh, argument_move, note_move}

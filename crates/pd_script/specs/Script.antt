@@ -1,6 +1,6 @@
 -- What a text is read as.
-use Rattle.std.specs.Prelude.{ℕ, zero, suc, Bool, List, [], ◌∷◌, ◌++◌, Option, Some, None, Result, Ok, Err, if◌then◌else◌}
-use Rattle.pd_lex.specs.Tokens.{Item, line_of, items}
+use Rattle.std.specs.Prelude.{ℕ, zero, suc, Bool, List, [], ◌∷◌, ◌++◌, Some, None, Ok, Err, if◌then◌else◌}
+use Rattle.pd_lex.specs.Tokens.{Item, items}
 use Rattle.pd_lex.specs.Places.{first_place}
 use Rattle.pd_script.specs.Items.{is_end, starts_event, goes_on}
 use Rattle.pd_script.specs.Header.{header_of, behind_header}

@@ -1,6 +1,6 @@
 -- Tokens that several parts of the grammar read.
 use Rattle.std.specs.Prelude.{ℕ}
-use Rattle.pd_lex.specs.Tokens.{Item, line_of}
+use Rattle.pd_lex.specs.Tokens.{line_of}
 use Rattle.pd_script.specs.Items.{is_int, is_symbol, is_dots, text_of}
 use Rattle.pd_script.specs.Values.{number}
 use Rattle.pd_script.specs.Reader.{Reader, ◌>>=◌, done, one}

@@ -87,10 +87,14 @@ impl<'a> Cursor<'a> {
     }
 }
 
-/// Reads the script of a text.
+/// Reads the script of a text, in packetdrill's grammar.
+///
+/// A text that is no script is read up to its fault, the line of the first token at which no
+/// script goes on: with the header before it, and the events before it whose next token stands
+/// before it too. A script has at most 4,096 events.
 ///
 /// # Errors
-/// Where a growth is refused.
+/// `AllocError` where a growth is refused.
 #[tactic(auto, unfolding(crate::specs::Script::script_of, crate::specs::Script::script_in))]
 pub fn parse(alloc: Global, lines: &Lines) -> Result<Parsed, AllocError>
     ensures script { IfOk result (λ parsed. parsed ≡ script_of lines.now) }
@@ -101,6 +105,7 @@ pub fn parse(alloc: Global, lines: &Lines) -> Result<Parsed, AllocError>
     ensures lines { IfOk result (λ parsed. HasLines lines.now parsed) }
 {
     let parsed = read(alloc, lines)?;
+    // A look at a line tells that no line holds a newline.
     let _ = lines.line(1);
     Ok(parsed)
 }

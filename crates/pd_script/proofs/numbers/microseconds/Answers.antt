@@ -1,4 +1,3 @@
-use Rattle.std.proofs.Common.{◌≡◌, ◌∙◌}
 use Rattle.pd_script.proofs.Capped.{microseconds_is}
 use Rattle.pd_script.proofs.numbers.microseconds.Goals as goal
 

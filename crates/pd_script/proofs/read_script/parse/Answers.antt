@@ -1,4 +1,4 @@
-use Rattle.std.proofs.Common.{◌≡◌, ◌≤◌, sym, subst, length}
+use Rattle.std.proofs.Common.{◌≤◌, sym, subst, length}
 use Rattle.pd_lex.specs.Places.{first_place}
 use Rattle.pd_lex.specs.Tokens.{items}
 use Rattle.pd_script.specs.declared.parsing.Parsed.{Parsed}

@@ -1,5 +1,5 @@
 use Rattle.std.proofs.Common.{◌≡◌, length}
-use Rattle.pd_script.specs.Items.{is_int, is_symbol}
+use Rattle.pd_script.specs.Items.{is_int}
 use Rattle.pd_script.specs.Reader.{onto}
 use Rattle.pd_script.specs.PacketReading.{repeated_at, block_at, blocks_at}
 use Rattle.pd_script.proofs.cursor.Cursor.blocks.Given as goal

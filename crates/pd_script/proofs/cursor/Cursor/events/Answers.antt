@@ -1,11 +1,8 @@
-use Rattle.std.proofs.Common.{◌≡◌, ◌∙◌, ap, sym, refl, ℕ, ◌+◌, ◌-◌, List, [], ◌∷◌, ◌++◌, Option, Some, None, Result, Ok, Err, true, false, arith}
-use Rattle.pd_script.specs.declared.script_events.Event.{Event}
-use Rattle.pd_script.specs.declared.parsing.Found.{Found}
+use Rattle.std.proofs.Common.{◌≡◌, ◌∙◌, sym, ◌+◌, ◌-◌, Some, Ok, Err, true, false, arith}
 use Rattle.pd_script.specs.Items.{starts_event}
-use Rattle.pd_script.specs.Reader.{Read, next_is}
-use Rattle.pd_script.specs.Reading.{event_at, next_line}
-use Rattle.pd_script.specs.Script.{found_in, followed, may_follow, with_event, at_end, in_front}
-use Rattle.pd_script.specs.Cursor.{Leaves}
+use Rattle.pd_script.specs.Reader.{next_is}
+use Rattle.pd_script.specs.Reading.{next_line}
+use Rattle.pd_script.specs.Script.{found_in, at_end}
 use Rattle.pd_script.proofs.Finding.{found_step, found_none, found_zero, in_front-append, in_front-none}
 use Rattle.pd_script.proofs.cursor.Cursor.events.Goals.{else-events-test, then-events-test+then-not-starts_event}
 use Rattle.pd_script.proofs.cursor.Cursor.events.Goals as goal

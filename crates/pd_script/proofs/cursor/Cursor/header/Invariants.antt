@@ -1,5 +1,4 @@
-use Rattle.std.proofs.Common.{◌≡◌, ◌++◌, length}
-use Rattle.pd_script.specs.Header.{header_of, behind_header}
+use Rattle.std.proofs.Common.{length}
 use Rattle.pd_script.proofs.HeaderLaws.{SoFar}
 use Rattle.pd_script.proofs.cursor.Cursor.header.Given as goal
 

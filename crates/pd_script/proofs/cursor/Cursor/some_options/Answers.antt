@@ -1,9 +1,8 @@
-use Rattle.std.proofs.Common.{◌≡◌, ◌∙◌, sym, ap, List, [], ◌∷◌, ◌++◌, true, false, Ok, Err}
+use Rattle.std.proofs.Common.{◌≡◌, ◌∙◌, sym, ap, List, [], ◌∷◌, true, false, Ok}
 use Rattle.std.proofs.lemmas.List.{append-nil}
 use Rattle.std.proofs.lemmas.Result.{err_from_is_err_and}
-use Rattle.pd_lex.specs.Tokens.{Item}
 use Rattle.pd_script.specs.declared.packets.PacketOption.{PacketOption}
-use Rattle.pd_script.specs.Items.{is_int, is_symbol}
+use Rattle.pd_script.specs.Items.{is_symbol}
 use Rattle.pd_script.specs.Reader.{Read, onto, next_is}
 use Rattle.pd_script.specs.PacketReading.{repeated_at, option_at, next_option_at, some_options_at}
 use Rattle.pd_script.proofs.ArgumentSteps.{onto-append}

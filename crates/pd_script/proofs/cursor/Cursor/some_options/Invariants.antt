@@ -1,5 +1,5 @@
 use Rattle.std.proofs.Common.{◌≡◌, length}
-use Rattle.pd_script.specs.Items.{is_int, is_symbol}
+use Rattle.pd_script.specs.Items.{is_symbol}
 use Rattle.pd_script.specs.Reader.{onto}
 use Rattle.pd_script.specs.PacketReading.{repeated_at, next_option_at, some_options_at}
 use Rattle.pd_script.proofs.cursor.Cursor.some_options.Given as goal
