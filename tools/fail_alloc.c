@@ -1,15 +1,25 @@
-/* Refuses one allocation of a program: the one whose number FAIL_AT says, counted from 1.
-   Loaded before the C library: LD_PRELOAD=fail_alloc.so FAIL_AT=3 program */
+/* Refuses one allocation of a program: the one whose number FAIL_AT says, counted from 1. Where it does, it makes the
+   file that FAIL_MARK names. Loaded before the C library: LD_PRELOAD=fail_alloc.so FAIL_AT=3 FAIL_MARK=met program */
 #define _GNU_SOURCE
 #include <dlfcn.h>
+#include <fcntl.h>
 #include <stdlib.h>
+#include <unistd.h>
 
 static unsigned long made;
 
 static int is_refused(void)
 {
     const char *at = getenv("FAIL_AT");
-    return at && __atomic_add_fetch(&made, 1, __ATOMIC_SEQ_CST) == strtoul(at, NULL, 10);
+    const char *mark = getenv("FAIL_MARK");
+    if (!at || __atomic_add_fetch(&made, 1, __ATOMIC_SEQ_CST) != strtoul(at, NULL, 10))
+        return 0;
+    if (mark) {
+        int file = open(mark, O_CREAT | O_WRONLY, 0600);
+        if (file >= 0)
+            close(file);
+    }
+    return 1;
 }
 
 void *malloc(size_t size)

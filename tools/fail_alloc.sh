@@ -1,8 +1,10 @@
 #!/bin/sh
-# Refuses each allocation of the built program in turn, for each input of examples/ and for those named on the
-# command line. Where an allocation is refused, the program says so by status 2 and 19 OutOfMemory, or goes on with a
-# refused command; what it wrote is then a prefix of what it writes with memory, up to that command. The numbers go up
-# until a run meets no refusal. Outside the gate: needs a C compiler.
+# Refuses each allocation in turn, one a run, the numbers going up until a run meets no refusal:
+#   - of the built program, for each input of examples/ and for those named on the command line. It says so by status 2
+#     and a fault, and what it wrote is a prefix of what it writes with memory; or the refusal made no difference.
+#   - of the crates' built tests (`rt test` leaves them in out/) of the modules `memory`, which let a first want of
+#     memory pass and make the call again.
+# Outside the gate: needs a C compiler.
 #
 #   tools/fail_alloc.sh [INPUT..]
 set -eu
@@ -12,33 +14,63 @@ work=$(mktemp -d)
 trap 'rm -rf "$work"' EXIT
 cc -O2 -shared -fPIC -o "$work/fail_alloc.so" "$top/tools/fail_alloc.c" -ldl
 [ -x "$program" ] || "$top/pdregress" </dev/null >/dev/null
+bad=0
+
+complain() {
+    echo "$*"
+    bad=1
+}
+
+refusing() { # N COMMAND..: runs it with its Nth allocation refused; false where it made fewer
+    n=$1
+    shift
+    status=0
+    rm -f "$work/met"
+    env LD_PRELOAD="$work/fail_alloc.so" FAIL_AT="$n" FAIL_MARK="$work/met" "$@" \
+        <"$input" >"$work/out" 2>"$work/error" || status=$?
+    [ "$n" -le 100000 ] && [ -e "$work/met" ]
+}
 
 is_prefix() { # FILE OF: the octets of FILE begin OF
     cmp -s -n "$(wc -c <"$1")" "$1" "$2"
 }
 
-[ $# -gt 0 ] || set -- "$top"/examples/*.txt
-bad=0
-for input in "$@"; do
-    "$program" <"$input" >"$work/whole" 2>"$work/error" || true
+try_program() {
     n=1
-    while :; do
-        status=0
-        env LD_PRELOAD="$work/fail_alloc.so" FAIL_AT=$n "$program" <"$input" >"$work/out" 2>"$work/error" || status=$?
+    while refusing "$n" "$program"; do
         if [ "$status" -ge 128 ]; then
-            echo "$input: allocation $n: ended by a signal ($status)"
-            bad=1
-        elif [ "$status" -eq 2 ] && grep -q '19 OutOfMemory' "$work/error"; then
-            is_prefix "$work/out" "$work/whole" || { echo "$input: allocation $n: no prefix was written"; bad=1; }
-        elif cmp -s "$work/out" "$work/whole"; then
-            break
-        else
-            echo "$input: allocation $n: other output, status $status: $(cat "$work/error")"
-            bad=1
+            complain "$input: allocation $n: ended by a signal ($status)"
+        elif [ "$status" -eq 2 ] && grep -q '^pdregress: \|memory' "$work/error"; then
+            is_prefix "$work/out" "$work/whole" || complain "$input: allocation $n: no prefix was written"
+        elif ! cmp -s "$work/out" "$work/whole"; then
+            complain "$input: allocation $n: other output, status $status: $(cat "$work/error")"
         fi
         n=$((n + 1))
-        [ "$n" -le 100000 ] || { echo "$input: no end in sight"; bad=1; break; }
     done
+    cmp -s "$work/out" "$work/whole" || complain "$input: other output with memory"
     echo "$input: $((n - 1)) allocations refused, one a run"
+}
+
+try_test() { # TESTS NAME
+    n=1
+    while refusing "$n" "$1" "$2"; do
+        [ "$status" -eq 0 ] || complain "$2: allocation $n: status $status: $(tail -n 3 "$work/out" "$work/error")"
+        n=$((n + 1))
+    done
+    [ "$status" -eq 0 ] || complain "$2: fails with memory"
+    echo "$2: $((n - 1)) allocations refused, one a run"
+}
+
+[ $# -gt 0 ] || set -- "$top"/examples/*.txt
+for input in "$@"; do
+    "$program" <"$input" >"$work/whole" 2>"$work/error" || true
+    try_program
+done
+input=/dev/null
+for tests in "$top"/crates/*/out/*_tests; do
+    [ -x "$tests" ] || continue
+    for name in $("$tests" --list | grep -o '^memory::[a-z0-9_]*'); do
+        try_test "$tests" "$name"
+    done
 done
 exit $bad
