@@ -2,6 +2,7 @@
 //! the gate there is memory; outside it this test is run with each allocation refused in turn.
 use crate::streams::{Sink, Source};
 use pd_cli::program;
+use std::alloc::{AllocError, Global};
 use std::process::Abort;
 use std::test::Fail;
 
@@ -42,15 +43,19 @@ fn has_memory(rt: &(impl Abort + AllocGlobal), output: &mut Sink, errors: &mut S
     false
 }
 
+/// A writer that has its memory already.
+fn roomy(alloc: Global) -> Result<Sink, AllocError> {
+    let mut sink = Sink::new(alloc, 4096, None);
+    if sink.taken.reserve(4096).is_err() {
+        sink.taken.reserve(4096)?;
+    }
+    Ok(sink)
+}
+
 #[test]
 fn a_run_without_memory_writes_a_prefix(rt: HostRuntime) -> Result<(), Fail> {
-    let mut output = Sink::new(rt.alloc(), 4096, None);
-    let mut errors = Sink::new(rt.alloc(), 4096, None);
-    for sink in [&mut output, &mut errors] {
-        if sink.taken.reserve(4096).is_err() {
-            sink.taken.reserve(4096)?;
-        }
-    }
+    let mut output = roomy(rt.alloc())?;
+    let mut errors = roomy(rt.alloc())?;
     let found = has_memory(&rt, &mut output, &mut errors);
     assert!(rt; found || has_memory(&rt, &mut output, &mut errors));
     Ok(())
