@@ -1,5 +1,5 @@
 -- The first segment, what it agrees, and the end of the handshake.
-use Rattle.std.specs.Prelude.{ℕ, ◌-◌, ◌*◌, ◌^◌, ◌==◌, nat_le, min, max, Bool, true, false, not, ◌&&◌, List, slice_get, take_while, Option, Some, None, option_map, unwrap_or, Result, Ok, Err, if◌then◌else◌}
+use Rattle.std.specs.Prelude.{ℕ, ◌-◌, ◌*◌, ◌^◌, ◌==◌, nat_le, min, max, Bool, true, false, not, ◌&&◌, List, [], ◌∷◌, slice_get, Option, Some, None, option_map, unwrap_or, Result, Ok, Err, if◌then◌else◌}
 use Rattle.std.specs.List.{filter_map, list_any}
 use Rattle.pd_settings.specs.declared.fields.Settings.{Settings}
 use Rattle.pd_seg.specs.declared.control_bits.Flags.{Flags}
@@ -22,13 +22,11 @@ use Rattle.pd_host.specs.Sender.{beside, put_out}
 abbrev pub length_of : Segment → ℕ
 length_of segment = segment.end - segment.start
 
-abbrev pub is_eol : SegOption → Bool
-is_eol Eol = true
-is_eol _ = false
-
 -- the options that are looked at: those before the end of the option list (RFC 9293, section 3.2)
 abbrev pub looked_at : List SegOption → List SegOption
-looked_at options = take_while (λ option. not (is_eol option)) options
+looked_at [] = []
+looked_at (Eol ∷ options) = []
+looked_at (option ∷ options) = option ∷ looked_at options
 
 abbrev pub mss_in : SegOption → Option ℕ
 mss_in (Mss octets) = Some octets
