@@ -1,5 +1,5 @@
 -- The first segment, what it agrees, and the end of the handshake.
-use Rattle.std.specs.Prelude.{ℕ, ◌-◌, ◌*◌, ◌^◌, ◌==◌, nat_le, min, max, Bool, true, false, not, ◌&&◌, List, [], ◌∷◌, slice_get, Option, Some, None, option_map, unwrap_or, Result, Ok, Err, if◌then◌else◌}
+use Rattle.std.specs.Prelude.{ℕ, ◌-◌, ◌*◌, ◌^◌, ◌==◌, nat_le, min, max, Bool, true, false, not, ◌&&◌, List, [], ◌∷◌, slice_get, Option, Some, None, option_map, unwrap_or, Result, Err, if◌then◌else◌}
 use Rattle.std.specs.List.{filter_map, list_any}
 use Rattle.pd_settings.specs.declared.fields.Settings.{Settings}
 use Rattle.pd_seg.specs.declared.control_bits.Flags.{Flags}
@@ -14,7 +14,6 @@ use Rattle.pd_host.specs.declared.scaling.Scaling.{Scaling}
 use Rattle.pd_host.specs.declared.use_set.UseSet.{UseSet}
 use Rattle.pd_host.specs.Packets.{peer_count, syn_ack_of}
 use Rattle.pd_host.specs.ControlBlock.{ControlBlock}
-use Rattle.pd_host.specs.declared.endpoint.Endpoint.{Endpoint}
 use Rattle.pd_host.specs.declared.sender_state.State.{State}
 use Rattle.pd_host.specs.Sender.{beside, put_out}
 

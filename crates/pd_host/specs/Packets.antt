@@ -1,5 +1,5 @@
 -- The segments that the handshake and its checks put out.
-use Rattle.std.specs.Prelude.{ℕ, ◌/◌, ◌*◌, ◌^◌, min, Bool, true, false, List, [], ◌∷◌, ◌++◌, Option, Some, None}
+use Rattle.std.specs.Prelude.{ℕ, ◌/◌, ◌^◌, min, Bool, true, false, List, [], ◌∷◌, ◌++◌, Option, Some, None}
 use Rattle.pd_seg.specs.declared.control_bits.Flags.{Flags}
 use Rattle.pd_seg.specs.declared.option_list.SegOption.{SegOption}
 use Rattle.pd_seg.specs.declared.option_list.SegOption.TheVariants.{Mss, Wscale, SackOk, Nop}

@@ -20,5 +20,5 @@ mod use_set;
 pub use halts::{Halt, Stop};
 pub use host::Host;
 pub use outbox::Outbox;
-pub use requests::{Request, is_run};
+pub use requests::{Operation, Request, is_run};
 pub use use_set::UseSet;

@@ -1,5 +1,5 @@
 -- What is found, and what is passed over.
-use Rattle.std.proofs.Common.{◌≡◌, refl, sym, ◌∙◌}
+use Rattle.std.proofs.Common.{refl, sym, ◌∙◌}
 use Rattle.pd_host.specs.Handshake.{offered_count}
 use Rattle.pd_host.proofs.OptionLists.{at_option, past_count}
 use Rattle.pd_host.proofs.offers.offered_count.Goals as goal

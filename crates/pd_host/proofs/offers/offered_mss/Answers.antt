@@ -1,5 +1,5 @@
 -- What is found, and what is passed over.
-use Rattle.std.proofs.Common.{◌≡◌, refl, sym, ◌∙◌}
+use Rattle.std.proofs.Common.{refl, sym, ◌∙◌}
 use Rattle.pd_host.specs.Handshake.{offered_mss}
 use Rattle.pd_host.proofs.OptionLists.{at_option, past_mss}
 use Rattle.pd_host.proofs.offers.offered_mss.Goals as goal

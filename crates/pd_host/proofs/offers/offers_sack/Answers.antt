@@ -1,5 +1,5 @@
 -- What is found, and what is passed over.
-use Rattle.std.proofs.Common.{◌≡◌, refl, sym, ◌∙◌}
+use Rattle.std.proofs.Common.{refl, sym, ◌∙◌}
 use Rattle.pd_host.specs.Handshake.{offers_sack}
 use Rattle.pd_host.proofs.OptionLists.{at_option, past_sack}
 use Rattle.pd_host.proofs.offers.offers_sack.Goals as goal

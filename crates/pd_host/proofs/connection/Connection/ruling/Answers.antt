@@ -1,5 +1,4 @@
 -- The chain of `or` gives the first ruling.
-use Rattle.std.proofs.Common.{◌≡◌}
 use Rattle.pd_host.specs.Arrivals.{check_contents, check_window, check_rst, check_ack_flag, check_handshake, check_ack}
 use Rattle.pd_host.proofs.FirstRuling.{first_of_six}
 use Rattle.pd_host.proofs.connection.Connection.ruling.Goals as goal
