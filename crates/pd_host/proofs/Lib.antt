@@ -1,3 +1,7 @@
 -- The lemmas of this crate.
+pub mod ExactRst
 pub mod FirstRuling
+pub mod Harmless
+pub mod OneMore
 pub mod OptionLists
+pub mod Uses

@@ -7,4 +7,5 @@ pub mod Requests
 pub mod Calls
 pub mod Handshake
 pub mod Arrivals
+pub mod Laws
 pub mod Outcome

@@ -54,7 +54,7 @@ impl Host {
     /// # Errors
     ///
     /// `Halted` for a call that isn't run.
-    pub fn call(&mut self, call: &Call, _now: u64) -> Result<Answer, Stop>
+    pub fn call(&mut self, call: &Call, now: u64) -> Result<Answer, Stop>
         ensures { Answers self.old (called call.now) result self.new }
     {
         if let Some(stop) = self.ended {
@@ -90,7 +90,6 @@ impl Host {
     pub fn advance(&mut self, until: u64) -> Result<(), Stop>
         ensures { Goes self.old (advanced until) result self.new }
     {
-        let _until = until;
         match self.ended {
             Some(stop) => Err(stop),
             None => Ok(()),

@@ -8,6 +8,7 @@ mod descriptors;
 mod endpoint;
 mod halts;
 mod host;
+mod laws;
 mod listeners;
 mod offers;
 mod outbox;
@@ -19,6 +20,7 @@ mod use_set;
 
 pub use halts::{Halt, Stop};
 pub use host::Host;
+pub use laws::arrivals_are_lawful;
 pub use outbox::Outbox;
 pub use requests::{Operation, Request, is_run};
 pub use use_set::UseSet;
