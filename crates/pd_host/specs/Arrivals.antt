@@ -89,6 +89,7 @@ taken_by segment c = with_new_window segment (acknowledged segment c)
 abbrev pub reset_of : ControlBlock → ControlBlock
 reset_of c = record c { reset = true }
 
+-- the endpoint with this connection
 abbrev pub with_connection : ControlBlock → Endpoint → Endpoint
 with_connection c e = record e { connection = Some c }
 
@@ -105,6 +106,7 @@ ruled now segment c s (Some Established) = Ok (record s {
 ruled now segment c s (Some Refused) = beside s (put_out now (refusal_of segment.ack) s.endpoint)
 ruled now segment c s None = beside s (Ok (with_connection (taken_by segment c) s.endpoint))
 
+-- an arrival, by whether a connection was begun
 abbrev pub arrived_on : ℕ → Segment → State → Option ControlBlock → Result State Halt
 arrived_on now segment s None = opened_by now segment s
 arrived_on now segment s (Some c) = ruled now segment c s (ruling_of c segment)

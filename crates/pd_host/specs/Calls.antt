@@ -24,9 +24,11 @@ use Rattle.pd_host.specs.declared.sender_state.State.{State}
 abbrev pub Reply : Type 0
 Reply = Result (Endpoint × Answer) Halt
 
+-- an answer, with the endpoint after it
 abbrev pub answered : Endpoint → Answer → Reply
 answered e answer = Ok (e, answer)
 
+-- whether descriptor 3 is open
 abbrev pub is_listener_open : Listener → Bool
 is_listener_open Absent = false
 is_listener_open Closed = false
@@ -65,8 +67,7 @@ listen_reply e Bound Listening = answered (record e { listener = Listens }) (Num
 listen_reply e Listens Listening = answered e (Number 0)
 listen_reply e _ _ = answered e (Error Einval)
 
--- `accept` on a listening 3: 4 where the connection was established, also if it was reset since, and isn't accepted, else
--- EAGAIN
+-- `accept` hands out 4 where the connection was established, also if it was reset since, and isn't accepted; else EAGAIN
 abbrev pub handed_out : Endpoint → Option ControlBlock → Reply
 handed_out e None = answered e (Error Eagain)
 handed_out e (Some c) =
@@ -74,7 +75,7 @@ handed_out e (Some c) =
     then answered (record e { connection = Some (record c { accepted = true }) }) (Number 4)
     else answered e (Error Eagain)
 
--- `accept` on another descriptor: EINVAL
+-- `accept`: so on a listening 3, else EINVAL
 abbrev pub accept_reply : Endpoint → Listener → Descriptor → Reply
 accept_reply e Listens Listening = handed_out e e.connection
 accept_reply e _ _ = answered e (Error Einval)
@@ -138,6 +139,7 @@ abbrev pub beside_reply : State → Reply → Result (State × Answer) Halt
 beside_reply s (Ok (endpoint, answer)) = Ok (record s { endpoint = endpoint }, answer)
 beside_reply s (Err halt) = Err halt
 
+-- what a request does to the state; without one the call isn't run
 abbrev pub requested : State → Option Request → Result (State × Answer) Halt
 requested s None = Err Unsupported
 requested s (Some request) = beside_reply s (reply_to s.endpoint request)

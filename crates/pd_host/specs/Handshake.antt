@@ -27,14 +27,17 @@ looked_at [] = []
 looked_at (Eol ∷ options) = []
 looked_at (option ∷ options) = option ∷ looked_at options
 
+-- the MSS that an option names
 abbrev pub mss_in : SegOption → Option ℕ
 mss_in (Mss octets) = Some octets
 mss_in _ = None
 
+-- the shift count that an option names
 abbrev pub count_in : SegOption → Option ℕ
 count_in (Wscale count) = Some count
 count_in _ = None
 
+-- the option that permits SACK
 abbrev pub is_sack_ok : SegOption → Bool
 is_sack_ok SackOk = true
 is_sack_ok _ = false
@@ -56,9 +59,11 @@ abbrev pub is_mss_run : Option ℕ → Bool
 is_mss_run None = true
 is_mss_run (Some octets) = nat_le 64 octets
 
+-- SYN and no other flag
 abbrev pub is_syn_alone : Flags → Bool
 is_syn_alone flags = flags.syn && (not flags.fin && (not flags.rst && (not flags.psh && not flags.ack)))
 
+-- whether descriptor 3 listens
 abbrev pub is_listening : Listener → Bool
 is_listening Listens = true
 is_listening _ = false

@@ -24,17 +24,19 @@ EndsBy (Ok answer) new = new.ended ≡ None
 EndsBy (Err stop) new = new.ended ≡ Some stop
 
 -- a host that goes on does what the rules say; one that has ended answers that again, and stays as it is
+abbrev pub GoesFrom : Option Stop → Sender → (State → Result State Halt) → Result (Unit {0}) Stop → Sender → Type 0
+GoesFrom None old rule result new = Gives (rule old.state) result new.state × EndsBy result new
+GoesFrom (Some stop) old rule result new = (result ≡ Err stop) × (new ≡ old)
+
+-- an input of a host, by whether it has ended
 abbrev pub Goes : Sender → (State → Result State Halt) → Result (Unit {0}) Stop → Sender → Type 0
-Goes old rule result new = GoesFrom old.ended
-  where
-    GoesFrom : Option Stop → Type 0
-    GoesFrom None = Gives (rule old.state) result new.state × EndsBy result new
-    GoesFrom (Some stop) = (result ≡ Err stop) × (new ≡ old)
+Goes old rule result new = GoesFrom old.ended old rule result new
 
 -- the same, with what is answered
+abbrev pub AnswersFrom : {A : Type 0} → Option Stop → Sender → (State → Result (State × A) Halt) → Result A Stop → Sender → Type 0
+AnswersFrom None old rule result new = GivesAnswer (rule old.state) result new.state × EndsBy result new
+AnswersFrom (Some stop) old rule result new = (result ≡ Err stop) × (new ≡ old)
+
+-- an input that is answered, by whether the host has ended
 abbrev pub Answers : {A : Type 0} → Sender → (State → Result (State × A) Halt) → Result A Stop → Sender → Type 0
-Answers {A} old rule result new = AnswersFrom old.ended
-  where
-    AnswersFrom : Option Stop → Type 0
-    AnswersFrom None = GivesAnswer (rule old.state) result new.state × EndsBy result new
-    AnswersFrom (Some stop) = (result ≡ Err stop) × (new ≡ old)
+Answers old rule result new = AnswersFrom old.ended old rule result new

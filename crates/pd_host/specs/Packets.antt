@@ -7,6 +7,7 @@ use Rattle.pd_seg.specs.declared.segments.Segment.{Segment}
 use Rattle.pd_host.specs.declared.scaling.Scaling.{Scaling}
 use Rattle.pd_host.specs.ControlBlock.{ControlBlock}
 
+-- a segment without flags
 abbrev pub no_flags : Flags
 no_flags = record { syn = false; fin = false; rst = false; psh = false; ack = false }
 

@@ -60,6 +60,7 @@ with_packet now segment packets =
     then Ok (packets ++ record { segment = segment; at = now } ∷ [])
     else Err Limit
 
+-- what comes of the outbox for the whole endpoint
 abbrev pub with_outbox : Endpoint → Result (List Sent) Halt → Result Endpoint Halt
 with_outbox e (Ok packets) = Ok (record e { outbox = packets })
 with_outbox e (Err halt) = Err halt
