@@ -1,7 +1,6 @@
 -- When the answer of a call is the one that a script expects.
-use Rattle.std.specs.Prelude.{ℤ, pos, negsuc, neg_ℤ, Bool, true, false, [], ◌∷◌, Option, Some}
+use Rattle.std.specs.Prelude.{ℤ, pos, negsuc, neg_ℤ, Bool, true, false, ◌&&◌, if◌then◌else◌, Option, Some, None}
 use Rattle.std.specs.Ordering.{int_eq}
-use Rattle.pd_script.specs.declared.calls.Call.{Call}
 use Rattle.pd_script.specs.declared.calls.ErrorName.{ErrorName}
 use Rattle.pd_script.specs.declared.calls.ErrorName.TheVariants as named
 use Rattle.pd_script.specs.declared.calls.Outcome.{Outcome}
@@ -11,7 +10,6 @@ use Rattle.pd_seg.specs.declared.answers.Answer.TheVariants.{Number, Error}
 use Rattle.pd_seg.specs.declared.answers.Errno.TheVariants as answered
 use Rattle.pd_match.specs.declared.kinds.Kind.{Kind}
 use Rattle.pd_match.specs.declared.kinds.Kind.TheVariants.{Result}
-use Rattle.pd_match.specs.FirstFailing.{first_failing}
 
 -- the number of a written result
 abbrev pub value_written : Outcome → ℤ
@@ -38,9 +36,6 @@ same_error (Negative _ (Some name)) answer = is_answered name answer
 same_error _ _ = true
 
 -- the result differs in its number or in its error
-abbrev pub result_mismatch : Call → Answer → Option Kind
-result_mismatch call answer =
-    first_failing (
-    (Result, int_eq (value_written call.result) (value_answered answer))
-    ∷ (Result, same_error call.result answer)
-    ∷ [])
+abbrev pub result_mismatch : Outcome → Answer → Option Kind
+result_mismatch outcome answer =
+    if int_eq (value_written outcome) (value_answered answer) && same_error outcome answer then None else Some Result

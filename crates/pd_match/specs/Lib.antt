@@ -1,4 +1,4 @@
 -- The definitions that the contracts cite.
-pub mod FirstFailing
 pub mod Packets
 pub mod Calls
+pub mod Agreement

@@ -1,5 +1,5 @@
 -- When a packet that was sent is the one that a script expects.
-use Rattle.std.specs.Prelude.{ℕ, ◌+◌, ◌-◌, Bool, true, false, ◌&&◌, ◌==◌, nat_le, List, [], ◌∷◌, Option, Some, None}
+use Rattle.std.specs.Prelude.{ℕ, ◌+◌, ◌-◌, Bool, true, false, not, ◌&&◌, ◌==◌, nat_le, find, List, [], ◌∷◌, Option, Some, None}
 use Rattle.std.specs.Bool.{beq}
 use Rattle.pd_script.specs.declared.packets.Flags as script
 use Rattle.pd_script.specs.declared.packets.Block.{Block}
@@ -16,7 +16,6 @@ use Rattle.pd_seg.specs.declared.segments.Segment.{Segment}
 use Rattle.pd_seg.specs.declared.segments.Sent.{Sent}
 use Rattle.pd_match.specs.declared.kinds.Kind.{Kind}
 use Rattle.pd_match.specs.declared.kinds.Kind.TheVariants as kind
-use Rattle.pd_match.specs.FirstFailing.{first_failing}
 
 -- the packet left no earlier than the first moment less the tolerance, and no later than the last one plus the tolerance
 abbrev pub in_time : Option (ℕ × ℕ) → ℕ → ℕ → Bool
@@ -64,14 +63,20 @@ same_options Any s = true
 same_options Absent s = each_pair same_option [] s
 same_options (Listed w) s = each_pair same_option w s
 
--- the first field in which the packet differs, in this order
+-- the fields that are compared, in their order
+abbrev pub compared : List Kind
+compared = kind.Time ∷ kind.Flags ∷ kind.Seq ∷ kind.Ack ∷ kind.Win ∷ kind.Options ∷ []
+
+-- the test of a field
+abbrev pub passes : Packet → Option (ℕ × ℕ) → Sent → ℕ → Kind → Bool
+passes packet moments s tolerance kind.Time = in_time moments s.at tolerance
+passes packet moments s tolerance kind.Flags = same_flags packet.flags s.segment.flags
+passes packet moments s tolerance kind.Seq = same_seq packet s.segment
+passes packet moments s tolerance kind.Ack = same_if_written packet.ack s.segment.ack
+passes packet moments s tolerance kind.Win = same_if_written packet.win s.segment.win
+passes packet moments s tolerance kind.Options = same_options packet.options s.segment.options
+passes packet moments s tolerance _ = true
+
+-- the first field in which the packet differs
 abbrev pub mismatch : Packet → Option (ℕ × ℕ) → Sent → ℕ → Option Kind
-mismatch packet moments s tolerance =
-    first_failing (
-    (kind.Time, in_time moments s.at tolerance)
-    ∷ (kind.Flags, same_flags packet.flags s.segment.flags)
-    ∷ (kind.Seq, same_seq packet s.segment)
-    ∷ (kind.Ack, same_if_written packet.ack s.segment.ack)
-    ∷ (kind.Win, same_if_written packet.win s.segment.win)
-    ∷ (kind.Options, same_options packet.options s.segment.options)
-    ∷ [])
+mismatch packet moments s tolerance = find (λ field. not (passes packet moments s tolerance field)) compared

@@ -1,5 +1,6 @@
 //! The answer of a call against the result that a script expects.
-ghost use Rattle.std.specs.Prelude.{◌≡◌};
+ghost use Rattle.std.specs.Prelude.{◌≡◌, ◌↔◌, IsNone};
+ghost use Rattle.pd_match.specs.Agreement.{IsResult};
 ghost use Rattle.pd_match.specs.Calls.{result_mismatch, value_answered, value_written, is_answered, same_error};
 
 use crate::kinds::Kind;
@@ -11,7 +12,8 @@ use pd_seg::{Answer, Errno};
 ///
 /// Takes no memory.
 pub fn check_call(call: &Call, answer: &Answer) -> Option<Kind>
-    ensures { result ≡ result_mismatch call.now answer.now }
+    ensures value { result ≡ result_mismatch call.now.result answer.now }
+    ensures agrees { IsNone result ↔ IsResult call.now.result answer.now }
 {
     if written_value(call.result) == answered_value(*answer) && has_error(call.result, *answer) {
         None
