@@ -1,0 +1,33 @@
+#!/bin/sh
+# Measures a settle over generated scripts: octets and scripts per second, as the built program takes them.
+#
+#   bench/settle.sh [SCRIPTS [EVENTS]]      1,000 scripts of 60 events if nothing is said
+set -eu
+top=$(cd "$(dirname "$0")/.." && pwd)
+program=$top/crates/pdregress/out/pdregress
+scripts=${1:-1000}
+events=${2:-60}
+work=$(mktemp -d)
+trap 'rm -rf "$work"' EXIT
+[ -x "$program" ] || "$top/pdregress" </dev/null >/dev/null
+
+# Each script opens, binds and then listens on the descriptor again and again, at times of its own.
+awk -v scripts="$scripts" -v events="$events" 'BEGIN {
+    for (s = 1; s <= scripts; s++) {
+        print "add script" s, events
+        print "0 socket(..., SOCK_STREAM, IPPROTO_TCP) = 3"
+        print "+0 bind(3, ..., ...) = 0"
+        for (e = 3; e <= events; e++)
+            printf "+0.%03d listen(3, %d) = 0\n", (s * 7 + e * 13) % 1000, e
+    }
+}' >"$work/input"
+
+octets=$(wc -c <"$work/input")
+begin=$(date +%s%N)
+"$program" <"$work/input" >"$work/output"
+end=$(date +%s%N)
+tail -n 1 "$work/output"
+awk -v octets="$octets" -v scripts="$scripts" -v ns="$((end - begin))" 'BEGIN {
+    s = ns / 1e9
+    printf "%d octets, %d scripts in %.3f s: %.0f octets/s, %.0f scripts/s\n", octets, scripts, s, octets / s, scripts / s
+}'

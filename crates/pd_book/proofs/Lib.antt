@@ -1,0 +1,15 @@
+-- The lemmas of the book.
+pub mod Searches
+pub mod Pending
+pub mod Named
+pub mod Retained
+pub mod Faithful
+pub mod Stretches
+pub mod Numbers
+pub mod Standing
+pub mod Ends
+pub mod Replayed
+pub mod Rows
+pub mod Calls
+pub mod Splits
+pub mod Turns

@@ -1,0 +1,31 @@
+-- The book after a start is the replay of its acts.
+use Rattle.std.proofs.Common.{◌∙◌, ◌∷◌, ◌+◌, ◌≤◌, List, reverse, ap, sym, arith, length}
+use Rattle.std.proofs.lemmas.List.{length-reverse}
+use Rattle.pd_book.specs.declared.act.Act.{Act}
+use Rattle.pd_book.specs.Acts.{next, now, started}
+use Rattle.pd_book.specs.Story.{Story}
+use Rattle.pd_book.specs.Refusals.{taken_room}
+use Rattle.pd_book.proofs.Calls.{start_kept, has_room}
+use Rattle.pd_book.proofs.book_core.Book.start.Goals as goal
+
+pub invariant_of-self-2 : goal.invariant_of-self-2
+invariant_of-self-2 c =
+    let s = rw c.in-Some.is at c.in_ok-prepared.ensures.some in
+    let t = rw c.in-Some.is at c.in_ok-prepared.ensures.room in
+    let acts = c.self.inside.acts.items in
+    let room = has_room 2 c.args.self.now t in
+    let few : length (reverse acts) + length c.self.inside.tasks.items + 2 ≤ 65536 = omega (arith, ap length c.self.invariant.tasks, ap taken_room c.self.view_is, room) in
+    let p = c.in-Some.prepared in
+    let k = c.keep_start-job.ensures in
+    start_kept c.self.inside.opening (reverse acts) _ c.self.inside.settings c.self.inside.scripts _ c.self.inside.tasks.items _ c.self.inside.numbers _ _ _ p.job p.act
+    c.self.invariant
+    (ap (λ (x : Story). next x.past) c.self.view_is ∙ s.waiting)
+    (s.number ∙ ap (λ (x : Story). started x.past + 1) (sym c.self.view_is))
+    (s.settings ∙ ap (λ (x : Story). now x.opening x.past) (sym c.self.view_is))
+    s.start
+    (k.past ∙ ap (λ (x : List Act). p.act ∷ reverse x) c.in_ok-reserve.ensures.items)
+    k.scripts
+    (k.tasks ∙ cc (c.in_ok-reserve-2.ensures.items, s.same))
+    c.number-self-inside.ensures
+    (omega (arith, c.in_ok-reserve.ensures.ok, k.capacity, length-reverse acts, c.in_ok-reserve.ensures.len, c.len.ensures))
+    few

@@ -1,0 +1,11 @@
+-- Without the first of a name is without the name.
+use Rattle.std.proofs.Common.{◌≡◌, ◌∙◌, None}
+use Rattle.std.specs.Map.{lookup, remove_entry}
+use Rattle.std.specs.Str.{bytes_eq}
+use Rattle.pd_book.proofs.Named.{remove_named}
+use Rattle.pd_book.proofs.scripts.Scripts.remove.Goals as goal
+
+pub returns : goal.returns
+returns c =
+    let gone : lookup (bytes_eq c.args.name.now) (remove_entry (bytes_eq c.args.name.now) c.args.self.now) ≡ None = rw c.take_out.ensures.taken at c.take_out.ensures.gone in
+    c.take_out.ensures.taken ∙ remove_named c.args.name.now c.args.self.now gone

@@ -1,0 +1,57 @@
+-- The headline, said by positions in the list of acts. The newest act stands first.
+use Rattle.std.specs.Prelude.{◌≡◌, ◌↔◌, ℕ, false, List, ◌∷◌, ◌++◌, map, All, Some, IsSome}
+use Rattle.pd_settings.specs.declared.fields.Settings.{Settings}
+use Rattle.pd_book.specs.declared.act.Act.{Act}
+use Rattle.pd_book.specs.declared.act.Act.TheVariants.{Start, Finish}
+use Rattle.pd_book.specs.declared.act.Ruling.{Ruling}
+use Rattle.pd_book.specs.declared.act.Ruling.TheVariants.{Taken}
+use Rattle.pd_book.specs.declared.row.Row.{Row}
+use Rattle.pd_book.specs.declared.task.Task.{Task}
+use Rattle.pd_book.specs.Acts.{changes, texts, now, job, ruling}
+use Rattle.pd_book.specs.Report.{IsRunUnder, shown, scratch}
+
+-- none of these acts changes the script of this name
+abbrev pub Unchanged : List ℕ → List Act → Type 0
+Unchanged name acts = All (λ act. changes name act ≡ false) acts
+
+-- the acts are some later ones, the finish of a job, some between, that job's start on the script, and some
+-- earlier ones; and none after the start changes the script
+pub record AnsweredSinceChange (name : List ℕ) (past : List Act) : Type 0 where
+  pub number : ℕ
+  pub ruled : Ruling
+  pub later : List Act
+  pub between : List Act
+  pub earlier : List Act
+  pub split : past ≡ later ++ Finish number ruled ∷ (between ++ Start number name ∷ earlier)
+  pub later_unchanged : Unchanged name later
+  pub between_unchanged : Unchanged name between
+
+-- the acts are some later ones, this job's start on its script, and some earlier ones; and none after the start
+-- changes the script
+pub record UnchangedSinceStart (task : Task) (past : List Act) : Type 0 where
+  pub later : List Act
+  pub earlier : List Act
+  pub split : past ≡ later ++ Start task.number task.name ∷ earlier
+  pub later_unchanged : Unchanged task.name later
+
+-- a row has a verdict exactly when a job started since the last change of its script was answered
+abbrev pub CurrentWhenAnswered : Settings → List Act → Type 0
+CurrentWhenAnswered opening past = All (λ (row : Row). IsSome row.verdict ↔ AnsweredSinceChange row.name past) (shown opening past).rows
+
+-- the rows are the scripts that stand, with their present texts, in order of adding
+abbrev pub RowsAreScripts : Settings → List Act → Type 0
+RowsAreScripts opening past = map (λ (row : Row). (row.name, row.text)) (shown opening past).rows ≡ texts past
+
+-- each verdict is the run of the row's text, from its first event on a fresh host, under the present settings
+abbrev pub VerdictsAreRuns : Settings → List Act → Type 0
+VerdictsAreRuns opening past = All (IsRunUnder (now opening past)) (shown opening past).rows
+
+-- where each row has a verdict, the report is the one from scratch
+abbrev pub ScratchWhenAllAnswered : Settings → List Act → Type 0
+ScratchWhenAllAnswered opening past =
+    All (λ (row : Row). IsSome row.verdict) (shown opening past).rows → shown opening past ≡ scratch (texts past) (now opening past)
+
+-- a finish of an outstanding job is taken exactly when its script hasn't changed since the job's start
+abbrev pub TakenWhenUnchanged : Settings → List Act → Type 0
+TakenWhenUnchanged opening past =
+    (j : ℕ) → (task : Task) → job opening past j ≡ Some task → (ruling past task ≡ Taken) ↔ UnchangedSinceStart task past

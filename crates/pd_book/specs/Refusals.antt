@@ -1,0 +1,80 @@
+-- Which calls a book refuses, and why: the first that applies.
+use Rattle.std.specs.Prelude.{ℕ, ◌+◌, not, nat_le, List, length, if◌then◌else◌, Option, Some, None, is_some, is_none, unwrap_or}
+use Rattle.std.specs.Option.{option_map}
+use Rattle.pd_text.specs.Name.{is_valid_name}
+use Rattle.pd_text.specs.Edit.{edit_refusal as fault_of_edit}
+use Rattle.pd_text.specs.declared.line_edit.LineEdit.{LineEdit}
+use Rattle.pd_settings.specs.Keys.{key_named}
+use Rattle.pd_settings.specs.Settings.{replaced}
+use Rattle.pd_settings.specs.declared.fields.Settings.{Settings}
+use Rattle.pd_settings.specs.declared.keys.Key.{Key}
+use Rattle.pd_settings.specs.declared.values.Value.{Value}
+use Rattle.pd_book.specs.declared.faults.BookFault.{BookFault}
+use Rattle.pd_book.specs.declared.faults.BookFault.TheVariants.{UnknownKey, BadValue, BadName, NameTaken, NoSuchScript, TooManyScripts, HistoryFull, OutOfMemory}
+use Rattle.pd_book.specs.declared.faults.FinishFault.{FinishFault}
+use Rattle.pd_book.specs.declared.faults.FinishFault.TheVariants.{NoSuchJob, Foreign}
+use Rattle.pd_book.specs.declared.task.Task.{Task}
+use Rattle.pd_book.specs.Acts.{Named, texts, present, stands, now, next, started, jobs}
+use Rattle.pd_book.specs.Faults.{of_text}
+use Rattle.pd_book.specs.Story.{Story}
+
+-- the recorded acts and the outstanding jobs
+abbrev pub taken_room : Story → ℕ
+taken_room story = length story.past + length (jobs story.opening story.past)
+
+-- there is no room for this many more, of 65,536
+abbrev pub full : ℕ → Story → Option BookFault
+full more story = if nat_le (taken_room story + more) 65536 then None else Some HistoryFull
+
+-- the first refusal, else the second
+abbrev pub or_else : Option BookFault → Option BookFault → Option BookFault
+or_else (Some fault) second = Some fault
+or_else None second = second
+
+-- an add: the name has 1 to 64 letters, digits, `_`, `-` and `.`, doesn't stand, and isn't the 1,025th
+abbrev pub add_refusal : Story → List ℕ → Option BookFault
+add_refusal story name =
+    if not (is_valid_name name) then Some BadName else (
+    if stands story.past name then Some NameTaken else (
+    if nat_le 1024 (length (texts story.past)) then Some TooManyScripts else
+    full 1 story))
+
+-- why an edit of this text, if there is one, is refused
+abbrev pub text_refusal : Option (List (List ℕ)) → LineEdit → Option BookFault
+text_refusal None edit = Some NoSuchScript
+text_refusal (Some text) edit = option_map of_text (fault_of_edit text edit)
+
+-- an edit: the script stands, and the edit lies within its text and leaves a text within the limits
+abbrev pub edit_refusal : Story → List ℕ → LineEdit → Option BookFault
+edit_refusal story name edit = or_else (text_refusal (present story.past name) edit) (full 1 story)
+
+-- a remove: the script stands
+abbrev pub remove_refusal : Story → List ℕ → Option BookFault
+remove_refusal story name = if stands story.past name then full 1 story else Some NoSuchScript
+
+-- why a value for this key, if there is one, is refused
+abbrev pub value_refusal : Settings → Option Key → Value → Option BookFault
+value_refusal settings None value = Some UnknownKey
+value_refusal settings (Some key) value = if is_none (replaced settings key value) then Some BadValue else None
+
+-- a set: the key names a setting, and the value lies in its range
+abbrev pub set_refusal : Story → List ℕ → Value → Option BookFault
+set_refusal story name value = or_else (value_refusal (now story.opening story.past) (key_named name) value) (full 1 story)
+
+-- a start that gives a job takes room for its act and for the job's end
+abbrev pub start_refusal : Story → Option BookFault
+start_refusal story = if is_some (next story.past) then full 2 story else None
+
+-- the fault of a call that failed: its refusal, or else want of memory
+abbrev pub fault_of : Option BookFault → BookFault
+fault_of refusal = unwrap_or refusal OutOfMemory
+
+-- the job that a start gives: the next number, the first script that waits and the present settings
+abbrev pub next_job : Story → Option Task
+next_job story =
+    option_map (λ (script : Named). record { number = started story.past + 1; name = script.0; text = script.1; settings = now story.opening story.past }) (next story.past)
+
+-- why a result is refused that isn't the outstanding job's of its number, if there is one
+abbrev pub finish_fault : Option Task → FinishFault
+finish_fault None = NoSuchJob
+finish_fault (Some task) = Foreign

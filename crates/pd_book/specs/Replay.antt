@@ -1,0 +1,59 @@
+-- How a book keeps what its acts say; cited by private contracts alone.
+use Rattle.std.specs.Prelude.{◌≡◌, ℕ, ◌+◌, ◌≤◌, List, [], ◌∷◌, ◌++◌, length, if◌then◌else◌, Option, Some, None}
+use Rattle.std.specs.Option.{option_map}
+use Rattle.std.specs.Map.{lookup}
+use Rattle.std.specs.Str.{bytes_eq}
+use Rattle.pd_settings.specs.declared.fields.Settings.{Settings}
+use Rattle.pd_run.specs.Run.{verdict_of}
+use Rattle.pd_book.specs.declared.act.Act.{Act}
+use Rattle.pd_book.specs.declared.act.Act.TheVariants.{Add, Edit, Remove, Set, Start, Finish, Abandon}
+use Rattle.pd_book.specs.declared.act.Ruling.{Ruling}
+use Rattle.pd_book.specs.declared.act.Ruling.TheVariants.{Taken, Stale}
+use Rattle.pd_book.specs.declared.script.Script.{Script}
+use Rattle.pd_book.specs.declared.script.State.TheVariants.{Pending, Running, Answered}
+use Rattle.pd_book.specs.declared.task.Task.{Task}
+use Rattle.pd_book.specs.Acts.{now, jobs, job, next, started}
+use Rattle.pd_book.specs.Legal.{Legal}
+use Rattle.pd_book.specs.Kept.{Entry, with_state, with_edit, without_name, all_pending, runs}
+
+-- the scripts after a finish
+abbrev pub settle : Ruling → Option Task → List Entry → List Entry
+settle Stale task entries = entries
+settle Taken None entries = entries
+settle Taken (Some task) entries = with_state (bytes_eq task.name) (Answered (verdict_of task.text task.settings)) entries
+
+-- the scripts after an abandonment
+abbrev pub give_up : Option Task → List Entry → List Entry
+give_up None entries = entries
+give_up (Some task) entries =
+    if runs (option_map (λ (s : Script). s.state) (lookup (bytes_eq task.name) entries)) task.number then with_state (bytes_eq task.name) Pending entries else entries
+
+-- the scripts as the book keeps them after these acts
+abbrev pub scripts_of : Settings → List Act → List Entry
+scripts_of opening [] = []
+scripts_of opening (Add n t ∷ older) = scripts_of opening older ++ (n, record { text = t; state = Pending }) ∷ []
+scripts_of opening (Edit n e ∷ older) = with_edit n e (scripts_of opening older)
+scripts_of opening (Remove n ∷ older) = without_name n (scripts_of opening older)
+scripts_of opening (Set k v ∷ older) = all_pending (scripts_of opening older)
+scripts_of opening (Start j n ∷ older) = with_state (bytes_eq n) (Running j) (scripts_of opening older)
+scripts_of opening (Finish j r ∷ older) = settle r (job opening older j) (scripts_of opening older)
+scripts_of opening (Abandon j ∷ older) = give_up (job opening older j) (scripts_of opening older)
+
+-- a job to hand out, its task to keep and its act to record are those of the first script that waits
+pub record IsReady (opening : Settings) (past : List Act) (handed kept : Task) (act : Act) : Type 0 where
+  pub waiting : next past ≡ Some (handed.name, handed.text)
+  pub number : handed.number ≡ started past + 1
+  pub settings : handed.settings ≡ now opening past
+  pub same : kept ≡ handed
+  pub start : act ≡ Start handed.number handed.name
+
+-- the book keeps the replay of its acts, which are legal, with room for the ends of its jobs
+pub record IsReplay (opening : Settings) (past : List Act) (current : Settings) (kept : List Entry) (open_jobs : List Task) (count : ℕ) (capacity : ℕ) : Type 0 where
+  pub settings : current ≡ now opening past
+  pub scripts : kept ≡ scripts_of opening past
+  pub tasks : open_jobs ≡ jobs opening past
+  pub numbers : count ≡ started past
+  pub legal : Legal opening past
+  pub room : length past + length open_jobs ≤ capacity
+  pub few : length past + length open_jobs ≤ 65536
+  pub numbered : started past ≤ length past

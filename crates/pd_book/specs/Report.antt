@@ -1,0 +1,37 @@
+-- What a report shows.
+use Rattle.std.specs.Prelude.{◌≡◌, ℕ, List, map, count_by, if◌then◌else◌, Some, None, is_none, IfSome}
+use Rattle.pd_settings.specs.declared.fields.Settings.{Settings}
+use Rattle.pd_run.specs.Run.{verdict_of}
+use Rattle.pd_book.specs.declared.act.Act.{Act}
+use Rattle.pd_book.specs.declared.row.Row.{Row}
+use Rattle.pd_book.specs.Acts.{Named, texts, now, answered}
+
+-- a report: its settings, and a row for each script
+pub record Shown : Type 0 where
+  pub settings : Settings
+  pub rows : List Row
+
+-- the row's verdict, if it has one, is the run of its text under these settings
+abbrev pub IsRunUnder : Settings → Row → Type 0
+IsRunUnder settings row = IfSome row.verdict (λ verdict. verdict ≡ verdict_of row.text settings)
+
+-- the row of a script: with its verdict if it is answered, else pending
+abbrev pub row : Settings → List Act → Named → Row
+row opening past script =
+    record { name = script.0; text = script.1; verdict = if answered past script.0 then Some (verdict_of script.1 (now opening past)) else None }
+
+-- what is shown after these acts
+abbrev pub shown : Settings → List Act → Shown
+shown opening past = record { settings = now opening past; rows = map (row opening past) (texts past) }
+
+-- the row of a script that is run from scratch
+abbrev pub scratch_row : Settings → Named → Row
+scratch_row settings script = record { name = script.0; text = script.1; verdict = Some (verdict_of script.1 settings) }
+
+-- the report of these scripts from scratch: each with its verdict
+abbrev pub scratch : List Named → Settings → Shown
+scratch scripts settings = record { settings = settings; rows = map (scratch_row settings) scripts }
+
+-- how many rows are pending
+abbrev pub owed : Settings → List Act → ℕ
+owed opening past = count_by (λ (row : Row). is_none row.verdict) (shown opening past).rows

@@ -1,0 +1,20 @@
+-- What a book is to its callers.
+use Rattle.std.specs.Prelude.{List, ◌∷◌, Option, Some, None}
+use Rattle.pd_settings.specs.declared.fields.Settings.{Settings}
+use Rattle.pd_book.specs.declared.act.Act.{Act}
+use Rattle.pd_book.specs.declared.act.Act.TheVariants.{Start}
+use Rattle.pd_book.specs.declared.task.Task.{Task}
+
+-- the settings at its opening and the acts that it recorded, the newest first
+pub record Story : Type 0 where
+  pub opening : Settings
+  pub past : List Act
+
+-- the story with one more act
+abbrev pub told : Story → Act → Story
+told story act = record { opening = story.opening; past = act ∷ story.past }
+
+-- the story after a start: with its act where it gave a job
+abbrev pub told_start : Story → Option Task → Story
+told_start story None = story
+told_start story (Some task) = told story (Start task.number task.name)

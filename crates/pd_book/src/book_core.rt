@@ -1,0 +1,375 @@
+//! The book: scripts that are edited, jobs that are handed out, results that come back.
+ghost use Rattle.std.specs.Prelude.{◌≡◌, ◌≢◌, ◌+◌, ◌≤◌, [], reverse, is_some, length, IsSome, OnOk, OnErr, IfOk, IfErr, IfSome, IsSomeAnd, None, Some, option_map, option_copied};
+ghost use Rattle.std.specs.Map.{lookup};
+ghost use Rattle.std.specs.Map.Iter.{deref_pair};
+ghost use Rattle.std.specs.Str.{bytes_eq};
+ghost use Rattle.pd_text.specs.Edit.{edited};
+ghost use Rattle.pd_settings.specs.Keys.{key_named};
+ghost use Rattle.pd_book.specs.Acts.{texts, present, text_of, stands, next, job, ruling};
+ghost use Rattle.pd_book.specs.Legal.{Legal};
+ghost use Rattle.pd_book.specs.Report.{shown, owed};
+ghost use Rattle.pd_book.specs.Story.{told, told_start};
+ghost use Rattle.pd_book.specs.Replay.{IsReady};
+ghost use Rattle.pd_book.specs.Refusals.{full, add_refusal, text_refusal, edit_refusal, remove_refusal, set_refusal, start_refusal, next_job, fault_of, finish_fault};
+
+use crate::act::{Act, Ruling};
+use crate::done::Done;
+use crate::faults::{BookFault, FinishFault};
+use crate::job::Job;
+use crate::recording::{Prepared, keep_abandon, keep_finish, keep_start, record, task_of};
+use crate::report::Report;
+use crate::scripts::Scripts;
+use crate::task::Task;
+use pd_settings::{Key, Settings, Value};
+use pd_text::{LineEdit, Lines, Name, Text, TextFault};
+use std::alloc::{AllocError, Global};
+use std::marker::Model;
+
+/// The greatest number of recorded acts and outstanding jobs.
+const MAX_ACTS: usize = 65_536;
+
+/// The greatest number of scripts.
+const MAX_SCRIPTS: usize = 1_024;
+
+/// Scripts, settings, jobs and results. Its history is the list of its accepted calls; what it shows is what
+/// that list says. A refused call changes nothing.
+#[derive(Drop)]
+pub struct Book {
+    opening: Settings,
+    settings: Settings,
+    scripts: Scripts,
+    acts: Vec<Act>,
+    tasks: Vec<Task>,
+    numbers: u64,
+}
+
+impl Model for Book {
+    ghost use Rattle.std.specs.Prelude.{reverse, vec_capacity};
+    ghost use Rattle.pd_book.specs.Story.{Story};
+    ghost use Rattle.pd_book.specs.Replay.{IsReplay};
+
+    ghost Value = { Story };
+
+    ghost view = { λ b. record { opening = b.opening; past = reverse b.acts.items } };
+
+    ghost invariant = { λ b. IsReplay b.opening (reverse b.acts.items) b.settings b.scripts b.tasks.items b.numbers
+        (vec_capacity b.acts) };
+}
+
+impl Book {
+    /// A book without scripts under these settings. `_cache` is the number of tracks to keep: none is kept yet.
+    pub fn new(alloc: Global, _cache: usize, settings: Settings) -> Book
+        ensures { result ≡ record { opening = settings; past = [] } }
+    {
+        Book {
+            opening: settings,
+            settings,
+            scripts: Scripts::new(alloc),
+            acts: Vec::new(alloc),
+            tasks: Vec::new(alloc),
+            numbers: 0,
+        }
+    }
+
+    /// The accepted calls, the oldest first.
+    pub fn history(&self) -> &[Act]
+        ensures acts { reverse result.now ≡ self.now.past }
+        ensures legal { Legal self.now.opening self.now.past }
+    {
+        self.acts.as_slice()
+    }
+
+    /// Why there is no room for `more` acts and jobs.
+    fn full(&self, more: usize) -> Option<BookFault>
+        requires { more ≤ 2 }
+        ensures { result ≡ full more self.now }
+    {
+        if self.acts.len() + self.tasks.len() + more <= MAX_ACTS {
+            None
+        } else {
+            Some(BookFault::HistoryFull)
+        }
+    }
+
+    /// Whether a script of this name stands.
+    fn stands(&self, name: &Name) -> bool
+        ensures { result ≡ stands self.now.past name.now }
+    {
+        self.scripts.contains(name)
+    }
+
+    /// How many scripts stand.
+    fn count(&self) -> usize
+        ensures { result ≡ length (texts self.now.past) }
+    {
+        self.scripts.len()
+    }
+
+    /// Adds a script behind the others.
+    ///
+    /// # Errors
+    /// `BadName`, `NameTaken`, `TooManyScripts` or `HistoryFull`, the first that applies; else `OutOfMemory`.
+    pub fn add(&mut self, name: Name, lines: Lines) -> Result<(), BookFault>
+        ensures ok { OnOk result (self.new ≡ told self.old (Act.Add name lines)) }
+        ensures allowed { OnOk result (add_refusal self.old name ≡ None) }
+        ensures err { IfErr result (λ e. e ≡ fault_of (add_refusal self.old name)) }
+        ensures same { OnErr result (self.new ≡ self.old) }
+    {
+        if !name.is_valid() {
+            return Err(BookFault::BadName);
+        }
+        if self.stands(&name) {
+            return Err(BookFault::NameTaken);
+        }
+        if self.count() >= MAX_SCRIPTS {
+            return Err(BookFault::TooManyScripts);
+        }
+        if let Some(fault) = self.full(1) {
+            return Err(fault);
+        }
+        self.acts.reserve(self.tasks.len() + 1)?;
+        let text = Text::new(*self.acts.allocator(), lines)?;
+        let act = Act::Add(name.copy()?, text.share()?);
+        self.scripts.add(name, text)?;
+        record(&mut self.acts, act);
+        Ok(())
+    }
+
+    /// Sets a setting, also to the value that it has: each script has changed then.
+    ///
+    /// # Errors
+    /// `UnknownKey`, `BadValue` or `HistoryFull`, the first that applies; else `OutOfMemory`.
+    pub fn set(&mut self, key: &[u8], value: Value) -> Result<(), BookFault>
+        ensures ok { OnOk result (IsSomeAnd (key_named key.now) (λ key. self.new ≡ told self.old (Act.Set key value))) }
+        ensures allowed { OnOk result (set_refusal self.old key.now value ≡ None) }
+        ensures err { IfErr result (λ e. e ≡ fault_of (set_refusal self.old key.now value)) }
+        ensures same { OnErr result (self.new ≡ self.old) }
+    {
+        let Some(key) = Key::named(key) else {
+            return Err(BookFault::UnknownKey);
+        };
+        let Some(settings) = self.settings.replace(key, value) else {
+            return Err(BookFault::BadValue);
+        };
+        if let Some(fault) = self.full(1) {
+            return Err(fault);
+        }
+        self.acts.reserve(self.tasks.len() + 1)?;
+        self.settings = settings;
+        self.scripts.clear();
+        record(&mut self.acts, Act::Set(key, value));
+        Ok(())
+    }
+
+    /// The text of a script after an edit; `None` for want of memory.
+    fn edited(&self, name: &Name, edit: &LineEdit) -> Result<Option<Lines>, BookFault>
+        ensures ok { IfOk result (λ lines. IfSome lines (λ lines. lines ≡ edited (text_of self.now.past name.now) edit.now)) }
+        ensures allowed { OnOk result (text_refusal (present self.now.past name.now) edit.now ≡ None) }
+        ensures err { IfErr result (λ e. text_refusal (present self.now.past name.now) edit.now ≡ Some e) }
+    {
+        let Some(text) = self.text(name) else {
+            return Err(BookFault::NoSuchScript);
+        };
+        match text.lines().apply(edit) {
+            Ok(lines) => Ok(Some(lines)),
+            Err(TextFault::BadRange) => Err(BookFault::BadRange),
+            Err(TextFault::TooLarge) => Err(BookFault::TooLarge),
+            Err(TextFault::OutOfMemory) => Ok(None),
+        }
+    }
+
+    /// The present text of a script.
+    fn text(&self, name: &Name) -> Option<&Text>
+        ensures { option_copied result ≡ present self.now.past name.now }
+    {
+        self.scripts.text(name)
+    }
+
+    /// Edits the text of a script, which has changed then, also where no octet differs.
+    ///
+    /// # Errors
+    /// `NoSuchScript`, `BadRange`, `TooLarge` or `HistoryFull`, the first that applies; else `OutOfMemory`.
+    pub fn edit(&mut self, name: &Name, edit: &LineEdit) -> Result<(), BookFault>
+        ensures ok { OnOk result (self.new ≡ told self.old (Act.Edit name.now edit.now)) }
+        ensures allowed { OnOk result (edit_refusal self.old name.now edit.now ≡ None) }
+        ensures err { IfErr result (λ e. e ≡ fault_of (edit_refusal self.old name.now edit.now)) }
+        ensures same { OnErr result (self.new ≡ self.old) }
+    {
+        let edited = self.edited(name, edit)?;
+        if let Some(fault) = self.full(1) {
+            return Err(fault);
+        }
+        let Some(lines) = edited else {
+            return Err(BookFault::OutOfMemory);
+        };
+        self.acts.reserve(self.tasks.len() + 1)?;
+        let text = Text::new(*self.acts.allocator(), lines)?;
+        let act = Act::Edit(name.copy()?, edit.copy()?);
+        self.scripts.rewrite(name, text);
+        record(&mut self.acts, act);
+        Ok(())
+    }
+
+    /// Takes a script out. A job on it is stale from then on, also where its name is added again.
+    ///
+    /// # Errors
+    /// `NoSuchScript` or `HistoryFull`, the first that applies; else `OutOfMemory`.
+    pub fn remove(&mut self, name: &Name) -> Result<(), BookFault>
+        ensures ok { OnOk result (self.new ≡ told self.old (Act.Remove name.now)) }
+        ensures allowed { OnOk result (remove_refusal self.old name.now ≡ None) }
+        ensures err { IfErr result (λ e. e ≡ fault_of (remove_refusal self.old name.now)) }
+        ensures same { OnErr result (self.new ≡ self.old) }
+    {
+        if !self.stands(name) {
+            return Err(BookFault::NoSuchScript);
+        }
+        if let Some(fault) = self.full(1) {
+            return Err(fault);
+        }
+        self.acts.reserve(self.tasks.len() + 1)?;
+        let act = Act::Remove(name.copy()?);
+        self.scripts.remove(name);
+        record(&mut self.acts, act);
+        Ok(())
+    }
+
+    /// The first script that waits.
+    fn waiting(&self) -> Option<(&Name, &Text)>
+        ensures { option_map deref_pair result ≡ next self.now.past }
+    {
+        match self.scripts.first_pending() {
+            Some((name, script)) => Some((name, &script.text)),
+            None => None,
+        }
+    }
+
+    /// What a start hands out, keeps and records.
+    fn prepare(&self) -> Result<Option<Prepared>, BookFault>
+        ensures none { IfOk result (λ p. p ≡ None → next self.now.past ≡ None) }
+        ensures some { IfOk result (λ p. IfSome p (λ p. IsReady self.now.opening self.now.past p.job p.task p.act)) }
+        ensures room { IfOk result (λ p. IfSome p (λ _. full 2 self.now ≡ None)) }
+        ensures err { IfErr result (λ e. e ≡ fault_of (start_refusal self.now)) }
+    {
+        let Some((name, text)) = self.waiting() else {
+            return Ok(None);
+        };
+        if let Some(fault) = self.full(2) {
+            return Err(fault);
+        }
+        let task = Task {
+            number: self.numbers + 1,
+            name: name.copy()?,
+            text: text.share()?,
+            settings: self.settings,
+        };
+        let act = Act::Start(task.number, name.copy()?);
+        let job = Job::of(task.share()?);
+        Ok(Some(Prepared { job, task, act }))
+    }
+
+    /// Hands out a job for the first script, in order of adding, that isn't answered and has no job started
+    /// since its last change and not ended; `None`, which records nothing, where there is none.
+    ///
+    /// # Errors
+    /// `HistoryFull` where there is such a script and no room for the act and the job's end; else `OutOfMemory`.
+    pub fn start(&mut self) -> Result<Option<Job>, BookFault>
+        ensures job { IfOk result (λ job. job ≡ next_job self.old) }
+        ensures ok { IfOk result (λ job. self.new ≡ told_start self.old job) }
+        ensures allowed { OnOk result (start_refusal self.old ≡ None) }
+        ensures err { IfErr result (λ e. e ≡ fault_of (start_refusal self.old)) }
+        ensures same { OnErr result (self.new ≡ self.old) }
+    {
+        let Some(prepared) = self.prepare()? else {
+            return Ok(None);
+        };
+        self.acts.reserve(self.tasks.len() + 2)?;
+        self.tasks.reserve(1)?;
+        self.numbers = prepared.job.number();
+        let job = keep_start(&mut self.acts, &mut self.tasks, &mut self.scripts, prepared);
+        Ok(Some(job))
+    }
+
+    /// The outstanding job of this number.
+    fn outstanding(&self, number: u64) -> Option<&Task>
+        ensures { option_copied result ≡ job self.now.opening self.now.past number }
+    {
+        task_of(self.tasks.as_slice(), number)
+    }
+
+    /// What a finish of this job is.
+    fn ruling(&self, done: &Done) -> Ruling
+        requires { job self.now.opening self.now.past done.now.number ≡ Some done.now }
+        ensures { result ≡ ruling self.now.past done.now }
+    {
+        if self.scripts.runs(done.name(), done.number()) {
+            Ruling::Taken
+        } else {
+            Ruling::Stale
+        }
+    }
+
+    /// Takes the result of an outstanding job: `Stale`, recorded and shown nowhere, where the job's script
+    /// changed since the job's start or is gone. A result of another job that agrees in number, name, text
+    /// and settings is taken as the job's own.
+    ///
+    /// # Errors
+    /// `NoSuchJob`, else `Foreign`, which leaves the job outstanding. It takes no memory.
+    pub fn finish(&mut self, done: &Done) -> Result<Ruling, FinishFault>
+        ensures own { OnOk result (job self.old.opening self.old.past done.now.number ≡ Some done.now) }
+        ensures ruling { IfOk result (λ r. r ≡ ruling self.old.past done.now) }
+        ensures ok { IfOk result (λ r. self.new ≡ told self.old (Act.Finish done.now.number r)) }
+        ensures foreign { OnErr result (job self.old.opening self.old.past done.now.number ≢ Some done.now) }
+        ensures err { IfErr result (λ e. e ≡ finish_fault (job self.old.opening self.old.past done.now.number)) }
+        ensures same { OnErr result (self.new ≡ self.old) }
+    {
+        let Some(task) = self.outstanding(done.number()) else {
+            return Err(FinishFault::NoSuchJob);
+        };
+        if !task.is_same(done.task()) {
+            return Err(FinishFault::Foreign);
+        }
+        let ruling = self.ruling(done);
+        keep_finish(
+            &mut self.acts,
+            &mut self.tasks,
+            &mut self.scripts,
+            done,
+            ruling,
+        );
+        Ok(ruling)
+    }
+
+    /// Gives up an outstanding job.
+    ///
+    /// # Errors
+    /// `NoSuchJob`. It takes no memory.
+    pub fn abandon(&mut self, number: u64) -> Result<(), FinishFault>
+        ensures outstanding { OnOk result (IsSome (job self.old.opening self.old.past number)) }
+        ensures ok { OnOk result (self.new ≡ told self.old (Act.Abandon number)) }
+        ensures err { IfErr result (λ e. e ≡ FinishFault.NoSuchJob) }
+        ensures none { OnErr result (job self.old.opening self.old.past number ≡ None) }
+        ensures same { OnErr result (self.new ≡ self.old) }
+    {
+        let Some(task) = task_of(self.tasks.as_slice(), number) else {
+            return Err(FinishFault::NoSuchJob);
+        };
+        self.scripts.give_up(task);
+        keep_abandon(&mut self.acts, &mut self.tasks, number);
+        Ok(())
+    }
+
+    /// The report as it stands.
+    pub fn show(&self) -> Result<Report, AllocError>
+        ensures { IfOk result (λ report. report ≡ shown self.now.opening self.now.past) }
+    {
+        let rows = self.scripts.rows(*self.acts.allocator())?;
+        Ok(Report::new(self.settings, rows))
+    }
+
+    /// How many rows of the report are pending.
+    pub fn owed(&self) -> usize
+        ensures { result ≡ owed self.now.opening self.now.past }
+    {
+        self.scripts.owed()
+    }
+}

@@ -1,0 +1,74 @@
+//! Jobs: what a book hands out to be run.
+ghost use Rattle.std.specs.Prelude.{◌≡◌};
+
+use crate::task::Task;
+use pd_settings::Settings;
+use pd_text::{Name, Text};
+use std::marker::Model;
+
+/// A script's text to be run under settings, with the number that a book gave it.
+#[derive(Debug, Drop)]
+pub struct Job {
+    task: Task,
+}
+
+impl Model for Job {
+    ghost use Rattle.pd_book.specs.declared.task.Task.{Task};
+
+    ghost Value = { Task };
+
+    ghost view = { λ j. j.task };
+}
+
+impl Job {
+    pub fn new(number: u64, name: Name, text: Text, settings: Settings) -> Job
+        ensures { result ≡ record { number = number; name = name; text = text; settings = settings } }
+    {
+        Job {
+            task: Task {
+                number,
+                name,
+                text,
+                settings,
+            },
+        }
+    }
+
+    /// The job of this task.
+    pub(crate) fn of(task: Task) -> Job
+        ensures { result ≡ task }
+    {
+        Job { task }
+    }
+
+    pub(crate) fn into_task(self) -> Task
+        ensures { result ≡ self }
+    {
+        let Job { task } = self;
+        task
+    }
+
+    pub fn number(&self) -> u64
+        ensures { result ≡ self.now.number }
+    {
+        self.task.number
+    }
+
+    pub fn name(&self) -> &Name
+        ensures { result.now ≡ self.now.name }
+    {
+        &self.task.name
+    }
+
+    pub fn text(&self) -> &Text
+        ensures { result.now ≡ self.now.text }
+    {
+        &self.task.text
+    }
+
+    pub fn settings(&self) -> Settings
+        ensures { result ≡ self.now.settings }
+    {
+        self.task.settings
+    }
+}

@@ -1,0 +1,25 @@
+//! The book of scripts, jobs and results.
+#![tactic(auto)]
+
+mod act;
+mod book_core;
+mod done;
+mod faults;
+mod job;
+mod laws;
+mod recording;
+mod report;
+mod row;
+mod script;
+mod scripts;
+mod task;
+
+pub use act::{Act, Ruling};
+pub use book_core::Book;
+pub use done::{Done, Unfinished, run_job};
+pub use faults::{BookFault, FinishFault};
+pub use job::Job;
+pub use laws::{headline, settling};
+pub use report::Report;
+pub use row::Row;
+pub use task::Task;

@@ -1,0 +1,49 @@
+//! Reports.
+ghost use Rattle.std.specs.Prelude.{◌≡◌, All};
+ghost use Rattle.pd_book.specs.Report.{IsRunUnder};
+
+use crate::row::Row;
+use pd_settings::Settings;
+use std::marker::Model;
+
+/// The settings and a row for each script, in order of adding. Each verdict in it is the run of its row's
+/// text under these settings.
+#[derive(Debug, Drop)]
+pub struct Report {
+    settings: Settings,
+    rows: Vec<Row>,
+}
+
+impl Model for Report {
+    ghost use Rattle.std.specs.Prelude.{All};
+    ghost use Rattle.pd_book.specs.Report.{Shown, IsRunUnder};
+
+    ghost Value = { Shown };
+
+    ghost view = { λ r. record { settings = r.settings; rows = r.rows.items } };
+
+    ghost invariant = { λ r. All (IsRunUnder r.settings) r.rows.items };
+}
+
+impl Report {
+    /// The report of these rows.
+    pub(crate) fn new(settings: Settings, rows: Vec<Row>) -> Report
+        requires { All (IsRunUnder settings) rows.items }
+        ensures { result ≡ record { settings = settings; rows = rows.items } }
+    {
+        Report { settings, rows }
+    }
+
+    pub fn settings(&self) -> Settings
+        ensures { result ≡ self.now.settings }
+    {
+        self.settings
+    }
+
+    pub fn rows(&self) -> &[Row]
+        ensures rows { result.now ≡ self.now.rows }
+        ensures runs { All (IsRunUnder self.now.settings) self.now.rows }
+    {
+        self.rows.as_slice()
+    }
+}

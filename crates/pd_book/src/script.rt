@@ -1,0 +1,42 @@
+//! A script as the book keeps it.
+ghost use Rattle.std.specs.Prelude.{◌≡◌};
+ghost use Rattle.pd_book.specs.Kept.{pending_state, verdict_in};
+
+use pd_run::Verdict;
+use pd_text::Text;
+
+/// How a script stands since its last change.
+#[derive(Clone, Copy, Debug, PartialEq, Eq)]
+pub enum State {
+    Pending,
+    /// The job of this number runs.
+    Running(u64),
+    Answered(Verdict),
+}
+
+/// A script: its present text and how it stands.
+#[derive(Debug, Drop)]
+pub struct Script {
+    pub text: Text,
+    pub state: State,
+}
+
+impl State {
+    pub fn is_pending(&self) -> bool
+        ensures { result ≡ pending_state self.now }
+    {
+        match self {
+            State::Pending => true,
+            State::Running(_) | State::Answered(_) => false,
+        }
+    }
+
+    pub fn verdict(&self) -> Option<Verdict>
+        ensures { result ≡ verdict_in self.now }
+    {
+        match self {
+            State::Answered(verdict) => Some(*verdict),
+            State::Pending | State::Running(_) => None,
+        }
+    }
+}

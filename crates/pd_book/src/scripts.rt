@@ -1,0 +1,198 @@
+//! The scripts that stand, in order of adding.
+ghost use Rattle.std.specs.Prelude.{◌≡◌, ◌++◌, ◌∷◌, [], length, is_some, is_none, map, find, count_by, IfOk, OnOk, OnErr, option_map, None, Some};
+ghost use Rattle.std.specs.Option.{option_copied};
+ghost use Rattle.std.specs.List.{IsDistinct};
+ghost use Rattle.std.specs.Map.{lookup, remove_entry, keys_of, values_of};
+ghost use Rattle.std.specs.Map.Iter.{deref_pair};
+ghost use Rattle.std.specs.Str.{bytes_eq};
+ghost use Rattle.pd_book.specs.Kept.{in_state, is_pending, verdict_in, runs, written_at, with_state, without_name, all_pending, kept_row};
+ghost use Rattle.pd_book.specs.Replay.{give_up};
+
+use crate::row::Row;
+use crate::script::{Script, State};
+use crate::task::Task;
+use indexmap::IndexMap;
+use pd_text::{Name, Text};
+use std::alloc::{AllocError, Global};
+use std::marker::Model;
+
+/// The scripts under their names, in order of adding.
+#[derive(Drop)]
+pub struct Scripts {
+    by_name: IndexMap<Name, Script>,
+}
+
+impl Model for Scripts {
+    ghost use Rattle.std.specs.Prelude.{List};
+    ghost use Rattle.pd_book.specs.Kept.{Entry};
+
+    ghost Value = { List Entry };
+
+    ghost view = { λ s. s.by_name.entries };
+}
+
+impl Scripts {
+    pub fn new(alloc: Global) -> Scripts
+        ensures { result ≡ [] }
+    {
+        Scripts {
+            by_name: IndexMap::new(alloc),
+        }
+    }
+
+    pub fn len(&self) -> usize
+        ensures { result ≡ length self.now }
+    {
+        self.by_name.len()
+    }
+
+    pub fn contains(&self, name: &Name) -> bool
+        ensures { result ≡ is_some (lookup (bytes_eq name.now) self.now) }
+    {
+        self.by_name.contains_key(name)
+    }
+
+    pub fn text(&self, name: &Name) -> Option<&Text>
+        ensures { option_copied result ≡ option_map (λ s. s.text) (lookup (bytes_eq name.now) self.now) }
+    {
+        match self.by_name.get(name) {
+            Some(script) => Some(&script.text),
+            None => None,
+        }
+    }
+
+    /// Adds a script, pending, behind the others.
+    pub fn add(&mut self, name: Name, text: Text) -> Result<(), AllocError>
+        requires { lookup (bytes_eq name) self.old ≡ None }
+        ensures ok { OnOk result (self.new ≡ self.old ++ (name, record { text = text; state = State.Pending }) ∷ []) }
+        ensures err { OnErr result (self.new ≡ self.old) }
+    {
+        let script = Script {
+            text,
+            state: State::Pending,
+        };
+        self.by_name.insert(name, script)?;
+        Ok(())
+    }
+
+    /// Gives the script of this name another text; it is pending then.
+    pub fn rewrite(&mut self, name: &Name, text: Text)
+        ensures written { self.new ≡ written_at name.now (λ s. record { text = text; state = State.Pending }) self.old }
+        ensures distinct { IsDistinct bytes_eq (keys_of self.old) }
+    {
+        if let Some(script) = self.by_name.get_mut(name) {
+            *script = Script {
+                text,
+                state: State::Pending,
+            };
+        }
+    }
+
+    /// Takes out the script of this name.
+    pub fn remove(&mut self, name: &Name)
+        ensures { self.new ≡ without_name name.now self.old }
+    {
+        self.take_out(name);
+    }
+
+    fn take_out(&mut self, name: &Name)
+        ensures taken { self.new ≡ remove_entry (bytes_eq name.now) self.old }
+        ensures gone { lookup (bytes_eq name.now) self.new ≡ None }
+    {
+        let _ = self.by_name.shift_remove(name);
+    }
+
+    /// The first script that is pending.
+    pub fn first_pending(&self) -> Option<(&Name, &Script)>
+        ensures { option_map deref_pair result ≡ find is_pending self.now }
+    {
+        for i in 0..self.by_name.len() {
+            if let Some((name, script)) = self.by_name.get_index(i) {
+                if script.state.is_pending() {
+                    return Some((name, script));
+                }
+            }
+        }
+        None
+    }
+
+    fn state(&self, name: &Name) -> Option<State>
+        ensures { result ≡ option_map (λ s. s.state) (lookup (bytes_eq name.now) self.now) }
+    {
+        match self.by_name.get(name) {
+            Some(script) => Some(script.state),
+            None => None,
+        }
+    }
+
+    /// Whether the script of this name runs this job.
+    pub fn runs(&self, name: &Name, number: u64) -> bool
+        ensures { result ≡ runs (option_map (λ s. s.state) (lookup (bytes_eq name.now) self.now)) number }
+    {
+        match self.state(name) {
+            Some(State::Running(running)) => running == number,
+            Some(State::Pending | State::Answered(_)) | None => false,
+        }
+    }
+
+    /// A row for each script.
+    pub fn rows(&self, alloc: Global) -> Result<Vec<Row>, AllocError>
+        ensures { IfOk result (λ rows. rows.items ≡ map kept_row self.now) }
+    {
+        let mut rows = Vec::new(alloc);
+        for (name, script) in self.by_name.iter() {
+            rows.push(Row {
+                name: name.copy()?,
+                text: script.text.share()?,
+                verdict: script.state.verdict(),
+            })?;
+        }
+        Ok(rows)
+    }
+
+    /// How many scripts have no verdict.
+    pub fn owed(&self) -> usize
+        ensures { result ≡ count_by (λ s. is_none (verdict_in s.state)) (values_of self.now) }
+    {
+        self.by_name
+            .values()
+            .filter(|script| script.state.verdict().is_none())
+            .count()
+    }
+
+    /// Puts the script of this name into another state.
+    pub fn set_state(&mut self, name: &Name, state: State)
+        ensures { self.new ≡ with_state (bytes_eq name.now) state self.old }
+    {
+        self.write_state(name, state);
+    }
+
+    fn write_state(&mut self, name: &Name, state: State)
+        ensures written { self.new ≡ written_at name.now (λ s. in_state s state) self.old }
+        ensures distinct { IsDistinct bytes_eq (keys_of self.old) }
+    {
+        if let Some(script) = self.by_name.get_mut(name) {
+            script.state = state;
+        }
+    }
+
+    /// Makes the script of an abandoned task pending, if it runs that job.
+    pub fn give_up(&mut self, task: &Task)
+        ensures { self.new ≡ give_up (Some task.now) self.old }
+    {
+        if self.runs(&task.name, task.number) {
+            self.set_state(&task.name, State::Pending);
+        }
+    }
+
+    /// Makes each script pending.
+    pub fn clear(&mut self)
+        ensures { self.new ≡ all_pending self.old }
+    {
+        for i in 0..self.by_name.len() {
+            if let Some(script) = self.by_name.get_index_mut(i) {
+                script.state = State::Pending;
+            }
+        }
+    }
+}

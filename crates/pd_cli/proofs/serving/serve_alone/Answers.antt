@@ -1,0 +1,43 @@
+use Rattle.std.proofs.Common.{refl}
+use Rattle.pd_cli.specs.Input.{to_come}
+use Rattle.pd_cli.proofs.Written.{quiet_after, quiet_first, served_first, served_more, served_fault, served_out, served_end, next_some, next_none}
+use Rattle.pd_cli.proofs.serving.serve_alone.Goals as goal
+
+pub loop-intake-init : goal.loop-intake-init
+loop-intake-init g c = record {
+  quiet = quiet_first c.args.settings c.new-book.result c.new-book.ensures;
+  served = served_first c.args.settings c.new-book.result c.new-intake.result (g.W.Write.contents c.args.writer.now) (g.R.Read.remaining c.args.reader.now) c.new-book.ensures c.new-intake.ensures;
+}
+
+pub returns-in_err-command : goal.returns-in_err-command
+returns-in_err-command g c =
+    served_fault c.args.settings c.from_residual.result c.in_err-command.field-0.0 c.loop-intake.book (g.W.Write.contents c.args.writer.now) (g.W.Write.contents c.loop-intake.writer) (g.R.Read.remaining c.args.reader.now) (to_come c.loop-intake.intake (g.R.Read.remaining c.loop-intake.reader))
+    c.from_residual.ensures.1 c.loop-intake.invariant.served c.in_err-command.ensures.err
+
+pub returns-in_err-serve_command-in-Some : goal.returns-in_err-serve_command-in-Some
+returns-in_err-serve_command-in-Some g c =
+    let d = c.in_err-serve_command-in-Some.ensures in
+    let u = to_come c.loop-intake.intake (g.R.Read.remaining c.loop-intake.reader) in
+    let v = to_come c.next_command.new.intake (g.R.Read.remaining c.next_command.new.reader) in
+    let some = rw c.in-Some.is at c.in_ok-command.ensures.command in
+    served_out c.args.settings c.from_residual-in_err-serve_command-in-Some.result c.in_err-serve_command-in-Some.field-0.0 c.loop-intake.book c.serve_command.new.book c.in-Some.command d.0 (g.W.Write.contents c.args.writer.now) (g.W.Write.contents c.loop-intake.writer) (g.W.Write.contents c.serve_command.new.writer) (g.R.Read.remaining c.args.reader.now) u
+    c.from_residual-in_err-serve_command-in-Some.ensures.1 c.loop-intake.invariant.served (next_some c.in-Some.command u v some) d.1 d.2
+
+pub returns-in-None : goal.returns-in-None
+returns-in-None g c =
+    let d = c.serve_end.ensures in
+    let u = to_come c.loop-intake.intake (g.R.Read.remaining c.loop-intake.reader) in
+    let v = to_come c.next_command.new.intake (g.R.Read.remaining c.next_command.new.reader) in
+    let none = rw c.in-None.is at c.in_ok-command.ensures.command in
+    served_end c.args.settings c.serve_end.result c.loop-intake.book c.serve_end.new.book d.0 (g.W.Write.contents c.args.writer.now) (g.W.Write.contents c.loop-intake.writer) (g.W.Write.contents c.serve_end.new.writer) (g.R.Read.remaining c.args.reader.now) u c.loop-intake.invariant.served (next_none u v none) d.1 d.2
+
+pub loop-intake-preserved : goal.loop-intake-preserved
+loop-intake-preserved g c =
+    let d = c.in_ok-serve_command-in-Some.ensures in
+    let u = to_come c.loop-intake.intake (g.R.Read.remaining c.loop-intake.reader) in
+    let v = to_come c.next_command.new.intake (g.R.Read.remaining c.next_command.new.reader) in
+    let some = rw c.in-Some.is at c.in_ok-command.ensures.command in
+    record {
+      quiet = quiet_after c.loop-intake.book c.serve_command.new.book c.in-Some.command d.0 c.loop-intake.invariant.quiet d.2;
+      served = served_more c.args.settings c.loop-intake.book c.serve_command.new.book c.in-Some.command d.0 (g.W.Write.contents c.args.writer.now) (g.W.Write.contents c.loop-intake.writer) (g.W.Write.contents c.serve_command.new.writer) (g.R.Read.remaining c.args.reader.now) u v c.loop-intake.invariant.served some d.1 d.2;
+    }

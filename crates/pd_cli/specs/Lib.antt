@@ -1,0 +1,11 @@
+-- The definitions of the input, the commands, the report and the output.
+pub mod Commands
+pub mod Input
+pub mod Output
+pub mod Pieces
+pub mod Report
+pub mod Requests
+pub mod Steps
+pub mod TakenLines
+pub mod Taking
+pub mod Words

@@ -1,0 +1,128 @@
+-- What serving writes, and how it ends.
+use Rattle.std.specs.Prelude.{◌≡◌, ℕ, Bool, List, [], ◌∷◌, ◌++◌, codes, Option, Some, None, option_map, Result, Ok, Err, suc, zero}
+use Rattle.std.specs.List.{list_all}
+use Rattle.pd_text.specs.declared.line_edit.LineEdit.{LineEdit}
+use Rattle.pd_settings.specs.declared.fields.Settings.{Settings}
+use Rattle.pd_settings.specs.declared.values.Value.{Value}
+use Rattle.pd_settings.specs.Keys.{key_named}
+use Rattle.pd_book.specs.declared.act.Act.{Act}
+use Rattle.pd_book.specs.declared.act.Act.TheVariants as act
+use Rattle.pd_book.specs.declared.faults.BookFault.{BookFault}
+use Rattle.pd_book.specs.declared.faults.BookFault.TheVariants as book
+use Rattle.pd_book.specs.declared.row.Row.{Row}
+use Rattle.pd_book.specs.declared.task.Task.{Task}
+use Rattle.pd_book.specs.Acts.{ruling}
+use Rattle.pd_book.specs.Story.{Story, told}
+use Rattle.pd_book.specs.Report.{Shown, shown, owed}
+use Rattle.pd_book.specs.Refusals.{add_refusal, book_edit_refusal, remove_refusal, set_refusal, start_refusal, next_job}
+use Rattle.pd_cli.specs.Report.{is_of, rendered}
+use Rattle.pd_cli.specs.Commands.{Item, does, stops, commands}
+use Rattle.pd_cli.specs.declared.command.Command.{Command}
+use Rattle.pd_cli.specs.declared.command.Command.TheVariants.{Add, Edit, Remove, Set, Show, Settle}
+use Rattle.pd_cli.specs.declared.rendering.Class.TheVariants as class
+use Rattle.pd_cli.specs.declared.faults.ServeFault.{ServeFault}
+use Rattle.pd_cli.specs.declared.faults.ServeFault.TheVariants.{HistoryFull, BadCommand, Truncated, Read, Write, OutOfMemory}
+
+-- the number and the name of a refusal
+abbrev pub refusal_name : BookFault → List ℕ
+refusal_name book.BadRange = codes "1 BadRange"
+refusal_name book.TooLarge = codes "2 TooLarge"
+refusal_name book.UnknownKey = codes "3 UnknownKey"
+refusal_name book.BadValue = codes "4 BadValue"
+refusal_name book.BadName = codes "5 BadName"
+refusal_name book.NameTaken = codes "6 NameTaken"
+refusal_name book.NoSuchScript = codes "7 NoSuchScript"
+refusal_name book.TooManyScripts = codes "8 TooManyScripts"
+refusal_name book.HistoryFull = codes "11 HistoryFull"
+refusal_name book.OutOfMemory = codes "19 OutOfMemory"
+
+-- the line that a refused act prints
+abbrev pub refused : BookFault → List ℕ
+refused fault = codes "refused " ++ refusal_name fault ++ codes "\n"
+
+-- the report as it stands after a story
+abbrev pub report : Story → Shown
+report story = shown story.opening story.past
+
+-- each row of a report passes
+abbrev pub all_pass : Shown → Bool
+all_pass shown = list_all (λ (row : Row). is_of class.Pass row.verdict) shown.rows
+
+-- a start of this job, then its finish
+abbrev pub turned : Story → Task → Story
+turned story task =
+    let begun : Story = told story (act.Start task.number task.name) in
+    told begun (act.Finish task.number (ruling begun.past task))
+
+-- one turn of settling: nothing is owed, or the start is refused, or the job is started and finished
+abbrev pub turn : Story → Option Task → Option BookFault → (Story → Result Story ServeFault) → Result Story ServeFault
+turn story None refusal rest = Ok story
+turn story (Some task) (Some fault) rest = Err HistoryFull
+turn story (Some task) None rest = rest (turned story task)
+
+-- at most so many turns
+abbrev pub settled_in : ℕ → Story → Result Story ServeFault
+settled_in zero story = Ok story
+settled_in (suc turns) story = turn story (next_job story) (start_refusal story) (λ next. settled_in turns next)
+
+-- a start and its finish by turns until nothing is owed; a start without room ends the run
+abbrev pub settled : Story → Result Story ServeFault
+settled story = settled_in (owed story.opening story.past) story
+
+-- what an act prints, and the story after it: nothing is printed for an accepted one, which is told
+abbrev pub acted : Story → Option BookFault → Option Act → List ℕ × Story
+acted story (Some fault) act = (refused fault, story)
+acted story None (Some act) = ([], told story act)
+acted story None None = ([], story)
+
+-- the report of a story that was settled, with the story
+abbrev pub reported : Result Story ServeFault → Result (List ℕ × Story) ServeFault
+reported (Ok story) = Ok (rendered (report story), story)
+reported (Err fault) = Err fault
+
+-- what a command prints, and the story after it, or the fault that ends the run;
+-- lines that alone are over the limits of a text are refused before all else
+abbrev pub effect : Story → Command → Result (List ℕ × Story) ServeFault
+effect story (Add name None) = Ok (acted story (Some book.TooLarge) None)
+effect story (Add name (Some text)) = Ok (acted story (add_refusal story name) (Some (act.Add name text)))
+effect story (Edit name None) = Ok (acted story (Some book.TooLarge) None)
+effect story (Edit name (Some edit)) = Ok (acted story (book_edit_refusal story name edit) (Some (act.Edit name edit)))
+effect story (Remove name) = Ok (acted story (remove_refusal story name) (Some (act.Remove name)))
+effect story (Set key value) = Ok (acted story (set_refusal story key value) (option_map (λ k. act.Set k value) (key_named key)))
+effect story Show = Ok (rendered (report story), story)
+effect story Settle = reported (settled story)
+
+-- all that is written, and how it ends: whether each row of the last report passes, or the fault
+pub record Outcome : Type 0 where
+  pub written : List ℕ
+  pub end : Result Bool ServeFault
+
+-- an outcome with these octets written before it
+abbrev pub ahead : List ℕ → Outcome → Outcome
+ahead octets outcome = record { written = octets ++ outcome.written; end = outcome.end }
+
+-- an effect, then what comes after it
+abbrev pub follow : Result (List ℕ × Story) ServeFault → (Story → Outcome) → Outcome
+follow (Ok effect) rest = ahead effect.0 (rest effect.1)
+follow (Err fault) rest = record { written = []; end = Err fault }
+
+-- the outcome of what stands in an input, after a story
+abbrev pub outcome : Story → List Item → Outcome
+outcome story [] = record { written = []; end = Ok (all_pass (report story)) }
+outcome story (stops fault ∷ items) = record { written = []; end = Err fault }
+outcome story (does command ∷ items) = follow (effect story command) (λ next. outcome next items)
+
+-- what an input makes serving write, beginning with these settings and no scripts, and how it ends
+abbrev pub output : Settings → List ℕ → Outcome
+output settings input = outcome (record { opening = settings; past = [] }) (commands input)
+
+-- these octets are what an outcome writes and this is how it ends; where a read or a write fails,
+-- or memory is refused, they are a prefix of what it writes
+abbrev pub Answers : Result Bool ServeFault → List ℕ → Outcome → Type 0
+Answers (Ok passed) octets outcome = (outcome.written ≡ octets) × (outcome.end ≡ Ok passed)
+Answers (Err HistoryFull) octets outcome = (outcome.written ≡ octets) × (outcome.end ≡ Err HistoryFull)
+Answers (Err BadCommand) octets outcome = (outcome.written ≡ octets) × (outcome.end ≡ Err BadCommand)
+Answers (Err Truncated) octets outcome = (outcome.written ≡ octets) × (outcome.end ≡ Err Truncated)
+Answers (Err Read) octets outcome = (more : List ℕ) × (outcome.written ≡ octets ++ more)
+Answers (Err Write) octets outcome = (more : List ℕ) × (outcome.written ≡ octets ++ more)
+Answers (Err OutOfMemory) octets outcome = (more : List ℕ) × (outcome.written ≡ octets ++ more)

@@ -1,0 +1,96 @@
+//! The acts of a book as commands, and what they print.
+ghost use Rattle.std.specs.Prelude.{◌≡◌, Ok, IfOk, IfErr};
+ghost use Rattle.pd_cli.specs.Output.{refusal_name, effect};
+ghost use Rattle.pd_cli.specs.Steps.{RepliesTo};
+
+use crate::command::Command;
+use crate::faults::ServeFault;
+use crate::requests::Word;
+use pd_book::{Book, BookFault};
+use pd_settings::Value;
+use pd_text::{LineEdit, Lines, Name};
+use std::alloc::Global;
+
+/// Adds a script, and gives what this prints.
+pub fn add(
+    alloc: Global,
+    book: &mut Book,
+    name: Name,
+    text: Option<Lines>,
+) -> Result<Vec<u8>, ServeFault>
+    ensures reply { IfOk result (λ octets. effect book.old (Command.Add name text) ≡ Ok (octets.items, book.new)) }
+    ensures only { IfErr result (λ fault. fault ≡ ServeFault.OutOfMemory) }
+{
+    match text {
+        Some(text) => reply(alloc, book.add(name, text)),
+        None => reply(alloc, Err(BookFault::TooLarge)),
+    }
+}
+
+/// Edits a script, and gives what this prints.
+pub fn edit(
+    alloc: Global,
+    book: &mut Book,
+    name: &Name,
+    edit: Option<LineEdit>,
+) -> Result<Vec<u8>, ServeFault>
+    ensures reply { IfOk result (λ octets. effect book.old (Command.Edit name.now edit) ≡ Ok (octets.items, book.new)) }
+    ensures only { IfErr result (λ fault. fault ≡ ServeFault.OutOfMemory) }
+{
+    match edit {
+        Some(edit) => reply(alloc, book.edit(name, &edit)),
+        None => reply(alloc, Err(BookFault::TooLarge)),
+    }
+}
+
+/// Removes a script, and gives what this prints.
+pub fn remove(alloc: Global, book: &mut Book, name: &Name) -> Result<Vec<u8>, ServeFault>
+    ensures reply { IfOk result (λ octets. effect book.old (Command.Remove name.now) ≡ Ok (octets.items, book.new)) }
+    ensures only { IfErr result (λ fault. fault ≡ ServeFault.OutOfMemory) }
+{
+    reply(alloc, book.remove(name))
+}
+
+/// Sets a setting, and gives what this prints.
+pub fn set(alloc: Global, book: &mut Book, key: &Word, value: Value) -> Result<Vec<u8>, ServeFault>
+    ensures reply { IfOk result (λ octets. effect book.old (Command.Set key.now value) ≡ Ok (octets.items, book.new)) }
+    ensures only { IfErr result (λ fault. fault ≡ ServeFault.OutOfMemory) }
+{
+    reply(alloc, book.set(key.as_slice(), value))
+}
+
+/// What an answer of the book prints: nothing, or the line of a refusal.
+fn reply(alloc: Global, answer: Result<(), BookFault>) -> Result<Vec<u8>, ServeFault>
+    ensures reply { IfOk result (λ octets. RepliesTo answer octets.items) }
+    ensures only { IfErr result (λ fault. fault ≡ ServeFault.OutOfMemory) }
+{
+    let mut out = Vec::new(alloc);
+    match answer {
+        Ok(()) => Ok(out),
+        Err(BookFault::OutOfMemory) => Err(ServeFault::OutOfMemory),
+        Err(fault) => {
+            out.extend_from_slice(b"refused ")?;
+            out.extend_from_slice(refusal_name(fault))?;
+            out.extend_from_slice(b"\n")?;
+            Ok(out)
+        }
+    }
+}
+
+/// The number and the name of a refusal.
+fn refusal_name(fault: BookFault) -> &'static [u8]
+    ensures { result.now ≡ refusal_name fault }
+{
+    match fault {
+        BookFault::BadRange => b"1 BadRange",
+        BookFault::TooLarge => b"2 TooLarge",
+        BookFault::UnknownKey => b"3 UnknownKey",
+        BookFault::BadValue => b"4 BadValue",
+        BookFault::BadName => b"5 BadName",
+        BookFault::NameTaken => b"6 NameTaken",
+        BookFault::NoSuchScript => b"7 NoSuchScript",
+        BookFault::TooManyScripts => b"8 TooManyScripts",
+        BookFault::HistoryFull => b"11 HistoryFull",
+        BookFault::OutOfMemory => b"19 OutOfMemory",
+    }
+}

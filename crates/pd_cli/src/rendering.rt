@@ -1,0 +1,153 @@
+//! The octets of a report.
+ghost use Rattle.std.specs.Prelude.{◌≡◌, ◌++◌, IfOk, OnOk, string_bytes};
+ghost use Rattle.std.specs.Fmt.{decimal};
+ghost use Rattle.pd_cli.specs.Report.{rendered, row_line, totals, totals_line, verdict_text, kind_word, is_of, number};
+
+use pd_book::{Report, Row};
+use pd_run::{Kind, Verdict};
+use std::alloc::{AllocError, Global};
+
+/// The octets of a report: a line for each script in order of adding, then a line of totals.
+pub fn render(alloc: Global, report: &Report) -> Result<Vec<u8>, AllocError>
+    ensures { IfOk result (λ octets. octets.items ≡ rendered report.now) }
+{
+    let mut out = Vec::new(alloc);
+    for row in report.rows() {
+        put_row(alloc, &mut out, row)?;
+    }
+    Totals::of(report.rows()).put_line(alloc, &mut out)?;
+    Ok(out)
+}
+
+/// Adds the line of a row.
+fn put_row(alloc: Global, out: &mut Vec<u8>, row: &Row) -> Result<(), AllocError>
+    ensures { OnOk result (out.new.items ≡ out.old.items ++ row_line row.now) }
+{
+    out.extend_from_slice(row.name.as_slice())?;
+    out.extend_from_slice(b" ")?;
+    match row.verdict {
+        Some(verdict) => put_verdict(alloc, out, verdict)?,
+        None => out.extend_from_slice(b"pending")?,
+    }
+    out.extend_from_slice(b"\n")
+}
+
+/// Adds the text of a verdict.
+fn put_verdict(alloc: Global, out: &mut Vec<u8>, verdict: Verdict) -> Result<(), AllocError>
+    ensures { OnOk result (out.new.items ≡ out.old.items ++ verdict_text verdict) }
+{
+    match verdict {
+        Verdict::Pass(events) => put_number(alloc, out, b"pass ", events),
+        Verdict::Fail(line, kind) => {
+            put_number(alloc, out, b"fail ", line)?;
+            out.extend_from_slice(b" ")?;
+            out.extend_from_slice(kind_word(kind))
+        }
+        Verdict::Syntax(line) => put_number(alloc, out, b"syntax ", line),
+        Verdict::Unsupported(line) => put_number(alloc, out, b"unsupported ", line),
+        Verdict::Limit(line) => put_number(alloc, out, b"limit ", line),
+    }
+}
+
+/// Adds a word and a number in decimal digits.
+fn put_number(alloc: Global, out: &mut Vec<u8>, word: &[u8], n: usize) -> Result<(), AllocError>
+    ensures { OnOk result (out.new.items ≡ out.old.items ++ word.now ++ decimal n) }
+{
+    let digits = n.to_string(alloc)?;
+    out.extend_from_slice(word)?;
+    out.extend_from_slice(digits.as_bytes())
+}
+
+/// The word for what a script failed at.
+fn kind_word(kind: Kind) -> &'static [u8]
+    ensures { result.now ≡ kind_word kind }
+{
+    match kind {
+        Kind::Time => b"time",
+        Kind::Flags => b"flags",
+        Kind::Seq => b"seq",
+        Kind::Ack => b"ack",
+        Kind::Win => b"win",
+        Kind::Options => b"options",
+        Kind::Result => b"result",
+        Kind::Missing => b"missing",
+        Kind::Backwards => b"backwards",
+    }
+}
+
+/// A class of rows, which the totals count.
+#[derive(Clone, Copy, Debug, PartialEq, Eq)]
+pub enum Class {
+    Pass,
+    Fail,
+    Syntax,
+    Unsupported,
+    Limit,
+    Pending,
+}
+
+impl Class {
+    /// Whether a row with this verdict is of the class.
+    pub fn holds(self, verdict: Option<Verdict>) -> bool
+        ensures { result ≡ is_of self verdict }
+    {
+        match (self, verdict) {
+            (Class::Pass, Some(Verdict::Pass(_))) => true,
+            (Class::Fail, Some(Verdict::Fail(..))) => true,
+            (Class::Syntax, Some(Verdict::Syntax(_))) => true,
+            (Class::Unsupported, Some(Verdict::Unsupported(_))) => true,
+            (Class::Limit, Some(Verdict::Limit(_))) => true,
+            (Class::Pending, None) => true,
+            _ => false,
+        }
+    }
+
+    /// How many rows are of the class.
+    fn number(self, rows: &[Row]) -> usize
+        ensures { result ≡ number self rows.now }
+    {
+        rows.iter().filter(|row| self.holds(row.verdict)).count()
+    }
+}
+
+/// How many rows there are, and how many of each class.
+#[derive(Clone, Copy)]
+struct Totals {
+    total: usize,
+    pass: usize,
+    fail: usize,
+    syntax: usize,
+    unsupported: usize,
+    limit: usize,
+    pending: usize,
+}
+
+impl Totals {
+    fn of(rows: &[Row]) -> Totals
+        ensures { result ≡ totals rows.now }
+    {
+        Totals {
+            total: rows.len(),
+            pass: Class::Pass.number(rows),
+            fail: Class::Fail.number(rows),
+            syntax: Class::Syntax.number(rows),
+            unsupported: Class::Unsupported.number(rows),
+            limit: Class::Limit.number(rows),
+            pending: Class::Pending.number(rows),
+        }
+    }
+
+    /// Adds the line of the totals.
+    fn put_line(self, alloc: Global, out: &mut Vec<u8>) -> Result<(), AllocError>
+        ensures { OnOk result (out.new.items ≡ out.old.items ++ totals_line self) }
+    {
+        put_number(alloc, out, b"total ", self.total)?;
+        put_number(alloc, out, b" pass ", self.pass)?;
+        put_number(alloc, out, b" fail ", self.fail)?;
+        put_number(alloc, out, b" syntax ", self.syntax)?;
+        put_number(alloc, out, b" unsupported ", self.unsupported)?;
+        put_number(alloc, out, b" limit ", self.limit)?;
+        put_number(alloc, out, b" pending ", self.pending)?;
+        out.extend_from_slice(b"\n")
+    }
+}

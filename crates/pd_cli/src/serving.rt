@@ -1,0 +1,85 @@
+//! Serving the commands of a reader to a writer.
+ghost use Rattle.std.specs.Prelude.{◌≡◌, ℕ, List, Ok, IfOk, IfErr, IfSome};
+ghost use Rattle.std.specs.Io.KnownBytes.{Appends};
+ghost use Rattle.pd_cli.specs.Output.{effect, output, Answers};
+ghost use Rattle.pd_cli.specs.Steps.{IsQuiet, Fails, Does, Ends};
+
+use crate::acts::{add, edit, remove, set};
+use crate::command::{Command, next_command};
+use crate::faults::ServeFault;
+use crate::intake::Intake;
+use crate::settling::{settle_and_show, show};
+use crate::writing::put_all;
+use pd_book::Book;
+use pd_settings::Settings;
+use std::alloc::Global;
+use std::io::{Read, Write};
+
+/// Serves the commands of a reader, to its end, with a book that begins with these settings.
+/// It writes the output of what it reads, and tells whether each row of the last report passes.
+///
+/// # Errors
+/// `BadCommand` and `Truncated` where they stand in the input, `HistoryFull` where a settling has no
+/// room for a start: the output up to there is written. `Read`, `Write` and `OutOfMemory`: a prefix of
+/// the output is written.
+pub fn serve_alone<R: Read, W: Write>(
+    alloc: Global,
+    settings: Settings,
+    cache: usize,
+    reader: &mut R,
+    writer: &mut W,
+) -> Result<bool, ServeFault>
+    ensures { let before = W.contents writer.old in
+        (octets : List ℕ) × Appends before (W.contents writer.new) octets × IfSome (R.remaining reader.old) (λ input. Answers result octets (output settings input)) }
+{
+    let mut intake = Intake::new(alloc);
+    let mut book = Book::new(alloc, cache, settings);
+    loop {
+        match next_command(alloc, &mut intake, reader)? {
+            Some(command) => serve_command(alloc, &mut book, command, writer)?,
+            None => return serve_end(alloc, &mut book, writer),
+        }
+    }
+}
+
+/// Does one command and writes what it prints.
+fn serve_command<W: Write>(
+    alloc: Global,
+    book: &mut Book,
+    command: Command,
+    writer: &mut W,
+) -> Result<(), ServeFault>
+    requires { IsQuiet book.old }
+    ensures { let before = W.contents writer.old in
+        (octets : List ℕ) × Appends before (W.contents writer.new) octets × Does result book.old command book.new octets }
+{
+    let reply = reply_to(alloc, book, command)?;
+    put_all(writer, reply.as_slice())
+}
+
+/// Settles at the end of the input, and writes the last report.
+fn serve_end<W: Write>(alloc: Global, book: &mut Book, writer: &mut W) -> Result<bool, ServeFault>
+    requires { IsQuiet book.old }
+    ensures { let before = W.contents writer.old in
+        (octets : List ℕ) × Appends before (W.contents writer.new) octets × Ends result book.old book.new octets }
+{
+    let (octets, passed) = settle_and_show(alloc, book)?;
+    put_all(writer, octets.as_slice())?;
+    Ok(passed)
+}
+
+/// Does one command, and gives what it prints.
+fn reply_to(alloc: Global, book: &mut Book, command: Command) -> Result<Vec<u8>, ServeFault>
+    requires { IsQuiet book.old }
+    ensures ok { IfOk result (λ reply. effect book.old command ≡ Ok (reply.items, book.new)) }
+    ensures err { IfErr result (λ fault. Fails fault book.old command) }
+{
+    match command {
+        Command::Add(name, text) => add(alloc, book, name, text),
+        Command::Edit(name, change) => edit(alloc, book, &name, change),
+        Command::Remove(name) => remove(alloc, book, &name),
+        Command::Set(key, value) => set(alloc, book, &key, value),
+        Command::Show => Ok(show(alloc, book)?.0),
+        Command::Settle => Ok(settle_and_show(alloc, book)?.0),
+    }
+}

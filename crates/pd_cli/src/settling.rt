@@ -1,0 +1,73 @@
+//! Settling: starts and their finishes by turns, until nothing is owed.
+ghost use Rattle.std.specs.Prelude.{◌≡◌, Ok, IfOk, IfErr};
+ghost use Rattle.pd_cli.specs.Report.{rendered};
+ghost use Rattle.pd_cli.specs.Output.{effect, report, all_pass};
+ghost use Rattle.pd_cli.specs.Steps.{IsQuiet, Turns, SettlesTo, Fails};
+
+use crate::command::Command;
+use crate::faults::ServeFault;
+use crate::rendering::{Class, render};
+use pd_book::{Book, BookFault, Report, run_job};
+use pd_run::Plain;
+use std::alloc::{AllocError, Global};
+
+/// Starts and finishes one job; false says that nothing is owed.
+fn turn(alloc: Global, book: &mut Book) -> Result<bool, ServeFault>
+    requires { IsQuiet book.old }
+    ensures { Turns result book.old book.new }
+{
+    let job = match book.start() {
+        Ok(Some(job)) => job,
+        Ok(None) => return Ok(false),
+        Err(BookFault::HistoryFull) => return Err(ServeFault::HistoryFull),
+        Err(_) => return Err(ServeFault::OutOfMemory),
+    };
+    let mut stepper = Plain { steps: 0 };
+    match run_job(alloc, job, &mut stepper) {
+        Ok(done) => {
+            let _ruling = book.finish(&done).unwrap();
+            Ok(true)
+        }
+        Err(_) => Err(ServeFault::OutOfMemory),
+    }
+}
+
+/// Settles a book.
+fn settle(alloc: Global, book: &mut Book) -> Result<(), ServeFault>
+    requires { IsQuiet book.old }
+    ensures { SettlesTo result book.old book.new }
+{
+    while turn(alloc, book)? {}
+    Ok(())
+}
+
+/// The octets of the report as it stands, and whether each of its rows passes.
+pub fn show(alloc: Global, book: &Book) -> Result<(Vec<u8>, bool), AllocError>
+    ensures octets { IfOk result (λ shown. shown.0.items ≡ rendered (report book.now)) }
+    ensures passed { IfOk result (λ shown. shown.1 ≡ all_pass (report book.now)) }
+{
+    let report = book.show()?;
+    let octets = render(alloc, &report)?;
+    Ok((octets, all_pass(&report)))
+}
+
+/// Settles a book, and gives its report as `show` does.
+pub fn settle_and_show(alloc: Global, book: &mut Book) -> Result<(Vec<u8>, bool), ServeFault>
+    requires { IsQuiet book.old }
+    ensures octets { IfOk result (λ shown. effect book.old Command.Settle ≡ Ok (shown.0.items, book.new)) }
+    ensures passed { IfOk result (λ shown. shown.1 ≡ all_pass (report book.new)) }
+    ensures err { IfErr result (λ fault. Fails fault book.old Command.Settle) }
+{
+    settle(alloc, book)?;
+    Ok(show(alloc, book)?)
+}
+
+/// Whether each row of a report passes.
+fn all_pass(report: &Report) -> bool
+    ensures { result ≡ all_pass report.now }
+{
+    report
+        .rows()
+        .iter()
+        .all(|row| Class::Pass.holds(row.verdict))
+}

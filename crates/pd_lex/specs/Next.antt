@@ -1,0 +1,35 @@
+-- What the lexer answers at a place, in terms of spellings.
+use Rattle.std.specs.Prelude.{◌≡◌, ℕ, ◌≤◌, List, [], length, Some}
+use Rattle.pd_lex.specs.declared.token.Place.{Place}
+use Rattle.pd_lex.specs.declared.token.Token.{Token}
+use Rattle.pd_lex.specs.declared.token.Lexed.{Lexed}
+use Rattle.pd_lex.specs.declared.token.Lexed.TheVariants as lexed
+use Rattle.pd_lex.specs.Places.{IsPlace, octets_from, between}
+use Rattle.pd_lex.specs.Spellings.{IsLongest, IsStuck, Skips}
+
+-- behind blanks and comments the token is the longest piece, from its first place up to its last
+pub record IsTokenAt (lines : List (List ℕ)) (p : Place) (t : Token) (after : Place) : Type 0 where
+  pub skipped : Skips (octets_from lines p) (octets_from lines t.span.from)
+  pub longest : IsLongest (octets_from lines t.span.from) (Some t.kind) (between lines t.span.from t.span.to) (octets_from lines after)
+  pub from : IsPlace lines t.span.from
+  pub to : t.span.to ≡ after
+
+-- behind blanks and comments, in this line, no piece fits
+pub record IsBadAt (lines : List (List ℕ)) (p : Place) (line : ℕ) : Type 0 where
+  pub at : Place
+  pub skipped : Skips (octets_from lines p) (octets_from lines at)
+  pub stuck : IsStuck (octets_from lines at)
+  pub place : IsPlace lines at
+  pub line_is : at.line ≡ line
+
+-- the token, the end of the text behind blanks and comments alone, or the bad line
+abbrev pub IsCut : List (List ℕ) → Place → Lexed → Type 0
+IsCut lines p (lexed.Token t after) = IsTokenAt lines p t after
+IsCut lines p lexed.End = Skips (octets_from lines p) []
+IsCut lines p (lexed.Bad line) = IsBadAt lines p line
+
+-- a token and a bad place lie in a line of the text
+abbrev pub HasLine : List (List ℕ) → Lexed → Type 0
+HasLine lines (lexed.Token t after) = (1 ≤ t.line) × (t.line ≤ length lines)
+HasLine lines lexed.End = Unit {0}
+HasLine lines (lexed.Bad line) = (1 ≤ line) × (line ≤ length lines)

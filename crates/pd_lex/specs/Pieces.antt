@@ -1,0 +1,120 @@
+-- What stands at the front of a text: a blank, a comment or a token.
+use Rattle.std.specs.Prelude.{ℕ, ◌+◌, Bool, ◌&&◌, nat_lt, nat_eq, ◌==◌, List, [], ◌∷◌, length, take, drop, Option, Some, None, if◌then◌else◌}
+use Rattle.std.specs.List.{prefix_len, list_all, starts_with}
+use Rattle.pd_lex.specs.declared.token.TokenKind.{TokenKind}
+use Rattle.pd_lex.specs.declared.token.TokenKind.TheVariants.{Int, Hex, Word, Decimal, Dots, Opt, Str, Cmd, Code, Symbol}
+use Rattle.pd_lex.specs.declared.scan.Piece.{Piece}
+use Rattle.pd_lex.specs.declared.scan.Piece.TheVariants.{Blank, Whole, Open, Stray}
+use Rattle.pd_lex.specs.declared.scan.Opener.{Opener}
+use Rattle.pd_lex.specs.declared.scan.Opener.TheVariants as openers
+use Rattle.pd_lex.specs.Octets.{is_digit, is_hex_digit, is_word, is_blank, is_solid, is_inside_line, is_printable}
+
+-- `0x` and one or more hexadecimal digits
+abbrev pub is_hex : List ℕ → Bool
+is_hex s = starts_with nat_eq s (48 ∷ 120 ∷ []) && nat_lt 2 (length s) && list_all is_hex_digit (drop 2 s)
+
+-- the length of a point with one or more digits, or 0
+abbrev pub fraction_len : List ℕ → ℕ
+fraction_len [] = 0
+fraction_len (b ∷ s) = if (b == 46) && nat_lt 0 (prefix_len is_digit s) then prefix_len is_digit s + 1 else 0
+
+-- the length of `=` with all up to the next blank, or 0
+abbrev pub value_len : List ℕ → ℕ
+value_len [] = 0
+value_len (b ∷ s) = if b == 61 then prefix_len is_solid s + 1 else 0
+
+-- a run of letters, digits and `_`; digits alone may go on as a decimal
+unfoldable pub word_piece : List ℕ → Piece
+word_piece s =
+    let n = prefix_len is_word s in
+    let fraction = fraction_len (drop n s) in
+    if list_all is_digit (take n s) then (if nat_lt 0 fraction then Whole Decimal (n + fraction) else Whole Int n)
+    else (if is_hex (take n s) then Whole Hex n else Whole Word n)
+
+-- `...`, a decimal without a whole part, or the point
+unfoldable pub point_piece : List ℕ → Piece
+point_piece s =
+    let fraction = fraction_len s in
+    if starts_with nat_eq s (46 ∷ 46 ∷ 46 ∷ []) then Whole Dots 3
+    else (if nat_lt 0 fraction then Whole Decimal fraction else Whole Symbol 1)
+
+-- `--` with a name and a value, or the minus
+unfoldable pub dash_piece : List ℕ → Piece
+dash_piece s =
+    let name = prefix_len is_word (drop 2 s) in
+    if starts_with nat_eq s (45 ∷ 45 ∷ []) && nat_lt 0 name then Whole Opt (2 + name + value_len (drop name (drop 2 s)))
+    else Whole Symbol 1
+
+-- the piece at the front of a line
+unfoldable pub piece : List ℕ → Piece
+piece [] = Stray
+piece (b ∷ s) =
+    if is_blank b then Blank 1
+    else (if is_word b then word_piece (b ∷ s)
+    else (if b == 46 then point_piece (b ∷ s)
+    else (if b == 45 then dash_piece (b ∷ s)
+    else (if starts_with nat_eq (b ∷ s) (47 ∷ 47 ∷ []) then Blank (prefix_len is_inside_line (b ∷ s))
+    else (if starts_with nat_eq (b ∷ s) (47 ∷ 42 ∷ []) then Open openers.Comment
+    else (if b == 34 then Open openers.Quote
+    else (if b == 96 then Open openers.Backquote
+    else (if starts_with nat_eq (b ∷ s) (37 ∷ 123 ∷ []) then Open openers.Brace
+    else (if is_printable b then Whole Symbol 1 else Stray)))))))))
+
+-- what follows the first place where these two octets stand
+abbrev pub after_pair : ℕ → ℕ → List ℕ → Option (List ℕ)
+after_pair x y [] = None
+after_pair x y (b ∷ s) = if starts_with nat_eq (b ∷ s) (x ∷ y ∷ []) then Some (drop 1 s) else after_pair x y s
+
+-- what follows the first backquote
+abbrev pub after_backquote : List ℕ → Option (List ℕ)
+after_backquote [] = None
+after_backquote (b ∷ s) = if b == 96 then Some s else after_backquote s
+
+-- what follows the first `"`; a backslash takes the next octet with it
+abbrev pub after_quote : List ℕ → Option (List ℕ)
+after_quote [] = None
+after_quote (b ∷ []) = if b == 34 then Some [] else None
+after_quote (b ∷ c ∷ s) = if b == 34 then Some (c ∷ s) else (if b == 92 then after_quote s else after_quote (c ∷ s))
+
+-- what follows the end of what was opened
+abbrev pub after_end : Opener → List ℕ → Option (List ℕ)
+after_end openers.Comment s = after_pair 42 47 s
+after_end openers.Quote s = after_quote s
+after_end openers.Backquote s = after_backquote s
+after_end openers.Brace s = after_pair 125 37 s
+
+-- the octets that open it: `/*`, `"`, a backquote or `%{`
+abbrev pub opener_text : Opener → List ℕ
+opener_text openers.Comment = 47 ∷ 42 ∷ []
+opener_text openers.Quote = 34 ∷ []
+opener_text openers.Backquote = 96 ∷ []
+opener_text openers.Brace = 37 ∷ 123 ∷ []
+
+abbrev pub opener_len : Opener → ℕ
+opener_len o = length (opener_text o)
+
+-- what stands at the front of a text: nothing, a blank or a comment, a token, or what begins nothing; and what is left behind it
+pub data Front : Type 0 where
+  nothing : Front
+  gap : List ℕ → Front
+  token : TokenKind → List ℕ → Front
+  stray : Front
+
+-- what was opened, when it is known what is left behind its end
+abbrev pub closed : Opener → Option (List ℕ) → Front
+closed o None = stray
+closed openers.Comment (Some rest) = gap rest
+closed openers.Quote (Some rest) = token Str rest
+closed openers.Backquote (Some rest) = token Cmd rest
+closed openers.Brace (Some rest) = token Code rest
+
+-- a piece of the line at the front of what is left
+abbrev pub parted : List ℕ → Piece → Front
+parted s (Blank n) = gap (drop n s)
+parted s (Whole kind n) = token kind (drop n s)
+parted s (Open o) = closed o (after_end o (drop (opener_len o) s))
+parted s Stray = stray
+
+unfoldable pub front : List ℕ → Front
+front [] = nothing
+front (b ∷ s) = parted (b ∷ s) (piece (b ∷ s))

@@ -1,0 +1,46 @@
+-- What the steps of the lexer answer, against what is left of the text.
+use Rattle.std.specs.Prelude.{◌≡◌, ℕ, true, List, [], Option, Some, None}
+use Rattle.pd_lex.specs.declared.token.TokenKind.TheVariants.{Str, Cmd, Code}
+use Rattle.pd_lex.specs.declared.token.Place.{Place}
+use Rattle.pd_lex.specs.declared.scan.Piece.{Piece}
+use Rattle.pd_lex.specs.declared.scan.Piece.TheVariants as pieces
+use Rattle.pd_lex.specs.declared.scan.Opener.{Opener}
+use Rattle.pd_lex.specs.declared.scan.Opener.TheVariants as openers
+use Rattle.pd_lex.specs.declared.step.Step.{Step}
+use Rattle.pd_lex.specs.declared.step.Step.TheVariants as steps
+use Rattle.pd_lex.specs.Kinds.{stays_in_line}
+use Rattle.pd_lex.specs.Places.{octets_from, IsPlace}
+use Rattle.pd_lex.specs.Pieces.{opener_len, gap, token, stray, front}
+
+-- how many octets of the line a piece or its opener has
+abbrev pub piece_len : Piece → ℕ
+piece_len (pieces.Blank n) = n
+piece_len (pieces.Whole kind n) = n
+piece_len (pieces.Open o) = opener_len o
+piece_len pieces.Stray = 1
+
+-- the place from which this much is left
+pub record IsLeftAt (lines : List (List ℕ)) (p : Place) (rest : List ℕ) : Type 0 where
+  pub place : IsPlace lines p
+  pub left : octets_from lines p ≡ rest
+
+-- the place behind an end, where there is one
+abbrev pub IsClosed : List (List ℕ) → Option (List ℕ) → Option Place → Type 0
+IsClosed lines None None = Unit {0}
+IsClosed lines (Some rest) (Some p) = IsLeftAt lines p rest
+IsClosed lines None (Some p) = ⊥
+IsClosed lines (Some rest) None = ⊥
+
+-- one step: what stands at a place, and the place behind it
+abbrev pub IsStep : List (List ℕ) → Place → Step → Type 0
+IsStep lines p steps.Nothing = octets_from lines p ≡ []
+IsStep lines p (steps.Gap q) = IsPlace lines q × (front (octets_from lines p) ≡ gap (octets_from lines q))
+IsStep lines p (steps.Token kind q) = IsPlace lines q × (front (octets_from lines p) ≡ token kind (octets_from lines q)) × (stays_in_line kind ≡ true → q.line ≡ p.line)
+IsStep lines p steps.Stray = front (octets_from lines p) ≡ stray
+
+-- the step over what was opened, to the place behind its end
+abbrev pub closing_step : Opener → Place → Step
+closing_step openers.Comment q = steps.Gap q
+closing_step openers.Quote q = steps.Token Str q
+closing_step openers.Backquote q = steps.Token Cmd q
+closing_step openers.Brace q = steps.Token Code q

@@ -1,0 +1,115 @@
+-- How blanks, comments and tokens are spelled, and which of them stands at the front of a text: the longest.
+use Rattle.std.specs.Prelude.{◌≡◌, ◌≢◌, ℕ, ◌≤◌, ◌<◌, Bool, false, IsTrue, List, [], ◌∷◌, ◌++◌, length, Option, Some, None, ◌⊎◌}
+use Rattle.std.specs.List.{list_all}
+use Rattle.pd_lex.specs.declared.token.TokenKind.{TokenKind}
+use Rattle.pd_lex.specs.declared.token.TokenKind.TheVariants.{Int, Hex, Word, Decimal, Dots, Opt, Str, Cmd, Code, Symbol}
+use Rattle.pd_lex.specs.Octets.{is_digit, is_hex_digit, is_word, is_blank, is_solid, is_inside_line, is_no_backquote, is_printable}
+
+-- each octet passes a test
+abbrev pub AreAll : (ℕ → Bool) → List ℕ → Type 0
+AreAll test text = IsTrue (list_all test text)
+
+-- one or more octets that pass it
+abbrev pub AreSome : (ℕ → Bool) → List ℕ → Type 0
+AreSome test text = (0 < length text) × AreAll test text
+
+-- `0x` and one or more hexadecimal digits
+abbrev pub IsHex : List ℕ → Type 0
+IsHex text = (digits : List ℕ) × (text ≡ 48 ∷ 120 ∷ digits) × AreSome is_hex_digit digits
+
+-- letters, digits and `_` that are no Int and no Hex
+abbrev pub IsWord : List ℕ → Type 0
+IsWord text = AreSome is_word text × (¬ AreAll is_digit text) × (¬ IsHex text)
+
+-- zero or more digits, a point, one or more digits
+abbrev pub IsDecimal : List ℕ → Type 0
+IsDecimal text = (whole : List ℕ) × (part : List ℕ) × (text ≡ whole ++ 46 ∷ part) × AreAll is_digit whole × AreSome is_digit part
+
+-- nothing, or `=` and octets that are no blanks
+abbrev pub IsValue : List ℕ → Type 0
+IsValue text = (text ≡ []) ⊎ ((value : List ℕ) × (text ≡ 61 ∷ value) × AreAll is_solid value)
+
+-- `--`, a name of letters, digits and `_`, and a value
+abbrev pub IsOpt : List ℕ → Type 0
+IsOpt text = (name : List ℕ) × (value : List ℕ) × (text ≡ 45 ∷ 45 ∷ name ++ value) × AreSome is_word name × IsValue value
+
+-- what may stand in a string: any octet but `"` and a backslash, and a backslash with any octet behind it
+pub data IsQuoted : List ℕ → Type 0 where
+  empty : IsQuoted []
+  plain : {b : ℕ} {text : List ℕ} → b ≢ 34 → b ≢ 92 → IsQuoted text → IsQuoted (b ∷ text)
+  escaped : {b : ℕ} {text : List ℕ} → IsQuoted text → IsQuoted (92 ∷ b ∷ text)
+
+-- `"` to the next `"` that no backslash takes
+abbrev pub IsStr : List ℕ → Type 0
+IsStr text = (body : List ℕ) × (text ≡ 34 ∷ body ++ 34 ∷ []) × IsQuoted body
+
+-- a backquote to the next
+abbrev pub IsCmd : List ℕ → Type 0
+IsCmd text = (body : List ℕ) × (text ≡ 96 ∷ body ++ 96 ∷ []) × AreAll is_no_backquote body
+
+-- these two octets stand nowhere one behind the other
+abbrev pub HasNoPair : ℕ → ℕ → List ℕ → Type 0
+HasNoPair x y text = (front back : List ℕ) → text ≢ front ++ x ∷ y ∷ back
+
+-- `%{` to the next `}%`
+abbrev pub IsCode : List ℕ → Type 0
+IsCode text = (body : List ℕ) × (text ≡ 37 ∷ 123 ∷ body ++ 125 ∷ 37 ∷ []) × HasNoPair 125 37 body
+
+-- a printable octet that is no letter, digit or `_`
+abbrev pub IsSymbol : List ℕ → Type 0
+IsSymbol text = (b : ℕ) × (text ≡ b ∷ []) × IsTrue (is_printable b) × (is_word b ≡ false)
+
+abbrev pub IsSpelled : TokenKind → List ℕ → Type 0
+IsSpelled Int text = AreSome is_digit text
+IsSpelled Hex text = IsHex text
+IsSpelled Word text = IsWord text
+IsSpelled Decimal text = IsDecimal text
+IsSpelled Dots text = text ≡ 46 ∷ 46 ∷ 46 ∷ []
+IsSpelled Opt text = IsOpt text
+IsSpelled Str text = IsStr text
+IsSpelled Cmd text = IsCmd text
+IsSpelled Code text = IsCode text
+IsSpelled Symbol text = IsSymbol text
+
+abbrev pub IsBlank : List ℕ → Type 0
+IsBlank text = (b : ℕ) × (text ≡ b ∷ []) × IsTrue (is_blank b)
+
+-- `//` to the end of the line
+abbrev pub IsLineComment : List ℕ → Type 0
+IsLineComment text = (body : List ℕ) × (text ≡ 47 ∷ 47 ∷ body) × AreAll is_inside_line body
+
+-- `/*` to the next `*/`
+abbrev pub IsBlockComment : List ℕ → Type 0
+IsBlockComment text = (body : List ℕ) × (text ≡ 47 ∷ 42 ∷ body ++ 42 ∷ 47 ∷ []) × HasNoPair 42 47 body
+
+-- a token of this kind; without a kind a blank or a comment
+abbrev pub IsPiece : Option TokenKind → List ℕ → Type 0
+IsPiece None text = IsBlank text ⊎ IsLineComment text ⊎ IsBlockComment text
+IsPiece (Some kind) text = IsSpelled kind text
+
+-- `/*`, `"`, a backquote or `%{` stands at the front: what it opens must be closed, and it is never a symbol
+abbrev pub IsOpened : List ℕ → Type 0
+IsOpened s = (more : List ℕ) × ((s ≡ 47 ∷ 42 ∷ more) ⊎ (s ≡ 34 ∷ more) ⊎ (s ≡ 96 ∷ more) ⊎ (s ≡ 37 ∷ 123 ∷ more))
+
+-- a piece that the text begins with
+pub record Fits (s : List ℕ) (kind : Option TokenKind) (text : List ℕ) : Type 0 where
+  pub more : List ℕ
+  pub cut : s ≡ text ++ more
+  pub spelled : IsPiece kind text
+  pub unopened : kind ≡ Some Symbol → ¬ IsOpened s
+
+-- the longest of them, and what is left behind it
+pub record IsLongest (s : List ℕ) (kind : Option TokenKind) (text rest : List ℕ) : Type 0 where
+  pub cut : s ≡ text ++ rest
+  pub fits : Fits s kind text
+  pub longest : (other : Option TokenKind) (prefix : List ℕ) → Fits s other prefix → length prefix ≤ length text
+
+-- the text doesn't end, and no piece fits
+pub record IsStuck (s : List ℕ) : Type 0 where
+  pub some : 0 < length s
+  pub none : (kind : Option TokenKind) (text : List ℕ) → ¬ Fits s kind text
+
+-- one text is what is left of another, once blanks and comments are cut off
+pub data Skips : List ℕ → List ℕ → Type 0 where
+  here : {s : List ℕ} → Skips s s
+  past : {s text rest t : List ℕ} → IsLongest s None text rest → Skips rest t → Skips s t

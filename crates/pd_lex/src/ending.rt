@@ -1,0 +1,60 @@
+//! The end of what was opened, within a line.
+ghost use Rattle.std.specs.Prelude.{◌≡◌, ◌≤◌, length, option_copied, IfSome};
+ghost use Rattle.pd_lex.specs.Pieces.{after_pair, after_quote, after_backquote, after_end};
+
+use crate::scan::Opener;
+
+/// What follows the first pair of these two octets.
+fn behind_pair(s: &[u8], x: u8, y: u8) -> Option<&[u8]>
+    ensures after { option_copied result ≡ after_pair x y s.now }
+{
+    let mut rest = s;
+    loop {
+        match rest {
+            [b, c, tail @ ..] if *b == x && *c == y => return Some(tail),
+            [_, tail @ ..] => rest = tail,
+            [] => return None,
+        }
+    }
+}
+
+/// What follows the first backquote.
+fn behind_backquote(s: &[u8]) -> Option<&[u8]>
+    ensures after { option_copied result ≡ after_backquote s.now }
+{
+    let mut rest = s;
+    loop {
+        match rest {
+            [b'`', tail @ ..] => return Some(tail),
+            [_, tail @ ..] => rest = tail,
+            [] => return None,
+        }
+    }
+}
+
+/// What follows the first `"` that no backslash takes.
+fn behind_quote(s: &[u8]) -> Option<&[u8]>
+    ensures after { option_copied result ≡ after_quote s.now }
+{
+    let mut rest = s;
+    loop {
+        match rest {
+            [b'"', tail @ ..] => return Some(tail),
+            [b'\\', _, tail @ ..] => rest = tail,
+            [_, tail @ ..] => rest = tail,
+            [] => return None,
+        }
+    }
+}
+
+/// What follows the end of what was opened.
+pub fn behind_end(opener: Opener, s: &[u8]) -> Option<&[u8]>
+    ensures after { option_copied result ≡ after_end opener s.now }
+{
+    match opener {
+        Opener::Comment => behind_pair(s, b'*', b'/'),
+        Opener::Quote => behind_quote(s),
+        Opener::Backquote => behind_backquote(s),
+        Opener::Brace => behind_pair(s, b'}', b'%'),
+    }
+}

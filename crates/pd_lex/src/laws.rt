@@ -1,0 +1,9 @@
+//! Laws of the tokens of texts.
+ghost use Rattle.pd_lex.specs.Agreement.{ItemsAreInOrder, FirstLinesAgree};
+
+/// Two laws, and no work: the tokens of a text come in the order of their lines, and texts whose
+/// first lines are equal have the same tokens there.
+pub fn first_lines()
+    ensures order { ItemsAreInOrder }
+    ensures same { FirstLinesAgree }
+{}

@@ -1,0 +1,14 @@
+//! The tokens of a packetdrill script.
+#![tactic(auto)]
+
+mod ending;
+mod laws;
+mod next;
+mod scan;
+mod standing;
+mod step;
+mod token;
+
+pub use laws::first_lines;
+pub use next::next_token;
+pub use token::{Lexed, Place, Span, Token, TokenKind};

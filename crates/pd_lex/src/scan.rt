@@ -1,0 +1,234 @@
+//! The piece at the front of a line.
+ghost use Rattle.std.specs.Prelude.{◌≡◌, ◌≤◌, ◌<◌, length, option_copied, IfSome};
+ghost use Rattle.std.specs.List.{prefix_len, list_all};
+ghost use Rattle.pd_lex.specs.Octets.{is_digit, is_hex_digit, is_word, is_blank, is_solid, is_inside_line};
+ghost use Rattle.pd_lex.specs.Pieces.{is_hex, fraction_len, value_len, word_piece, point_piece, dash_piece, piece, after_pair, after_quote, after_backquote, after_end, opener_len};
+ghost use Rattle.pd_lex.specs.Scanned.{piece_len};
+
+use crate::token::TokenKind;
+
+/// What opens a piece that may span lines.
+#[derive(Clone, Copy, Debug, PartialEq, Eq)]
+pub enum Opener {
+    /// `/*`
+    Comment,
+    /// `"`
+    Quote,
+    /// A backquote.
+    Backquote,
+    /// `%{`
+    Brace,
+}
+
+impl Opener {
+    /// How many octets it has.
+    pub fn len(self) -> usize
+        ensures { result ≡ opener_len self }
+    {
+        match self {
+            Opener::Comment | Opener::Brace => 2,
+            Opener::Quote | Opener::Backquote => 1,
+        }
+    }
+}
+
+/// The piece at the front of a line.
+#[derive(Clone, Copy, Debug, PartialEq, Eq)]
+pub enum Piece {
+    /// A blank or a line comment of so many octets.
+    Blank(usize),
+    /// A token of so many octets.
+    Whole(TokenKind, usize),
+    /// The beginning of what may span lines.
+    Open(Opener),
+    /// An octet that begins nothing.
+    Stray,
+}
+
+fn digit(b: u8) -> bool
+    ensures { result ≡ is_digit b }
+{
+    b.is_ascii_digit()
+}
+
+fn hex_digit(b: u8) -> bool
+    ensures { result ≡ is_hex_digit b }
+{
+    b.is_ascii_hexdigit()
+}
+
+fn word(b: u8) -> bool
+    ensures { result ≡ is_word b }
+{
+    b.is_ascii_alphanumeric() || b == b'_'
+}
+
+fn blank(b: u8) -> bool
+    ensures { result ≡ is_blank b }
+{
+    matches!(b, b' ' | b'\t' | b'\r' | b'\n')
+}
+
+fn solid(b: u8) -> bool
+    ensures { result ≡ is_solid b }
+{
+    !blank(b)
+}
+
+fn inside_line(b: u8) -> bool
+    ensures { result ≡ is_inside_line b }
+{
+    b != b'\n'
+}
+
+fn digits_len(s: &[u8]) -> usize
+    ensures len { result ≡ prefix_len is_digit s.now }
+    ensures within { result ≤ length s.now }
+{
+    s.iter().take_while(|b| digit(**b)).count()
+}
+
+fn word_len(s: &[u8]) -> usize
+    ensures len { result ≡ prefix_len is_word s.now }
+    ensures within { result ≤ length s.now }
+{
+    s.iter().take_while(|b| word(**b)).count()
+}
+
+fn solid_len(s: &[u8]) -> usize
+    ensures len { result ≡ prefix_len is_solid s.now }
+    ensures within { result ≤ length s.now }
+{
+    s.iter().take_while(|b| solid(**b)).count()
+}
+
+fn line_len(s: &[u8]) -> usize
+    ensures len { result ≡ prefix_len is_inside_line s.now }
+    ensures within { result ≤ length s.now }
+{
+    s.iter().take_while(|b| inside_line(**b)).count()
+}
+
+fn all_digits(s: &[u8]) -> bool
+    ensures { result ≡ list_all is_digit s.now }
+{
+    s.iter().all(|b| digit(*b))
+}
+
+fn all_hex_digits(s: &[u8]) -> bool
+    ensures { result ≡ list_all is_hex_digit s.now }
+{
+    s.iter().all(|b| hex_digit(*b))
+}
+
+fn hex(s: &[u8]) -> bool
+    ensures { result ≡ is_hex s.now }
+{
+    match s {
+        [b'0', b'x', _, ..] => all_hex_digits(&s[2..]),
+        _ => false,
+    }
+}
+
+fn fraction(s: &[u8]) -> usize
+    ensures len { result ≡ fraction_len s.now }
+    ensures within { result ≤ length s.now }
+{
+    match s {
+        [b'.', rest @ ..] => {
+            let n = digits_len(rest);
+            if n > 0 { n + 1 } else { 0 }
+        }
+        _ => 0,
+    }
+}
+
+fn value(s: &[u8]) -> usize
+    ensures len { result ≡ value_len s.now }
+    ensures within { result ≤ length s.now }
+{
+    match s {
+        [b'=', rest @ ..] => solid_len(rest) + 1,
+        _ => 0,
+    }
+}
+
+#[tactic(auto, unfolding(crate::specs::Pieces::word_piece))]
+fn word_at(s: &[u8]) -> Piece
+    ensures piece { result ≡ word_piece s.now }
+    ensures within { piece_len result ≤ length s.now }
+{
+    let n = word_len(s);
+    let (run, rest) = s.split_at(n);
+    if all_digits(run) {
+        let f = fraction(rest);
+        if f > 0 {
+            return Piece::Whole(TokenKind::Decimal, n + f);
+        }
+        return Piece::Whole(TokenKind::Int, n);
+    }
+    if hex(run) {
+        Piece::Whole(TokenKind::Hex, n)
+    } else {
+        Piece::Whole(TokenKind::Word, n)
+    }
+}
+
+#[tactic(auto, unfolding(crate::specs::Pieces::point_piece))]
+fn point_at(s: &[u8]) -> Piece
+    requires { 0 < length s.now }
+    ensures piece { result ≡ point_piece s.now }
+    ensures within { piece_len result ≤ length s.now }
+{
+    if s.starts_with(b"...") {
+        return Piece::Whole(TokenKind::Dots, 3);
+    }
+    let f = fraction(s);
+    if f > 0 {
+        Piece::Whole(TokenKind::Decimal, f)
+    } else {
+        Piece::Whole(TokenKind::Symbol, 1)
+    }
+}
+
+#[tactic(auto, unfolding(crate::specs::Pieces::dash_piece))]
+fn dash_at(s: &[u8]) -> Piece
+    requires { 0 < length s.now }
+    ensures piece { result ≡ dash_piece s.now }
+    ensures within { piece_len result ≤ length s.now }
+{
+    match s {
+        [b'-', b'-', rest @ ..] => {
+            let n = word_len(rest);
+            if n > 0 {
+                Piece::Whole(TokenKind::Opt, 2 + n + value(&rest[n..]))
+            } else {
+                Piece::Whole(TokenKind::Symbol, 1)
+            }
+        }
+        _ => Piece::Whole(TokenKind::Symbol, 1),
+    }
+}
+
+/// The piece at the front of what is left of a line.
+#[tactic(auto, unfolding(crate::specs::Pieces::piece))]
+pub fn piece_at(s: &[u8]) -> Piece
+    requires { 0 < length s.now }
+    ensures piece { result ≡ piece s.now }
+    ensures within { piece_len result ≤ length s.now }
+{
+    match s {
+        [] => Piece::Stray,
+        [b, ..] if blank(*b) => Piece::Blank(1),
+        [b, ..] if word(*b) => word_at(s),
+        [b'.', ..] => point_at(s),
+        [b'-', ..] => dash_at(s),
+        [b'/', b'/', ..] => Piece::Blank(line_len(s)),
+        [b'/', b'*', ..] => Piece::Open(Opener::Comment),
+        [b'"', ..] => Piece::Open(Opener::Quote),
+        [b'`', ..] => Piece::Open(Opener::Backquote),
+        [b'%', b'{', ..] => Piece::Open(Opener::Brace),
+        [33..=126, ..] => Piece::Whole(TokenKind::Symbol, 1),
+        _ => Piece::Stray,
+    }
+}

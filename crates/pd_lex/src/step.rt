@@ -1,0 +1,87 @@
+//! One step over a text: the piece at a place.
+ghost use Rattle.std.specs.Prelude.{◌≡◌, ◌+◌, length};
+ghost use Rattle.pd_lex.specs.Places.{octets_from, IsPlace};
+ghost use Rattle.pd_lex.specs.Pieces.{after_end};
+ghost use Rattle.pd_lex.specs.Scanned.{IsClosed, IsStep, closing_step};
+
+use crate::ending::behind_end;
+use crate::scan::{Opener, Piece, piece_at};
+use crate::standing::rest_of_line;
+use crate::token::{Place, TokenKind};
+use pd_text::Lines;
+
+/// What stands at a place, and the place behind it.
+#[derive(Clone, Copy, Debug, PartialEq, Eq)]
+pub enum Step {
+    /// The end of the text.
+    Nothing,
+    /// A blank or a comment.
+    Gap(Place),
+    /// A token.
+    Token(TokenKind, Place),
+    /// Something that begins no token.
+    Stray,
+}
+
+/// The place behind the end of what was opened before a place, if it ends.
+fn place_behind_end(lines: &Lines, opener: Opener, place: Place) -> Option<Place>
+    requires { IsPlace lines.now place }
+    ensures { IsClosed lines.now (after_end opener (octets_from lines.now place)) result }
+{
+    let mut at = place.at;
+    for line in place.line..lines.len() + 1 {
+        let rest = rest_of_line(lines, Place { line, at })?;
+        if let Some(after) = behind_end(opener, rest) {
+            return Some(Place {
+                line,
+                at: at + (rest.len() - after.len()),
+            });
+        }
+        at = 0;
+    }
+    None
+}
+
+/// The step over what was opened, to the place behind its end.
+fn closed(opener: Opener, after: Place) -> Step
+    ensures { result ≡ closing_step opener after }
+{
+    match opener {
+        Opener::Comment => Step::Gap(after),
+        Opener::Quote => Step::Token(TokenKind::Str, after),
+        Opener::Backquote => Step::Token(TokenKind::Cmd, after),
+        Opener::Brace => Step::Token(TokenKind::Code, after),
+    }
+}
+
+/// The step at a place.
+pub fn step_at(lines: &Lines, place: Place) -> Step
+    requires { IsPlace lines.now place }
+    ensures { IsStep lines.now place result }
+{
+    let Place { line, at } = place;
+    let Some(rest) = rest_of_line(lines, place) else {
+        return Step::Nothing;
+    };
+    if rest.is_empty() {
+        return Step::Gap(Place {
+            line: line + 1,
+            at: 0,
+        });
+    }
+    match piece_at(rest) {
+        Piece::Blank(n) => Step::Gap(Place { line, at: at + n }),
+        Piece::Whole(kind, n) => Step::Token(kind, Place { line, at: at + n }),
+        Piece::Open(opener) => {
+            let inside = Place {
+                line,
+                at: at + opener.len(),
+            };
+            match place_behind_end(lines, opener, inside) {
+                Some(after) => closed(opener, after),
+                None => Step::Stray,
+            }
+        }
+        Piece::Stray => Step::Stray,
+    }
+}

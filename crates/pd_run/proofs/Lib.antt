@@ -1,0 +1,3 @@
+-- Lemmas on runs.
+pub mod HeaderItems
+pub mod Steps

@@ -1,0 +1,122 @@
+//! The limits of an event's numbers.
+ghost use Rattle.std.specs.Prelude.{◌≡◌, ◌||◌};
+ghost use Rattle.std.specs.List.{list_any};
+ghost use Rattle.pd_run.specs.Limits.{is_long, is_high, written_times, written_until, is_some_over, is_option_over, are_options_over, is_packet_over, is_write, is_count_over, is_action_over, is_over_limit};
+
+use pd_script::{
+    Action, Argument, Block, Call, Event, Function, Options, Packet, PacketOption, Time, Until,
+};
+
+/// The greatest written time, in microseconds.
+const LONGEST_TIME: u64 = 3_600_000_000;
+
+/// The greatest sequence, ack or SACK number.
+const HIGHEST_NUMBER: u32 = 2_147_483_647;
+
+/// The greatest count of one `write`, in octets.
+const LARGEST_WRITE: u64 = 262_144;
+
+/// Whether some number of the event is over its limit.
+pub fn is_over_limit(event: &Event) -> bool
+    ensures { result ≡ is_over_limit event.now }
+{
+    is_time_over(event.time) || is_until_over(event.until) || is_action_over(&event.action)
+}
+
+fn is_time_over(time: Time) -> bool
+    ensures { result ≡ list_any is_long (written_times time) }
+{
+    match time {
+        Time::Any => false,
+        Time::Absolute(t) | Time::Relative(t) => t > LONGEST_TIME,
+        Time::AbsoluteRange(first, last) | Time::RelativeRange(first, last) => {
+            first > LONGEST_TIME || last > LONGEST_TIME
+        }
+    }
+}
+
+fn is_until_over(until: Option<Until>) -> bool
+    ensures { result ≡ list_any is_long (written_until until) }
+{
+    match until {
+        None => false,
+        Some(Until::Absolute(t)) => t > LONGEST_TIME,
+        Some(Until::Relative(t)) => t > LONGEST_TIME,
+    }
+}
+
+fn is_action_over(action: &Action) -> bool
+    ensures { result ≡ is_action_over action.now }
+{
+    match action {
+        Action::Inbound(packet) => is_packet_over(packet),
+        Action::Outbound(packet) => is_packet_over(packet),
+        Action::Call(call) => is_write_over(call),
+        Action::Command => false,
+        Action::Code => false,
+    }
+}
+
+fn is_write_over(call: &Call) -> bool
+    ensures { result ≡ is_action_over (Action.Call call.now) }
+{
+    match (call.function, call.arguments.as_slice().get(2)) {
+        (Function::Write, Some(Argument::Int(count))) => *count > LARGEST_WRITE,
+        _ => false,
+    }
+}
+
+fn is_packet_over(packet: &Packet) -> bool
+    ensures { result ≡ is_packet_over packet.now }
+{
+    packet.start > HIGHEST_NUMBER
+        || packet.end > HIGHEST_NUMBER
+        || is_some_over(HIGHEST_NUMBER, packet.ack)
+        || is_some_over(65_535, packet.win)
+        || are_options_over(&packet.options)
+}
+
+fn is_some_over(most: u32, number: Option<u32>) -> bool
+    ensures { result ≡ is_some_over most number }
+{
+    match number {
+        None => false,
+        Some(n) => n > most,
+    }
+}
+
+fn are_options_over(options: &Options) -> bool
+    ensures { result ≡ are_options_over options.now }
+{
+    match options {
+        Options::Listed(list) => list.len() > 16 || is_one_over(list.as_slice()),
+        Options::Absent => false,
+        Options::Any => false,
+    }
+}
+
+fn is_one_over(options: &[PacketOption]) -> bool
+    ensures { result ≡ list_any is_option_over options.now }
+{
+    options.iter().any(|option| is_option_over(option))
+}
+
+fn is_option_over(option: &PacketOption) -> bool
+    ensures { result ≡ is_option_over option.now }
+{
+    match option {
+        PacketOption::Mss(n) => *n > 65_535,
+        PacketOption::Wscale(n) => *n > 255,
+        PacketOption::Sack(blocks) => blocks.len() > 4 || is_edge_high(blocks.as_slice()),
+        _ => false,
+    }
+}
+
+fn is_edge_high(blocks: &[Block]) -> bool
+    ensures { result ≡ list_any (λ b. is_high b.left || is_high b.right) blocks.now }
+{
+    let highest = u64::from(HIGHEST_NUMBER);
+    blocks
+        .iter()
+        .any(|block| block.left > highest || block.right > highest)
+}

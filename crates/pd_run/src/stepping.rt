@@ -1,0 +1,81 @@
+//! Steps of a run, and who takes them.
+ghost use Rattle.std.specs.Prelude.{◌≡◌, ◌+◌, ◌-◌, ◌<◌, ◌^◌, ℕ, IfOk};
+ghost use Rattle.pd_run.specs.Run.{step, Tells};
+
+use crate::run_state::RunState;
+use crate::verdicts::Verdict;
+use pd_script::Event;
+use pd_settings::Settings;
+use std::alloc::AllocError;
+use std::marker::Model;
+
+/// How a step ended.
+#[derive(Clone, Copy, Debug, PartialEq, Eq)]
+pub enum StepEnd {
+    /// The run goes on.
+    Go,
+    Stop(Verdict),
+}
+
+/// Takes the steps of runs and counts them: a step is one event, and the count rises by one a call.
+pub trait Stepper {
+    ghost counted: { Self → ℕ };
+
+    /// Takes one event from the state before it to the one after it. After a stop nothing is said of the state.
+    fn step(
+        &mut self,
+        state: &mut RunState,
+        event: &Event,
+        settings: &Settings,
+    ) -> Result<StepEnd, AllocError>
+        requires room { counted self.old < 2 ^ 64 - 1 }
+        requires clock { state.old.clock < 2 ^ 61 }
+        requires base { state.old.base < 2 ^ 61 }
+        ensures ends { IfOk result (λ end. Tells (step state.old event.now) end state.new) }
+        ensures one_more { counted self.new ≡ counted self.old + 1 };
+
+    /// The steps taken so far.
+    fn count(&self) -> u64
+        ensures { result ≡ counted self.now };
+}
+
+/// The stepper of the product, seen as the number of steps that it took.
+#[derive(Debug, Drop)]
+pub struct Plain {
+    steps: u64,
+}
+
+impl Model for Plain {
+    ghost use Rattle.std.specs.Prelude.{ℕ};
+
+    ghost Value = { ℕ };
+
+    ghost view = { λ p. p.steps };
+}
+
+impl Plain {
+    /// A stepper that has taken no step.
+    pub fn new() -> Plain
+        ensures { result ≡ 0 }
+    {
+        Plain { steps: 0 }
+    }
+}
+
+impl Stepper for Plain {
+    ghost counted = { λ steps. steps };
+
+    fn step(
+        &mut self,
+        state: &mut RunState,
+        event: &Event,
+        _settings: &Settings,
+    ) -> Result<StepEnd, AllocError> {
+        self.steps += 1;
+        Ok(state.step(event))
+    }
+
+    fn count(&self) -> u64 {
+        self.steps
+    }
+}

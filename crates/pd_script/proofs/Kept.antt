@@ -1,0 +1,258 @@
+-- The events that are kept are those before the fault whose next token stands before it too.
+use Rattle.std.proofs.Common.{◌≡◌, ℕ, zero, suc, ◌+◌, ◌≤◌, Bool, true, false, cond, List, [], ◌∷◌, ◌++◌, length, Option, Some, None, Result, Ok, Err, refl, sym, ap, subst, ◌∙◌, arith, append_assoc, inl, inr}
+use Rattle.std.specs.Prelude.{not, ◌&&◌, ◌||◌, ◌⊎◌}
+use Rattle.std.specs.List.{list_all}
+use Rattle.std.proofs.lemmas.List.{append-nil, length-append, append_cancel_right}
+use Rattle.pd_lex.specs.declared.token.TokenKind.TheVariants as kinds
+use Rattle.pd_lex.specs.Tokens.{Item, lexeme, ending, bad, line_of}
+use Rattle.pd_script.specs.declared.script_header.HeaderItem.{HeaderItem}
+use Rattle.pd_script.specs.declared.script_events.Event.{Event}
+use Rattle.pd_script.specs.declared.timing.Time.TheVariants as times
+use Rattle.pd_script.specs.declared.parsing.Found.{Found}
+use Rattle.pd_script.specs.Values.{microseconds}
+use Rattle.pd_script.specs.Items.{is_header, is_num, is_symbol, is_word, is_end, starts_event, goes_on, text_of}
+use Rattle.pd_script.specs.Header.{header_of, behind_header}
+use Rattle.pd_script.specs.Reader.{Read, then_read, done, next_is}
+use Rattle.pd_script.specs.Reading.{next_line, time_at, action_at, event_at, end_at, events_at}
+use Rattle.pd_script.specs.Grammar.{IsEvent}
+use Rattle.pd_script.specs.Script.{found_in, followed, may_follow, with_event, at_end, in_front, script_in}
+use Rattle.pd_script.specs.Faults.{IsHeader, AreEvents, IsScript, Begins, IsFault, IsKept, IsRead}
+use Rattle.pd_script.proofs.Laws.{Laws, Took, Full, Stops, Stops-any, any, ok, then_ok, value_is, rest_is}
+use Rattle.pd_script.proofs.Apart.{or-no, not-true, not-false}
+use Rattle.pd_script.proofs.ArgumentLaws.{a_token}
+use Rattle.pd_script.proofs.GrammarLaws.{but, num_no_plus, Reads-action, Reads-event, goes_on_no_word, end_no_start}
+use Rattle.pd_script.proofs.ScriptLaws.{header_at, header_took, header_sound, Laws-events, Ends, events_complete, script_at, script_at_fault, script_is, fault_is, fault_somewhere, IsClosed}
+
+-- ---- the fault that is found is the one that reading meets
+
+abbrev IsFound : Found → Read (List Event) → Type 0
+IsFound f (Ok x) = (f.fault ≡ None) × (f.events ≡ x.0)
+IsFound f (Err rest) = f.fault ≡ Some (next_line rest)
+
+end_found : (ts : List Item) → IsFound (at_end ts) (end_at ts)
+end_found [] = refl
+end_found (t ∷ ts) = by_test (is_end t) refl
+  where
+    by_test : (b : Bool) → is_end t ≡ b → IsFound (at_end (t ∷ ts)) (end_at (t ∷ ts))
+    by_test true h = rw h (refl, refl)
+    by_test false h = rw h refl
+
+not_followed : (n : ℕ) (ts : List Item) → next_is (may_follow n) ts ≡ false → events_at n ts ≡ Err ts
+unfolding events_at
+not_followed zero [] h = refl
+not_followed (suc n) [] h = refl
+not_followed zero (t ∷ ts) h = rw h refl
+not_followed (suc n) (t ∷ ts) h = let g = or-no (starts_event t) (is_end t) h in rw (g.0, g.1) refl
+
+abbrev then_one : Event → Read (List Event) → Read (List Event)
+then_one e (Ok x) = Ok (e ∷ x.0, x.1)
+then_one e (Err rest) = Err rest
+
+then_one_is : (e : Event) (x : Read (List Event)) → then_read x (λ es rest. Ok (e ∷ es, rest)) ≡ then_one e x
+then_one_is e (Ok x) = refl
+then_one_is e (Err x) = refl
+
+add_found : (e : Event) (f : Found) (x : Read (List Event)) → IsFound f x → IsFound (in_front (e ∷ []) f) (then_one e x)
+add_found e f (Ok x) h = (h.0, ap (λ (es : List Event). e ∷ es) h.1)
+add_found e f (Err x) h = h
+
+event_found : (n : ℕ) (e : Event) (r : List Item) (b : Bool) → next_is (may_follow n) r ≡ b → IsFound (found_in n r) (events_at n r) → IsFound (with_event (found_in n) (cond b (Ok (e, r)) (Err r))) (then_one e (events_at n r))
+event_found n e r true h ih = add_found e (found_in n r) (events_at n r) ih
+event_found n e r false h ih = rw (not_followed n r h) refl
+
+read_found : (n : ℕ) (x : Read Event) → ((r : List Item) → IsFound (found_in n r) (events_at n r)) → IsFound (with_event (found_in n) (followed (may_follow n) x)) (then_read x (λ e r. then_read (events_at n r) (λ es rest. Ok (e ∷ es, rest))))
+read_found n (Ok x) ih = rw (then_one_is x.0 (events_at n x.1)) (event_found n x.0 x.1 (next_is (may_follow n) x.1) refl (ih x.1))
+read_found n (Err rest) ih = refl
+
+found_by : (n : ℕ) (ts : List Item) (b : Bool) → next_is starts_event ts ≡ b → ((r : List Item) → IsFound (found_in n r) (events_at n r)) → IsFound (found_in (suc n) ts) (events_at (suc n) ts)
+unfolding found_in events_at
+found_by n ts true h ih = rw h (read_found n (event_at ts) ih)
+found_by n ts false h ih = rw h (end_found ts)
+
+pub found_is : (n : ℕ) (ts : List Item) → IsFound (found_in n ts) (events_at n ts)
+unfolding found_in events_at
+found_is zero ts = end_found ts
+found_is (suc n) ts = found_by n ts (next_is starts_event ts) refl (λ r. found_is n r)
+
+-- ---- a token that begins an event is never its fault
+
+either_is : (a b : Bool) → b ≡ false → (a || b) ≡ true → a ≡ true
+either_is true b h g = refl
+either_is false b h g = absurd cc
+
+other_is : (a b : Bool) → a ≡ false → (a || b) ≡ true → b ≡ true
+other_is true b h g = absurd cc
+other_is false b h g = g
+
+a_num : Item
+a_num = a_token kinds.Int (48 ∷ [])
+
+begins_event : (t : Item) → starts_event t ≡ true → Full event_at (but is_word) (t ∷ [])
+unfolding event_at time_at a_num
+begins_event t h = by_test (is_symbol 43 t) refl
+  where
+    by_test : (b : Bool) → is_symbol 43 t ≡ b → Full event_at (but is_word) (t ∷ [])
+    by_test true plus =
+        let A = Reads-action.laws.full in
+        record { more = a_num ∷ A.more; value = record { line = line_of t; time = times.Relative (microseconds (48 ∷ [])); until = None; action = A.value }; spelled = A.spelled; reads = λ tail st. rw (plus, A.reads tail st) refl }
+    by_test false plus =
+        let A = Reads-action.laws.full in
+        let n : is_num t ≡ true = either_is (is_num t) (is_symbol 43 t) plus h in
+        record { more = A.more; value = record { line = line_of t; time = times.Absolute (microseconds (text_of t)); until = None; action = A.value }; spelled = A.spelled; reads = λ tail st. rw (plus, n, A.reads tail st) refl }
+
+both_ways : (n : ℕ) (ts rest : List Item) (es : List Event) → events_at n ts ≡ ok es [] → events_at n ts ≡ Err rest → ⊥
+both_ways n ts rest es h g = absurd (let e = sym h ∙ g in cc)
+
+-- so an event may be kept only if something stands between it and the fault
+not_at_once : (n : ℕ) (t : Item) (rest : List Item) → may_follow n t ≡ true → events_at n (t ∷ rest) ≡ Err (t ∷ rest) → ⊥
+unfolding events_at
+not_at_once zero t rest f e = absurd (let got = rw f at e in cc)
+not_at_once (suc n) t rest f e = by_test (starts_event t) refl
+  where
+    by_test : (b : Bool) → starts_event t ≡ b → ⊥
+    by_test true h =
+        let E = begins_event t h in
+        let tail : List Item = ending 1 ∷ [] in
+        let F = (Laws-events (suc n)).failed (t ∷ rest) (t ∷ rest) e in
+        let none : List Item = [] in
+        let empty : none ≡ F.front = append_cancel_right none F.front (t ∷ rest) F.parts in
+        let again : events_at (suc n) (F.front ++ t ∷ (E.more ++ tail)) ≡ Err (t ∷ (E.more ++ tail)) = F.again t rest (E.more ++ tail) refl in
+        let here : events_at (suc n) (t ∷ (E.more ++ tail)) ≡ Err (t ∷ (E.more ++ tail)) = subst (λ (x : List Item). events_at (suc n) (x ++ t ∷ (E.more ++ tail)) ≡ Err (t ∷ (E.more ++ tail))) (sym empty) again in
+        let spelled = Reads-event.sound (t ∷ (E.more ++ tail)) E.value tail (E.reads tail refl) in
+        let good : events_at (suc n) (t ∷ (E.more ++ tail)) ≡ ok (E.value ∷ []) [] = events_complete (suc n) (E.value ∷ []) (t ∷ (E.more ++ tail)) [] (record { last = ending 1; goes = (tail, spelled, refl); ends = refl }) (omega arith) in
+        both_ways (suc n) (t ∷ (E.more ++ tail)) (t ∷ (E.more ++ tail)) (E.value ∷ []) good here
+    by_test false h = absurd (let ends : is_end t ≡ true = other_is (starts_event t) (is_end t) h f in let got = rw (h, ends) at e in cc)
+
+-- ---- what is kept
+
+record Kept (es : List Event) (front : List Item) : Type 0 where
+  others : List Item
+  goes : AreEvents es front others
+  reached : (es ≡ []) ⊎ ((next : Item) × (more : List Item) × (others ≡ next ∷ more))
+  last : (e : Event) (next : Item) (more : List Item) → IsEvent e others (next ∷ more) → goes_on next ≡ true → ⊥
+
+kept_nothing : (front : List Item) → ((e : Event) (next : Item) (more : List Item) → IsEvent e front (next ∷ more) → goes_on next ≡ true → ⊥) → Kept [] front
+kept_nothing front none = record { others = front; goes = refl; reached = inl refl; last = none }
+
+no_event : (e : Event) (next : Item) (more : List Item) → IsEvent e [] (next ∷ more) → ⊥
+no_event e next more h =
+    let T = Reads-event.takes [] e (next ∷ more) h in
+    omega (arith, ap length T.1, length-append T.0 (next ∷ more))
+
+kept_at_once : (front : List Item) (t : Item) (rest : List Item) → t ∷ rest ≡ front ++ t ∷ rest → Kept [] front
+kept_at_once front t rest e =
+    let none : List Item = [] in
+    let empty : none ≡ front = append_cancel_right none front (t ∷ rest) e in
+    subst (λ (x : List Item). Kept [] x) empty (kept_nothing none (λ f next more h g. no_event f next more h))
+
+-- an event that is spelled before a fault, and followed by what may follow one, is read
+read_before : (e : Event) (front : List Item) (next : Item) (more : List Item) (t : Item) (rest : List Item) → IsEvent e front (next ∷ more) → goes_on next ≡ true → event_at (front ++ t ∷ rest) ≡ ok e (next ∷ (more ++ t ∷ rest))
+read_before e front next more t rest h g =
+    let first : event_at front ≡ ok e (next ∷ more) = Reads-event.complete front e (next ∷ more) h (goes_on_no_word next g) in
+    let P = Reads-event.laws.took front e (next ∷ more) first in
+    let parts : front ++ t ∷ rest ≡ P.front ++ next ∷ (more ++ t ∷ rest) = ap (λ (x : List Item). x ++ t ∷ rest) P.parts ∙ append_assoc P.front (next ∷ more) (t ∷ rest) in
+    rw parts (P.same next more (more ++ t ∷ rest) refl)
+
+end_fault : (ts rest : List Item) → end_at ts ≡ Err rest → ts ≡ rest
+end_fault [] rest e = cc
+end_fault (t ∷ ts) rest e = by_test (is_end t) refl
+  where
+    by_test : (b : Bool) → is_end t ≡ b → t ∷ ts ≡ rest
+    by_test true h = absurd (let got = rw h at e in cc)
+    by_test false h = (let got = rw h at e in cc)
+
+then_err : (e : Event) (x : Read (List Event)) (rest : List Item) → then_read x (λ es r. Ok (e ∷ es, r)) ≡ Err rest → x ≡ Err rest
+then_err e (Ok x) rest h = absurd cc
+then_err e (Err x) rest h = cc
+
+-- an event that was read from what stands before a fault, with what is left of that
+event_before : (us front : List Item) (e : Event) (m middle : List Item) (t : Item) (rest : List Item) → us ≡ front ++ t ∷ rest → event_at us ≡ ok e m → m ≡ middle ++ t ∷ rest → (middle ≡ [] → ⊥) → IsEvent e front middle
+event_before us front e m [] t rest parts h left some = absurd (some refl)
+event_before us front e m (u ∷ middle) t rest parts h left some =
+    let P = Reads-event.laws.took us e m h in
+    let whole : (P.front ++ u ∷ middle) ++ t ∷ rest ≡ front ++ t ∷ rest = append_assoc P.front (u ∷ middle) (t ∷ rest) ∙ ap (λ (x : List Item). P.front ++ x) (sym left) ∙ sym P.parts ∙ parts in
+    let same : P.front ++ u ∷ middle ≡ front = append_cancel_right (P.front ++ u ∷ middle) front (t ∷ rest) whole in
+    subst (λ (x : List Item). IsEvent e x (u ∷ middle)) same (Reads-event.sound (P.front ++ u ∷ middle) e (u ∷ middle) (P.same u (middle ++ t ∷ rest) middle left))
+
+still_reached : (es : List Event) (middle others : List Item) → AreEvents es middle others → (middle ≡ [] → ⊥) → (es ≡ []) ⊎ ((next : Item) × (more : List Item) × (others ≡ next ∷ more)) → (next : Item) × (more : List Item) × (others ≡ next ∷ more)
+still_reached es middle others goes some (inr h) = h
+still_reached [] [] others goes some (inl h) = absurd (some refl)
+still_reached [] (u ∷ middle) others goes some (inl h) = (u, middle, sym goes)
+still_reached (e ∷ es) middle others goes some (inl h) = absurd cc
+
+kept_more : (us front : List Item) (e : Event) (es : List Event) (m middle : List Item) (t : Item) (rest : List Item) → us ≡ front ++ t ∷ rest → event_at us ≡ ok e m → m ≡ middle ++ t ∷ rest → (middle ≡ [] → ⊥) → Kept es middle → Kept (e ∷ es) front
+kept_more us front e es m middle t rest parts h left some K =
+    record { others = K.others; goes = (middle, event_before us front e m middle t rest parts h left some, K.goes); reached = inr (still_reached es middle K.others K.goes some K.reached); last = K.last }
+
+too_long : (t next : Item) (more rest : List Item) → t ∷ rest ≡ next ∷ (more ++ t ∷ rest) → ⊥
+too_long t next more rest e = omega (arith, ap length e, length-append more (t ∷ rest))
+
+kept_followed : (n : ℕ) (us front : List Item) (t : Item) (rest : List Item) (e : Event) (m : List Item) (b : Bool) → next_is (may_follow n) m ≡ b → us ≡ front ++ t ∷ rest → event_at us ≡ ok e m → events_at n m ≡ Err (t ∷ rest) → ((middle : List Item) → m ≡ middle ++ t ∷ rest → Kept (found_in n m).events middle) → Kept (with_event (found_in n) (cond b (Ok (e, m)) (Err m))).events front
+kept_followed n us front t rest e m true f parts h fault ih =
+    let M = (Laws-events n).failed m (t ∷ rest) fault in
+    let some : M.front ≡ [] → ⊥ = λ none. (let left : m ≡ t ∷ rest = M.parts ∙ ap (λ (x : List Item). x ++ t ∷ rest) none in
+        not_at_once n t rest (subst (λ (x : List Item). next_is (may_follow n) x ≡ true) left f) (subst (λ (x : List Item). events_at n x ≡ Err (t ∷ rest)) left fault)) in
+    kept_more us front e (found_in n m).events m M.front t rest parts h M.parts some (ih M.front M.parts)
+kept_followed n us front t rest e m false f parts h fault ih =
+    let there : m ≡ t ∷ rest = (let both = sym (not_followed n m f) ∙ fault in cc) in
+    kept_nothing front (λ d next more spelled g. (let other = sym h ∙ subst (λ (x : List Item). event_at x ≡ ok d (next ∷ (more ++ t ∷ rest))) (sym parts) (read_before d front next more t rest spelled g) in
+        too_long t next more rest (sym there ∙ rest_is e d m (next ∷ (more ++ t ∷ rest)) other)))
+
+kept_read : (n : ℕ) (us front : List Item) (t : Item) (rest : List Item) (r : Read Event) → event_at us ≡ r → us ≡ front ++ t ∷ rest → then_read r (λ e m. then_read (events_at n m) (λ es left. Ok (e ∷ es, left))) ≡ Err (t ∷ rest) → ((m middle : List Item) → m ≡ middle ++ t ∷ rest → events_at n m ≡ Err (t ∷ rest) → Kept (found_in n m).events middle) → Kept (with_event (found_in n) (followed (may_follow n) r)).events front
+kept_read n us front t rest (Err d) h parts fault ih =
+    kept_nothing front (λ f next more spelled g. absurd (let other = sym h ∙ subst (λ (x : List Item). event_at x ≡ ok f (next ∷ (more ++ t ∷ rest))) (sym parts) (read_before f front next more t rest spelled g) in cc))
+kept_read n us front t rest (Ok x) h parts fault ih =
+    let others = then_err x.0 (events_at n x.1) (t ∷ rest) fault in
+    kept_followed n us front t rest x.0 x.1 (next_is (may_follow n) x.1) refl parts h others (λ middle left. ih x.1 middle left others)
+
+kept_by : (n : ℕ) (us front : List Item) (t : Item) (rest : List Item) (b : Bool) → next_is starts_event us ≡ b → us ≡ front ++ t ∷ rest → events_at (suc n) us ≡ Err (t ∷ rest) → ((m middle : List Item) → m ≡ middle ++ t ∷ rest → events_at n m ≡ Err (t ∷ rest) → Kept (found_in n m).events middle) → Kept (found_in (suc n) us).events front
+unfolding found_in events_at
+kept_by n us front t rest true h parts fault ih = rw h (kept_read n us front t rest (event_at us) refl parts (rw h at fault) ih)
+kept_by n us front t rest false h parts fault ih = rw h (kept_at_once front t rest (sym (end_fault us (t ∷ rest) (rw h at fault)) ∙ parts))
+
+kept_is : (n : ℕ) (us front : List Item) (t : Item) (rest : List Item) → us ≡ front ++ t ∷ rest → events_at n us ≡ Err (t ∷ rest) → Kept (found_in n us).events front
+unfolding found_in events_at
+kept_is zero us front t rest parts fault = kept_at_once front t rest (sym (end_fault us (t ∷ rest) fault) ∙ parts)
+kept_is (suc n) us front t rest parts fault = kept_by n us front t rest (next_is starts_event us) refl parts fault (λ m middle left g. kept_is n m middle t rest left g)
+
+-- ---- with the header
+
+behind_stops : (ts : List Item) → Stops (but is_header) (behind_header ts)
+behind_stops [] = tt
+behind_stops (t ∷ ts) = by_test (is_header t) refl (behind_stops ts)
+  where
+    by_test : (b : Bool) → is_header t ≡ b → Stops (but is_header) (behind_header ts) → Stops (but is_header) (behind_header (t ∷ ts))
+    by_test true h ih = rw h ih
+    by_test false h ih = rw h (not-false (is_header t) h)
+
+Stops-front : (s : Item → Bool) (front rest : List Item) → Stops s (front ++ rest) → Stops s front
+Stops-front s [] rest h = tt
+Stops-front s (t ∷ front) rest h = h
+
+pub kept_with_header : (ts front : List Item) (t : Item) (rest : List Item) → ts ≡ front ++ t ∷ rest → events_at 4096 (behind_header ts) ≡ Err (t ∷ rest) → IsKept (header_of ts) (found_in 4096 (behind_header ts)).events front
+kept_with_header ts front t rest parts fault =
+    let H = header_took ts in
+    let E = (Laws-events 4096).failed (behind_header ts) (t ∷ rest) fault in
+    let K = kept_is 4096 (behind_header ts) E.front t rest E.parts fault in
+    let whole : (H.front ++ E.front) ++ t ∷ rest ≡ front ++ t ∷ rest = append_assoc H.front E.front (t ∷ rest) ∙ ap (λ (x : List Item). H.front ++ x) (sym E.parts) ∙ sym H.parts ∙ parts in
+    let same : H.front ++ E.front ≡ front = append_cancel_right (H.front ++ E.front) front (t ∷ rest) whole in
+    let stops : Stops (but is_header) E.front = Stops-front (but is_header) E.front (t ∷ rest) (subst (λ (x : List Item). Stops (but is_header) x) E.parts (behind_stops ts)) in
+    let read : header_at (H.front ++ E.front) ≡ ok (header_of ts) E.front = H.again E.front stops in
+    let spelled = header_sound (H.front ++ E.front) in
+    let there : IsHeader (header_of ts) (H.front ++ E.front) E.front = subst (λ (x : List Item). IsHeader (header_of ts) (H.front ++ E.front) x) (rest_is _ _ _ _ read) (subst (λ (x : List HeaderItem). IsHeader x (H.front ++ E.front) (behind_header (H.front ++ E.front))) (value_is _ _ _ _ read) spelled) in
+    record { behind = E.front; others = K.others; begins = subst (λ (x : List Item). IsHeader (header_of ts) x E.front) same there; goes = K.goes; reached = K.reached; last = K.last }
+
+-- ---- what the items of a text are read as
+
+read_by : (ts : List Item) → IsClosed ts → (r : Read (List Event)) → events_at 4096 (behind_header ts) ≡ r → IsFound (found_in 4096 (behind_header ts)) r → IsRead ts (script_in ts) (script_in ts).fault
+unfolding script_in
+read_by ts c (Ok x) e found =
+    let S = script_is ts x.0 x.1 c e in
+    rw found.0 (subst (λ (es : List Event). IsScript (header_of ts) es ts) (sym found.1) S)
+read_by ts c (Err []) e found = absurd (fault_somewhere ts c (script_at_fault ts [] e))
+read_by ts c (Err (t ∷ rest)) e found =
+    let F = fault_is ts t rest (script_at_fault ts (t ∷ rest) e) in
+    rw found (F.0, t, rest, F.1, refl, F.2, kept_with_header ts F.0 t rest F.1 e)
+
+pub script_read : (ts : List Item) → IsClosed ts → IsRead ts (script_in ts) (script_in ts).fault
+script_read ts c = read_by ts c (events_at 4096 (behind_header ts)) refl (found_is 4096 (behind_header ts))

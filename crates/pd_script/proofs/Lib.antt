@@ -1,0 +1,16 @@
+-- The lemmas.
+pub mod Laws
+pub mod Machines
+pub mod Apart
+pub mod ArgumentLaws
+pub mod GrammarLaws
+pub mod Capped
+pub mod Taking
+pub mod ArgumentSteps
+pub mod Finding
+pub mod Few
+pub mod Matches
+pub mod ArgumentSound
+pub mod HeaderLaws
+pub mod ScriptLaws
+pub mod Kept

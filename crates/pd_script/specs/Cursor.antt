@@ -1,0 +1,21 @@
+-- A cursor over the items of a text.
+use Rattle.std.specs.Prelude.{◌≡◌, ℕ, List, [], ◌∷◌, length, max, Result, Ok, Err}
+use Rattle.pd_lex.specs.declared.token.Token.{Token}
+use Rattle.pd_lex.specs.declared.token.Lexed.{Lexed}
+use Rattle.pd_lex.specs.declared.token.Lexed.TheVariants as lexed
+use Rattle.pd_lex.specs.Tokens.{Item, lexeme, ending, bad, items, lexeme_of}
+use Rattle.pd_script.specs.declared.stops.Stop.{Stop}
+use Rattle.pd_script.specs.declared.stops.Stop.TheVariants as stops
+use Rattle.pd_script.specs.Reader.{Read}
+
+-- the items that are left: the next, as the lexer answered it, and those behind it
+abbrev pub left : List (List ℕ) → Lexed → List Item
+left lines (lexed.Token t after) = lexeme (lexeme_of lines t) ∷ items lines after
+left lines lexed.End = ending (max 1 (length lines)) ∷ []
+left lines (lexed.Bad line) = bad line ∷ []
+
+-- what a method of a cursor answered, and what it left, are what was read; at a fault it stands there
+abbrev pub Leaves : {X : Type 0} → Result X Stop → List Item → Read X → Type 0
+Leaves (Ok x) rest read = read ≡ Ok (x, rest)
+Leaves (Err stops.Syntax) rest read = read ≡ Err rest
+Leaves (Err stops.OutOfMemory) rest read = Unit {0}

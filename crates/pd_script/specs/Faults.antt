@@ -1,0 +1,57 @@
+-- Scripts, and where a text that is none goes wrong.
+use Rattle.std.specs.Prelude.{◌≡◌, ℕ, ◌≤◌, Bool, true, false, List, [], ◌∷◌, ◌++◌, length, Option, Some, None, ◌⊎◌}
+use Rattle.std.specs.List.{list_all}
+use Rattle.pd_lex.specs.Tokens.{Item, line_of}
+use Rattle.pd_script.specs.Items.{is_header, is_end, is_plain, goes_on}
+use Rattle.pd_script.specs.Header.{header_item}
+use Rattle.pd_script.specs.Grammar.{IsEvent}
+use Rattle.pd_script.specs.declared.script_header.HeaderItem.{HeaderItem}
+use Rattle.pd_script.specs.declared.script_events.Event.{Event}
+use Rattle.pd_script.specs.declared.parsing.Parsed.{Parsed}
+
+-- options and commands, one after the other, and what is left
+abbrev pub IsHeader : List HeaderItem → List Item → List Item → Type 0
+IsHeader [] ts rest = ts ≡ rest
+IsHeader (h ∷ hs) ts rest = (t : Item) × (others : List Item) × (ts ≡ t ∷ others) × (is_header t ≡ true) × (h ≡ header_item t) × IsHeader hs others rest
+
+-- events, one after the other, and what is left
+abbrev pub AreEvents : List Event → List Item → List Item → Type 0
+AreEvents [] ts rest = ts ≡ rest
+AreEvents (e ∷ es) ts rest = (middle : List Item) × IsEvent e ts middle × AreEvents es middle rest
+
+-- a script: a header, at most 4,096 events, and the end
+pub record IsScript (header : List HeaderItem) (events : List Event) (ts : List Item) : Type 0 where
+  pub behind : List Item
+  pub end : Item
+  pub begins : IsHeader header ts behind
+  pub goes : AreEvents events behind (end ∷ [])
+  pub ends : is_end end ≡ true
+  pub limit : length events ≤ 4096
+
+-- items that begin a script
+pub record Begins (front : List Item) : Type 0 where
+  pub more : List Item
+  pub header : List HeaderItem
+  pub events : List Event
+  pub script : IsScript header events (front ++ more)
+
+-- the first item at which no script goes on: what stands before it begins a script, which goes on with numbers, words and
+-- symbols alone, and with it nothing does
+pub record IsFault (front : List Item) (t : Item) : Type 0 where
+  pub before : Begins front
+  pub plain : list_all is_plain before.more ≡ true
+  pub none : Begins (front ++ t ∷ []) → ⊥
+
+-- the header before a fault, and the events before it whose next token stands before it too
+pub record IsKept (header : List HeaderItem) (events : List Event) (front : List Item) : Type 0 where
+  pub behind : List Item
+  pub others : List Item
+  pub begins : IsHeader header front behind
+  pub goes : AreEvents events behind others
+  pub reached : (events ≡ []) ⊎ ((next : Item) × (more : List Item) × (others ≡ next ∷ more))
+  pub last : (e : Event) (next : Item) (more : List Item) → IsEvent e others (next ∷ more) → goes_on next ≡ true → ⊥
+
+-- the items are a script that was read, or they were read up to their fault
+abbrev pub IsRead : List Item → Parsed → Option ℕ → Type 0
+IsRead ts parsed None = IsScript parsed.header parsed.events ts
+IsRead ts parsed (Some line) = (front : List Item) × (t : Item) × (rest : List Item) × (ts ≡ front ++ t ∷ rest) × (line ≡ line_of t) × IsFault front t × IsKept parsed.header parsed.events front

@@ -1,0 +1,47 @@
+-- What a text is read as.
+use Rattle.std.specs.Prelude.{ℕ, zero, suc, Bool, List, [], ◌∷◌, ◌++◌, Option, Some, None, Result, Ok, Err, if◌then◌else◌}
+use Rattle.pd_lex.specs.Tokens.{Item, line_of, items}
+use Rattle.pd_lex.specs.Places.{first_place}
+use Rattle.pd_script.specs.Items.{is_end, starts_event, goes_on}
+use Rattle.pd_script.specs.Header.{header_of, behind_header}
+use Rattle.pd_script.specs.Reader.{Read, next_is}
+use Rattle.pd_script.specs.Reading.{next_line, event_at}
+use Rattle.pd_script.specs.declared.script_events.Event.{Event}
+use Rattle.pd_script.specs.declared.parsing.Found.{Found}
+use Rattle.pd_script.specs.declared.parsing.Parsed.{Parsed}
+
+-- what may follow an event when there may be so many more
+abbrev pub may_follow : ℕ → Item → Bool
+may_follow zero = is_end
+may_follow (suc n) = goes_on
+
+-- an event, if what follows it may
+abbrev pub followed : {A : Type 0} → (Item → Bool) → Read A → Read A
+followed test (Ok x) = if next_is test x.1 then Ok x else Err x.1
+followed test (Err rest) = Err rest
+
+-- events in front of those that are found further on
+abbrev pub in_front : List Event → Found → Found
+in_front es found = record { events = es ++ found.events; fault = found.fault }
+
+abbrev pub with_event : (List Item → Found) → Read Event → Found
+with_event others (Ok x) = in_front (x.0 ∷ []) (others x.1)
+with_event others (Err rest) = record { events = []; fault = Some (next_line rest) }
+
+abbrev pub at_end : List Item → Found
+at_end ts = record { events = []; fault = if next_is is_end ts then None else Some (next_line ts) }
+
+-- the events of the items, at most so many, each kept where what follows it may
+unfoldable pub found_in : ℕ → List Item → Found
+found_in zero ts = at_end ts
+found_in (suc n) ts = if next_is starts_event ts then with_event (found_in n) (followed (may_follow n) (event_at ts)) else at_end ts
+
+-- what the items of a text are read as: a header, and at most 4,096 events
+unfoldable pub script_in : List Item → Parsed
+script_in ts =
+    let found = found_in 4096 (behind_header ts) in
+    record { header = header_of ts; events = found.events; fault = found.fault }
+
+-- what a text is read as
+unfoldable pub script_of : List (List ℕ) → Parsed
+script_of lines = script_in (items lines first_place)

@@ -1,0 +1,132 @@
+//! Pairs of brackets.
+ghost use Rattle.std.specs.Prelude.{◌≡◌, ◌<◌, ◌≤◌, [], ◌∷◌, length, Some, None, IfSome, IfNone, OnOk, OnErr, nat_eq, ◌==◌};
+ghost use Rattle.pd_lex.specs.Tokens.{lexeme, lexeme_of};
+ghost use Rattle.pd_script.specs.Brackets.{opened_by, is_closing, closing_octet, pairs_after};
+
+use crate::stops::Stop;
+use crate::token_tests::is_symbol;
+use arrayvec::ArrayVec;
+use pd_lex::Token;
+use pd_text::Lines;
+use std::marker::Model;
+
+/// The greatest number of pairs inside one another.
+pub const MAX_DEPTH: usize = 16;
+
+/// A pair of brackets.
+#[derive(Clone, Copy, Debug, Default, PartialEq, Eq)]
+pub enum Bracket {
+    #[default]
+    Round,
+    Square,
+    Curly,
+}
+
+impl Bracket {
+    ghost use Rattle.pd_script.specs.Brackets.{closing_octet};
+
+    fn closing_octet(self) -> u8
+        ensures { result ≡ closing_octet self }
+    {
+        match self {
+            Bracket::Round => b')',
+            Bracket::Square => b']',
+            Bracket::Curly => b'}',
+        }
+    }
+}
+
+/// The pair that a token opens.
+fn opened_by(lines: &Lines, token: &Token) -> Option<Bracket>
+    ensures { result ≡ opened_by (lexeme (lexeme_of lines.now token.now)) }
+{
+    if is_symbol(lines, token, b'(') {
+        Some(Bracket::Round)
+    } else if is_symbol(lines, token, b'[') {
+        Some(Bracket::Square)
+    } else if is_symbol(lines, token, b'{') {
+        Some(Bracket::Curly)
+    } else {
+        None
+    }
+}
+
+fn is_closing(lines: &Lines, token: &Token) -> bool
+    ensures { result ≡ is_closing (lexeme (lexeme_of lines.now token.now)) }
+{
+    is_symbol(lines, token, b')') || is_symbol(lines, token, b']') || is_symbol(lines, token, b'}')
+}
+
+/// The pairs that are open, the innermost first; at most 16.
+#[derive(Drop)]
+pub struct OpenPairs {
+    pairs: ArrayVec<Bracket, 16>,
+}
+
+impl Model for OpenPairs {
+    ghost use Rattle.std.specs.Prelude.{List, reverse};
+    ghost use Rattle.pd_script.specs.declared.brackets.Bracket.{Bracket};
+
+    ghost Value = { List Bracket };
+
+    ghost view = { λ p. reverse p.pairs.items };
+}
+
+impl OpenPairs {
+    pub fn new() -> OpenPairs
+        ensures { result ≡ [] }
+    {
+        OpenPairs {
+            pairs: ArrayVec::new(),
+        }
+    }
+
+    pub fn is_empty(&self) -> bool
+        ensures { result ≡ (length self.now == 0) }
+    {
+        self.pairs.len() == 0
+    }
+
+    fn len(&self) -> usize
+        ensures { result ≡ length self.now }
+    {
+        self.pairs.len()
+    }
+
+    fn push(&mut self, bracket: Bracket)
+        requires { length self.old < 16 }
+        ensures { self.new ≡ bracket ∷ self.old }
+    {
+        self.pairs.push(bracket);
+    }
+
+    fn pop(&mut self) -> Option<Bracket>
+        ensures some { IfSome result (λ bracket. self.old ≡ bracket ∷ self.new) }
+        ensures none { IfNone result (self.old ≡ []) }
+    {
+        self.pairs.pop()
+    }
+
+    /// Goes over a token, where at most so many pairs may be open.
+    pub fn pass(&mut self, lines: &Lines, token: &Token, most: usize) -> Result<(), Stop>
+        requires { most ≤ 16 }
+        ensures ok { OnOk result (pairs_after most self.old (lexeme (lexeme_of lines.now token.now)) ≡ Some self.new) }
+        ensures err { OnErr result (pairs_after most self.old (lexeme (lexeme_of lines.now token.now)) ≡ None) }
+        ensures syntax { OnErr result (result ≡ Err Stop.Syntax) }
+    {
+        if let Some(bracket) = opened_by(lines, token) {
+            if self.len() >= most {
+                return Err(Stop::Syntax);
+            }
+            self.push(bracket);
+        } else if is_closing(lines, token) {
+            let Some(bracket) = self.pop() else {
+                return Err(Stop::Syntax);
+            };
+            if !is_symbol(lines, token, bracket.closing_octet()) {
+                return Err(Stop::Syntax);
+            }
+        }
+        Ok(())
+    }
+}

@@ -1,0 +1,119 @@
+//! System calls as a script writes them.
+ghost use Rattle.std.specs.Prelude.{◌≡◌, [], ◌∷◌, ◌++◌, length, OnOk};
+
+use std::alloc::{AllocError, Global};
+use std::marker::Model;
+
+/// A system call with its arguments and the result that the script expects.
+#[derive(Debug, Drop)]
+pub struct Call {
+    pub function: Function,
+    pub arguments: Arguments,
+    pub result: Outcome,
+}
+
+/// The name of a call.
+#[derive(Clone, Copy, Debug, PartialEq, Eq)]
+pub enum Function {
+    Socket,
+    Bind,
+    Listen,
+    Accept,
+    Setsockopt,
+    Fcntl,
+    Write,
+    Close,
+    /// Any other word.
+    Unknown,
+}
+
+/// The arguments of a call, in order.
+#[derive(Debug, Drop)]
+pub struct Arguments {
+    arguments: Vec<Argument>,
+}
+
+impl Model for Arguments {
+    ghost use Rattle.std.specs.Prelude.{List};
+    ghost use Rattle.pd_script.specs.declared.calls.Argument.{Argument};
+
+    ghost Value = { List Argument };
+
+    ghost view = { λ l. l.arguments.items };
+}
+
+/// An argument of a call.
+#[derive(Clone, Copy, Debug, PartialEq, Eq)]
+pub enum Argument {
+    /// A whole number in digits; one above the greatest `u64` stands as that.
+    Int(u64),
+    /// A word.
+    Constant(Constant),
+    /// A whole number in digits between `[` and `]`, as `Int`.
+    Element(u64),
+    /// Anything else.
+    Other,
+}
+
+/// A word that stands as an argument.
+#[derive(Clone, Copy, Debug, PartialEq, Eq)]
+pub enum Constant {
+    SockStream,
+    IpprotoTcp,
+    SolSocket,
+    SolTcp,
+    SoReuseaddr,
+    TcpNodelay,
+    FSetfl,
+    /// Any other word.
+    Unknown,
+}
+
+/// The result that a script expects of a call, its number at most 4,294,967,295.
+#[derive(Clone, Copy, Debug, PartialEq, Eq)]
+pub enum Outcome {
+    Int(u32),
+    Hex(u32),
+    /// `-` and a number, with the name of an error if one is written.
+    Negative(u32, Option<ErrorName>),
+}
+
+/// The name of an error.
+#[derive(Clone, Copy, Debug, PartialEq, Eq)]
+pub enum ErrorName {
+    Ebadf,
+    Einval,
+    Eagain,
+    Epipe,
+    /// Any other word.
+    Unknown,
+}
+
+impl Arguments {
+    pub fn new(alloc: Global) -> Arguments
+        ensures { result ≡ [] }
+    {
+        Arguments {
+            arguments: Vec::new(alloc),
+        }
+    }
+
+    pub fn push(&mut self, argument: Argument) -> Result<(), AllocError>
+        ensures { OnOk result (self.new ≡ self.old ++ argument ∷ []) }
+    {
+        self.arguments.push(argument)?;
+        Ok(())
+    }
+
+    pub fn len(&self) -> usize
+        ensures { result ≡ length self.now }
+    {
+        self.arguments.len()
+    }
+
+    pub fn as_slice(&self) -> &[Argument]
+        ensures { result.now ≡ self.now }
+    {
+        self.arguments.as_slice()
+    }
+}

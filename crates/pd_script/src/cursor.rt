@@ -1,0 +1,236 @@
+//! A cursor over the tokens of a text.
+ghost use Rattle.std.specs.Prelude.{◌≡◌, Ok, Err, IfSome, IfNone};
+ghost use Rattle.pd_lex.specs.Places.{first_place};
+ghost use Rattle.pd_lex.specs.Tokens.{items};
+ghost use Rattle.pd_script.specs.Items.{is_int, is_hex, is_word, is_symbol, is_end, starts_event, goes_on};
+ghost use Rattle.pd_script.specs.Reader.{next_is};
+ghost use Rattle.pd_script.specs.Reading.{next_line, header_item_at, symbol_at, int_at, hex_at, num_at, function_at, error_at};
+ghost use Rattle.pd_script.specs.Brackets.{part_at, behind_token};
+ghost use Rattle.pd_script.specs.Cursor.{Leaves};
+
+use crate::brackets::MAX_DEPTH;
+use crate::calls::{ErrorName, Function};
+use crate::drafts::Inside;
+use crate::script_header::HeaderItem;
+use crate::stops::Stop;
+use crate::token_tests::{
+    error_of, function_of, header_item_of, hex_of, int_of, is_hex, is_int, is_num, is_symbol, is_word, num_of, symbol_line,
+};
+use pd_lex::{Lexed, Place, next_token};
+use pd_text::Lines;
+use std::marker::Model;
+
+/// A text from its next token on.
+#[derive(Drop)]
+pub struct Cursor<'a> {
+    lines: &'a Lines,
+    next: Lexed,
+}
+
+impl<'a> Model for Cursor<'a> {
+    ghost use Rattle.std.specs.Prelude.{List};
+    ghost use Rattle.pd_lex.specs.Tokens.{Item};
+    ghost use Rattle.pd_script.specs.Cursor.{left};
+
+    ghost Value = { List Item };
+
+    ghost view = { λ c. left c.lines.now c.next };
+}
+
+impl<'a> Cursor<'a> {
+    pub fn new(lines: &'a Lines) -> Cursor<'a>
+        ensures { result ≡ items lines.now first_place }
+    {
+        Cursor {
+            lines,
+            next: next_token(lines, Place::first()),
+        }
+    }
+
+    /// The line in which the next token, the end or the bad place begins.
+    #[tactic(auto, unfolding(pd_lex::specs::Tokens::lexeme_of))]
+    pub fn line(&self) -> usize
+        ensures { result ≡ next_line self.now }
+    {
+        match self.next {
+            Lexed::Token(token, _) => token.line,
+            Lexed::End => self.lines.len().max(1),
+            Lexed::Bad(line) => line,
+        }
+    }
+
+    pub fn is_end(&self) -> bool
+        ensures { result ≡ next_is is_end self.now }
+    {
+        matches!(self.next, Lexed::End)
+    }
+
+    pub fn is_symbol(&self, octet: u8) -> bool
+        ensures { result ≡ next_is (is_symbol octet) self.now }
+    {
+        match &self.next {
+            Lexed::Token(token, _) => is_symbol(self.lines, token, octet),
+            _ => false,
+        }
+    }
+
+    pub fn is_int(&self) -> bool
+        ensures { result ≡ next_is is_int self.now }
+    {
+        match &self.next {
+            Lexed::Token(token, _) => is_int(self.lines, token),
+            _ => false,
+        }
+    }
+
+    pub fn is_hex(&self) -> bool
+        ensures { result ≡ next_is is_hex self.now }
+    {
+        match &self.next {
+            Lexed::Token(token, _) => is_hex(self.lines, token),
+            _ => false,
+        }
+    }
+
+    /// Whether an event begins here.
+    pub fn starts_event(&self) -> bool
+        ensures { result ≡ next_is starts_event self.now }
+    {
+        match &self.next {
+            Lexed::Token(token, _) => is_num(self.lines, token) || is_symbol(self.lines, token, b'+'),
+            _ => false,
+        }
+    }
+
+    pub fn is_word(&self) -> bool
+        ensures { result ≡ next_is is_word self.now }
+    {
+        match &self.next {
+            Lexed::Token(token, _) => is_word(self.lines, token),
+            _ => false,
+        }
+    }
+
+    /// Takes a symbol, and answers its line.
+    pub fn symbol(&mut self, octet: u8) -> Result<usize, Stop>
+        ensures { Leaves result self.new (symbol_at octet self.old) }
+    {
+        let Lexed::Token(token, after) = self.next else {
+            return Err(Stop::Syntax);
+        };
+        let Some(line) = symbol_line(self.lines, &token, octet) else {
+            return Err(Stop::Syntax);
+        };
+        self.next = next_token(self.lines, after);
+        Ok(line)
+    }
+
+    /// Takes a whole number.
+    pub fn int(&mut self) -> Result<u32, Stop>
+        ensures { Leaves result self.new (int_at self.old) }
+    {
+        let Lexed::Token(token, after) = self.next else {
+            return Err(Stop::Syntax);
+        };
+        let Some(number) = int_of(self.lines, &token) else {
+            return Err(Stop::Syntax);
+        };
+        self.next = next_token(self.lines, after);
+        Ok(number)
+    }
+
+    /// Takes a hexadecimal number.
+    pub fn hex(&mut self) -> Result<u32, Stop>
+        ensures { Leaves result self.new (hex_at self.old) }
+    {
+        let Lexed::Token(token, after) = self.next else {
+            return Err(Stop::Syntax);
+        };
+        let Some(number) = hex_of(self.lines, &token) else {
+            return Err(Stop::Syntax);
+        };
+        self.next = next_token(self.lines, after);
+        Ok(number)
+    }
+
+    /// Takes a number of microseconds, and answers its line with it.
+    pub fn num(&mut self) -> Result<(usize, u64), Stop>
+        ensures { Leaves result self.new (num_at self.old) }
+    {
+        let Lexed::Token(token, after) = self.next else {
+            return Err(Stop::Syntax);
+        };
+        let Some(number) = num_of(self.lines, &token) else {
+            return Err(Stop::Syntax);
+        };
+        self.next = next_token(self.lines, after);
+        Ok(number)
+    }
+
+    /// Takes the name of a call.
+    pub fn function(&mut self) -> Result<Function, Stop>
+        ensures { Leaves result self.new (function_at self.old) }
+    {
+        let Lexed::Token(token, after) = self.next else {
+            return Err(Stop::Syntax);
+        };
+        let Some(function) = function_of(self.lines, &token) else {
+            return Err(Stop::Syntax);
+        };
+        self.next = next_token(self.lines, after);
+        Ok(function)
+    }
+
+    /// Takes the name of an error.
+    pub fn error(&mut self) -> Result<ErrorName, Stop>
+        ensures { Leaves result self.new (error_at self.old) }
+    {
+        let Lexed::Token(token, after) = self.next else {
+            return Err(Stop::Syntax);
+        };
+        let Some(name) = error_of(self.lines, &token) else {
+            return Err(Stop::Syntax);
+        };
+        self.next = next_token(self.lines, after);
+        Ok(name)
+    }
+
+    /// Takes an option or a command of the header, if one stands here.
+    pub fn header_item(&mut self) -> Option<HeaderItem>
+        ensures some { IfSome result (λ item. header_item_at self.old ≡ Ok (item, self.new)) }
+        ensures none { IfNone result (header_item_at self.old ≡ Err self.new) }
+        ensures same { IfNone result (self.new ≡ self.old) }
+    {
+        let Lexed::Token(token, after) = self.next else {
+            return None;
+        };
+        let item = header_item_of(self.lines, &token)?;
+        self.next = next_token(self.lines, after);
+        Some(item)
+    }
+
+    /// Goes over a token.
+    pub fn advance(&mut self)
+        ensures { self.new ≡ behind_token self.old }
+    {
+        if let Lexed::Token(_, after) = self.next {
+            self.next = next_token(self.lines, after);
+        }
+    }
+
+    /// Takes a token that is a part of an argument.
+    pub fn part(&mut self, inside: Inside) -> Result<Inside, Stop>
+        ensures { Leaves result self.new (part_at inside self.old) }
+    {
+        let Lexed::Token(token, after) = self.next else {
+            return Err(Stop::Syntax);
+        };
+        let Inside { mut pairs, draft } = inside;
+        pairs.pass(self.lines, &token, MAX_DEPTH)?;
+        self.next = next_token(self.lines, after);
+        Ok(Inside {
+            pairs,
+            draft: draft.with(self.lines, &token),
+        })
+    }
+}

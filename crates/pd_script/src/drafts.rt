@@ -1,0 +1,98 @@
+//! Arguments, as far as they are read.
+ghost use Rattle.std.specs.Prelude.{◌≡◌};
+
+use crate::brackets::OpenPairs;
+use crate::calls::Argument;
+use crate::names::constant_named;
+use crate::numbers::number;
+use crate::token_tests::{is_any_int, is_symbol, is_word};
+use pd_lex::Token;
+use pd_text::Lines;
+
+/// The tokens of an argument so far.
+#[derive(Clone, Copy, Debug, PartialEq, Eq)]
+pub enum Draft {
+    /// None.
+    Empty,
+    /// One, which is an argument of its own.
+    Single(Argument),
+    /// `[`.
+    Opened,
+    /// `[` and a number.
+    Numbered(u64),
+    /// `[`, a number and `]`.
+    Element(u64),
+    /// Others.
+    Mixed,
+}
+
+impl Draft {
+    ghost use Rattle.pd_lex.specs.Tokens.{lexeme, lexeme_of};
+    ghost use Rattle.pd_script.specs.Brackets.{single_draft, longer_draft, drafted, is_empty};
+
+    #[tactic(auto, unfolding(pd_lex::specs::Tokens::lexeme_of))]
+    fn single(lines: &Lines, token: &Token) -> Draft
+        ensures { result ≡ single_draft (lexeme (lexeme_of lines.now token.now)) }
+    {
+        if is_any_int(lines, token) {
+            Draft::Single(Argument::Int(number(token.text(lines))))
+        } else if is_word(lines, token) {
+            Draft::Single(Argument::Constant(constant_named(token.text(lines))))
+        } else if is_symbol(lines, token, b'[') {
+            Draft::Opened
+        } else {
+            Draft::Mixed
+        }
+    }
+
+    /// The draft with one token more.
+    #[tactic(auto, unfolding(pd_lex::specs::Tokens::lexeme_of))]
+    pub fn with(self, lines: &Lines, token: &Token) -> Draft
+        ensures { result ≡ longer_draft self (lexeme (lexeme_of lines.now token.now)) }
+    {
+        match self {
+            Draft::Empty => Draft::single(lines, token),
+            Draft::Opened if is_any_int(lines, token) => Draft::Numbered(number(token.text(lines))),
+            Draft::Numbered(n) if is_symbol(lines, token, b']') => Draft::Element(n),
+            _ => Draft::Mixed,
+        }
+    }
+
+    /// The argument that the tokens make.
+    pub fn argument(self) -> Argument
+        ensures { result ≡ drafted self }
+    {
+        match self {
+            Draft::Single(argument) => argument,
+            Draft::Element(n) => Argument::Element(n),
+            _ => Argument::Other,
+        }
+    }
+
+    pub fn is_empty(self) -> bool
+        ensures { result ≡ is_empty self }
+    {
+        matches!(self, Draft::Empty)
+    }
+}
+
+/// Within the brackets of a call: the pairs that are open there, and the tokens of the argument so far.
+#[derive(Drop)]
+pub struct Inside {
+    pub pairs: OpenPairs,
+    pub draft: Draft,
+}
+
+impl Inside {
+    ghost use Rattle.pd_script.specs.Brackets.{fresh};
+
+    /// Where an argument begins.
+    pub fn fresh() -> Inside
+        ensures { result ≡ fresh }
+    {
+        Inside {
+            pairs: OpenPairs::new(),
+            draft: Draft::Empty,
+        }
+    }
+}

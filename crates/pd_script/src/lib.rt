@@ -1,0 +1,27 @@
+//! Scripts of packetdrill, read from their tokens.
+#![tactic(auto)]
+
+mod brackets;
+mod calls;
+mod cursor;
+mod drafts;
+mod names;
+mod numbers;
+mod packets;
+mod parsing;
+mod read_arguments;
+mod read_events;
+mod read_script;
+mod script_events;
+mod script_header;
+mod stops;
+mod timing;
+mod token_tests;
+
+pub use calls::{Argument, Arguments, Call, Constant, ErrorName, Function, Outcome};
+pub use packets::{Block, Blocks, Flags, OptionList, Options, Packet, PacketOption};
+pub use parsing::Parsed;
+pub use read_script::{MAX_EVENTS, parse};
+pub use script_events::{Action, Event, Events};
+pub use script_header::{Header, HeaderItem, HeaderKind};
+pub use timing::{Time, Until};

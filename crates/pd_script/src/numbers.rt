@@ -1,0 +1,116 @@
+//! The numbers that tokens write.
+ghost use Rattle.std.specs.Prelude.{◌≡◌, ◌+◌, ◌-◌, ◌*◌, ◌^◌, ◌≤◌, ◌++◌, min, fold, length, drop, take, replicate};
+ghost use Rattle.std.specs.Char.{digit_value};
+ghost use Rattle.std.specs.Str.Parse.{digits_value, digits_value_after};
+ghost use Rattle.std.specs.List.{list_all};
+ghost use Rattle.pd_lex.specs.Octets.{is_digit};
+ghost use Rattle.pd_script.specs.Items.{is_digits};
+ghost use Rattle.pd_script.specs.Values.{number, hex_number, capped_number, capped_digit, whole_len, whole_digits, microseconds};
+
+/// The greatest number of a time, a packet or a result.
+pub const GREATEST: u64 = 4_294_967_295;
+
+/// What an octet stands for as a digit in a base up to 36, or 36.
+fn digit_value(octet: u8) -> u64
+    ensures { result ≡ digit_value octet }
+{
+    match octet {
+        b'0'..=b'9' => u64::from(octet - b'0'),
+        b'A'..=b'Z' => u64::from(octet - b'A') + 10,
+        b'a'..=b'z' => u64::from(octet - b'a') + 10,
+        _ => 36,
+    }
+}
+
+/// The number that the digits write behind those of `value`; one above the greatest `u64` stands as that.
+fn value_after(radix: u64, value: u64, digits: &[u8]) -> u64
+    ensures { result ≡ fold (capped_digit radix) value digits.now }
+{
+    digits
+        .iter()
+        .fold(value, |value, digit| value.saturating_mul(radix).saturating_add(digit_value(*digit)))
+}
+
+/// The number in digits; one above the greatest `u64` stands as that.
+#[tactic(auto, using(crate::proofs::Capped::capping))]
+pub fn number(digits: &[u8]) -> u64
+    ensures { result ≡ capped_number digits.now }
+{
+    value_after(10, 0, digits)
+}
+
+/// The digits behind `0x`.
+fn hex_digits(text: &[u8]) -> &[u8]
+    ensures { result.now ≡ drop 2 text.now }
+{
+    if text.len() < 2 { &[] } else { &text[2..] }
+}
+
+/// The number in hexadecimal digits behind `0x`; one above the greatest `u64` stands as that.
+#[tactic(auto, using(crate::proofs::Capped::capping))]
+pub fn hex_number(text: &[u8]) -> u64
+    ensures { result ≡ min (hex_number text.now) (2 ^ 64 - 1) }
+{
+    value_after(16, 0, hex_digits(text))
+}
+
+/// How many octets stand before the point.
+fn whole_len(text: &[u8]) -> usize
+    ensures len { result ≡ whole_len text.now }
+    ensures within { result ≤ length text.now }
+{
+    text.iter().take_while(|octet| **octet != b'.').count()
+}
+
+/// The digits before the point.
+pub fn whole_digits(text: &[u8]) -> &[u8]
+    ensures { result.now ≡ whole_digits text.now }
+{
+    &text[..whole_len(text)]
+}
+
+/// The digits behind the point.
+fn decimals(text: &[u8]) -> &[u8]
+    ensures { result.now ≡ drop (whole_len text.now + 1) text.now }
+{
+    let len = whole_len(text);
+    if len < text.len() { &text[len + 1..] } else { &[] }
+}
+
+/// The number that six decimals write behind the digits of `value`; those not written are zeros.
+fn six_decimals_after(value: u64, decimals: &[u8]) -> u64
+    ensures { result ≡ fold (capped_digit 10) value (take 6 (decimals.now ++ replicate 6 48)) }
+{
+    decimals
+        .iter()
+        .chain(b"000000".iter())
+        .take(6)
+        .fold(value, |value, digit| value.saturating_mul(10).saturating_add(digit_value(*digit)))
+}
+
+/// The microseconds of seconds in digits, or in digits with a point.
+pub fn microseconds(text: &[u8]) -> u64
+    requires { number (whole_digits text.now) ≤ 4294967295 }
+    ensures { result ≡ microseconds text.now }
+{
+    six_decimals_after(number(whole_digits(text)), decimals(text))
+}
+
+fn is_digit_octet(octet: u8) -> bool
+    ensures { result ≡ is_digit octet }
+{
+    matches!(octet, b'0'..=b'9')
+}
+
+fn all_digits(octets: &[u8]) -> bool
+    ensures { result ≡ list_all is_digit octets.now }
+{
+    octets.iter().all(|octet| is_digit_octet(*octet))
+}
+
+/// Whether the octets are digits, one or more.
+pub fn is_digits(octets: &[u8]) -> bool
+    ensures { result ≡ is_digits octets.now }
+{
+    0 < octets.len() && all_digits(octets)
+}

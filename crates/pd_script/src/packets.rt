@@ -1,0 +1,164 @@
+//! Packets as a script writes them.
+ghost use Rattle.std.specs.Prelude.{◌≡◌, [], ◌∷◌, ◌++◌, length, IfOk, OnOk};
+
+use std::alloc::{AllocError, Global};
+use std::marker::Model;
+
+/// A TCP segment as written. Sequence numbers are relative, the SYN at 0.
+#[derive(Debug, Drop)]
+pub struct Packet {
+    pub flags: Flags,
+    /// The number of the first octet of data.
+    pub start: u32,
+    /// The number after the last octet of data, at least `start`; SYN and FIN don't count.
+    pub end: u32,
+    /// `end` less `start`, in octets.
+    pub length: u32,
+    /// The acknowledgment number, if written.
+    pub ack: Option<u32>,
+    /// The window field, if written; an inbound packet always has one.
+    pub win: Option<u32>,
+    pub options: Options,
+}
+
+/// The flags of a packet.
+#[derive(Clone, Copy, Debug, PartialEq, Eq)]
+pub struct Flags {
+    /// `S`.
+    pub syn: bool,
+    /// `F`.
+    pub fin: bool,
+    /// `R`.
+    pub rst: bool,
+    /// `P`.
+    pub psh: bool,
+    /// `.`.
+    pub ack: bool,
+    /// One of `U`, `E`, `W` and `C` is written.
+    pub other: bool,
+}
+
+/// The TCP options of a packet.
+#[derive(Debug, Drop)]
+pub enum Options {
+    /// No angle brackets are written.
+    Absent,
+    /// `<...>`.
+    Any,
+    /// The options in order; `<>` has none.
+    Listed(OptionList),
+}
+
+/// TCP options in order.
+#[derive(Debug, Drop)]
+pub struct OptionList {
+    options: Vec<PacketOption>,
+}
+
+impl Model for OptionList {
+    ghost use Rattle.std.specs.Prelude.{List};
+    ghost use Rattle.pd_script.specs.declared.packets.PacketOption.{PacketOption};
+
+    ghost Value = { List PacketOption };
+
+    ghost view = { λ l. l.options.items };
+}
+
+/// A TCP option with its numbers as written, each at most 4,294,967,295.
+#[derive(Debug, Drop)]
+pub enum PacketOption {
+    /// `mss`, in octets.
+    Mss(u64),
+    /// `wscale`, a number of bits.
+    Wscale(u64),
+    /// `sackOK`.
+    SackOk,
+    /// `nop`.
+    Nop,
+    /// `eol`.
+    Eol,
+    /// `TS val .. ecr ..`.
+    Timestamp(u64, u64),
+    /// `sack` with one or more blocks.
+    Sack(Blocks),
+}
+
+/// The blocks of a `sack` option, in order.
+#[derive(Debug, Drop)]
+pub struct Blocks {
+    blocks: Vec<Block>,
+}
+
+impl Model for Blocks {
+    ghost use Rattle.std.specs.Prelude.{List};
+    ghost use Rattle.pd_script.specs.declared.packets.Block.{Block};
+
+    ghost Value = { List Block };
+
+    ghost view = { λ l. l.blocks.items };
+}
+
+/// A run of octets: the number of its first, and the number after its last.
+#[derive(Clone, Copy, Debug, PartialEq, Eq)]
+pub struct Block {
+    pub left: u64,
+    pub right: u64,
+}
+
+impl OptionList {
+    pub fn new(alloc: Global) -> OptionList
+        ensures { result ≡ [] }
+    {
+        OptionList {
+            options: Vec::new(alloc),
+        }
+    }
+
+    pub fn push(&mut self, option: PacketOption) -> Result<(), AllocError>
+        ensures { OnOk result (self.new ≡ self.old ++ option ∷ []) }
+    {
+        self.options.push(option)?;
+        Ok(())
+    }
+
+    pub fn len(&self) -> usize
+        ensures { result ≡ length self.now }
+    {
+        self.options.len()
+    }
+
+    pub fn as_slice(&self) -> &[PacketOption]
+        ensures { result.now ≡ self.now }
+    {
+        self.options.as_slice()
+    }
+}
+
+impl Blocks {
+    pub fn new(alloc: Global) -> Blocks
+        ensures { result ≡ [] }
+    {
+        Blocks {
+            blocks: Vec::new(alloc),
+        }
+    }
+
+    pub fn push(&mut self, block: Block) -> Result<(), AllocError>
+        ensures { OnOk result (self.new ≡ self.old ++ block ∷ []) }
+    {
+        self.blocks.push(block)?;
+        Ok(())
+    }
+
+    pub fn len(&self) -> usize
+        ensures { result ≡ length self.now }
+    {
+        self.blocks.len()
+    }
+
+    pub fn as_slice(&self) -> &[Block]
+        ensures { result.now ≡ self.now }
+    {
+        self.blocks.as_slice()
+    }
+}

@@ -1,0 +1,19 @@
+//! A whole script, read.
+use crate::script_events::Events;
+use crate::script_header::Header;
+
+/// What a text was read as.
+#[derive(Debug, Drop)]
+pub struct Parsed {
+    pub header: Header,
+    pub events: Events,
+    /// The line at which no script goes on, if the text is refused.
+    pub fault: Option<usize>,
+}
+
+/// The events that were read, and the line of the fault.
+#[derive(Drop)]
+pub struct Found {
+    pub events: Events,
+    pub fault: Option<usize>,
+}

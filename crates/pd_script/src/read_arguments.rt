@@ -1,0 +1,48 @@
+//! Reading the arguments of a call.
+ghost use Rattle.std.specs.Prelude.{◌≡◌};
+ghost use Rattle.pd_script.specs.Reading.{arguments_at};
+ghost use Rattle.pd_script.specs.Brackets.{is_between};
+ghost use Rattle.pd_script.specs.Cursor.{Leaves};
+
+use crate::calls::Arguments;
+use crate::cursor::Cursor;
+use crate::drafts::Inside;
+use crate::stops::Stop;
+use std::alloc::Global;
+
+impl<'a> Cursor<'a> {
+    /// Whether it stands between two arguments or behind the last.
+    fn is_between(&self, inside: &Inside) -> bool
+        ensures { result ≡ is_between inside.now self.now }
+    {
+        inside.pairs.is_empty() && (self.is_symbol(b')') || self.is_symbol(b','))
+    }
+
+    /// Takes the arguments of a call and the bracket that ends them.
+    pub fn arguments(&mut self, alloc: Global) -> Result<Arguments, Stop>
+        ensures { Leaves result self.new (arguments_at self.old) }
+    {
+        let mut arguments = Arguments::new(alloc);
+        if self.is_symbol(b')') {
+            self.advance();
+            return Ok(arguments);
+        }
+        let mut inside = Inside::fresh();
+        'tokens: loop {
+            if !self.is_between(&inside) {
+                inside = self.part(inside)?;
+                continue;
+            }
+            if inside.draft.is_empty() {
+                return Err(Stop::Syntax);
+            }
+            arguments.push(inside.draft.argument())?;
+            if self.is_symbol(b')') {
+                self.advance();
+                return Ok(arguments);
+            }
+            self.advance();
+            inside = Inside::fresh();
+        }
+    }
+}

@@ -1,0 +1,99 @@
+//! Reading a whole script.
+ghost use Rattle.std.specs.Prelude.{◌≡◌, ◌≤◌, length, IfOk, OnOk};
+ghost use Rattle.pd_script.specs.Items.{starts_event};
+ghost use Rattle.pd_script.specs.Header.{header_of, behind_header};
+ghost use Rattle.pd_script.specs.Reader.{next_is};
+ghost use Rattle.pd_script.specs.Reading.{event_at};
+ghost use Rattle.pd_script.specs.Script.{followed, may_follow, at_end, found_in, script_of};
+ghost use Rattle.pd_script.specs.Cursor.{Leaves};
+
+use crate::cursor::Cursor;
+use crate::parsing::{Found, Parsed};
+use crate::script_events::{Event, Events};
+use crate::script_header::Header;
+use crate::stops::Stop;
+use pd_text::Lines;
+use std::alloc::{AllocError, Global};
+
+/// The greatest number of events of a script.
+pub const MAX_EVENTS: usize = 4_096;
+
+impl<'a> Cursor<'a> {
+    /// Takes the header.
+    fn header(&mut self, alloc: Global) -> Result<Header, AllocError>
+        ensures header { IfOk result (λ header. header ≡ header_of self.old) }
+        ensures behind { OnOk result (self.new ≡ behind_header self.old) }
+    {
+        let mut header = Header::new(alloc);
+        'items: while let Some(item) = self.header_item() {
+            header.push(item)?;
+        }
+        Ok(header)
+    }
+
+    fn may_follow(&self, left: usize) -> bool
+        ensures { result ≡ next_is (may_follow left) self.now }
+    {
+        self.is_end() || (left > 0 && self.starts_event())
+    }
+
+    /// Takes an event, if what follows it may follow where so many more may come.
+    fn next_event(&mut self, alloc: Global, left: usize) -> Result<Event, Stop>
+        ensures { Leaves result self.new (followed (may_follow left) (event_at self.old)) }
+    {
+        let event = self.event(alloc)?;
+        if self.may_follow(left) {
+            Ok(event)
+        } else {
+            Err(Stop::Syntax)
+        }
+    }
+
+    /// The line of the fault, if the script doesn't end here.
+    fn fault(&self) -> Option<usize>
+        ensures { result ≡ (at_end self.now).fault }
+    {
+        if self.is_end() { None } else { Some(self.line()) }
+    }
+
+    /// Takes all events.
+    fn events(&mut self, alloc: Global) -> Result<Found, AllocError>
+        ensures { IfOk result (λ found. found ≡ found_in 4096 self.old) }
+    {
+        let mut events = Events::new(alloc);
+        'events: for i in 0..MAX_EVENTS {
+            if !self.starts_event() {
+                break;
+            }
+            match self.next_event(alloc, MAX_EVENTS - i - 1) {
+                Ok(event) => events.push(event)?,
+                Err(Stop::Syntax) => {
+                    let fault = Some(self.line());
+                    return Ok(Found { events, fault });
+                }
+                Err(Stop::OutOfMemory) => return Err(AllocError),
+            }
+        }
+        let fault = self.fault();
+        Ok(Found { events, fault })
+    }
+}
+
+/// Reads the script of a text.
+///
+/// # Errors
+/// Where a growth is refused.
+#[tactic(auto, using(crate::proofs::Few::script_few), unfolding(crate::specs::Script::script_of, crate::specs::Script::script_in))]
+pub fn parse(alloc: Global, lines: &Lines) -> Result<Parsed, AllocError>
+    ensures script { IfOk result (λ parsed. parsed ≡ script_of lines.now) }
+    ensures few { IfOk result (λ parsed. length parsed.events ≤ 4096) }
+{
+    let mut cursor = Cursor::new(lines);
+    let header = cursor.header(alloc)?;
+    let Found { events, fault } = cursor.events(alloc)?;
+    Ok(Parsed {
+        header,
+        events,
+        fault,
+    })
+}

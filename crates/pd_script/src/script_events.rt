@@ -1,0 +1,78 @@
+//! The events of a script.
+ghost use Rattle.std.specs.Prelude.{◌≡◌, [], ◌∷◌, ◌++◌, length, OnOk};
+
+use crate::calls::Call;
+use crate::packets::Packet;
+use crate::timing::{Time, Until};
+use std::alloc::{AllocError, Global};
+use std::marker::Model;
+
+/// An event: what happens, and when.
+#[derive(Debug, Drop)]
+pub struct Event {
+    /// The line of its first token, counted from 1.
+    pub line: usize,
+    pub time: Time,
+    /// The end of a blocking call, if one is written.
+    pub until: Option<Until>,
+    pub action: Action,
+}
+
+/// What happens at an event.
+#[derive(Debug, Drop)]
+pub enum Action {
+    /// `<`: a packet arrives.
+    Inbound(Packet),
+    /// `>`: a packet is expected to leave.
+    Outbound(Packet),
+    /// A system call is made.
+    Call(Call),
+    /// A shell command in backquotes.
+    Command,
+    /// Code between `%{` and `}%`.
+    Code,
+}
+
+/// Events in order.
+#[derive(Debug, Drop)]
+pub struct Events {
+    events: Vec<Event>,
+}
+
+impl Model for Events {
+    ghost use Rattle.std.specs.Prelude.{List};
+    ghost use Rattle.pd_script.specs.declared.script_events.Event.{Event};
+
+    ghost Value = { List Event };
+
+    ghost view = { λ l. l.events.items };
+}
+
+impl Events {
+    pub fn new(alloc: Global) -> Events
+        ensures { result ≡ [] }
+    {
+        Events {
+            events: Vec::new(alloc),
+        }
+    }
+
+    pub fn push(&mut self, event: Event) -> Result<(), AllocError>
+        ensures { OnOk result (self.new ≡ self.old ++ event ∷ []) }
+    {
+        self.events.push(event)?;
+        Ok(())
+    }
+
+    pub fn len(&self) -> usize
+        ensures { result ≡ length self.now }
+    {
+        self.events.len()
+    }
+
+    pub fn as_slice(&self) -> &[Event]
+        ensures { result.now ≡ self.now }
+    {
+        self.events.as_slice()
+    }
+}

@@ -1,0 +1,4 @@
+-- Lemmas on texts.
+pub mod SameLines
+pub mod CopiedLines
+pub mod EditedLines

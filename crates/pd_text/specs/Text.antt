@@ -1,0 +1,27 @@
+-- Texts as lists of lines.
+use Rattle.std.specs.Prelude.{ℕ, ◌+◌, ◌≤◌, ◌==◌, Bool, not, ◌&&◌, nat_le, List, length, map, sum_by, IsTrue}
+use Rattle.std.specs.List.{list_all}
+use Rattle.std.specs.declared.vec.Vec.{Vec}
+use Rattle.std.specs.declared.alloc.Global.{Global}
+
+-- the octets of each line, without its newline
+abbrev pub lists_of : List (Vec ℕ Global) → List (List ℕ)
+lists_of lines = map (λ (line : Vec ℕ Global). line.items) lines
+
+-- a line holds no newline, the octet 10
+abbrev pub is_line : List ℕ → Bool
+is_line octets = list_all (λ octet. not (octet == 10)) octets
+
+abbrev pub AreLines : List (List ℕ) → Type 0
+AreLines lines = IsTrue (list_all is_line lines)
+
+-- the octets of a text, each line counted with one more for its end
+abbrev pub octets_of : List (List ℕ) → ℕ
+octets_of lines = sum_by (λ (line : List ℕ). length line + 1) lines
+
+-- a text is within the limits: at most 4,096 lines and 65,536 octets
+abbrev pub FitsText : List (List ℕ) → Type 0
+FitsText lines = (length lines ≤ 4096) × (octets_of lines ≤ 65536)
+
+abbrev pub fits_text : List (List ℕ) → Bool
+fits_text lines = nat_le (length lines) 4096 && nat_le (octets_of lines) 65536

@@ -1,0 +1,26 @@
+//! Edits of texts.
+ghost use Rattle.std.specs.Prelude.{◌≡◌, IfOk};
+
+use crate::line_list::LineList;
+use std::alloc::AllocError;
+
+/// An edit: removes `remove` lines beginning at line `from`, counted from 1, and puts `insert` there.
+#[derive(Debug, Drop)]
+pub struct LineEdit {
+    pub from: usize,
+    pub remove: usize,
+    pub insert: LineList,
+}
+
+impl LineEdit {
+    /// An equal edit of its own.
+    pub fn copy(&self) -> Result<LineEdit, AllocError>
+        ensures { IfOk result (λ edit. edit ≡ self.now) }
+    {
+        Ok(LineEdit {
+            from: self.from,
+            remove: self.remove,
+            insert: self.insert.copy()?,
+        })
+    }
+}

@@ -1,0 +1,106 @@
+//! The names of scripts.
+ghost use Rattle.std.specs.Prelude.{◌≡◌, ◌↔◌, IfOk, IsTrue};
+ghost use Rattle.std.specs.List.{list_all};
+ghost use Rattle.pd_text.specs.Name.{is_name_octet, is_valid_name};
+
+use std::alloc::AllocError;
+use std::hash::{Hash, Hasher};
+use std::marker::Model;
+
+/// The name of a script, or what was given as one: any octets.
+#[derive(Debug, Drop)]
+pub struct Name {
+    octets: Vec<u8>,
+}
+
+impl Model for Name {
+    ghost use Rattle.std.specs.Prelude.{List, ℕ};
+
+    ghost Value = { List ℕ };
+
+    ghost view = { λ n. n.octets.items };
+}
+
+impl PartialEq for Name {
+    ghost use Rattle.std.specs.Str.{bytes_eq};
+    ghost use Rattle.std.proofs.Common.{rules};
+    ghost use Rattle.std.specs.Cmp.Rules.{comparing};
+
+    ghost eq = { bytes_eq };
+
+    ghost laws = { Prim.search (comparing, rules) };
+
+    fn eq(&self, other: &Name) -> bool {
+        self.octets.as_slice() == other.octets.as_slice()
+    }
+}
+
+impl Eq for Name {
+    ghost use Rattle.std.proofs.Common.{rules};
+    ghost use Rattle.std.specs.Cmp.Rules.{comparing};
+
+    ghost laws = { Prim.search (comparing, rules) };
+}
+
+impl Hash for Name {
+    ghost use Rattle.std.specs.Hash as fed;
+    ghost use Rattle.std.proofs.Common.{rules};
+    ghost use Rattle.std.specs.Cmp.Rules.{hashing};
+
+    ghost hash_input = { fed.slice fed.u8 };
+
+    ghost respects_eq = { Prim.search (hashing, rules) };
+
+    fn hash<H: Hasher>(&self, state: &mut H) {
+        self.octets.as_slice().hash(state);
+    }
+}
+
+impl Name {
+    pub fn new(octets: Vec<u8>) -> Name
+        ensures { result ≡ octets.items }
+    {
+        Name { octets }
+    }
+
+    pub fn as_slice(&self) -> &[u8]
+        ensures { result.now ≡ self.now }
+    {
+        self.octets.as_slice()
+    }
+
+    /// Whether it has 1 to 64 letters, digits, `_`, `-` and `.`, as a script's name must.
+    pub fn is_valid(&self) -> bool
+        ensures { result ≡ is_valid_name self.now }
+    {
+        let len = self.octets.len();
+        1 <= len && len <= 64 && all_name_octets(self.octets.as_slice())
+    }
+
+    pub fn is_same(&self, other: &Name) -> bool
+        ensures { IsTrue result ↔ (self.now ≡ other.now) }
+    {
+        self.octets.as_slice() == other.octets.as_slice()
+    }
+
+    /// An equal name of its own.
+    pub fn copy(&self) -> Result<Name, AllocError>
+        ensures { IfOk result (λ name. name ≡ self.now) }
+    {
+        Ok(Name {
+            octets: self.octets.clone()?,
+        })
+    }
+}
+
+fn is_name_octet_byte(octet: u8) -> bool
+    ensures { result ≡ is_name_octet octet }
+{
+    matches!(octet, b'a'..=b'z' | b'A'..=b'Z' | b'0'..=b'9' | b'_' | b'-' | b'.')
+}
+
+fn all_name_octets(octets: &[u8]) -> bool
+    ensures { result ≡ list_all is_name_octet octets.now }
+{
+    octets.iter().all(|octet| is_name_octet_byte(*octet))
+}
