@@ -1,3 +1,6 @@
 -- The lemmas of this crate.
+pub mod Changes
+pub mod Names
+pub mod Overlays
 pub mod SameFields
 pub mod Taken

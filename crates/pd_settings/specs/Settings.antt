@@ -1,5 +1,5 @@
 -- The settings of a run, and what a change makes of them.
-use Rattle.std.specs.Prelude.{ℕ, true, List, Option, Some, None, ok_or, Result, Err}
+use Rattle.std.specs.Prelude.{◌≡◌, ◌≢◌, ℕ, true, List, Option, Some, None, ok_or, Result, Err}
 use Rattle.std.proofs.Common.{lit≤}
 use Rattle.pd_settings.specs.declared.faults.SettingsFault.{SettingsFault}
 use Rattle.pd_settings.specs.declared.faults.SettingsFault.TheVariants.{UnknownKey, BadValue}
@@ -7,7 +7,7 @@ use Rattle.pd_settings.specs.declared.fields.Settings.{Settings}
 use Rattle.pd_settings.specs.declared.keys.Key.{Key}
 use Rattle.pd_settings.specs.declared.keys.Key.TheVariants.{Mss, Sack, Wscale, Sndbuf, RcvWnd, InitialSsthresh, MinRtoUs, MaxRtoUs, GranularityUs, Nagle, ToleranceUs}
 use Rattle.pd_settings.specs.declared.values.Value.{Value}
-use Rattle.pd_settings.specs.declared.values.Value.TheVariants.{Truth}
+use Rattle.pd_settings.specs.declared.values.Value.TheVariants.{Number, Truth}
 use Rattle.pd_settings.specs.Keys.{key_named, domain_of, taken}
 
 -- the settings that nobody changed
@@ -34,6 +34,25 @@ defaults = record {
   granularity_us_in_range = (lit≤ tt, lit≤ tt);
   tolerance_us_in_range = (lit≤ tt, lit≤ tt);
 }
+
+-- the value that the settings have at a key
+abbrev pub value_at : Settings → Key → Value
+value_at s Mss = Number s.mss
+value_at s Sack = Truth s.sack
+value_at s Wscale = Number s.wscale
+value_at s Sndbuf = Number s.sndbuf
+value_at s RcvWnd = Number s.rcv_wnd
+value_at s InitialSsthresh = Number s.initial_ssthresh
+value_at s MinRtoUs = Number s.min_rto_us
+value_at s MaxRtoUs = Number s.max_rto_us
+value_at s GranularityUs = Number s.granularity_us
+value_at s Nagle = Truth s.nagle
+value_at s ToleranceUs = Number s.tolerance_us
+
+-- the key has the value, and every other key what it had
+pub record ChangesOnly (old : Settings) (key : Key) (value : Value) (new : Settings) : Type 0 where
+  pub at_key : value_at new key ≡ value
+  pub elsewhere : (other : Key) → other ≢ key → value_at new other ≡ value_at old other
 
 -- the settings with the key's field replaced by the value; None where the key doesn't take the value
 abbrev pub replaced : Settings → Key → Value → Option Settings

@@ -1,5 +1,5 @@
 //! The settings themselves.
-ghost use Rattle.std.specs.Prelude.{◌≡◌, ◌↔◌, IsTrue};
+ghost use Rattle.std.specs.Prelude.{◌≡◌, ◌↔◌, IsTrue, IsSome, IfSome, MatchResult};
 ghost use Rattle.pd_settings.specs.Keys.{Takes, domain_of};
 ghost use Rattle.pd_settings.specs.declared.keys.Key.TheVariants.{Mss, Wscale, Sndbuf, RcvWnd, InitialSsthresh, MinRtoUs, MaxRtoUs, GranularityUs, ToleranceUs};
 ghost use Rattle.pd_settings.specs.declared.values.Value.TheVariants.{Number, Truth};
@@ -57,8 +57,8 @@ macro_rules! with_field {
 }
 
 impl Settings {
-    ghost use Rattle.pd_settings.specs.Settings.{defaults, replaced, with_value};
-    ghost use Rattle.pd_settings.specs.Table.{from_table_of};
+    ghost use Rattle.pd_settings.specs.Settings.{ChangesOnly, defaults, replaced, with_value};
+    ghost use Rattle.pd_settings.specs.Table.{AreAccepted, IsFirstFault, IsOverlay, from_table_of, overlaid};
     ghost use Rattle.toml.specs.View.{table_view};
 
     /// The defaults.
@@ -91,6 +91,14 @@ impl Settings {
     ///
     /// Takes no memory.
     pub fn replace(&self, key: Key, value: Value) -> Option<Settings>
+        ensures value { result ≡ replaced self.now key value }
+        ensures accepted { IsSome result ↔ Takes (domain_of key) value }
+        ensures changed { IfSome result (ChangesOnly self.now key value) }
+    {
+        self.after_change(key, value)
+    }
+
+    fn after_change(&self, key: Key, value: Value) -> Option<Settings>
         ensures { result ≡ replaced self.now key value }
     {
         match value {
@@ -152,9 +160,19 @@ impl Settings {
     ///
     /// The fault of the first entry that is refused, as by [`Settings::with`].
     pub fn from_table(table: &Table) -> Result<Settings, SettingsFault>
-        ensures { result ≡ from_table_of (table_view table.now) }
+        ensures value { result ≡ from_table_of (table_view table.now) }
+        ensures overlay { MatchResult result
+            (λ settings. AreAccepted (table_view table.now) × IsOverlay defaults (table_view table.now) settings)
+            (IsFirstFault (table_view table.now)) }
     {
-        let mut settings = Settings::new();
+        Settings::new().overlay(table)
+    }
+
+    /// The settings with each entry's field replaced in the table's order, or the first fault.
+    fn overlay(&self, table: &Table) -> Result<Settings, SettingsFault>
+        ensures { result ≡ overlaid self.now (table_view table.now) }
+    {
+        let mut settings = *self;
         for (key, value) in table {
             settings = settings.with(key.as_bytes(), Value::from_toml(value))?;
         }
