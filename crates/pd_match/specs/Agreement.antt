@@ -1,0 +1,101 @@
+-- What it says of a packet and of a result that they agree with what a script expects.
+use Rattle.std.specs.Prelude.{◌≡◌, ℕ, ◌+◌, ◌-◌, ◌≤◌, List, [], ◌∷◌, ◌++◌, map, Option, Some, None, ⊤}
+use Rattle.std.specs.List.{AllByRecursion}
+use Rattle.pd_script.specs.declared.calls.ErrorName.{ErrorName}
+use Rattle.pd_script.specs.declared.calls.ErrorName.TheVariants as named
+use Rattle.pd_script.specs.declared.calls.Outcome.{Outcome}
+use Rattle.pd_script.specs.declared.calls.Outcome.TheVariants.{Negative}
+use Rattle.pd_script.specs.declared.packets.Block.{Block}
+use Rattle.pd_script.specs.declared.packets.Flags as script
+use Rattle.pd_script.specs.declared.packets.Options.{Options}
+use Rattle.pd_script.specs.declared.packets.Options.TheVariants.{Absent, Any, Listed}
+use Rattle.pd_script.specs.declared.packets.Packet.{Packet}
+use Rattle.pd_script.specs.declared.packets.PacketOption.{PacketOption}
+use Rattle.pd_script.specs.declared.packets.PacketOption.TheVariants as written
+use Rattle.pd_seg.specs.declared.answers.Answer.{Answer}
+use Rattle.pd_seg.specs.declared.answers.Answer.TheVariants.{Error}
+use Rattle.pd_seg.specs.declared.answers.Errno.TheVariants as answered
+use Rattle.pd_seg.specs.declared.control_bits.Flags.{Flags}
+use Rattle.pd_seg.specs.declared.option_list.SegOption.{SegOption}
+use Rattle.pd_seg.specs.declared.option_list.SegOption.TheVariants as sent
+use Rattle.pd_seg.specs.declared.sack_blocks.Span.{Span}
+use Rattle.pd_seg.specs.declared.segments.Sent.{Sent}
+use Rattle.pd_match.specs.declared.kinds.Kind.{Kind}
+use Rattle.pd_match.specs.declared.kinds.Kind.TheVariants as kind
+use Rattle.pd_match.specs.Calls.{value_written, value_answered}
+
+-- from the first moment less the tolerance to the last one plus the tolerance; at any time for `*`
+abbrev pub IsInTime : Option (ℕ × ℕ) → ℕ → ℕ → Type 0
+IsInTime None at tolerance = ⊤
+IsInTime (Some moments) at tolerance = (moments.0 ≤ at + tolerance) × (at ≤ moments.1 + tolerance)
+
+-- the flags that a script writes, as a segment has them
+abbrev pub flags_of : script.Flags → Flags
+flags_of w = record { syn = w.syn; fin = w.fin; rst = w.rst; psh = w.psh; ack = w.ack }
+
+-- the number is the written one, if one is written
+abbrev pub IsIfWritten : Option ℕ → ℕ → Type 0
+IsIfWritten None n = ⊤
+IsIfWritten (Some w) n = w ≡ n
+
+-- a span as a script writes it
+abbrev pub block_of : Span → Block
+block_of s = record { left = s.start; right = s.end }
+
+-- an option that was sent, as a script writes it
+abbrev pub option_of : SegOption → PacketOption
+option_of (sent.Mss n) = written.Mss n
+option_of (sent.Wscale n) = written.Wscale n
+option_of sent.SackOk = written.SackOk
+option_of sent.Nop = written.Nop
+option_of sent.Eol = written.Eol
+option_of (sent.Timestamp n m) = written.Timestamp n m
+option_of (sent.Sack spans) = written.Sack (map block_of spans)
+
+-- what was sent is what is written; `<...>` stands for any options, and nothing written for none sent
+abbrev pub HasOptions : Options → List SegOption → Type 0
+HasOptions Any s = ⊤
+HasOptions Absent s = [] ≡ s
+HasOptions (Listed w) s = w ≡ map option_of s
+
+-- the packet agrees in the field with the expected one
+abbrev pub Agrees : Packet → Option (ℕ × ℕ) → Sent → ℕ → Kind → Type 0
+Agrees packet moments s tolerance kind.Time = IsInTime moments s.at tolerance
+Agrees packet moments s tolerance kind.Flags = flags_of packet.flags ≡ s.segment.flags
+Agrees packet moments s tolerance kind.Seq =
+    (packet.start ≡ s.segment.start)
+    × ((packet.end ≡ s.segment.end) × (packet.length ≡ s.segment.end - s.segment.start))
+Agrees packet moments s tolerance kind.Ack = IsIfWritten packet.ack s.segment.ack
+Agrees packet moments s tolerance kind.Win = IsIfWritten packet.win s.segment.win
+Agrees packet moments s tolerance kind.Options = HasOptions packet.options s.segment.options
+Agrees packet moments s tolerance _ = ⊤
+
+-- the kinds before this one have the fact, and it hasn't
+pub record FirstFails (P : Kind → Type 0) (kinds : List Kind) (k : Kind) : Type 0 where
+  pub before : List Kind
+  pub after : List Kind
+  pub split : kinds ≡ before ++ k ∷ after
+  pub hold : AllByRecursion P before
+  pub fails : ¬ P k
+
+-- the first kind for which the fact fails; without one, it holds for all
+abbrev pub IsFirstFailing : (Kind → Type 0) → List Kind → Option Kind → Type 0
+IsFirstFailing P kinds None = AllByRecursion P kinds
+IsFirstFailing P kinds (Some k) = FirstFails P kinds k
+
+-- the answer is the error of this name
+abbrev pub IsNamed : ErrorName → Answer → Type 0
+IsNamed named.Ebadf answer = answer ≡ Error answered.Ebadf
+IsNamed named.Einval answer = answer ≡ Error answered.Einval
+IsNamed named.Eagain answer = answer ≡ Error answered.Eagain
+IsNamed named.Epipe answer = answer ≡ Error answered.Epipe
+IsNamed named.Unknown answer = ⊥
+
+-- where an error is named, it is the answer
+abbrev pub HasError : Outcome → Answer → Type 0
+HasError (Negative _ (Some name)) answer = IsNamed name answer
+HasError _ answer = ⊤
+
+-- the answer is the result: the same number, an error being -1, and the error that is named
+abbrev pub IsResult : Outcome → Answer → Type 0
+IsResult outcome answer = (value_written outcome ≡ value_answered answer) × HasError outcome answer

@@ -1,0 +1,4 @@
+-- The definitions that the contracts cite.
+pub mod Packets
+pub mod Calls
+pub mod Agreement

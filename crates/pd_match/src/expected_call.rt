@@ -1,0 +1,62 @@
+//! The answer of a call against the result that a script expects.
+ghost use Rattle.std.specs.Prelude.{◌≡◌, ◌↔◌, IsNone};
+ghost use Rattle.pd_match.specs.Agreement.{IsResult};
+ghost use Rattle.pd_match.specs.Calls.{result_mismatch, value_answered, value_written, is_answered, same_error};
+
+use crate::kinds::Kind;
+use pd_script::{Call, ErrorName, Outcome};
+use pd_seg::{Answer, Errno};
+
+/// `Result` where the answer of the call isn't the one that the script expects, else None. They are compared as
+/// numbers, an error being -1; then, where the script names an error, that error must be the answer.
+///
+/// Takes no memory.
+pub fn check_call(call: &Call, answer: &Answer) -> Option<Kind>
+    ensures value { result ≡ result_mismatch call.now.result answer.now }
+    ensures agrees { IsNone result ↔ IsResult call.now.result answer.now }
+{
+    if written_value(call.result) == answered_value(*answer) && has_error(call.result, *answer) {
+        None
+    } else {
+        Some(Kind::Result)
+    }
+}
+
+fn written_value(outcome: Outcome) -> i64
+    ensures { result ≡ value_written outcome }
+{
+    match outcome {
+        Outcome::Int(number) | Outcome::Hex(number) => i64::from(number),
+        Outcome::Negative(number, _) => -i64::from(number),
+    }
+}
+
+fn answered_value(answer: Answer) -> i64
+    ensures { result ≡ value_answered answer }
+{
+    match answer {
+        Answer::Number(number) => i64::from(number),
+        Answer::Error(_) => -1,
+    }
+}
+
+fn has_error(outcome: Outcome, answer: Answer) -> bool
+    ensures { result ≡ same_error outcome answer }
+{
+    match outcome {
+        Outcome::Negative(_, Some(name)) => is_error(name, answer),
+        _ => true,
+    }
+}
+
+fn is_error(name: ErrorName, answer: Answer) -> bool
+    ensures { result ≡ is_answered name answer }
+{
+    matches!(
+        (name, answer),
+        (ErrorName::Ebadf, Answer::Error(Errno::Ebadf))
+            | (ErrorName::Einval, Answer::Error(Errno::Einval))
+            | (ErrorName::Eagain, Answer::Error(Errno::Eagain))
+            | (ErrorName::Epipe, Answer::Error(Errno::Epipe))
+    )
+}

@@ -1,0 +1,100 @@
+//! A packet that was sent against the packet that a script expects.
+ghost use Rattle.std.specs.Prelude.{◌≡◌};
+ghost use Rattle.pd_match.specs.Packets.{compared, in_time, same_flags, same_seq, same_if_written, mismatch, passes};
+ghost use Rattle.pd_match.specs.Agreement.{Agrees, IsFirstFailing};
+
+use crate::kinds::Kind;
+use crate::written_options::has_options;
+use pd_script::{Flags, Packet};
+use pd_seg::{Segment, Sent};
+
+/// The fields that are compared, in their order.
+const COMPARED: [Kind; 6] = [
+    Kind::Time,
+    Kind::Flags,
+    Kind::Seq,
+    Kind::Ack,
+    Kind::Win,
+    Kind::Options,
+];
+
+/// An outbound packet of a script, and when it may be sent.
+#[derive(Clone, Copy, Debug)]
+pub struct Expect<'a> {
+    pub packet: &'a Packet,
+    /// The first and the last moment, in microseconds since the start of the run; None for `*`.
+    pub moments: Option<(u64, u64)>,
+}
+
+/// The first field in the order time, flags, seq, ack, win and options in which the sent packet differs from the
+/// expected one; None where they agree. The tolerance is in microseconds.
+///
+/// Takes no memory.
+pub fn check_packet(expect: &Expect<'_>, sent: &Sent, tolerance: u64) -> Option<Kind>
+    ensures value { result ≡ mismatch expect.now.packet.now expect.now.moments sent.now tolerance }
+    ensures first { IsFirstFailing (Agrees expect.now.packet.now expect.now.moments sent.now tolerance) compared result }
+{
+    first_difference(expect, sent, tolerance)
+}
+
+fn first_difference(expect: &Expect<'_>, sent: &Sent, tolerance: u64) -> Option<Kind>
+    ensures { result ≡ mismatch expect.now.packet.now expect.now.moments sent.now tolerance }
+{
+    COMPARED
+        .iter()
+        .copied()
+        .find(|field| !agrees(expect, sent, tolerance, *field))
+}
+
+/// Whether the sent packet agrees with the expected one in the field; where the field isn't compared, it does.
+fn agrees(expect: &Expect<'_>, sent: &Sent, tolerance: u64, field: Kind) -> bool
+    ensures { result ≡ passes expect.now.packet.now expect.now.moments sent.now tolerance field }
+{
+    let packet = expect.packet;
+    let segment = &sent.segment;
+    match field {
+        Kind::Time => is_in_time(expect.moments, sent.at, tolerance),
+        Kind::Flags => has_flags(&packet.flags, &segment.flags),
+        Kind::Seq => has_seq(packet, segment),
+        Kind::Ack => is_if_written(packet.ack, segment.ack),
+        Kind::Win => is_if_written(packet.win, u32::from(segment.win)),
+        Kind::Options => has_options(&packet.options, &segment.options),
+        Kind::Result | Kind::Missing | Kind::Backwards => true,
+    }
+}
+
+fn is_in_time(moments: Option<(u64, u64)>, at: u64, tolerance: u64) -> bool
+    ensures { result ≡ in_time moments at tolerance }
+{
+    match moments {
+        Some((first, last)) => {
+            first <= at.saturating_add(tolerance) && at <= last.saturating_add(tolerance)
+        }
+        None => true,
+    }
+}
+
+fn has_flags(written: &Flags, sent: &pd_seg::Flags) -> bool
+    ensures { result ≡ same_flags written.now sent.now }
+{
+    written.syn == sent.syn
+        && written.fin == sent.fin
+        && written.rst == sent.rst
+        && written.psh == sent.psh
+        && written.ack == sent.ack
+}
+
+fn has_seq(packet: &Packet, segment: &Segment) -> bool
+    ensures { result ≡ same_seq packet.now segment.now }
+{
+    packet.start == segment.start && packet.end == segment.end && packet.length == segment.len()
+}
+
+fn is_if_written(written: Option<u32>, sent: u32) -> bool
+    ensures { result ≡ same_if_written written sent }
+{
+    match written {
+        Some(number) => number == sent,
+        None => true,
+    }
+}

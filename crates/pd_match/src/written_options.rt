@@ -1,0 +1,69 @@
+//! The options that were sent against those that a script writes.
+ghost use Rattle.std.specs.Prelude.{◌≡◌};
+ghost use Rattle.pd_match.specs.Packets.{each_pair, same_block, same_option, same_options};
+
+use pd_script::{Block, Options, PacketOption};
+use pd_seg::{SegOption, SegOptions, Span};
+
+pub fn has_options(written: &Options, sent: &SegOptions) -> bool
+    ensures { result ≡ same_options written.now sent.now }
+{
+    match written {
+        Options::Any => true,
+        Options::Absent => sent.as_slice().is_empty(),
+        Options::Listed(options) => is_list(options.as_slice(), sent.as_slice()),
+    }
+}
+
+fn is_list(written: &[PacketOption], sent: &[SegOption]) -> bool
+    ensures { result ≡ each_pair same_option written.now sent.now }
+{
+    if written.len() != sent.len() {
+        return false;
+    }
+    for (place, option) in written.iter().enumerate() {
+        if !is_option(option, &sent[place]) {
+            return false;
+        }
+    }
+    true
+}
+
+fn is_option(written: &PacketOption, sent: &SegOption) -> bool
+    ensures { result ≡ same_option written.now sent.now }
+{
+    match (written, sent) {
+        (PacketOption::Mss(number), SegOption::Mss(mss)) => *number == u64::from(*mss),
+        (PacketOption::Wscale(number), SegOption::Wscale(shift)) => *number == u64::from(*shift),
+        (PacketOption::SackOk, SegOption::SackOk)
+        | (PacketOption::Nop, SegOption::Nop)
+        | (PacketOption::Eol, SegOption::Eol) => true,
+        (PacketOption::Timestamp(number, reply), SegOption::Timestamp(value, echo)) => {
+            *number == u64::from(*value) && *reply == u64::from(*echo)
+        }
+        (PacketOption::Sack(blocks), SegOption::Sack(spans)) => {
+            are_blocks(blocks.as_slice(), spans.as_slice())
+        }
+        _ => false,
+    }
+}
+
+fn are_blocks(written: &[Block], sent: &[Span]) -> bool
+    ensures { result ≡ each_pair same_block written.now sent.now }
+{
+    if written.len() != sent.len() {
+        return false;
+    }
+    for (place, block) in written.iter().enumerate() {
+        if !is_block(block, &sent[place]) {
+            return false;
+        }
+    }
+    true
+}
+
+fn is_block(written: &Block, sent: &Span) -> bool
+    ensures { result ≡ same_block written.now sent.now }
+{
+    written.left == u64::from(sent.start) && written.right == u64::from(sent.end)
+}

@@ -1,0 +1,90 @@
+//! Runs of octets, and the blocks of a SACK option.
+ghost use Rattle.std.specs.Prelude.{◌≡◌, ◌↔◌, [], ◌∷◌, ◌++◌, length, IsTrue, IfOk, OnOk, OnErr};
+
+use std::alloc::{AllocError, Global};
+use std::marker::Model;
+
+/// The octets from `start` up to `end`, which isn't one of them.
+#[derive(Clone, Copy, Debug, PartialEq, Eq)]
+pub struct Span {
+    pub start: u32,
+    pub end: u32,
+}
+
+impl Span {
+    pub fn is_same(&self, other: &Span) -> bool
+        ensures { IsTrue result ↔ (self.now ≡ other.now) }
+    {
+        self == other
+    }
+}
+
+/// The blocks of a SACK option in order (RFC 2018, section 3).
+#[derive(Debug, Drop)]
+pub struct SackBlocks {
+    blocks: Vec<Span>,
+}
+
+impl Model for SackBlocks {
+    ghost use Rattle.std.specs.Prelude.{List};
+    ghost use Rattle.pd_seg.specs.declared.sack_blocks.Span.{Span};
+
+    ghost Value = { List Span };
+
+    ghost view = { λ l. l.blocks.items };
+}
+
+impl SackBlocks {
+    /// No blocks.
+    pub fn new(alloc: Global) -> SackBlocks
+        ensures { result ≡ [] }
+    {
+        SackBlocks {
+            blocks: Vec::new(alloc),
+        }
+    }
+
+    /// Adds a block behind the others.
+    pub fn push(&mut self, block: Span) -> Result<(), AllocError>
+        ensures ok { OnOk result (self.new ≡ self.old ++ block ∷ []) }
+        ensures err { OnErr result (self.new ≡ self.old) }
+    {
+        self.blocks.push(block)?;
+        Ok(())
+    }
+
+    pub fn as_slice(&self) -> &[Span]
+        ensures { result.now ≡ self.now }
+    {
+        self.blocks.as_slice()
+    }
+
+    pub fn is_same(&self, other: &SackBlocks) -> bool
+        ensures { IsTrue result ↔ (self.now ≡ other.now) }
+    {
+        same_blocks(self.blocks.as_slice(), other.blocks.as_slice())
+    }
+
+    /// The same blocks once more.
+    pub fn copy(&self) -> Result<SackBlocks, AllocError>
+        ensures { IfOk result (λ copy. copy ≡ self.now) }
+    {
+        Ok(SackBlocks {
+            blocks: self.blocks.clone()?,
+        })
+    }
+}
+
+fn same_blocks(mine: &[Span], its: &[Span]) -> bool
+    ensures { IsTrue result ↔ (mine.now ≡ its.now) }
+{
+    if mine.len() != its.len() {
+        return false;
+    }
+    for (place, block) in mine.iter().enumerate() {
+        if *block != its[place] {
+            return false;
+        }
+    }
+    true
+}

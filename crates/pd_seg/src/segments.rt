@@ -1,0 +1,85 @@
+//! TCP segments.
+ghost use Rattle.std.specs.Prelude.{◌≡◌, ◌-◌, ◌↔◌, IsTrue, IfOk};
+
+use crate::control_bits::Flags;
+use crate::option_list::SegOptions;
+use std::alloc::AllocError;
+
+/// A TCP segment. Sequence numbers are relative, both initial ones at 0.
+#[derive(Debug, Drop)]
+pub struct Segment {
+    pub flags: Flags,
+    /// The number of the first octet of data.
+    pub start: u32,
+    /// The number after the last octet of data; SYN and FIN don't count.
+    pub end: u32,
+    /// The acknowledgment number; 0 without the ACK flag.
+    pub ack: u32,
+    /// The window field as it stands in the segment, not scaled.
+    pub win: u16,
+    pub options: SegOptions,
+}
+
+/// A segment that was put out, and when.
+#[derive(Debug, Drop)]
+pub struct Sent {
+    pub segment: Segment,
+    /// Microseconds since the start of the run.
+    pub at: u64,
+}
+
+impl Segment {
+    /// How many octets of data the segment has.
+    pub fn len(&self) -> u32
+        ensures { result ≡ self.now.end - self.now.start }
+    {
+        self.end.saturating_sub(self.start)
+    }
+
+    pub fn is_same(&self, other: &Segment) -> bool
+        ensures { IsTrue result ↔ (self.now ≡ other.now) }
+    {
+        if !self.flags.is_same(&other.flags) {
+            return false;
+        }
+        if self.start != other.start || self.end != other.end {
+            return false;
+        }
+        if self.ack != other.ack || self.win != other.win {
+            return false;
+        }
+        self.options.is_same(&other.options)
+    }
+
+    /// The same segment once more.
+    pub fn copy(&self) -> Result<Segment, AllocError>
+        ensures { IfOk result (λ copy. copy ≡ self.now) }
+    {
+        Ok(Segment {
+            flags: self.flags,
+            start: self.start,
+            end: self.end,
+            ack: self.ack,
+            win: self.win,
+            options: self.options.copy()?,
+        })
+    }
+}
+
+impl Sent {
+    pub fn is_same(&self, other: &Sent) -> bool
+        ensures { IsTrue result ↔ (self.now ≡ other.now) }
+    {
+        self.at == other.at && self.segment.is_same(&other.segment)
+    }
+
+    /// The same segment with the same time once more.
+    pub fn copy(&self) -> Result<Sent, AllocError>
+        ensures { IfOk result (λ copy. copy ≡ self.now) }
+    {
+        Ok(Sent {
+            segment: self.segment.copy()?,
+            at: self.at,
+        })
+    }
+}
