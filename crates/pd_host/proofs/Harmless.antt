@@ -1,0 +1,41 @@
+-- A segment from outside the receive window leaves the connection as it is.
+use Rattle.std.proofs.Common.{◌≡◌, ℕ, Bool, true, false, if◌then◌else◌, nat_lt, length, List, ◌∷◌, Option, None, Some, Result, Ok, Err, sym, ap, ◌∙◌}
+use Rattle.pd_seg.specs.declared.segments.Segment.{Segment}
+use Rattle.pd_seg.specs.declared.segments.Sent.{Sent}
+use Rattle.pd_host.specs.Arrivals.{first_ruling, ruled, arrived_on, is_in_window}
+use Rattle.pd_host.specs.ControlBlock.{ControlBlock}
+use Rattle.pd_host.specs.Laws.{OutsideIsHarmless}
+use Rattle.pd_host.specs.Sender.{beside, with_outbox}
+use Rattle.pd_host.specs.declared.halts.Halt.{Halt}
+use Rattle.pd_host.specs.declared.halts.Halt.TheVariants.{Limit}
+use Rattle.pd_host.specs.declared.rulings.Ruling.{Ruling}
+use Rattle.pd_host.specs.declared.rulings.Ruling.TheVariants.{NotRun, Dropped, Answered}
+use Rattle.pd_host.specs.declared.sender_state.State.{State}
+
+-- the state that came
+abbrev ok : State → Result State Halt
+ok s = Ok s
+
+pub given : (x t : State) → ok x ≡ ok t → t ≡ x
+given x t h = cc
+
+-- a packet more leaves the connection
+pub outbox_keeps : (b : Bool) (packets : List Sent) (s t : State)
+    → beside s (with_outbox s.endpoint (if b then Ok packets else Err Limit)) ≡ Ok t
+    → t.endpoint.connection ≡ s.endpoint.connection
+outbox_keeps true packets s t h = ap (λ (u : State). u.endpoint.connection) (given _ t h)
+outbox_keeps false packets s t h = absurd cc
+
+-- of the first two checks one rules
+outside : (bad inside rst : Bool) (checks : List (Option Ruling)) (segment : Segment) (now : ℕ) (s t : State) (c : ControlBlock)
+    → inside ≡ false
+    → ruled now segment c s (first_ruling ((if bad then Some NotRun else None) ∷ (if inside then None else Some (if rst then Dropped else Answered)) ∷ checks)) ≡ Ok t
+    → t.endpoint.connection ≡ s.endpoint.connection
+outside true inside rst checks segment now s t c o h = absurd cc
+outside false true rst checks segment now s t c o h = absurd cc
+outside false false true checks segment now s t c o h = ap (λ (u : State). u.endpoint.connection) (given _ t h)
+outside false false false checks segment now s t c o h = outbox_keeps (nat_lt (length s.endpoint.outbox) 1024) _ s t h
+
+pub outside_is_harmless : OutsideIsHarmless
+outside_is_harmless segment now s t c has away came =
+    outside _ (is_in_window c segment) segment.flags.rst _ segment now s t c away (ap (arrived_on now segment s) (sym has) ∙ came) ∙ has

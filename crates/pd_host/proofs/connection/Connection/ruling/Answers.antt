@@ -1,0 +1,10 @@
+-- The chain of `or` gives the first ruling.
+use Rattle.pd_host.specs.Arrivals.{check_contents, check_window, check_rst, check_ack_flag, check_handshake, check_ack}
+use Rattle.pd_host.proofs.FirstRuling.{first_of_six}
+use Rattle.pd_host.proofs.connection.Connection.ruling.Goals as goal
+
+pub returns-clause-ruling : goal.returns-clause-ruling
+returns-clause-ruling c =
+    let b = c.args.self.now in
+    let s = c.args.segment.now in
+    cc (first_of_six (check_contents b s) (check_window b s) (check_rst b s) (check_ack_flag s) (check_handshake b s) (check_ack b s))

@@ -1,0 +1,152 @@
+-- The first segment, what it agrees, and the end of the handshake.
+use Rattle.std.specs.Prelude.{ℕ, ◌-◌, ◌*◌, ◌^◌, ◌==◌, nat_le, min, max, Bool, true, false, not, ◌&&◌, List, [], ◌∷◌, slice_get, Option, Some, None, option_map, unwrap_or, Result, Err, if◌then◌else◌}
+use Rattle.std.specs.List.{filter_map, list_any}
+use Rattle.pd_settings.specs.declared.fields.Settings.{Settings}
+use Rattle.pd_seg.specs.declared.control_bits.Flags.{Flags}
+use Rattle.pd_seg.specs.declared.option_list.SegOption.{SegOption}
+use Rattle.pd_seg.specs.declared.option_list.SegOption.TheVariants.{Mss, Wscale, SackOk, Eol}
+use Rattle.pd_seg.specs.declared.segments.Segment.{Segment}
+use Rattle.pd_host.specs.declared.halts.Halt.{Halt}
+use Rattle.pd_host.specs.declared.halts.Halt.TheVariants.{Unsupported}
+use Rattle.pd_host.specs.declared.listeners.Listener.{Listener}
+use Rattle.pd_host.specs.declared.listeners.Listener.TheVariants.{Listens}
+use Rattle.pd_host.specs.declared.scaling.Scaling.{Scaling}
+use Rattle.pd_host.specs.declared.use_set.UseSet.{UseSet}
+use Rattle.pd_host.specs.Packets.{peer_count, syn_ack_of}
+use Rattle.pd_host.specs.ControlBlock.{ControlBlock}
+use Rattle.pd_host.specs.declared.sender_state.State.{State}
+use Rattle.pd_host.specs.Sender.{beside, put_out}
+
+-- the octets of data in a segment
+abbrev pub length_of : Segment → ℕ
+length_of segment = segment.end - segment.start
+
+-- the options that are looked at: those before the end of the option list (RFC 9293, section 3.2)
+abbrev pub looked_at : List SegOption → List SegOption
+looked_at [] = []
+looked_at (Eol ∷ options) = []
+looked_at (option ∷ options) = option ∷ looked_at options
+
+-- the MSS that an option names
+abbrev pub mss_in : SegOption → Option ℕ
+mss_in (Mss octets) = Some octets
+mss_in _ = None
+
+-- the shift count that an option names
+abbrev pub count_in : SegOption → Option ℕ
+count_in (Wscale count) = Some count
+count_in _ = None
+
+-- the option that permits SACK
+abbrev pub is_sack_ok : SegOption → Bool
+is_sack_ok SackOk = true
+is_sack_ok _ = false
+
+-- the peer's MSS, if it names one; of a repeated option the first counts (RFC 9293, section 3.7.1)
+abbrev pub offered_mss : List SegOption → Option ℕ
+offered_mss options = slice_get (filter_map mss_in (looked_at options)) 0
+
+-- the peer's shift count, if it scales windows (RFC 7323, section 2.2)
+abbrev pub offered_count : List SegOption → Option ℕ
+offered_count options = slice_get (filter_map count_in (looked_at options)) 0
+
+-- whether the peer permits SACK (RFC 2018, section 2)
+abbrev pub offers_sack : List SegOption → Bool
+offers_sack options = list_any is_sack_ok (looked_at options)
+
+-- an MSS below 64 isn't run (own profile)
+abbrev pub is_mss_run : Option ℕ → Bool
+is_mss_run None = true
+is_mss_run (Some octets) = nat_le 64 octets
+
+-- SYN and no other flag
+abbrev pub is_syn_alone : Flags → Bool
+is_syn_alone flags = flags.syn && (not flags.fin && (not flags.rst && (not flags.psh && not flags.ack)))
+
+-- whether descriptor 3 listens
+abbrev pub is_listening : Listener → Bool
+is_listening Listens = true
+is_listening _ = false
+
+-- the first segment begins the connection where 3 listens and it is exactly a SYN at 0 without data (RFC 9293, section
+-- 3.10.7.2); nothing else is run (own profile)
+abbrev pub is_opening : Listener → Segment → Bool
+is_opening listener segment =
+    is_listening listener
+    && (is_syn_alone segment.flags
+    && (segment.start == 0
+    && (length_of segment == 0
+    && is_mss_run (offered_mss segment.options))))
+
+-- SMSS is the lesser of the setting and the peer's MSS, which is 536 where it names none (RFC 9293, section 3.7.1)
+abbrev pub smss_of : Settings → Segment → ℕ
+smss_of settings syn = min settings.mss (unwrap_or (offered_mss syn.options) 536)
+
+-- SACK is agreed where the peer offers it and the setting allows it (RFC 2018, section 2)
+abbrev pub is_sack_agreed : Settings → Segment → Bool
+is_sack_agreed settings syn = settings.sack && offers_sack syn.options
+
+-- scaling is agreed where the peer offers it; its count above 14 is taken as 14 (RFC 7323, section 2.3)
+abbrev pub scaling_of : Settings → Segment → Option Scaling
+scaling_of settings syn = option_map (λ count. record { own = settings.wscale; peer = min count 14 }) (offered_count syn.options)
+
+-- the connection after the SYN: our SYN is sent, and the SYN's own window isn't shifted (RFC 7323, section 2.2)
+abbrev pub begun : Settings → Segment → ControlBlock
+begun settings syn = record {
+  announced = settings.mss;
+  smss = smss_of settings syn;
+  sack = is_sack_agreed settings syn;
+  scaling = scaling_of settings syn;
+  rcv_nxt = 1;
+  rcv_wnd = settings.rcv_wnd;
+  una = 0;
+  next = 1;
+  top = 1;
+  end = 1;
+  rwnd = syn.win;
+  wl1 = 0;
+  wl2 = 0;
+  widest = syn.win;
+  nagle = true;
+  established = false;
+  accepted = false;
+  reset = false;
+}
+
+-- the settings that an answered SYN consults
+abbrev pub syn_uses : UseSet → UseSet
+syn_uses uses = record uses { mss = true; sack = true; wscale = true; rcv_wnd = true }
+
+-- the connection begins, and the SYN/ACK is put out
+abbrev pub answered_syn : ℕ → ControlBlock → State → Result State Halt
+answered_syn now c s =
+    beside (record s { uses = syn_uses s.uses }) (put_out now (syn_ack_of c) (record s.endpoint { connection = Some c }))
+
+-- the first segment begins the connection, or isn't run
+abbrev pub opened_by : ℕ → Segment → State → Result State Halt
+opened_by now segment s =
+    if is_opening s.endpoint.listener segment
+    then answered_syn now (begun s.settings segment) s
+    else Err Unsupported
+
+-- the window that a later segment tells, shifted by the peer's count (RFC 7323, section 2.3)
+abbrev pub window_in : ControlBlock → Segment → ℕ
+window_in c segment = segment.win * 2 ^ peer_count c.scaling
+
+-- the window is taken from a segment (RFC 9293, section 3.10.7.4: SND.WND, SND.WL1 and SND.WL2)
+abbrev pub with_window : Segment → ControlBlock → ControlBlock
+with_window segment c = record c {
+  rwnd = window_in c segment;
+  wl1 = segment.start;
+  wl2 = segment.ack;
+  widest = max c.widest (window_in c segment);
+}
+
+-- the handshake is finished: our SYN is acknowledged, and the window is taken (RFC 9293, section 3.10.7.4, fifth check,
+-- SYN-RECEIVED)
+abbrev pub established_by : Settings → Segment → ControlBlock → ControlBlock
+established_by settings segment c = record (with_window segment c) { una = 1; nagle = settings.nagle; established = true }
+
+-- the settings that the establishment consults
+abbrev pub establishment_uses : UseSet → UseSet
+establishment_uses uses = record uses { nagle = true }

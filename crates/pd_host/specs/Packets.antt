@@ -1,0 +1,70 @@
+-- The segments that the handshake and its checks put out.
+use Rattle.std.specs.Prelude.{ℕ, ◌/◌, ◌^◌, min, Bool, true, false, List, [], ◌∷◌, ◌++◌, Option, Some, None}
+use Rattle.pd_seg.specs.declared.control_bits.Flags.{Flags}
+use Rattle.pd_seg.specs.declared.option_list.SegOption.{SegOption}
+use Rattle.pd_seg.specs.declared.option_list.SegOption.TheVariants.{Mss, Wscale, SackOk, Nop}
+use Rattle.pd_seg.specs.declared.segments.Segment.{Segment}
+use Rattle.pd_host.specs.declared.scaling.Scaling.{Scaling}
+use Rattle.pd_host.specs.ControlBlock.{ControlBlock}
+
+-- a segment without flags
+abbrev pub no_flags : Flags
+no_flags = record { syn = false; fin = false; rst = false; psh = false; ack = false }
+
+-- our shift count, 0 where scaling wasn't agreed (RFC 7323, section 2.2)
+abbrev pub own_count : Option Scaling → ℕ
+own_count None = 0
+own_count (Some s) = s.own
+
+-- the peer's shift count, 0 where scaling wasn't agreed
+abbrev pub peer_count : Option Scaling → ℕ
+peer_count None = 0
+peer_count (Some s) = s.peer
+
+-- the window field of a segment that is no SYN: the receive window, shifted by our count, as far as 16 bits hold it
+-- (RFC 7323, section 2.3)
+abbrev pub shifted_window : ControlBlock → ℕ
+shifted_window c = min (c.rcv_wnd / 2 ^ own_count c.scaling) 65535
+
+-- an ACK: `. top:top(0)` (RFC 9293, section 3.10.7.4)
+abbrev pub ack_of : ControlBlock → Segment
+ack_of c = record {
+  flags = record no_flags { ack = true };
+  start = c.top;
+  end = c.top;
+  ack = c.rcv_nxt;
+  win = shifted_window c;
+  options = [];
+}
+
+-- SACK is permitted where it was agreed (RFC 2018, section 2), padded to whole words
+abbrev pub sack_options : Bool → List SegOption
+sack_options true = Nop ∷ Nop ∷ SackOk ∷ []
+sack_options false = []
+
+-- our shift count, where scaling was agreed (RFC 7323, section 2.2), padded to a whole word
+abbrev pub scale_options : Option Scaling → List SegOption
+scale_options None = []
+scale_options (Some s) = Nop ∷ Wscale s.own ∷ []
+
+-- the SYN/ACK: its window isn't shifted (RFC 9293, section 3.10.7.2; RFC 7323, section 2.2)
+abbrev pub syn_ack_of : ControlBlock → Segment
+syn_ack_of c = record {
+  flags = record no_flags { syn = true; ack = true };
+  start = 0;
+  end = 0;
+  ack = 1;
+  win = min c.rcv_wnd 65535;
+  options = Mss c.announced ∷ (sack_options c.sack ++ scale_options c.scaling);
+}
+
+-- the RST that refuses an ack number: `R ack:ack(0)` with window 0 (RFC 9293, section 3.10.7.4, fifth check)
+abbrev pub refusal_of : ℕ → Segment
+refusal_of ack = record {
+  flags = record no_flags { rst = true };
+  start = ack;
+  end = ack;
+  ack = 0;
+  win = 0;
+  options = [];
+}

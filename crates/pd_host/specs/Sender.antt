@@ -1,0 +1,94 @@
+-- The sender: what it holds between two inputs, and how a rule changes that or halts.
+use Rattle.std.specs.Prelude.{ℕ, nat_lt, false, List, [], ◌∷◌, ◌++◌, length, drop, Option, Some, None, unwrap_or, Result, Ok, Err, if◌then◌else◌}
+use Rattle.pd_settings.specs.declared.fields.Settings.{Settings}
+use Rattle.pd_seg.specs.declared.segments.Segment.{Segment}
+use Rattle.pd_seg.specs.declared.segments.Sent.{Sent}
+use Rattle.pd_host.specs.declared.endpoint.Endpoint.{Endpoint}
+use Rattle.pd_host.specs.declared.halts.Halt.{Halt}
+use Rattle.pd_host.specs.declared.halts.Halt.TheVariants.{Limit}
+use Rattle.pd_host.specs.declared.halts.Stop.{Stop}
+use Rattle.pd_host.specs.declared.halts.Stop.TheVariants.{OutOfMemory}
+use Rattle.pd_host.specs.declared.listeners.Listener.TheVariants.{Absent}
+use Rattle.pd_host.specs.declared.sender_state.State.{State}
+use Rattle.pd_host.specs.declared.use_set.UseSet.{UseSet}
+
+-- a host: its state, and why it has ended, if it has
+pub record Sender : Type 0 where
+  pub state : State
+  pub ended : Option Stop
+
+-- no setting was consulted
+abbrev pub no_uses : UseSet
+no_uses = record {
+  mss = false;
+  sack = false;
+  wscale = false;
+  sndbuf = false;
+  rcv_wnd = false;
+  initial_ssthresh = false;
+  min_rto_us = false;
+  max_rto_us = false;
+  granularity_us = false;
+  nagle = false;
+  tolerance_us = false;
+}
+
+-- an endpoint that nothing has happened to
+abbrev pub fresh_endpoint : Endpoint
+fresh_endpoint = record { listener = Absent; connection = None; outbox = [] }
+
+-- a host that nothing has happened to
+abbrev pub fresh : Settings → Sender
+fresh settings = record {
+  state = record { settings = settings; uses = no_uses; endpoint = fresh_endpoint };
+  ended = None;
+}
+
+-- what a rule of the endpoint gives for the whole state: settings and uses stay
+abbrev pub beside : State → Result Endpoint Halt → Result State Halt
+beside s (Ok endpoint) = Ok (record s { endpoint = endpoint })
+beside s (Err halt) = Err halt
+
+-- goes on from what a rule gave, or stays halted
+abbrev pub then_on : {A B : Type 0} → (A → Result B Halt) → Result A Halt → Result B Halt
+then_on next (Ok s) = next s
+then_on next (Err halt) = Err halt
+
+-- the packets that nobody has taken, with one more: they are at most 1,024 (own profile)
+abbrev pub with_packet : ℕ → Segment → List Sent → Result (List Sent) Halt
+with_packet now segment packets =
+    if nat_lt (length packets) 1024
+    then Ok (packets ++ record { segment = segment; at = now } ∷ [])
+    else Err Limit
+
+-- what comes of the outbox for the whole endpoint
+abbrev pub with_outbox : Endpoint → Result (List Sent) Halt → Result Endpoint Halt
+with_outbox e (Ok packets) = Ok (record e { outbox = packets })
+with_outbox e (Err halt) = Err halt
+
+-- a segment is put out at a moment
+abbrev pub put_out : ℕ → Segment → Endpoint → Result Endpoint Halt
+put_out now segment e = with_outbox e (with_packet now segment e.outbox)
+
+-- the sender without the oldest packet that nobody has taken
+abbrev pub without_oldest : Sender → Sender
+without_oldest sender = record sender { state = record sender.state { endpoint = rest sender.state.endpoint } }
+  where
+    rest : Endpoint → Endpoint
+    rest e = record e { outbox = drop 1 e.outbox }
+
+-- why a sender for which no memory was found has ended: by that, unless it had ended before
+abbrev pub end_of : Sender → Stop
+end_of sender = unwrap_or sender.ended OutOfMemory
+
+-- a sender for which no memory was found has ended
+abbrev pub exhausted : Sender → Sender
+exhausted sender = record sender { ended = Some (end_of sender) }
+
+-- the moment of the next expiry: there is no timer yet
+abbrev pub deadline_of : State → Option ℕ
+deadline_of s = None
+
+-- all expiries up to a moment: there are none yet
+abbrev pub advanced : ℕ → State → Result State Halt
+advanced until s = Ok s

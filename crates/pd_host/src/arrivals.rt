@@ -1,0 +1,87 @@
+//! A segment that arrives.
+ghost use Rattle.std.specs.Prelude.{◌≡◌};
+ghost use Rattle.pd_host.specs.Arrivals.{arrived};
+ghost use Rattle.pd_host.specs.Handshake.{is_syn_alone, is_opening, opened_by};
+ghost use Rattle.pd_host.specs.Outcome.{Gives};
+
+use crate::connection::{Connection, refusal};
+use crate::halts::{Halt, Stop};
+use crate::listeners::Listener;
+use crate::offers::{is_mss_run, offered_mss};
+use crate::rulings::Ruling;
+use crate::sender_state::State;
+use pd_seg::{Flags, Segment};
+
+/// What stops a segment that isn't run.
+const NOT_RUN: Stop = Stop::Halted(Halt::Unsupported);
+
+impl State {
+    /// A segment arrives at a moment: the first one, or one on the connection that was begun.
+    pub fn arrive(&mut self, segment: &Segment, now: u64) -> Result<(), Stop>
+        ensures { Gives (arrived segment.now now self.old) result self.new }
+    {
+        let Some(connection) = &mut self.endpoint.connection else {
+            return self.open(segment, now);
+        };
+        let outbox = &mut self.endpoint.outbox;
+        match connection.ruling(segment) {
+            Some(Ruling::NotRun) => Err(NOT_RUN),
+            Some(Ruling::Dropped) => Ok(()),
+            Some(Ruling::Answered) => {
+                let ack = connection.acknowledgment(outbox.allocator());
+                outbox.put_out(ack, now)?;
+                Ok(())
+            }
+            Some(Ruling::Reset) => {
+                connection.reset();
+                Ok(())
+            }
+            Some(Ruling::Established) => {
+                connection.establish(&self.settings, segment);
+                self.uses = self.uses.with_establishment();
+                Ok(())
+            }
+            Some(Ruling::Refused) => {
+                let rst = refusal(segment.ack, outbox.allocator());
+                outbox.put_out(rst, now)?;
+                Ok(())
+            }
+            None => {
+                connection.take(segment);
+                Ok(())
+            }
+        }
+    }
+
+    /// The first segment begins the connection, or isn't run.
+    fn open(&mut self, segment: &Segment, now: u64) -> Result<(), Stop>
+        ensures { Gives (opened_by now segment.now self.old) result self.new }
+    {
+        if !is_opening(self.endpoint.listener, segment) {
+            return Err(NOT_RUN);
+        }
+        let connection = Connection::begin(&self.settings, segment);
+        let syn_ack = connection.syn_ack(self.endpoint.outbox.allocator())?;
+        self.uses = self.uses.with_syn();
+        self.endpoint.connection = Some(connection);
+        self.endpoint.outbox.put_out(syn_ack, now)?;
+        Ok(())
+    }
+}
+
+fn is_syn_alone(flags: Flags) -> bool
+    ensures { result ≡ is_syn_alone flags }
+{
+    flags.syn && !flags.fin && !flags.rst && !flags.psh && !flags.ack
+}
+
+/// Whether a first segment begins the connection.
+fn is_opening(listener: Listener, segment: &Segment) -> bool
+    ensures { result ≡ is_opening listener segment.now }
+{
+    listener.is_listening()
+        && is_syn_alone(segment.flags)
+        && segment.start == 0
+        && segment.len() == 0
+        && is_mss_run(offered_mss(segment.options.as_slice()))
+}

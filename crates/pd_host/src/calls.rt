@@ -1,0 +1,198 @@
+//! The table of calls.
+ghost use Rattle.std.specs.Prelude.{◌≡◌, Ok};
+ghost use Rattle.pd_host.specs.Calls.{opened, is_accepted, is_pending, is_reset, socket_reply, bind_reply, listen_reply, accept_reply, handed_out, no_delay_reply, write_reply, close_reply, operated, reply_to};
+ghost use Rattle.pd_host.specs.Outcome.{GivesAnswer};
+
+use crate::descriptors::Descriptor;
+use crate::endpoint::Endpoint;
+use crate::halts::{Halt, Stop};
+use crate::listeners::Listener;
+use crate::requests::{Operation, Request};
+use pd_seg::{Answer, Errno};
+
+/// The number of the listening descriptor.
+const LISTENER: u32 = 3;
+
+/// The number of the connection.
+const CONNECTION: u32 = 4;
+
+/// The answer of a call that is done.
+const DONE: Answer = Answer::Number(0);
+
+/// What stops a call that isn't run.
+const NOT_RUN: Stop = Stop::Halted(Halt::Unsupported);
+
+impl Endpoint {
+    /// Answers a request. A descriptor that isn't open answers EBADF, before all else.
+    pub fn call(&mut self, request: Request) -> Result<Answer, Stop>
+        ensures { GivesAnswer (reply_to self.old request) result self.new }
+    {
+        match request {
+            Request::Socket => self.socket(),
+            Request::On(fd, operation) => match self.opened(fd) {
+                None => Ok(Answer::Error(Errno::Ebadf)),
+                Some(descriptor) => self.operate(descriptor, operation),
+            },
+        }
+    }
+
+    /// The open descriptor of a number.
+    fn opened(&self, fd: u64) -> Option<Descriptor>
+        ensures { result ≡ opened self.now fd }
+    {
+        if fd == u64::from(LISTENER) && self.listener.is_open() {
+            Some(Descriptor::Listening)
+        } else if fd == u64::from(CONNECTION) && self.is_accepted() {
+            Some(Descriptor::Stream)
+        } else {
+            None
+        }
+    }
+
+    fn is_accepted(&self) -> bool
+        ensures { result ≡ is_accepted self.now.connection }
+    {
+        match &self.connection {
+            None => false,
+            Some(connection) => connection.is_accepted(),
+        }
+    }
+
+    fn is_pending(&self) -> bool
+        ensures { result ≡ is_pending self.now.connection }
+    {
+        match &self.connection {
+            None => false,
+            Some(connection) => !connection.is_accepted(),
+        }
+    }
+
+    fn is_reset(&self) -> bool
+        ensures { result ≡ is_reset self.now.connection }
+    {
+        match &self.connection {
+            None => false,
+            Some(connection) => connection.is_reset(),
+        }
+    }
+
+    /// The row of an operation on an open descriptor.
+    fn operate(&mut self, descriptor: Descriptor, operation: Operation) -> Result<Answer, Stop>
+        ensures { GivesAnswer (operated self.old descriptor operation) result self.new }
+    {
+        match operation {
+            Operation::Bind => Ok(self.bind(descriptor)),
+            Operation::Listen => Ok(self.listen(descriptor)),
+            Operation::Accept => Ok(self.accept(descriptor)),
+            Operation::ReuseAddress | Operation::SetFlags => Ok(DONE),
+            Operation::NoDelay(set) => Ok(self.set_no_delay(descriptor, set)),
+            Operation::Write(n) => self.write(descriptor, n),
+            Operation::Close => self.close(descriptor),
+        }
+    }
+
+    fn socket(&mut self) -> Result<Answer, Stop>
+        ensures { GivesAnswer (socket_reply self.old self.old.listener) result self.new }
+    {
+        match self.listener {
+            Listener::Absent => {
+                self.listener = Listener::Open;
+                Ok(Answer::Number(LISTENER))
+            }
+            _ => Err(NOT_RUN),
+        }
+    }
+
+    fn bind(&mut self, descriptor: Descriptor) -> Answer
+        ensures { bind_reply self.old self.old.listener descriptor ≡ Ok (self.new, result) }
+    {
+        match (self.listener, descriptor) {
+            (Listener::Open, Descriptor::Listening) => {
+                self.listener = Listener::Bound;
+                DONE
+            }
+            _ => Answer::Error(Errno::Einval),
+        }
+    }
+
+    fn listen(&mut self, descriptor: Descriptor) -> Answer
+        ensures { listen_reply self.old self.old.listener descriptor ≡ Ok (self.new, result) }
+    {
+        match (self.listener, descriptor) {
+            (Listener::Bound, Descriptor::Listening) => {
+                self.listener = Listener::Listens;
+                DONE
+            }
+            (Listener::Listens, Descriptor::Listening) => DONE,
+            _ => Answer::Error(Errno::Einval),
+        }
+    }
+
+    fn accept(&mut self, descriptor: Descriptor) -> Answer
+        ensures { accept_reply self.old self.old.listener descriptor ≡ Ok (self.new, result) }
+    {
+        match (self.listener, descriptor) {
+            (Listener::Listens, Descriptor::Listening) => self.hand_out(),
+            _ => Answer::Error(Errno::Einval),
+        }
+    }
+
+    /// Hands out the connection, if it was established and isn't accepted.
+    fn hand_out(&mut self) -> Answer
+        ensures { handed_out self.old self.old.connection ≡ Ok (self.new, result) }
+    {
+        let Some(connection) = &mut self.connection else {
+            return Answer::Error(Errno::Eagain);
+        };
+        if connection.is_established() && !connection.is_accepted() {
+            connection.accept();
+            Answer::Number(CONNECTION)
+        } else {
+            Answer::Error(Errno::Eagain)
+        }
+    }
+
+    fn set_no_delay(&mut self, descriptor: Descriptor, set: bool) -> Answer
+        ensures { no_delay_reply self.old set descriptor ≡ Ok (self.new, result) }
+    {
+        if let Descriptor::Stream = descriptor {
+            if let Some(connection) = &mut self.connection {
+                connection.set_nagle(!set);
+            }
+        }
+        DONE
+    }
+
+    fn write(&mut self, descriptor: Descriptor, n: u64) -> Result<Answer, Stop>
+        ensures { GivesAnswer (write_reply self.old n descriptor) result self.new }
+    {
+        match descriptor {
+            Descriptor::Listening => Ok(Answer::Error(Errno::Einval)),
+            Descriptor::Stream => {
+                if n > 0 {
+                    Err(NOT_RUN)
+                } else if self.is_reset() {
+                    Ok(Answer::Error(Errno::Epipe))
+                } else {
+                    Ok(DONE)
+                }
+            }
+        }
+    }
+
+    fn close(&mut self, descriptor: Descriptor) -> Result<Answer, Stop>
+        ensures { GivesAnswer (close_reply self.old descriptor) result self.new }
+    {
+        match descriptor {
+            Descriptor::Listening => {
+                if self.is_pending() {
+                    Err(NOT_RUN)
+                } else {
+                    self.listener = Listener::Closed;
+                    Ok(DONE)
+                }
+            }
+            Descriptor::Stream => Err(NOT_RUN),
+        }
+    }
+}

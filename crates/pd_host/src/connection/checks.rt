@@ -1,0 +1,98 @@
+//! The checks of a segment that arrives on a connection.
+ghost use Rattle.std.specs.Prelude.{◌≡◌, ◌≤◌, IfNone};
+ghost use Rattle.pd_host.specs.Arrivals.{is_in_window, check_contents, check_window, check_rst, check_ack_flag, check_handshake, check_ack, ruling_of};
+
+use super::Connection;
+use crate::rulings::Ruling;
+use pd_seg::Segment;
+
+impl Connection {
+    /// The ruling of the first check that rules; `None` for a segment that passes them all.
+    pub fn ruling(&self, segment: &Segment) -> Option<Ruling>
+        ensures ruling { result ≡ ruling_of self.now segment.now }
+        ensures known { IfNone result (self.now.una ≤ segment.now.ack) }
+        ensures sent { IfNone result (segment.now.ack ≤ self.now.top) }
+    {
+        self.check_contents(segment)
+            .or(self.check_window(segment))
+            .or(self.check_rst(segment))
+            .or(check_ack_flag(segment))
+            .or(self.check_handshake(segment))
+            .or(self.check_ack(segment))
+    }
+
+    fn check_contents(&self, segment: &Segment) -> Option<Ruling>
+        ensures { result ≡ check_contents self.now segment.now }
+    {
+        let flags = segment.flags;
+        if segment.len() > 0 || flags.syn || flags.fin || self.reset {
+            Some(Ruling::NotRun)
+        } else {
+            None
+        }
+    }
+
+    fn is_in_window(&self, segment: &Segment) -> bool
+        ensures { result ≡ is_in_window self.now segment.now }
+    {
+        self.rcv_nxt <= segment.start && segment.start - self.rcv_nxt < self.rcv_wnd
+    }
+
+    fn check_window(&self, segment: &Segment) -> Option<Ruling>
+        ensures { result ≡ check_window self.now segment.now }
+    {
+        if self.is_in_window(segment) {
+            None
+        } else if segment.flags.rst {
+            Some(Ruling::Dropped)
+        } else {
+            Some(Ruling::Answered)
+        }
+    }
+
+    fn check_rst(&self, segment: &Segment) -> Option<Ruling>
+        ensures { result ≡ check_rst self.now segment.now }
+    {
+        if !segment.flags.rst {
+            None
+        } else if segment.start == self.rcv_nxt {
+            Some(Ruling::Reset)
+        } else {
+            Some(Ruling::Answered)
+        }
+    }
+
+    fn check_handshake(&self, segment: &Segment) -> Option<Ruling>
+        ensures { result ≡ check_handshake self.now segment.now }
+    {
+        if self.established {
+            None
+        } else if self.una < segment.ack && segment.ack <= self.top {
+            Some(Ruling::Established)
+        } else {
+            Some(Ruling::Refused)
+        }
+    }
+
+    fn check_ack(&self, segment: &Segment) -> Option<Ruling>
+        ensures { result ≡ check_ack self.now segment.now }
+    {
+        if self.top < segment.ack {
+            Some(Ruling::Answered)
+        } else if segment.ack < self.una {
+            Some(Ruling::Dropped)
+        } else {
+            None
+        }
+    }
+}
+
+fn check_ack_flag(segment: &Segment) -> Option<Ruling>
+    ensures { result ≡ check_ack_flag segment.now }
+{
+    if segment.flags.ack {
+        None
+    } else {
+        Some(Ruling::Dropped)
+    }
+}

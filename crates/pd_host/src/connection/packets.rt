@@ -1,0 +1,99 @@
+//! The segments that the handshake and its checks put out.
+ghost use Rattle.std.specs.Prelude.{◌≡◌, ◌≤◌, IfOk};
+ghost use Rattle.pd_host.specs.ControlBlock.{IsScalable};
+ghost use Rattle.pd_host.specs.Packets.{own_count, ack_of, syn_ack_of, refusal_of};
+
+use super::Connection;
+use crate::scaling::Scaling;
+use pd_seg::{Flags, SegOption, SegOptions, Segment};
+use std::alloc::{AllocError, Global};
+
+/// The greatest window field.
+const WIDEST_FIELD: u32 = 65_535;
+
+/// The flags of a segment that has none.
+const NO_FLAGS: Flags = Flags {
+    syn: false,
+    fin: false,
+    rst: false,
+    psh: false,
+    ack: false,
+};
+
+/// By how much the windows that we send are shifted.
+fn own_count(scaling: Option<Scaling>) -> u8
+    requires { IsScalable scaling }
+    ensures count { result ≡ own_count scaling }
+    ensures small { result ≤ 14 }
+{
+    match scaling {
+        None => 0,
+        Some(scaling) => scaling.own,
+    }
+}
+
+/// The RST that refuses an ack number.
+pub fn refusal(ack: u32, alloc: Global) -> Segment
+    ensures { result ≡ refusal_of ack }
+{
+    Segment {
+        flags: Flags {
+            rst: true,
+            ..NO_FLAGS
+        },
+        start: ack,
+        end: ack,
+        ack: 0,
+        win: 0,
+        options: SegOptions::new(alloc),
+    }
+}
+
+impl Connection {
+    /// The SYN/ACK.
+    pub fn syn_ack(&self, alloc: Global) -> Result<Segment, AllocError>
+        ensures { IfOk result (λ segment. segment ≡ syn_ack_of self.now) }
+    {
+        let mut options = SegOptions::new(alloc);
+        options.push(SegOption::Mss(self.announced))?;
+        if self.sack {
+            options.push(SegOption::Nop)?;
+            options.push(SegOption::Nop)?;
+            options.push(SegOption::SackOk)?;
+        }
+        if let Some(scaling) = self.scaling {
+            options.push(SegOption::Nop)?;
+            options.push(SegOption::Wscale(scaling.own))?;
+        }
+        Ok(Segment {
+            flags: Flags {
+                syn: true,
+                ack: true,
+                ..NO_FLAGS
+            },
+            start: 0,
+            end: 0,
+            ack: 1,
+            win: self.rcv_wnd.min(WIDEST_FIELD) as u16,
+            options,
+        })
+    }
+
+    /// An ACK of what was received.
+    pub fn acknowledgment(&self, alloc: Global) -> Segment
+        ensures { result ≡ ack_of self.now }
+    {
+        let shifted = self.rcv_wnd >> own_count(self.scaling);
+        Segment {
+            flags: Flags {
+                ack: true,
+                ..NO_FLAGS
+            },
+            start: self.top,
+            end: self.top,
+            ack: self.rcv_nxt,
+            win: shifted.min(WIDEST_FIELD) as u16,
+            options: SegOptions::new(alloc),
+        }
+    }
+}

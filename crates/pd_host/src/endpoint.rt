@@ -1,0 +1,29 @@
+//! What the sender's rules work on.
+ghost use Rattle.std.specs.Prelude.{◌≡◌};
+ghost use Rattle.pd_host.specs.Sender.{fresh_endpoint};
+
+use crate::connection::Connection;
+use crate::listeners::Listener;
+use crate::outbox::Outbox;
+use std::alloc::Global;
+
+/// Descriptor 3, the connection once it was begun, and the packets that were put out and not yet taken.
+#[derive(Debug, Drop)]
+pub struct Endpoint {
+    pub listener: Listener,
+    pub connection: Option<Connection>,
+    pub outbox: Outbox,
+}
+
+impl Endpoint {
+    /// An endpoint that nothing has happened to.
+    pub fn new(alloc: Global) -> Endpoint
+        ensures { result ≡ fresh_endpoint }
+    {
+        Endpoint {
+            listener: Listener::Absent,
+            connection: None,
+            outbox: Outbox::new(alloc),
+        }
+    }
+}

@@ -1,0 +1,34 @@
+//! Why a host ends.
+use std::alloc::AllocError;
+use thiserror::Error;
+
+/// Why the sender's rules go no further.
+#[derive(Clone, Copy, Debug, PartialEq, Eq, Error)]
+pub enum Halt {
+    /// The input isn't run.
+    #[error("not run")]
+    Unsupported,
+    /// More than 1,024 packets were sent and not yet taken.
+    #[error("too many packets")]
+    Limit,
+}
+
+/// Why a host has ended.
+#[derive(Clone, Copy, Debug, PartialEq, Eq, Error)]
+pub enum Stop {
+    #[error("{0}")]
+    Halted(Halt),
+    #[error("out of memory")]
+    OutOfMemory,
+}
+
+impl From<AllocError> for Stop {
+    ghost use Rattle.std.specs.Prelude.{◌≡◌};
+    ghost use Rattle.pd_host.specs.declared.halts.Stop.TheVariants.{OutOfMemory};
+
+    ghost from_gives = { λ _ stop. stop ≡ OutOfMemory };
+
+    fn from(_error: AllocError) -> Stop {
+        Stop::OutOfMemory
+    }
+}

@@ -1,0 +1,146 @@
+//! A host: the sender behind one interface, with the reason why it has ended.
+ghost use Rattle.std.specs.Prelude.{◌≡◌, slice_get};
+ghost use Rattle.pd_host.specs.Arrivals.{arrived};
+ghost use Rattle.pd_host.specs.Calls.{called};
+ghost use Rattle.pd_host.specs.Outcome.{Goes, Answers};
+ghost use Rattle.pd_host.specs.Sender.{fresh, advanced, deadline_of, without_oldest, exhausted, end_of};
+
+use crate::endpoint::Endpoint;
+use crate::halts::{Halt, Stop};
+use crate::outbox::Outbox;
+use crate::requests::Request;
+use crate::sender_state::State;
+use crate::use_set::UseSet;
+use pd_script::Call;
+use pd_seg::{Answer, Segment, Sent};
+use pd_settings::Settings;
+use std::alloc::Global;
+use std::marker::Model;
+
+/// A TCP sender in virtual time. Moments are microseconds since the start of the run.
+///
+/// A host that has halted, or found no memory, answers that to each later input.
+#[derive(Debug, Drop)]
+pub struct Host {
+    state: State,
+    ended: Option<Stop>,
+}
+
+impl Model for Host {
+    ghost use Rattle.pd_host.specs.Sender.{Sender};
+
+    ghost Value = { Sender };
+
+    ghost view = { λ h. record { state = h.state; ended = h.ended } };
+}
+
+impl Host {
+    /// A host that nothing has happened to.
+    pub fn new(alloc: Global, settings: &Settings) -> Host
+        ensures { result ≡ fresh settings.now }
+    {
+        Host {
+            state: State {
+                settings: *settings,
+                uses: UseSet::new(),
+                endpoint: Endpoint::new(alloc),
+            },
+            ended: None,
+        }
+    }
+
+    /// A system call at a moment.
+    ///
+    /// # Errors
+    ///
+    /// `Halted` for a call that isn't run.
+    pub fn call(&mut self, call: &Call, now: u64) -> Result<Answer, Stop>
+        ensures { Answers self.old (called call.now) result self.new }
+    {
+        if let Some(stop) = self.ended {
+            return Err(stop);
+        }
+        let Some(request) = Request::of(call) else {
+            return Err(self.end(Stop::Halted(Halt::Unsupported)));
+        };
+        match self.state.endpoint.call(request) {
+            Ok(answer) => Ok(answer),
+            Err(stop) => Err(self.end(stop)),
+        }
+    }
+
+    /// A segment arrives at a moment.
+    ///
+    /// # Errors
+    ///
+    /// `Halted` for a segment that isn't run, and where more than 1,024 packets would stand untaken.
+    pub fn arrive(&mut self, segment: &Segment, now: u64) -> Result<(), Stop>
+        ensures { Goes self.old (arrived segment.now now) result self.new }
+    {
+        if let Some(stop) = self.ended {
+            return Err(stop);
+        }
+        match self.state.arrive(segment, now) {
+            Ok(()) => Ok(()),
+            Err(stop) => Err(self.end(stop)),
+        }
+    }
+
+    /// Performs all expiries up to a moment, in order.
+    pub fn advance(&mut self, until: u64) -> Result<(), Stop>
+        ensures { Goes self.old (advanced until) result self.new }
+    {
+        match self.ended {
+            Some(stop) => Err(stop),
+            None => Ok(()),
+        }
+    }
+
+    /// The moment of the next expiry, if the timer runs.
+    pub fn deadline(&self) -> Option<u64>
+        ensures { result ≡ deadline_of self.now.state }
+    {
+        None
+    }
+
+    /// The packets that were put out and not yet taken.
+    pub fn outbox(&self) -> &Outbox
+        ensures { result.now ≡ self.now.state.endpoint.outbox }
+    {
+        &self.state.endpoint.outbox
+    }
+
+    /// Takes the oldest packet out, if there is one.
+    pub fn take(&mut self) -> Option<Sent>
+        ensures oldest { result ≡ slice_get self.old.state.endpoint.outbox 0 }
+        ensures rest { self.new ≡ without_oldest self.old }
+    {
+        self.state.endpoint.outbox.take()
+    }
+
+    /// Why the host has ended, if it has.
+    pub fn stopped(&self) -> Option<Stop>
+        ensures { result ≡ self.now.ended }
+    {
+        self.ended
+    }
+
+    /// No memory was found for what was to come in: the host answers that from now on, unless it has ended already.
+    /// What it answers is returned.
+    pub fn exhaust(&mut self) -> Stop
+        ensures stop { result ≡ end_of self.old }
+        ensures ended { self.new ≡ exhausted self.old }
+    {
+        let stop = self.ended.unwrap_or(Stop::OutOfMemory);
+        self.end(stop)
+    }
+
+    /// The host has ended by this.
+    fn end(&mut self, stop: Stop) -> Stop
+        ensures stop { result ≡ stop }
+        ensures ended { self.new ≡ record self.old { ended = Some stop } }
+    {
+        self.ended = Some(stop);
+        stop
+    }
+}

@@ -1,0 +1,26 @@
+//! The TCP sender: what it answers to calls and to segments that arrive, and which packets it puts out when.
+#![tactic(auto)]
+
+mod arrivals;
+mod calls;
+mod connection;
+mod descriptors;
+mod endpoint;
+mod halts;
+mod host;
+mod laws;
+mod listeners;
+mod offers;
+mod outbox;
+mod requests;
+mod rulings;
+mod scaling;
+mod sender_state;
+mod use_set;
+
+pub use halts::{Halt, Stop};
+pub use host::Host;
+pub use laws::arrivals_are_lawful;
+pub use outbox::Outbox;
+pub use requests::{Operation, Request, is_run};
+pub use use_set::UseSet;

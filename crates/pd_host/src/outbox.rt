@@ -1,0 +1,98 @@
+//! The packets that were put out and not yet taken.
+ghost use Rattle.std.specs.Prelude.{◌≡◌, ◌==◌, [], nat_le, length, slice_get, drop};
+ghost use Rattle.std.specs.Option.{option_copied};
+ghost use Rattle.pd_host.specs.Outcome.{Gives};
+ghost use Rattle.pd_host.specs.Sender.{with_packet};
+
+use crate::halts::{Halt, Stop};
+use pd_seg::{Segment, Sent};
+use std::alloc::Global;
+use std::collections::VecDeque;
+use std::marker::Model;
+
+/// The most packets that stand untaken.
+const MOST_PACKETS: usize = 1_024;
+
+/// The packets that were put out and not yet taken, the oldest first: at most 1,024.
+#[derive(Debug, Drop)]
+pub struct Outbox {
+    packets: VecDeque<Sent>,
+}
+
+impl Model for Outbox {
+    ghost use Rattle.std.specs.Prelude.{List, ◌≤◌, length};
+    ghost use Rattle.pd_seg.specs.declared.segments.Sent.{Sent};
+
+    ghost Value = { List Sent };
+
+    ghost view = { λ o. o.packets.items };
+
+    ghost invariant = { λ o. length o.packets.items ≤ 1024 };
+}
+
+impl Outbox {
+    /// No packets.
+    pub fn new(alloc: Global) -> Outbox
+        ensures { result ≡ [] }
+    {
+        Outbox {
+            packets: VecDeque::new(alloc),
+        }
+    }
+
+    pub fn len(&self) -> usize
+        ensures { result ≡ length self.now }
+    {
+        self.packets.len()
+    }
+
+    pub fn is_empty(&self) -> bool
+        ensures { result ≡ (length self.now == 0) }
+    {
+        self.packets.is_empty()
+    }
+
+    /// Whether no further packet may be put out.
+    pub fn is_full(&self) -> bool
+        ensures { result ≡ nat_le 1024 (length self.now) }
+    {
+        self.packets.len() >= MOST_PACKETS
+    }
+
+    /// The oldest packet, if there is one.
+    pub fn oldest(&self) -> Option<&Sent>
+        ensures { option_copied result ≡ slice_get self.now 0 }
+    {
+        self.packets.front()
+    }
+
+    /// Puts a segment out at a moment, behind the others.
+    ///
+    /// # Errors
+    ///
+    /// `Halted` by `Limit` where the outbox is full.
+    pub fn put_out(&mut self, segment: Segment, now: u64) -> Result<(), Stop>
+        ensures { Gives (with_packet now segment self.old) result self.new }
+    {
+        if self.is_full() {
+            return Err(Stop::Halted(Halt::Limit));
+        }
+        match self.packets.push_back(Sent { segment, at: now }) {
+            Ok(()) => Ok(()),
+            Err(_) => Err(Stop::OutOfMemory),
+        }
+    }
+
+    /// Takes the oldest packet out, if there is one.
+    pub fn take(&mut self) -> Option<Sent>
+        ensures oldest { result ≡ slice_get self.old 0 }
+        ensures rest { self.new ≡ drop 1 self.old }
+    {
+        self.packets.pop_front()
+    }
+
+    /// What the outbox allocates by.
+    pub fn allocator(&self) -> Global {
+        *self.packets.allocator()
+    }
+}

@@ -1,0 +1,13 @@
+//! The sender's state, with the settings that it consults.
+
+use crate::endpoint::Endpoint;
+use crate::use_set::UseSet;
+use pd_settings::Settings;
+
+/// The endpoint, and beside it the settings and which of them were consulted so far.
+#[derive(Debug, Drop)]
+pub struct State {
+    pub settings: Settings,
+    pub uses: UseSet,
+    pub endpoint: Endpoint,
+}

@@ -1,0 +1,64 @@
+//! Which settings were consulted.
+ghost use Rattle.std.specs.Prelude.{◌≡◌};
+ghost use Rattle.pd_host.specs.Sender.{no_uses};
+ghost use Rattle.pd_host.specs.Handshake.{syn_uses, establishment_uses};
+
+/// Whether each of the settings was consulted so far.
+#[derive(Clone, Copy, Debug, PartialEq, Eq)]
+pub struct UseSet {
+    pub mss: bool,
+    pub sack: bool,
+    pub wscale: bool,
+    pub sndbuf: bool,
+    pub rcv_wnd: bool,
+    pub initial_ssthresh: bool,
+    pub min_rto_us: bool,
+    pub max_rto_us: bool,
+    pub granularity_us: bool,
+    pub nagle: bool,
+    pub tolerance_us: bool,
+}
+
+impl UseSet {
+    /// None of them.
+    pub fn new() -> UseSet
+        ensures { result ≡ no_uses }
+    {
+        UseSet {
+            mss: false,
+            sack: false,
+            wscale: false,
+            sndbuf: false,
+            rcv_wnd: false,
+            initial_ssthresh: false,
+            min_rto_us: false,
+            max_rto_us: false,
+            granularity_us: false,
+            nagle: false,
+            tolerance_us: false,
+        }
+    }
+
+    /// With those that an answered SYN consults.
+    pub fn with_syn(self) -> UseSet
+        ensures { result ≡ syn_uses self }
+    {
+        UseSet {
+            mss: true,
+            sack: true,
+            wscale: true,
+            rcv_wnd: true,
+            ..self
+        }
+    }
+
+    /// With those that the establishment consults.
+    pub fn with_establishment(self) -> UseSet
+        ensures { result ≡ establishment_uses self }
+    {
+        UseSet {
+            nagle: true,
+            ..self
+        }
+    }
+}
