@@ -1,8 +1,8 @@
 -- The octets of a report.
 use Rattle.std.specs.Prelude.{ℕ, Bool, true, false, List, ◌++◌, length, flat_map, count_by, codes, Option, Some, None}
 use Rattle.std.specs.Fmt.{decimal}
-use Rattle.pd_run.specs.declared.verdicts.Kind.{Kind}
-use Rattle.pd_run.specs.declared.verdicts.Kind.TheVariants.{Time, Flags, Seq, Ack, Win, Options, Result, Missing, Backwards}
+use Rattle.pd_match.specs.declared.kinds.Kind.{Kind}
+use Rattle.pd_match.specs.declared.kinds.Kind.TheVariants.{Time, Flags, Seq, Ack, Win, Options, Result, Missing, Backwards}
 use Rattle.pd_run.specs.declared.verdicts.Verdict.{Verdict}
 use Rattle.pd_run.specs.declared.verdicts.Verdict.TheVariants.{Pass, Fail, Syntax, Unsupported, Limit}
 use Rattle.pd_book.specs.declared.row.Row.{Row}

@@ -1,3 +1,6 @@
 -- Lemmas on runs.
+pub mod Bounds
 pub mod HeaderItems
+pub mod Passed
 pub mod Steps
+pub mod WithinLimits

@@ -1,6 +1,11 @@
 -- The definitions of a run and its verdict.
 pub use Rattle.pd_settings.specs.Settings
 pub use Rattle.pd_script.specs.Script
+pub use Rattle.pd_host.specs.Sender
 pub mod Limits
-pub mod Calls
+pub mod Times
+pub mod Inbound
+pub mod Shapes
+pub mod Step
 pub mod Run
+pub mod Laws

@@ -46,11 +46,15 @@ abbrev pub is_some_over : ℕ → Option ℕ → Bool
 is_some_over most None = false
 is_some_over most (Some n) = nat_lt most n
 
+-- an edge of a block is over its limit
+abbrev pub is_block_over : Block → Bool
+is_block_over b = is_high b.left || is_high b.right
+
 -- an option's value, or the number of its blocks, is over its limit
 abbrev pub is_option_over : PacketOption → Bool
 is_option_over (Mss n) = nat_lt 65535 n
 is_option_over (Wscale n) = nat_lt 255 n
-is_option_over (Sack blocks) = nat_lt 4 (length blocks) || list_any (λ (b : Block). is_high b.left || is_high b.right) blocks
+is_option_over (Sack blocks) = nat_lt 4 (length blocks) || list_any is_block_over blocks
 is_option_over _ = false
 
 -- more than 16 options, or one of them over its limits

@@ -1,16 +1,20 @@
 //! A run of a script in virtual time, and its verdict.
 #![tactic(auto)]
 
-mod answers;
+mod acting;
+mod inbound;
+mod laws;
 mod limits;
-mod listener;
-mod requests;
 mod run_state;
 mod running;
+mod shapes;
 mod stepping;
+mod times;
 mod verdicts;
 
+pub use laws::steps_are_lawful;
+pub use pd_match::Kind;
 pub use run_state::RunState;
 pub use running::{run_all, run_with};
 pub use stepping::{Plain, StepEnd, Stepper};
-pub use verdicts::{Kind, Verdict};
+pub use verdicts::Verdict;

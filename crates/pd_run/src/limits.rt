@@ -1,7 +1,7 @@
 //! The limits of an event's numbers.
-ghost use Rattle.std.specs.Prelude.{◌≡◌, ◌||◌};
+ghost use Rattle.std.specs.Prelude.{◌≡◌};
 ghost use Rattle.std.specs.List.{list_any};
-ghost use Rattle.pd_run.specs.Limits.{is_long, is_high, written_times, written_until, is_some_over, is_option_over, are_options_over, is_packet_over, is_write, is_count_over, is_action_over, is_over_limit};
+ghost use Rattle.pd_run.specs.Limits.{is_long, written_times, written_until, is_some_over, is_block_over, is_option_over, are_options_over, is_packet_over, is_write, is_count_over, is_action_over, is_over_limit};
 
 use pd_script::{
     Action, Argument, Block, Call, Event, Function, Options, Packet, PacketOption, Time, Until,
@@ -113,7 +113,7 @@ fn is_option_over(option: &PacketOption) -> bool
 }
 
 fn is_edge_high(blocks: &[Block]) -> bool
-    ensures { result ≡ list_any (λ b. is_high b.left || is_high b.right) blocks.now }
+    ensures { result ≡ list_any is_block_over blocks.now }
 {
     let highest = u64::from(HIGHEST_NUMBER);
     blocks

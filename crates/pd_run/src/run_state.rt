@@ -1,35 +1,43 @@
 //! The state of a run between two events.
-ghost use Rattle.std.specs.Prelude.{◌≡◌, ◌<◌, ◌^◌, false};
-ghost use Rattle.pd_run.specs.Run.{start_of, is_single, is_backwards, is_action_run, is_run, moment_of, step, acted, called, answer_of, Tells};
+ghost use Rattle.std.specs.Prelude.{◌≡◌, ◌<◌, ◌^◌, false, None, Some, IfOk, OnErr, max, slice_get};
 ghost use Rattle.std.specs.List.{list_any};
-ghost use Rattle.pd_run.specs.Calls.{request_of};
-ghost use Rattle.pd_run.specs.Limits.{is_long, written_times};
+ghost use Rattle.pd_host.specs.declared.halts.Stop.TheVariants.{OutOfMemory};
+ghost use Rattle.pd_run.specs.Limits.{is_long, written_times, is_packet_over};
+ghost use Rattle.pd_run.specs.Times.{moment_of};
+ghost use Rattle.pd_run.specs.Run.{start_of};
+ghost use Rattle.pd_run.specs.Step.{acts_at, acted, arrives, on_arrival, answers, on_answer, awaited, taken, leaves, Tells, Steps};
 
+use crate::acting::{answer, arrive};
 use crate::limits::is_over_limit;
-use crate::listener::Listener;
-use crate::requests::Request;
-use crate::stepping::StepEnd;
-use crate::verdicts::{Kind, Verdict};
-use pd_script::{Action, Call, Event, Header, HeaderKind, Time};
+use crate::shapes::is_run;
+use crate::stepping::{StepEnd, stopped};
+use crate::times::{base_after, is_backwards, is_in_reach, moment_of, moments_of};
+use crate::verdicts::Verdict;
+use pd_host::Host;
+use pd_match::{Expect, Kind, check_call, check_packet};
+use pd_script::{Action, Call, Event, Header, HeaderKind, Packet, Time};
 use pd_settings::Settings;
+use std::alloc::{AllocError, Global};
 use std::marker::Model;
 
-/// What a run holds between two events: the listening descriptor, and in microseconds the clock, the base of relative
-/// times and the tolerance.
+/// What a run holds between two events: the host, and in microseconds the clock, the base of relative times and the
+/// tolerance.
+///
+/// A run that has found no memory answers that to each further step.
 #[derive(Debug, Drop)]
 pub struct RunState {
-    listener: Listener,
+    host: Host,
     clock: u64,
     base: u64,
     tolerance: u64,
 }
 
 impl Model for RunState {
-    ghost use Rattle.pd_run.specs.Run.{Running};
+    ghost use Rattle.pd_run.specs.Step.{Running};
 
     ghost Value = { Running };
 
-    ghost view = { λ r. record { listener = r.listener; clock = r.clock; base = r.base; tolerance = r.tolerance } };
+    ghost view = { λ r. record { host = r.host; clock = r.clock; base = r.base; tolerance = r.tolerance } };
 }
 
 impl RunState {
@@ -37,7 +45,7 @@ impl RunState {
     ///
     /// # Errors
     /// `Unsupported` at the first header item that is no valid `--tolerance_usecs`.
-    pub fn new(header: &Header, settings: &Settings) -> Result<RunState, Verdict>
+    pub fn new(alloc: Global, header: &Header, settings: &Settings) -> Result<RunState, Verdict>
         ensures { result ≡ start_of header.now settings.now }
     {
         let mut tolerance = settings.tolerance_us;
@@ -48,7 +56,7 @@ impl RunState {
             }
         }
         Ok(RunState {
-            listener: Listener::Absent,
+            host: Host::new(alloc, settings),
             clock: 0,
             base: 0,
             tolerance,
@@ -57,87 +65,144 @@ impl RunState {
 
     /// One event, its checks in order: limits, shapes that aren't run, absolute times that go back, then the event
     /// itself.
-    pub(crate) fn step(&mut self, event: &Event) -> StepEnd
+    pub(crate) fn step(&mut self, event: &Event) -> Result<StepEnd, AllocError>
         requires base { self.old.base < 2 ^ 61 }
-        ensures { Tells (step self.old event.now) result self.new }
+        ensures ends { IfOk result (λ end. Steps self.old event.now end self.new) }
+        ensures memory { OnErr result (self.new.host.ended ≡ Some OutOfMemory) }
     {
+        if let Some(stop) = self.host.stopped() {
+            return stopped(stop, event.line);
+        }
         if is_over_limit(event) {
-            return StepEnd::Stop(Verdict::Limit(event.line));
+            return Ok(StepEnd::Stop(Verdict::Limit(event.line)));
         }
         if !is_run(event) {
-            return StepEnd::Stop(Verdict::Unsupported(event.line));
+            return Ok(StepEnd::Stop(Verdict::Unsupported(event.line)));
         }
         if is_backwards(self.base, event.time) {
-            return StepEnd::Stop(Verdict::Fail(event.line, Kind::Backwards));
+            return Ok(StepEnd::Stop(Verdict::Fail(event.line, Kind::Backwards)));
         }
         match &event.action {
+            Action::Inbound(packet) => self.arrive(event, packet),
+            Action::Outbound(packet) => self.expect(event, packet),
             Action::Call(call) => self.call(event, call),
-            _ => StepEnd::Stop(Verdict::Unsupported(event.line)),
+            Action::Command | Action::Code => {
+                Ok(StepEnd::Stop(Verdict::Unsupported(event.line)))
+            }
         }
     }
 
-    fn call(&mut self, event: &Event, call: &Call) -> StepEnd
+    /// The moment at which a packet arrives or a call is made.
+    fn acts_at(&self, event: &Event) -> u64
+        requires base { self.now.base < 2 ^ 61 }
+        requires short { list_any is_long (written_times event.now.time) ≡ false }
+        ensures { result ≡ acts_at self.now event.now }
+    {
+        moment_of(self.base, event.time).max(self.clock)
+    }
+
+    /// Moves the clock and the base after an event that acted.
+    fn pass(&mut self, event: &Event)
         requires base { self.old.base < 2 ^ 61 }
         requires short { list_any is_long (written_times event.now.time) ≡ false }
-        ensures { Tells (called self.old event.now call.now (answer_of self.old.listener (request_of call.now))) result self.new }
+        ensures { self.new ≡ acted self.old event.now self.old.host.state }
     {
-        let Some(request) = Request::of(call) else {
-            return StepEnd::Stop(Verdict::Unsupported(event.line));
-        };
-        let Some((listener, answer)) = self.listener.answer(request) else {
-            return StepEnd::Stop(Verdict::Unsupported(event.line));
-        };
-        if !answer.matches(call.result) {
-            return StepEnd::Stop(Verdict::Fail(event.line, Kind::Result));
+        self.clock = self.acts_at(event);
+        self.base = moment_of(self.base, event.time);
+    }
+
+    fn arrive(&mut self, event: &Event, packet: &Packet) -> Result<StepEnd, AllocError>
+        requires live { self.old.host.ended ≡ None }
+        requires base { self.old.base < 2 ^ 61 }
+        requires short { list_any is_long (written_times event.now.time) ≡ false }
+        requires fits { is_packet_over packet.now ≡ false }
+        ensures ends { IfOk result (λ end. Tells (on_arrival self.old event.now (arrives self.old event.now packet.now)) end self.new) }
+        ensures memory { OnErr result (self.new.host.ended ≡ Some OutOfMemory) }
+    {
+        let moment = self.acts_at(event);
+        match arrive(&mut self.host, packet, moment) {
+            Ok(()) => {}
+            Err(stop) => return stopped(stop, event.line),
         }
-        let moment = moment_of(self.base, event.time);
-        self.listener = listener;
-        self.clock = moment.max(self.clock);
-        self.base = moment;
+        self.pass(event);
+        Ok(StepEnd::Go)
+    }
+
+    fn call(&mut self, event: &Event, call: &Call) -> Result<StepEnd, AllocError>
+        requires live { self.old.host.ended ≡ None }
+        requires base { self.old.base < 2 ^ 61 }
+        requires short { list_any is_long (written_times event.now.time) ≡ false }
+        ensures ends { IfOk result (λ end. Tells (on_answer self.old event.now call.now (answers self.old event.now call.now)) end self.new) }
+        ensures memory { OnErr result (self.new.host.ended ≡ Some OutOfMemory) }
+    {
+        let moment = self.acts_at(event);
+        let answer = match answer(&mut self.host, call, moment) {
+            Ok(answer) => answer,
+            Err(stop) => return stopped(stop, event.line),
+        };
+        if let Some(kind) = check_call(call, &answer) {
+            return Ok(StepEnd::Stop(Verdict::Fail(event.line, kind)));
+        }
+        self.pass(event);
+        Ok(StepEnd::Go)
+    }
+
+    fn expect(&mut self, event: &Event, packet: &Packet) -> Result<StepEnd, AllocError>
+        requires live { self.old.host.ended ≡ None }
+        requires base { self.old.base < 2 ^ 61 }
+        requires short { list_any is_long (written_times event.now.time) ≡ false }
+        ensures ends { IfOk result (λ end. Tells (leaves self.old event.now packet.now) end self.new) }
+        ensures memory { OnErr result (self.new.host.ended ≡ Some OutOfMemory) }
+    {
+        match self.wait(event)? {
+            StepEnd::Go => Ok(self.take(event, packet)),
+            stop => Ok(stop),
+        }
+    }
+
+    /// Where no packet stands untaken, performs the next expiry that may send the expected one.
+    fn wait(&mut self, event: &Event) -> Result<StepEnd, AllocError>
+        requires live { self.old.host.ended ≡ None }
+        requires base { self.old.base < 2 ^ 61 }
+        requires short { list_any is_long (written_times event.now.time) ≡ false }
+        ensures ends { IfOk result (λ end. Tells (awaited self.old event.now) end self.new) }
+        ensures memory { OnErr result (self.new.host.ended ≡ Some OutOfMemory) }
+        ensures base { self.new.base ≡ self.old.base }
+    {
+        if !self.host.outbox().is_empty() {
+            return Ok(StepEnd::Go);
+        }
+        let moments = moments_of(self.base, event.time);
+        match self.host.deadline() {
+            Some(at) if is_in_reach(moments, self.tolerance, at) => {
+                match self.host.advance(at) {
+                    Ok(()) => {}
+                    Err(stop) => return stopped(stop, event.line),
+                }
+                self.clock = at;
+                Ok(StepEnd::Go)
+            }
+            _ => Ok(StepEnd::Stop(Verdict::Fail(event.line, Kind::Missing))),
+        }
+    }
+
+    /// Takes the oldest packet and compares it.
+    fn take(&mut self, event: &Event, packet: &Packet) -> StepEnd
+        requires base { self.old.base < 2 ^ 61 }
+        requires short { list_any is_long (written_times event.now.time) ≡ false }
+        ensures { Tells (taken event.now packet.now self.old (slice_get self.old.host.state.endpoint.outbox 0)) result self.new }
+    {
+        let Some(sent) = self.host.take() else {
+            return StepEnd::Stop(Verdict::Fail(event.line, Kind::Missing));
+        };
+        let expect = Expect {
+            packet,
+            moments: moments_of(self.base, event.time),
+        };
+        if let Some(kind) = check_packet(&expect, &sent, self.tolerance) {
+            return StepEnd::Stop(Verdict::Fail(event.line, kind));
+        }
+        self.base = base_after(self.base, event.time, sent.at);
         StepEnd::Go
-    }
-}
-
-fn is_run(event: &Event) -> bool
-    ensures { result ≡ is_run event.now }
-{
-    event.until.is_none() && is_single(event.time) && is_action_run(&event.action)
-}
-
-fn is_single(time: Time) -> bool
-    ensures { result ≡ is_single time }
-{
-    matches!(time, Time::Absolute(_) | Time::Relative(_))
-}
-
-fn is_action_run(action: &Action) -> bool
-    ensures { result ≡ is_action_run action.now }
-{
-    match action {
-        Action::Call(call) => Request::of(call).is_some(),
-        _ => false,
-    }
-}
-
-fn is_backwards(base: u64, time: Time) -> bool
-    ensures { result ≡ is_backwards base time }
-{
-    match time {
-        Time::Absolute(t) => t < base,
-        Time::AbsoluteRange(first, _) => first < base,
-        _ => false,
-    }
-}
-
-/// The moment of a single time, in microseconds.
-fn moment_of(base: u64, time: Time) -> u64
-    requires base { base < 2 ^ 61 }
-    requires short { list_any is_long (written_times time) ≡ false }
-    ensures { result ≡ moment_of base time }
-{
-    match time {
-        Time::Absolute(t) => t,
-        Time::Relative(t) => base + t,
-        _ => base,
     }
 }

@@ -1,5 +1,6 @@
 //! Whole runs.
 ghost use Rattle.std.specs.Prelude.{◌≡◌, ◌+◌, ◌<◌, ◌≤◌, ◌^◌, IfOk, OnOk, length};
+ghost use Rattle.pd_host.specs.Sender.{fresh};
 ghost use Rattle.pd_run.specs.Run.{verdict_of, stepped_of, verdict_from, stepped_from};
 
 use crate::run_state::RunState;
@@ -33,7 +34,7 @@ pub fn run_with<S: Stepper>(
     if let Some(line) = parsed.fault {
         return Ok(Verdict::Syntax(line));
     }
-    match RunState::new(&parsed.header, settings) {
+    match RunState::new(alloc, &parsed.header, settings) {
         Ok(state) => run_events(parsed.events.as_slice(), settings, state, stepper),
         Err(verdict) => Ok(verdict),
     }
@@ -46,6 +47,7 @@ fn run_events<S: Stepper>(
     stepper: &mut S,
 ) -> Result<Verdict, AllocError>
     requires few { length events.now ≤ 4096 }
+    requires fresh { start.host ≡ fresh settings.now }
     requires clock { start.clock ≡ 0 }
     requires base { start.base ≡ 0 }
     requires room { S.counted stepper.old + 4096 < 2 ^ 64 }

@@ -1,9 +1,11 @@
 //! Steps of a run, and who takes them.
-ghost use Rattle.std.specs.Prelude.{◌≡◌, ◌+◌, ◌-◌, ◌<◌, ◌^◌, ℕ, IfOk};
-ghost use Rattle.pd_run.specs.Run.{step, Tells};
+ghost use Rattle.std.specs.Prelude.{◌≡◌, ◌+◌, ◌-◌, ◌<◌, ◌^◌, ℕ, Some, IfOk, OnErr};
+ghost use Rattle.pd_host.specs.declared.halts.Stop.TheVariants.{OutOfMemory};
+ghost use Rattle.pd_run.specs.Step.{stopped_by, Steps};
 
 use crate::run_state::RunState;
 use crate::verdicts::Verdict;
+use pd_host::{Halt, Stop};
 use pd_script::Event;
 use pd_settings::Settings;
 use std::alloc::AllocError;
@@ -17,11 +19,23 @@ pub enum StepEnd {
     Stop(Verdict),
 }
 
+/// How a step ends at this line where the host has ended.
+pub(crate) fn stopped(stop: Stop, line: usize) -> Result<StepEnd, AllocError>
+    ensures { result ≡ stopped_by line stop }
+{
+    match stop {
+        Stop::Halted(Halt::Unsupported) => Ok(StepEnd::Stop(Verdict::Unsupported(line))),
+        Stop::Halted(Halt::Limit) => Ok(StepEnd::Stop(Verdict::Limit(line))),
+        Stop::OutOfMemory => Err(AllocError),
+    }
+}
+
 /// Takes the steps of runs and counts them: a step is one event, and the count rises by one a call.
 pub trait Stepper {
     ghost counted: { Self → ℕ };
 
-    /// Takes one event from the state before it to the one after it. After a stop nothing is said of the state.
+    /// Takes one event from the state before it to the one after it. After a stop nothing is said of the state; one for
+    /// which no memory was found takes no further step.
     fn step(
         &mut self,
         state: &mut RunState,
@@ -31,7 +45,7 @@ pub trait Stepper {
         requires room { counted self.old < 2 ^ 64 - 1 }
         requires clock { state.old.clock < 2 ^ 61 }
         requires base { state.old.base < 2 ^ 61 }
-        ensures ends { IfOk result (λ end. Tells (step state.old event.now) end state.new) }
+        ensures ends { IfOk result (λ end. Steps state.old event.now end state.new) }
         ensures one_more { counted self.new ≡ counted self.old + 1 };
 
     /// The steps taken so far.
@@ -70,9 +84,16 @@ impl Stepper for Plain {
         state: &mut RunState,
         event: &Event,
         _settings: &Settings,
-    ) -> Result<StepEnd, AllocError> {
+    ) -> Result<StepEnd, AllocError>
+        requires room { self.old < 2 ^ 64 - 1 }
+        requires clock { state.old.clock < 2 ^ 61 }
+        requires base { state.old.base < 2 ^ 61 }
+        ensures ends { IfOk result (λ end. Steps state.old event.now end state.new) }
+        ensures memory { OnErr result (state.new.host.ended ≡ Some OutOfMemory) }
+        ensures one_more { self.new ≡ self.old + 1 }
+    {
         self.steps += 1;
-        Ok(state.step(event))
+        state.step(event)
     }
 
     fn count(&self) -> u64 {

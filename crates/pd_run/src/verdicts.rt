@@ -1,4 +1,5 @@
 //! What a run comes to.
+use pd_match::Kind;
 
 /// The verdict of a script. Lines are counted from 1: that of the first token of the event that stopped the run, or
 /// of the fault of a text that is no script.
@@ -12,26 +13,6 @@ pub enum Verdict {
     Syntax(usize),
     /// The event or header item at this line isn't run.
     Unsupported(usize),
-    /// A number of the event at this line is over its limit.
+    /// A number of the event at this line is over its limit, or too many packets stood untaken there.
     Limit(usize),
-}
-
-/// What differed first.
-#[derive(Clone, Copy, Debug, PartialEq, Eq)]
-pub enum Kind {
-    /// The moment at which a packet was sent.
-    Time,
-    Flags,
-    /// The sequence number's start, end or length.
-    Seq,
-    Ack,
-    /// The window field as sent.
-    Win,
-    Options,
-    /// The result of a call.
-    Result,
-    /// No packet was sent.
-    Missing,
-    /// An absolute time lies before the base, the time of the event before.
-    Backwards,
 }

@@ -1,0 +1,6 @@
+-- The laws hold.
+use Rattle.pd_run.proofs.Passed.{passed_packets_agree, passed_calls_answer, tolerance_stays}
+use Rattle.pd_run.proofs.laws.steps_are_lawful.Goals as goal
+
+pub returns : goal.returns
+returns c = record { packets = passed_packets_agree; calls = passed_calls_answer; tolerance = tolerance_stays }

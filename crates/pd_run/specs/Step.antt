@@ -1,0 +1,145 @@
+-- One event of a run: its checks in order, and what it does.
+use Rattle.std.specs.Prelude.{◌≡◌, ℕ, ◌==◌, max, not, length, slice_get, Option, Some, None, Result, Ok, Err, alloc_error, if◌then◌else◌}
+use Rattle.std.specs.declared.alloc.AllocError.{AllocError}
+use Rattle.pd_script.specs.declared.calls.Call.{Call}
+use Rattle.pd_script.specs.declared.packets.Packet.{Packet}
+use Rattle.pd_script.specs.declared.script_events.Action.{Action}
+use Rattle.pd_script.specs.declared.script_events.Action.TheVariants.{Inbound, Outbound, Call as Calls}
+use Rattle.pd_script.specs.declared.script_events.Event.{Event}
+use Rattle.pd_seg.specs.declared.answers.Answer.{Answer}
+use Rattle.pd_seg.specs.declared.segments.Sent.{Sent}
+use Rattle.pd_host.specs.Arrivals.{arrived}
+use Rattle.pd_host.specs.Calls.{called}
+use Rattle.pd_host.specs.Sender.{Sender, then_on, advanced, deadline_of, without_oldest}
+use Rattle.pd_host.specs.declared.halts.Halt.{Halt}
+use Rattle.pd_host.specs.declared.halts.Halt.TheVariants as halt
+use Rattle.pd_host.specs.declared.halts.Stop.{Stop}
+use Rattle.pd_host.specs.declared.halts.Stop.TheVariants.{Halted, OutOfMemory}
+use Rattle.pd_host.specs.declared.sender_state.State.{State}
+use Rattle.pd_match.specs.Calls.{result_mismatch}
+use Rattle.pd_match.specs.Packets.{mismatch}
+use Rattle.pd_match.specs.declared.kinds.Kind.{Kind}
+use Rattle.pd_match.specs.declared.kinds.Kind.TheVariants.{Missing, Backwards}
+use Rattle.pd_run.specs.Limits.{is_over_limit}
+use Rattle.pd_run.specs.Times.{moment_of, moments_of, is_backwards, is_in_reach, base_after}
+use Rattle.pd_run.specs.Inbound.{segment_in}
+use Rattle.pd_run.specs.Shapes.{is_run}
+use Rattle.pd_run.specs.declared.stepping.StepEnd.{StepEnd}
+use Rattle.pd_run.specs.declared.stepping.StepEnd.TheVariants.{Go, Stop as Stopped}
+use Rattle.pd_run.specs.declared.verdicts.Verdict.{Verdict}
+use Rattle.pd_run.specs.declared.verdicts.Verdict.TheVariants.{Fail, Unsupported, Limit}
+
+-- what a run holds between two events: the sender, and in microseconds the clock, the base of relative times and the
+-- tolerance
+pub record Running : Type 0 where
+  pub host : Sender
+  pub clock : ℕ
+  pub base : ℕ
+  pub tolerance : ℕ
+
+-- what follows a step: goes on from its state, or stops with its verdict
+abbrev pub on_step : {A : Type 0} → (Running → A) → (Verdict → A) → Result Running Verdict → A
+on_step go stop (Ok r) = go r
+on_step go stop (Err v) = stop v
+
+-- a sender that halts at an event stops the run there
+abbrev pub verdict_by : ℕ → Halt → Verdict
+verdict_by line halt.Unsupported = Unsupported line
+verdict_by line halt.Limit = Limit line
+
+-- how a step ends there where the sender has ended
+abbrev pub stopped_by : ℕ → Stop → Result StepEnd AllocError
+stopped_by line (Halted h) = Ok (Stopped (verdict_by line h))
+stopped_by line OutOfMemory = Err alloc_error
+
+-- what was compared agrees, or the event fails by what differs first
+abbrev pub judged : ℕ → Running → Option Kind → Result Running Verdict
+judged line r None = Ok r
+judged line r (Some kind) = Err (Fail line kind)
+
+-- the run with its sender in another state
+abbrev pub with_state : Running → State → Running
+with_state r s = record r { host = record r.host { state = s } }
+
+-- a packet that arrives, and a call, act at the later of the event's time and the clock
+abbrev pub acts_at : Running → Event → ℕ
+acts_at r e = max (moment_of r.base e.time) r.clock
+
+-- the run after that: the clock is that moment, the base is the event's time
+abbrev pub acted : Running → Event → State → Running
+acted r e s = record (with_state r s) { clock = acts_at r e; base = moment_of r.base e.time }
+
+-- a packet arrives, after all expiries up to its moment
+abbrev pub arrives : Running → Event → Packet → Result State Halt
+arrives r e p = then_on (arrived (segment_in p) (acts_at r e)) (advanced (acts_at r e) r.host.state)
+
+abbrev pub on_arrival : Running → Event → Result State Halt → Result Running Verdict
+on_arrival r e (Ok s) = Ok (acted r e s)
+on_arrival r e (Err h) = Err (verdict_by e.line h)
+
+-- a call is made, after all expiries up to its moment, and its result is compared
+abbrev pub answers : Running → Event → Call → Result (State × Answer) Halt
+answers r e call = then_on (called call) (advanced (acts_at r e) r.host.state)
+
+abbrev pub on_answer : Running → Event → Call → Result (State × Answer) Halt → Result Running Verdict
+on_answer r e call (Ok (s, answer)) = judged e.line (acted r e s) (result_mismatch call.result answer)
+on_answer r e call (Err h) = Err (verdict_by e.line h)
+
+-- the next expiry is performed, and the clock becomes its moment
+abbrev pub on_expiry : Running → Event → ℕ → Result State Halt → Result Running Verdict
+on_expiry r e at (Ok s) = Ok (record (with_state r s) { clock = at })
+on_expiry r e at (Err h) = Err (verdict_by e.line h)
+
+-- the next expiry, provided that a packet which it sends may still be the one expected; without such an expiry the packet
+-- is missing
+abbrev pub expires : Running → Event → Option ℕ → Result Running Verdict
+expires r e None = Err (Fail e.line Missing)
+expires r e (Some at) =
+    if is_in_reach (moments_of r.base e.time) r.tolerance at
+    then on_expiry r e at (advanced at r.host.state)
+    else Err (Fail e.line Missing)
+
+-- where no packet stands untaken, the next expiry is awaited
+abbrev pub awaited : Running → Event → Result Running Verdict
+awaited r e = if length r.host.state.endpoint.outbox == 0 then expires r e (deadline_of r.host.state) else Ok r
+
+-- the oldest packet that nobody has taken is taken and compared
+abbrev pub taken : Event → Packet → Running → Option Sent → Result Running Verdict
+taken e p r None = Err (Fail e.line Missing)
+taken e p r (Some sent) =
+    judged e.line (record r { host = without_oldest r.host; base = base_after r.base e.time sent.at })
+    (mismatch p (moments_of r.base e.time) sent r.tolerance)
+
+-- a packet is expected to have left
+abbrev pub leaves : Running → Event → Packet → Result Running Verdict
+leaves r e p = on_step (λ s. taken e p s (slice_get s.host.state.endpoint.outbox 0)) (λ v. Err v) (awaited r e)
+
+-- what an action of a shape that is run does
+abbrev pub performed : Running → Event → Action → Result Running Verdict
+performed r e (Inbound p) = on_arrival r e (arrives r e p)
+performed r e (Outbound p) = leaves r e p
+performed r e (Calls call) = on_answer r e call (answers r e call)
+performed r e _ = Err (Unsupported e.line)
+
+-- one event, its checks in order: the next state, or the verdict of a stop
+abbrev pub step : Running → Event → Result Running Verdict
+step r e =
+    if is_over_limit e then Err (Limit e.line)
+    else (if not (is_run e) then Err (Unsupported e.line)
+    else (if is_backwards r.base e.time then Err (Fail e.line Backwards)
+    else performed r e e.action))
+
+-- what a step answered, and the state it left where the run goes on
+abbrev pub Tells : Result Running Verdict → StepEnd → Running → Type 0
+Tells outcome Go new = outcome ≡ Ok new
+Tells outcome (Stopped v) new = outcome ≡ Err v
+
+-- a step by whether the sender has ended: of a run that was stopped by a halt nothing is said, and one that has found no
+-- memory takes no further step
+abbrev pub StepsFrom : Option Stop → Running → Event → StepEnd → Running → Type 0
+StepsFrom None old e end new = Tells (step old e) end new
+StepsFrom (Some (Halted h)) old e end new = Unit {0}
+StepsFrom (Some OutOfMemory) old e end new = ⊥
+
+abbrev pub Steps : Running → Event → StepEnd → Running → Type 0
+Steps old e end new = StepsFrom old.host.ended old e end new

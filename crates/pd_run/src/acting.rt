@@ -1,0 +1,47 @@
+//! What an event asks of the host, after all expiries up to its moment.
+ghost use Rattle.std.specs.Prelude.{◌≡◌, false};
+ghost use Rattle.pd_host.specs.Arrivals.{arrived};
+ghost use Rattle.pd_host.specs.Calls.{called};
+ghost use Rattle.pd_host.specs.Outcome.{Goes, Answers};
+ghost use Rattle.pd_host.specs.Sender.{then_on, advanced};
+ghost use Rattle.pd_run.specs.Inbound.{segment_in};
+ghost use Rattle.pd_run.specs.Limits.{is_packet_over};
+
+use crate::inbound::segment_of;
+use pd_host::{Host, Stop};
+use pd_script::{Call, Packet};
+use pd_seg::Answer;
+
+/// A packet arrives at a moment.
+///
+/// # Errors
+///
+/// Why the host has ended, here or before.
+pub fn arrive(host: &mut Host, packet: &Packet, moment: u64) -> Result<(), Stop>
+    requires fits { is_packet_over packet.now ≡ false }
+    ensures { Goes host.old (λ s. then_on (arrived (segment_in packet.now) moment) (advanced moment s)) result host.new }
+{
+    match host.advance(moment) {
+        Ok(()) => {}
+        Err(stop) => return Err(stop),
+    }
+    match segment_of(host.outbox().allocator(), packet) {
+        Ok(segment) => host.arrive(&segment, moment),
+        Err(_) => Err(host.exhaust()),
+    }
+}
+
+/// A call is made at a moment.
+///
+/// # Errors
+///
+/// Why the host has ended, here or before.
+pub fn answer(host: &mut Host, call: &Call, moment: u64) -> Result<Answer, Stop>
+    ensures { Answers host.old (λ s. then_on (called call.now) (advanced moment s)) result host.new }
+{
+    match host.advance(moment) {
+        Ok(()) => {}
+        Err(stop) => return Err(stop),
+    }
+    host.call(call, moment)
+}

@@ -1,0 +1,76 @@
+//! The times of events, as moments of a run in microseconds.
+ghost use Rattle.std.specs.Prelude.{◌≡◌, ◌<◌, ◌^◌, false};
+ghost use Rattle.std.specs.List.{list_any};
+ghost use Rattle.pd_run.specs.Limits.{is_long, written_times};
+ghost use Rattle.pd_run.specs.Times.{is_single, moment_of, moments_of, is_backwards, is_in_reach, base_after};
+
+use pd_script::Time;
+
+/// Whether a time is one moment.
+pub fn is_single(time: Time) -> bool
+    ensures { result ≡ is_single time }
+{
+    matches!(time, Time::Absolute(_) | Time::Relative(_))
+}
+
+/// The moment of a single time.
+pub fn moment_of(base: u64, time: Time) -> u64
+    requires base { base < 2 ^ 61 }
+    requires short { list_any is_long (written_times time) ≡ false }
+    ensures { result ≡ moment_of base time }
+{
+    match time {
+        Time::Absolute(t) => t,
+        Time::Relative(t) => base + t,
+        _ => base,
+    }
+}
+
+/// The first and the last moment of a time; `None` for `*`.
+pub fn moments_of(base: u64, time: Time) -> Option<(u64, u64)>
+    requires base { base < 2 ^ 61 }
+    requires short { list_any is_long (written_times time) ≡ false }
+    ensures { result ≡ moments_of base time }
+{
+    match time {
+        Time::Any => None,
+        Time::Absolute(t) => Some((t, t)),
+        Time::Relative(t) => Some((base + t, base + t)),
+        Time::AbsoluteRange(first, last) => Some((first, last)),
+        Time::RelativeRange(first, last) => Some((base + first, base + last)),
+    }
+}
+
+/// Whether an absolute time, or the first bound of an absolute range, lies before the base.
+pub fn is_backwards(base: u64, time: Time) -> bool
+    ensures { result ≡ is_backwards base time }
+{
+    match time {
+        Time::Absolute(t) => t < base,
+        Time::AbsoluteRange(first, _) => first < base,
+        _ => false,
+    }
+}
+
+/// Whether a packet that leaves at a moment may still come in time.
+pub fn is_in_reach(moments: Option<(u64, u64)>, tolerance: u64, at: u64) -> bool
+    ensures { result ≡ is_in_reach moments tolerance at }
+{
+    match moments {
+        None => true,
+        Some((_, last)) => at <= last.saturating_add(tolerance),
+    }
+}
+
+/// The base after a packet that left at a moment.
+pub fn base_after(base: u64, time: Time, at: u64) -> u64
+    requires base { base < 2 ^ 61 }
+    requires short { list_any is_long (written_times time) ≡ false }
+    ensures { result ≡ base_after base time at }
+{
+    if is_single(time) {
+        moment_of(base, time)
+    } else {
+        base.max(at)
+    }
+}
