@@ -1,8 +1,9 @@
 -- The rows that a book keeps are those that its acts show.
-use Rattle.std.proofs.Common.{◌≡◌, ◌+◌, List, [], ◌∷◌, map, Some, None, is_some, is_none, Bool, true, false, cond, ℕ, refl, ap, sym, ◌∙◌}
+use Rattle.std.proofs.Common.{◌≡◌, ◌+◌, List, [], ◌∷◌, map, Option, Some, None, is_some, is_none, Bool, true, false, cond, ℕ, refl, ap, sym, ◌∙◌, arith}
+use Rattle.std.specs.Prelude.{IsSome}
 use Rattle.std.specs.List.{AllByRecursion, All, count_by}
 use Rattle.std.specs.Map.{values_of}
-use Rattle.std.proofs.lemmas.List.Elements.{All-map, All-from_recursion}
+use Rattle.std.proofs.lemmas.List.Elements.{All-map, All-from_recursion, All-head, All-tail}
 use Rattle.std.proofs.lemmas.List.Recursion.{is_count_by}
 use Rattle.pd_settings.specs.declared.fields.Settings.{Settings}
 use Rattle.pd_run.specs.declared.verdicts.Verdict.{Verdict}
@@ -14,6 +15,7 @@ use Rattle.pd_book.specs.declared.script.State.{State}
 use Rattle.pd_book.specs.declared.script.State.TheVariants.{Pending, Running, Answered}
 use Rattle.pd_book.specs.Acts.{Named, texts, now, stands, answered}
 use Rattle.pd_book.specs.Report.{IsRunUnder, row, shown, owed}
+use Rattle.pd_book.specs.Headline.{NoneOwedWhenAllAnswered}
 use Rattle.pd_book.specs.Legal.{Legal}
 use Rattle.pd_book.specs.Kept.{Entry, verdict_in, kept_row}
 use Rattle.pd_book.specs.Replay.{scripts_of}
@@ -76,3 +78,35 @@ pub owed_kept : (opening : Settings) (past : List Act) → Legal opening past �
 owed_kept opening past l =
     ap (count_by pending_row) (rows_kept opening past l)
     ∙ (tallied pending_row (map kept_row (scripts_of opening past)) ∙ (same_tally (scripts_of opening past) ∙ sym (tallied pending_script (values_of (scripts_of opening past)))))
+
+zero_all : (rows : List Row) → tally pending_row rows ≡ 0 → AllByRecursion (λ (r : Row). IsSome r.verdict) rows
+unfolding tally
+zero_all [] h = tt
+zero_all (r ∷ rows) h = go r.verdict refl h (zero_all rows)
+  where
+    go : (v : Option Verdict) → r.verdict ≡ v → cond (is_none v) (1 + tally pending_row rows) (tally pending_row rows) ≡ 0
+        → (tally pending_row rows ≡ 0 → AllByRecursion (λ (x : Row). IsSome x.verdict) rows) → AllByRecursion (λ (x : Row). IsSome x.verdict) (r ∷ rows)
+    go None e k f = absurd (omega (arith, k))
+    go (Some v) e k f = (ap is_some e, f k)
+
+all_zero : (rows : List Row) → AllByRecursion (λ (r : Row). IsSome r.verdict) rows → tally pending_row rows ≡ 0
+unfolding tally
+all_zero [] a = refl
+all_zero (r ∷ rows) a = go r.verdict a.0 (all_zero rows a.1)
+  where
+    go : (v : Option Verdict) → is_some v ≡ true → tally pending_row rows ≡ 0 → cond (is_none v) (1 + tally pending_row rows) (tally pending_row rows) ≡ 0
+    go None e k = absurd cc
+    go (Some v) e k = k
+
+by_recursion : {A : Type 0} (P : A → Type 0) (xs : List A) → All P xs → AllByRecursion P xs
+by_recursion P [] h = tt
+by_recursion P (x ∷ xs) h = (All-head P x xs h, by_recursion P xs (All-tail P x xs h))
+
+-- none is owed exactly when each row has a verdict
+pub none_pending : (opening : Settings) (past : List Act) → NoneOwedWhenAllAnswered opening past
+none_pending opening past =
+    let rows : List Row = (shown opening past).rows in
+    let is : owed opening past ≡ tally pending_row rows = tallied pending_row rows in (
+      λ h. All-from_recursion (λ (r : Row). IsSome r.verdict) rows (zero_all rows (sym is ∙ h)),
+      λ a. is ∙ all_zero rows (by_recursion (λ (r : Row). IsSome r.verdict) rows a),
+    )

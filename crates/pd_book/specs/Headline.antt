@@ -8,7 +8,7 @@ use Rattle.pd_book.specs.declared.act.Ruling.TheVariants.{Taken}
 use Rattle.pd_book.specs.declared.row.Row.{Row}
 use Rattle.pd_book.specs.declared.task.Task.{Task}
 use Rattle.pd_book.specs.Acts.{changes, texts, now, job, ruling}
-use Rattle.pd_book.specs.Report.{IsRunUnder, shown, scratch}
+use Rattle.pd_book.specs.Report.{IsRunUnder, shown, scratch, owed}
 
 -- none of these acts changes the script of this name
 abbrev pub Unchanged : List ℕ → List Act → Type 0
@@ -50,6 +50,10 @@ VerdictsAreRuns opening past = All (IsRunUnder (now opening past)) (shown openin
 abbrev pub ScratchWhenAllAnswered : Settings → List Act → Type 0
 ScratchWhenAllAnswered opening past =
     All (λ (row : Row). IsSome row.verdict) (shown opening past).rows → shown opening past ≡ scratch (texts past) (now opening past)
+
+-- no row is owed exactly when each row has a verdict
+abbrev pub NoneOwedWhenAllAnswered : Settings → List Act → Type 0
+NoneOwedWhenAllAnswered opening past = (owed opening past ≡ 0) ↔ All (λ (row : Row). IsSome row.verdict) (shown opening past).rows
 
 -- a finish of an outstanding job is taken exactly when its script hasn't changed since the job's start
 abbrev pub TakenWhenUnchanged : Settings → List Act → Type 0

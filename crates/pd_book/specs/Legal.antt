@@ -10,7 +10,7 @@ use Rattle.pd_book.specs.declared.task.Task.{Task}
 use Rattle.pd_book.specs.Acts.{texts, stands, text_of, now, next, started, jobs, job, ruling}
 
 -- the act meets its call's conditions after these acts:
--- an add gives a valid name that doesn't stand, to at most 1,024 scripts;
+-- an add gives a valid name that doesn't stand, where fewer than 1,024 scripts stand;
 -- an edit and a remove name a script that stands, and the edit fits its text;
 -- a set gives a setting a value of its range;
 -- a start has the next number and names the first script that waits;

@@ -249,6 +249,7 @@ impl Book {
         ensures some { IfOk result (λ p. IfSome p (λ p. IsReady self.now.opening self.now.past p.job p.task p.act)) }
         ensures room { IfOk result (λ p. IfSome p (λ _. full 2 self.now ≡ None)) }
         ensures err { IfErr result (λ e. e ≡ fault_of (start_refusal self.now)) }
+        ensures waits { OnErr result (IsSome (next self.now.past)) }
     {
         let Some((name, text)) = self.waiting() else {
             return Ok(None);
@@ -271,12 +272,14 @@ impl Book {
     /// since its last change and not ended; `None`, which records nothing, where there is none.
     ///
     /// # Errors
-    /// `HistoryFull` where there is such a script and no room for the act and the job's end; else `OutOfMemory`.
+    /// Where there is such a script alone: `HistoryFull` without room for the act and the job's end, else
+    /// `OutOfMemory`.
     pub fn start(&mut self) -> Result<Option<Job>, BookFault>
         ensures job { IfOk result (λ job. job ≡ next_job self.old) }
         ensures ok { IfOk result (λ job. self.new ≡ told_start self.old job) }
         ensures allowed { OnOk result (start_refusal self.old ≡ None) }
         ensures err { IfErr result (λ e. e ≡ fault_of (start_refusal self.old)) }
+        ensures waits { OnErr result (IsSome (next self.old.past)) }
         ensures same { OnErr result (self.new ≡ self.old) }
     {
         let Some(prepared) = self.prepare()? else {

@@ -1,4 +1,8 @@
 //! The book of scripts, jobs and results.
+//!
+//! A `Book` holds scripts and settings, which its callers change. `start` hands out a `Job`, `run_job` makes a
+//! `Done` of it, whenever and wherever, and `finish` takes it or rules it stale. What a book shows is defined on
+//! the list of its accepted calls alone, and `headline` says it in words of positions in that list.
 #![tactic(auto)]
 
 mod act;

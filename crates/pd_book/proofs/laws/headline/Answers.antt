@@ -1,5 +1,5 @@
 -- The headline holds of each legal list of acts.
-use Rattle.pd_book.proofs.Rows.{rows_run}
+use Rattle.pd_book.proofs.Rows.{rows_run, none_pending}
 use Rattle.pd_book.proofs.Splits.{current, rows_are_scripts, from_scratch, taken}
 use Rattle.pd_book.proofs.laws.headline.Goals as goal
 
@@ -14,6 +14,9 @@ returns-clause-verdicts c = λ opening past l. rows_run opening past
 
 pub returns-clause-scratch : goal.returns-clause-scratch
 returns-clause-scratch c = λ opening past l. from_scratch opening past
+
+pub returns-clause-owed : goal.returns-clause-owed
+returns-clause-owed c = λ opening past l. none_pending opening past
 
 pub returns-clause-taken : goal.returns-clause-taken
 returns-clause-taken c = taken
