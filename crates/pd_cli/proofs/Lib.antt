@@ -1,5 +1,6 @@
 -- The lemmas of the proofs.
 pub mod Chains
+mod Rows
 pub mod SettingsText
 pub mod Counts
 pub mod Cuts

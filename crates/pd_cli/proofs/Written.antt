@@ -17,7 +17,7 @@ use Rattle.pd_cli.specs.Input.{IfKnown, to_come}
 use Rattle.pd_cli.specs.Report.{rendered}
 use Rattle.pd_cli.specs.Commands.{Item, does, stops, commands}
 use Rattle.pd_cli.specs.Taking.{Gives, FaultIn}
-use Rattle.pd_cli.specs.Output.{Outcome, output, outcome, ahead, follow, acted, effect, reported, report, all_pass, turn, after_turn, settled, settled_in, Answers}
+use Rattle.pd_cli.specs.Output.{Session, output, outcome, ahead, follow, acted, effect, reported, report, all_pass, turn, after_turn, settled, settled_in, Answers}
 use Rattle.pd_cli.specs.Steps.{IsQuiet, Does, Ends}
 use Rattle.pd_cli.specs.declared.command.Command.{Command}
 use Rattle.pd_cli.specs.declared.command.Command.TheVariants.{Add, Edit, Remove, Set, Show, Settle}
@@ -95,7 +95,7 @@ Served settings story before now all left = (octets : List ℕ) × Appends befor
 abbrev pub Final : Settings → Result Bool ServeFault → Option (List ℕ) → Option (List ℕ) → Option (List ℕ) → Type 0
 Final settings r before now all = (octets : List ℕ) × Appends before now octets × IfSome all (λ input. Answers r octets (output settings input))
 
-ahead_ahead : (a b : List ℕ) (o : Outcome) → ahead a (ahead b o) ≡ ahead (a ++ b) o
+ahead_ahead : (a b : List ℕ) (o : Session) → ahead a (ahead b o) ≡ ahead (a ++ b) o
 ahead_ahead a b o = ap (λ (w : List ℕ). record { written = w; end = o.end }) (sym (append_assoc a b o.written))
 
 -- after a command
@@ -127,10 +127,10 @@ next_none (Some x) (Some y) h = h
 comes_fault : (settings : Settings) (fault : ServeFault) (story : Story) (octets x y : List ℕ) → Comes settings story octets x y → commands y ≡ stops fault ∷ [] → ((output settings x).written ≡ octets) × ((output settings x).end ≡ Err fault)
 comes_fault settings fault story octets x y h f =
     let k : output settings x ≡ ahead octets (outcome story (stops fault ∷ [])) = h ∙ ap (λ (l : List Item). ahead octets (outcome story l)) f in
-    (ap (λ (o : Outcome). o.written) k ∙ append-nil octets, ap (λ (o : Outcome). o.end) k)
+    (ap (λ (o : Session). o.written) k ∙ append-nil octets, ap (λ (o : Session). o.end) k)
 
 comes_prefix : (settings : Settings) (story : Story) (octets x y : List ℕ) → Comes settings story octets x y → (more : List ℕ) × ((output settings x).written ≡ octets ++ more)
-comes_prefix settings story octets x y h = ((outcome story (commands y)).written, ap (λ (o : Outcome). o.written) h)
+comes_prefix settings story octets x y h = ((outcome story (commands y)).written, ap (λ (o : Session). o.written) h)
 
 answers_fault : (settings : Settings) (fault : ServeFault) (story : Story) (octets x y : List ℕ) → Comes settings story octets x y → FaultIn fault (commands y) → Answers (Err fault) octets (output settings x)
 answers_fault settings BadCommand story octets x y h f = comes_fault settings BadCommand story octets x y h f
@@ -149,11 +149,11 @@ served_fault settings (Err x) fault story w0 w all u i s f = rw i (s.0, s.1, fac
 answers_stop : (settings : Settings) (fault : ServeFault) (story new : Story) (command : Command) (octets more x y : List ℕ) → Comes settings story octets x y → Next command y → Does (Err fault) story command new more → Answers (Err fault) (octets ++ more) (output settings x)
 answers_stop settings Write story new command octets more x y h k d =
     let rest = (outcome new k.0).written in
-    (d.0 ++ rest, ap (λ (o : Outcome). o.written) (comes_more settings story new command octets (more ++ d.0) x y k.0 h k.1 d.1) ∙ simp append_assoc)
+    (d.0 ++ rest, ap (λ (o : Session). o.written) (comes_more settings story new command octets (more ++ d.0) x y k.0 h k.1 d.1) ∙ simp append_assoc)
 answers_stop settings HistoryFull story new command octets more x y h k d =
     let q : output settings x ≡ ahead octets (follow (Err HistoryFull) (λ next. outcome next k.0)) =
     h ∙ (ap (λ (l : List Item). ahead octets (outcome story l)) k.1 ∙ ap (λ (f : Result (List ℕ × Story) ServeFault). ahead octets (follow f (λ next. outcome next k.0))) d.0) in
-    (ap (λ (o : Outcome). o.written) q ∙ ap (λ (m : List ℕ). octets ++ m) (sym d.1), ap (λ (o : Outcome). o.end) q)
+    (ap (λ (o : Session). o.written) q ∙ ap (λ (m : List ℕ). octets ++ m) (sym d.1), ap (λ (o : Session). o.end) q)
 answers_stop settings OutOfMemory story new command octets more x y h k d =
     let all : octets ++ more ≡ octets = ap (λ (m : List ℕ). octets ++ m) d ∙ append-nil octets in
     rw all (comes_prefix settings story octets x y h)
@@ -179,7 +179,7 @@ next_last (Some x) h = ([], h)
 answers_end : (settings : Settings) (passed : Bool) (story new : Story) (octets more x y : List ℕ) → Comes settings story octets x y → commands y ≡ does Settle ∷ [] → effect story Settle ≡ Ok (more, new) → passed ≡ all_pass (report new) → Answers (Ok passed) (octets ++ more) (output settings x)
 answers_end settings passed story new octets more x y h k d e =
     let q : output settings x ≡ ahead (octets ++ more) (outcome new []) = comes_more settings story new Settle octets more x y [] h k d in
-    (ap (λ (o : Outcome). o.written) q ∙ append-nil (octets ++ more), ap (λ (o : Outcome). o.end) q ∙ ap (λ (b : Bool). Ok b) (sym e))
+    (ap (λ (o : Session). o.written) q ∙ append-nil (octets ++ more), ap (λ (o : Session). o.end) q ∙ ap (λ (b : Bool). Ok b) (sym e))
 
 pub served_end : (settings : Settings) (r : Result Bool ServeFault) (story new : Story) (more : List ℕ) (w0 w w1 all u : Option (List ℕ)) → Served settings story w0 w all u → IfSome u (λ o. commands o ≡ does Settle ∷ []) → Appends w w1 more → Ends r story new more
     → Final settings r w0 w1 all

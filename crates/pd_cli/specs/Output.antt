@@ -45,7 +45,7 @@ report story = shown story.opening story.past
 
 -- each row of a report passes
 abbrev pub all_pass : Shown → Bool
-all_pass shown = list_all (λ (row : Row). is_of class.Pass row.verdict) shown.rows
+all_pass printed = list_all (λ (row : Row). is_of class.Pass row.verdict) printed.rows
 
 -- the story after a start of this job and its finish
 abbrev pub after_turn : Story → Task → Story
@@ -90,39 +90,39 @@ effect story Show = Ok (rendered (report story), story)
 effect story Settle = reported (settled story)
 
 -- all that is written, and how it ends: whether each row of the last report passes, or the fault
-pub record Outcome : Type 0 where
+pub record Session : Type 0 where
   pub written : List ℕ
   pub end : Result Bool ServeFault
 
--- an outcome with these octets written before it
-abbrev pub ahead : List ℕ → Outcome → Outcome
-ahead octets outcome = record { written = octets ++ outcome.written; end = outcome.end }
+-- a session with these octets written before it
+abbrev pub ahead : List ℕ → Session → Session
+ahead octets session = record { written = octets ++ session.written; end = session.end }
 
 -- an effect, then what comes after it
-abbrev pub follow : Result (List ℕ × Story) ServeFault → (Story → Outcome) → Outcome
-follow (Ok effect) rest = ahead effect.0 (rest effect.1)
+abbrev pub follow : Result (List ℕ × Story) ServeFault → (Story → Session) → Session
+follow (Ok done) rest = ahead done.0 (rest done.1)
 follow (Err fault) rest = record { written = []; end = Err fault }
 
--- the outcome of what stands in an input, after a story
-abbrev pub outcome : Story → List Item → Outcome
+-- the session that an input gives, after a story
+abbrev pub outcome : Story → List Item → Session
 outcome story [] = record { written = []; end = Ok (all_pass (report story)) }
 outcome story (stops fault ∷ items) = record { written = []; end = Err fault }
 outcome story (does command ∷ items) = follow (effect story command) (λ next. outcome next items)
 
 -- what an input makes serving write, beginning with these settings and no scripts, and how it ends
-abbrev pub output : Settings → List ℕ → Outcome
+abbrev pub output : Settings → List ℕ → Session
 output settings input = outcome (record { opening = settings; past = [] }) (commands input)
 
--- these octets are what an outcome writes and this is how it ends; where a read or a write fails,
+-- these octets are what a session writes and this is how it ends; where a read or a write fails,
 -- or memory is refused, they are a prefix of what it writes
-abbrev pub Answers : Result Bool ServeFault → List ℕ → Outcome → Type 0
-Answers (Ok passed) octets outcome = (outcome.written ≡ octets) × (outcome.end ≡ Ok passed)
-Answers (Err HistoryFull) octets outcome = (outcome.written ≡ octets) × (outcome.end ≡ Err HistoryFull)
-Answers (Err BadCommand) octets outcome = (outcome.written ≡ octets) × (outcome.end ≡ Err BadCommand)
-Answers (Err Truncated) octets outcome = (outcome.written ≡ octets) × (outcome.end ≡ Err Truncated)
-Answers (Err Read) octets outcome = (more : List ℕ) × (outcome.written ≡ octets ++ more)
-Answers (Err Write) octets outcome = (more : List ℕ) × (outcome.written ≡ octets ++ more)
-Answers (Err OutOfMemory) octets outcome = (more : List ℕ) × (outcome.written ≡ octets ++ more)
+abbrev pub Answers : Result Bool ServeFault → List ℕ → Session → Type 0
+Answers (Ok passed) octets session = (session.written ≡ octets) × (session.end ≡ Ok passed)
+Answers (Err HistoryFull) octets session = (session.written ≡ octets) × (session.end ≡ Err HistoryFull)
+Answers (Err BadCommand) octets session = (session.written ≡ octets) × (session.end ≡ Err BadCommand)
+Answers (Err Truncated) octets session = (session.written ≡ octets) × (session.end ≡ Err Truncated)
+Answers (Err Read) octets session = (more : List ℕ) × (session.written ≡ octets ++ more)
+Answers (Err Write) octets session = (more : List ℕ) × (session.written ≡ octets ++ more)
+Answers (Err OutOfMemory) octets session = (more : List ℕ) × (session.written ≡ octets ++ more)
 
 -- a writer got the output of an input, or where serving stopped for a read, a write or memory a prefix of it
 abbrev pub Serves : Result Bool ServeFault → Settings → Option (List ℕ) → Option (List ℕ) → Option (List ℕ) → Type 0

@@ -18,12 +18,9 @@ mod word_options;
 mod writing;
 
 pub use chosen::Options;
-pub use command::{Command, next_command};
 pub use faults::ServeFault;
-pub use intake::Intake;
 pub use program_faults::ProgramFault;
 pub use rendering::render;
-pub use requests::Word;
 pub use serving::serve_alone;
 pub use whole_program::{program, run};
 pub use word_options::options;
