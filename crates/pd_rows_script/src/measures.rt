@@ -1,0 +1,180 @@
+//! Whether a token is written as a part asks, with the numbers that later tokens are compared with.
+use crate::grammar::Part;
+use crate::items::Token;
+use crate::spelling::Kind;
+
+/// The greatest number of events of a script.
+pub const MAX_EVENTS: usize = 4_096;
+
+/// The greatest number of pairs of brackets inside one another.
+const MAX_PAIRS: usize = 16;
+
+/// The greatest number of a time, a packet or a result.
+const MAX_NUMBER: u64 = 4_294_967_295;
+
+const BRACKETS: &[u8] = b"()[]{}";
+
+/// What was read so far that later tokens are compared with.
+#[derive(Clone, Copy, Debug)]
+pub struct Measures {
+    /// How many events have begun.
+    pub events: usize,
+    /// The first number of a range, in microseconds.
+    first: u64,
+    /// The start and the end of a packet.
+    start: u64,
+    end: u64,
+    /// How many pairs of brackets are open, without a call's own.
+    pairs: usize,
+}
+
+impl Measures {
+    pub fn new() -> Measures {
+        Measures {
+            events: 0,
+            first: 0,
+            start: 0,
+            end: 0,
+            pairs: 0,
+        }
+    }
+
+    /// What is known behind a token that is written as the part asks.
+    pub fn behind(self, part: Part, token: Token) -> Option<Measures> {
+        match part {
+            Part::Token(kind) => self.if_true(token.kind == kind),
+            Part::Symbol(octet) => self.if_true(token.is_symbol(octet)),
+            Part::Named(name) => self.if_true(token.kind == Kind::Word && token.text == name),
+            Part::Letters => self.if_true(token.kind == Kind::Word && are_flags(token.text)),
+            Part::Plain => self.if_true(!token.is_symbol_of(BRACKETS)),
+            Part::Argued => {
+                self.if_true(!token.is_symbol_of(BRACKETS) && !token.is_symbol(b','))
+            }
+            Part::Opening(octet) => self.opened(token.is_symbol(octet)),
+            Part::Closing(octet) => self.closed(token.is_symbol(octet)),
+            Part::First | Part::Second | Part::Seconds => {
+                self.behind_seconds(part, token.microseconds()?)
+            }
+            Part::Hexadecimal => self.if_true(token.hexadecimal()? <= MAX_NUMBER),
+            _ => self.behind_number(part, token.number()?),
+        }
+    }
+
+    fn if_true(self, condition: bool) -> Option<Measures> {
+        if condition { Some(self) } else { None }
+    }
+
+    fn opened(self, is_bracket: bool) -> Option<Measures> {
+        let pairs = self.pairs.saturating_add(1);
+        Measures { pairs, ..self }.if_true(is_bracket && pairs <= MAX_PAIRS)
+    }
+
+    fn closed(self, is_bracket: bool) -> Option<Measures> {
+        let pairs = self.pairs.saturating_sub(1);
+        Measures { pairs, ..self }.if_true(is_bracket)
+    }
+
+    fn behind_seconds(self, part: Part, microseconds: u64) -> Option<Measures> {
+        match part {
+            Part::First => Some(Measures {
+                first: microseconds,
+                ..self
+            }),
+            Part::Second => self.if_true(microseconds >= self.first),
+            _ => Some(self),
+        }
+    }
+
+    fn behind_number(self, part: Part, number: u64) -> Option<Measures> {
+        match part {
+            Part::Start => Some(Measures {
+                start: number,
+                ..self
+            }),
+            Part::End => Measures {
+                end: number,
+                ..self
+            }
+            .if_true(number >= self.start),
+            Part::Length => self.if_true(number == self.end.saturating_sub(self.start)),
+            Part::Number => Some(self),
+            _ => None,
+        }
+    }
+}
+
+impl<'a> Token<'a> {
+    fn is_symbol(self, octet: u8) -> bool {
+        self.is_symbol_of(&[octet])
+    }
+
+    fn is_symbol_of(self, octets: &[u8]) -> bool {
+        match self.text {
+            [octet] => self.kind == Kind::Symbol && octets.contains(octet),
+            _ => false,
+        }
+    }
+
+    /// The value of an Int, if it isn't too large.
+    fn number(self) -> Option<u64> {
+        let number = decimal_value(self.text);
+        if self.kind == Kind::Int && number <= MAX_NUMBER {
+            Some(number)
+        } else {
+            None
+        }
+    }
+
+    /// The value of a Hex.
+    fn hexadecimal(self) -> Option<u64> {
+        let digits = self.text.get(2..)?;
+        if self.kind != Kind::Hex {
+            return None;
+        }
+        let mut value = 0u64;
+        for digit in digits {
+            value = value.saturating_mul(16).saturating_add(digit_value(*digit));
+        }
+        Some(value)
+    }
+
+    /// The microseconds of an Int or a Decimal of seconds, if their whole part isn't too large.
+    fn microseconds(self) -> Option<u64> {
+        if self.kind != Kind::Int && self.kind != Kind::Decimal {
+            return None;
+        }
+        let mut parts = self.text.split(|octet| *octet == b'.');
+        let whole = decimal_value(parts.next()?);
+        if whole > MAX_NUMBER {
+            return None;
+        }
+        let mut decimals = parts.next().unwrap_or(&[]).iter();
+        let mut value = whole;
+        for _decimal in 0..6 {
+            let digit = decimals.next().copied().unwrap_or(b'0');
+            value = value.saturating_mul(10).saturating_add(digit_value(digit));
+        }
+        Some(value)
+    }
+}
+
+fn are_flags(word: &[u8]) -> bool {
+    word.iter().all(|letter| b"FSRPUEWC".contains(letter))
+}
+
+fn digit_value(digit: u8) -> u64 {
+    let value = match digit {
+        b'a'..=b'f' => digit.saturating_sub(b'a').saturating_add(10),
+        b'A'..=b'F' => digit.saturating_sub(b'A').saturating_add(10),
+        _ => digit.saturating_sub(b'0'),
+    };
+    u64::from(value)
+}
+
+fn decimal_value(digits: &[u8]) -> u64 {
+    let mut value = 0u64;
+    for digit in digits {
+        value = value.saturating_mul(10).saturating_add(digit_value(*digit));
+    }
+    value
+}

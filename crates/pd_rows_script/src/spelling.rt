@@ -1,0 +1,161 @@
+//! How each kind of piece is spelled, asked of a whole piece.
+
+/// A kind of piece of a text: a blank, a comment or a token.
+#[derive(Clone, Copy, Debug, PartialEq, Eq)]
+pub enum Kind {
+    Blank,
+    LineComment,
+    BlockComment,
+    Int,
+    Hex,
+    Word,
+    Decimal,
+    Dots,
+    Opt,
+    Str,
+    Cmd,
+    Code,
+    Symbol,
+}
+
+pub const KINDS: [Kind; 13] = [
+    Kind::Blank,
+    Kind::LineComment,
+    Kind::BlockComment,
+    Kind::Int,
+    Kind::Hex,
+    Kind::Word,
+    Kind::Decimal,
+    Kind::Dots,
+    Kind::Opt,
+    Kind::Str,
+    Kind::Cmd,
+    Kind::Code,
+    Kind::Symbol,
+];
+
+impl Kind {
+    /// Whether a piece of this kind is written so.
+    pub fn is_spelled(self, piece: &[u8]) -> bool {
+        match self {
+            Kind::Blank => matches!(piece, [b' ' | b'\t' | b'\r' | b'\n']),
+            Kind::LineComment => is_line_comment(piece),
+            Kind::BlockComment => is_enclosed(piece, b"/*", b"*/"),
+            Kind::Int => is_run(piece) && are_digits(piece),
+            Kind::Hex => is_hex(piece),
+            Kind::Word => is_run(piece) && !are_digits(piece) && !is_hex(piece),
+            Kind::Decimal => is_decimal(piece),
+            Kind::Dots => matches!(piece, [b'.', b'.', b'.']),
+            Kind::Opt => is_option(piece),
+            Kind::Str => is_string(piece),
+            Kind::Cmd => is_enclosed(piece, b"`", b"`"),
+            Kind::Code => is_enclosed(piece, b"%{", b"}%"),
+            Kind::Symbol => matches!(piece, [33..=126]) && !is_run(piece),
+        }
+    }
+
+    /// Whether it only parts tokens.
+    pub fn is_gap(self) -> bool {
+        matches!(self, Kind::Blank | Kind::LineComment | Kind::BlockComment)
+    }
+}
+
+/// Whether a text begins with what has to be closed.
+pub fn is_opened(text: &[u8]) -> bool {
+    text.starts_with(b"/*")
+        || text.starts_with(b"\"")
+        || text.starts_with(b"`")
+        || text.starts_with(b"%{")
+}
+
+fn is_word_octet(octet: u8) -> bool {
+    matches!(octet, b'a'..=b'z' | b'A'..=b'Z' | b'0'..=b'9' | b'_')
+}
+
+fn is_solid(octet: u8) -> bool {
+    !matches!(octet, b' ' | b'\t' | b'\r' | b'\n')
+}
+
+fn are_digits(octets: &[u8]) -> bool {
+    octets.iter().all(|octet| octet.is_ascii_digit())
+}
+
+/// Whether it is one or more letters, digits or `_`.
+fn is_run(octets: &[u8]) -> bool {
+    !octets.is_empty() && octets.iter().all(|octet| is_word_octet(*octet))
+}
+
+fn is_hex(piece: &[u8]) -> bool {
+    match piece {
+        [b'0', b'x', digits @ ..] => {
+            !digits.is_empty() && digits.iter().all(|octet| octet.is_ascii_hexdigit())
+        }
+        _ => false,
+    }
+}
+
+fn is_line_comment(piece: &[u8]) -> bool {
+    piece.starts_with(b"//") && piece.iter().all(|octet| *octet != b'\n')
+}
+
+/// Whether it goes from this opening just to the first closing behind it.
+fn is_enclosed(piece: &[u8], opening: &[u8], closing: &[u8]) -> bool {
+    if !piece.starts_with(opening) {
+        return false;
+    }
+    let inside = piece.get(opening.len()..).unwrap_or(&[]);
+    for (at, _) in inside.iter().enumerate() {
+        let rest = inside.get(at..).unwrap_or(&[]);
+        if rest.starts_with(closing) {
+            return rest.len() == closing.len();
+        }
+    }
+    false
+}
+
+/// Whether it is zero or more digits, a point and one or more digits.
+fn is_decimal(piece: &[u8]) -> bool {
+    if !piece
+        .iter()
+        .all(|octet| octet.is_ascii_digit() || *octet == b'.')
+    {
+        return false;
+    }
+    let points = piece.iter().filter(|octet| **octet == b'.').count();
+    points == 1 && !piece.ends_with(b".")
+}
+
+/// Whether it is `--`, a name, and with `=` a value without blanks.
+fn is_option(piece: &[u8]) -> bool {
+    let [b'-', b'-', rest @ ..] = piece else {
+        return false;
+    };
+    let name = rest
+        .iter()
+        .take_while(|octet| is_word_octet(**octet))
+        .count();
+    let value = rest.get(name..).unwrap_or(&[]);
+    let is_value = match value {
+        [] => true,
+        [first, solid @ ..] => *first == b'=' && solid.iter().all(|octet| is_solid(*octet)),
+    };
+    name > 0 && is_value
+}
+
+/// Whether it goes from `"` just to the next that no backslash takes.
+fn is_string(piece: &[u8]) -> bool {
+    let [b'"', inside @ ..] = piece else {
+        return false;
+    };
+    let mut is_taken = false;
+    for (at, octet) in inside.iter().enumerate() {
+        if is_taken {
+            is_taken = false;
+        } else if *octet == b'\\' {
+            is_taken = true;
+        } else if *octet == b'"' {
+            return inside.len().saturating_sub(at) == 1;
+        }
+    }
+    false
+}
