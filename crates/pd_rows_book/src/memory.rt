@@ -11,7 +11,7 @@ use std::process::Abort;
 use std::test::Fail;
 
 /// Changes of a book that has the script `a`.
-#[derive(Clone, Copy, Debug, PartialEq, Eq)]
+#[derive(Clone, Copy)]
 enum Change {
     Add,
     Edit,
@@ -21,7 +21,7 @@ enum Change {
 }
 
 /// What is done with a book, and what is to come of it.
-#[derive(Clone, Copy, Debug, PartialEq, Eq)]
+#[derive(Clone, Copy)]
 enum Step {
     Make(Change),
     /// The next job is started and run.

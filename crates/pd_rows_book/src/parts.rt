@@ -1,11 +1,11 @@
 //! The parts below the book, each call once: texts, names, settings, tokens, scripts, runs.
-use crate::making::{FAILS, LISTEN, edit, name, text};
+use crate::making::{FAILS, LISTEN, name, text};
 use crate::words::Words;
 use pd_lex::{Lexed, Place, next_token};
 use pd_run::{Plain, Stepper, Verdict, run_all, run_with};
 use pd_script::{Action, Event, Parsed, parse};
 use pd_settings::{Key, Settings, Value};
-use pd_text::{LineEdit, Lines};
+use pd_text::Lines;
 use std::alloc::{AllocError, Global};
 use std::str;
 use std::test::Fail;
@@ -32,19 +32,11 @@ const EDITS: [(&str, &str); 7] = [
 ];
 
 fn edited(alloc: Global, lines: &Lines, call: &str) -> Result<String, Fail> {
-    let change = written_edit(alloc, call)?;
+    let change = Words::new(call).edit(alloc)?;
     match lines.apply(&change.copy()?) {
         Ok(after) => joined(alloc, &after),
         Err(fault) => Ok(format!(in alloc; "{fault:?}")?),
     }
-}
-
-fn written_edit(alloc: Global, call: &str) -> Result<LineEdit, Fail> {
-    let mut words = Words::new(call);
-    let (from, remove) = (words.size()?, words.size()?);
-    let line = words.line(alloc)?;
-    let line = line.as_ref().map(|line| line.as_slice());
-    Ok(edit(alloc, from, remove, line)?)
 }
 
 fn joined(alloc: Global, lines: &Lines) -> Result<String, Fail> {
@@ -99,26 +91,26 @@ fn settings_have_their_defaults_and_are_set_one_by_one(rt: HostRuntime) -> Resul
 const DEFAULTS: &str =
     "Settings { mss: 1460, sack: true, wscale: 7, sndbuf: 262144, rcv_wnd: 65535, initial_ssthresh: 1073741824, min_rto_us: 1000000, max_rto_us: 60000000, granularity_us: 1000, nagle: true, tolerance_us: 4000 }";
 
-// A key, what it is set to, and the scale and the segment size that this leaves.
+// A key, what it is set to where the scale is 14, and what is shown of the settings that this leaves.
 const CHANGES: [(&str, Value, &str); 4] = [
-    ("wscale", Value::Number(14), "14 1460 other"),
-    ("wscale", Value::Number(7), "7 1460 same"),
+    ("wscale", Value::Number(14), "14 1460 false"),
+    ("wscale", Value::Number(7), "7 1460 true"),
     ("wscale", Value::Number(15), "BadValue"),
     ("wscales", Value::Other, "UnknownKey"),
 ];
 
-fn changed(alloc: Global, key: &str, value: Value) -> Result<String, AllocError> {
-    match Settings::new().with(key.as_bytes(), value) {
-        Ok(settings) => {
-            let same = if settings.is_same(&Settings::new()) {
-                "same"
-            } else {
-                "other"
-            };
-            format!(in alloc; "{} {} {same}", settings.wscale, settings.mss)
-        }
-        Err(fault) => format!(in alloc; "{fault:?}"),
+fn changed(alloc: Global, key: &str, value: Value) -> Result<String, Fail> {
+    let scaled = Settings::new().with(b"wscale", Value::Number(14))?;
+    match scaled.with(key.as_bytes(), value) {
+        Ok(settings) => Ok(shown(alloc, &settings)?),
+        Err(fault) => Ok(format!(in alloc; "{fault:?}")?),
     }
+}
+
+/// The scale, the segment size and whether all settings are the defaults.
+fn shown(alloc: Global, settings: &Settings) -> Result<String, AllocError> {
+    let same = settings.is_same(&Settings::new());
+    format!(in alloc; "{} {} {same}", settings.wscale, settings.mss)
 }
 
 #[test]

@@ -1,9 +1,9 @@
 //! A book in stories, with the jobs that it gave and their results. Its calls answer in words.
 use crate::answers::{add_row, changed, given_up, recorded, refused, ruled, started};
-use crate::making::{edit, name, ran, stepped, text};
+use crate::making::{name, ran, stepped, text};
 use pd_book::{Book, Done, Job};
 use pd_settings::{Settings, Value};
-use pd_text::Text;
+use pd_text::{LineEdit, Text};
 use std::alloc::Global;
 use std::test::Fail;
 
@@ -63,17 +63,8 @@ impl Shelf {
         Ok(String::from_str(self.alloc, "ok")?)
     }
 
-    /// Removes lines and inserts at most one.
-    pub fn edit(
-        &mut self,
-        script: &[u8],
-        from: usize,
-        remove: usize,
-        line: Option<Vec<u8>>,
-    ) -> Result<String, Fail> {
-        let line = line.as_ref().map(|line| line.as_slice());
-        let change = edit(self.alloc, from, remove, line)?;
-        let answer = self.book.edit(&name(self.alloc, script)?, &change);
+    pub fn edit(&mut self, script: &[u8], change: &LineEdit) -> Result<String, Fail> {
+        let answer = self.book.edit(&name(self.alloc, script)?, change);
         Ok(changed(self.alloc, answer)?)
     }
 
@@ -127,8 +118,8 @@ impl Shelf {
     /// Finishes a job, which is run first if it wasn't yet.
     pub fn finish(&mut self, number: usize) -> Result<String, Fail> {
         self.run_once(number)?;
-        let task = self.tasks.get(number.wrapping_sub(1));
-        let done = task.and_then(|task| task.done.as_ref()).ok_or("no result")?;
+        let task = self.tasks.get(number.wrapping_sub(1)).ok_or("no such job")?;
+        let done = task.done.as_ref().ok_or("no result")?;
         let answer = self.book.finish(done);
         Ok(ruled(self.alloc, answer)?)
     }

@@ -44,6 +44,7 @@ impl Story {
         }
     }
 
+    /// Takes a row: a title, an empty one, or a call and its answer.
     fn take(&mut self, wrong: &mut String, row: &str) -> Result<(), Fail> {
         if row.starts_with('#') {
             *self = Story::new(self.alloc);
@@ -65,6 +66,7 @@ impl Story {
         Ok(())
     }
 
+    /// Answers a call, which may say how often it is made.
     fn repeated(&mut self, call: &str) -> Result<String, Fail> {
         match call.split_once(" times ") {
             Some((count, call)) => self.repeat(count.parse::<u64>()?, call),
@@ -72,6 +74,7 @@ impl Story {
         }
     }
 
+    /// Makes a call so often, or until its answer isn't `ok`, and gives the last answer.
     fn repeat(&mut self, count: u64, call: &str) -> Result<String, Fail> {
         for _turn in 0..count {
             let said = self.answer(call)?;
@@ -82,6 +85,7 @@ impl Story {
         Ok(String::from_str(self.alloc, "ok")?)
     }
 
+    /// Makes a call and gives its answer.
     fn answer(&mut self, call: &str) -> Result<String, Fail> {
         let mut words = Words::new(call);
         match words.word() {
@@ -95,9 +99,8 @@ impl Story {
     }
 
     fn edit(&mut self, mut words: Words<'_>) -> Result<String, Fail> {
-        let (script, from, remove) = (words.script(), words.size()?, words.size()?);
-        self.book
-            .edit(script, from, remove, words.line(self.alloc)?)
+        let script = words.script();
+        self.book.edit(script, &words.edit(self.alloc)?)
     }
 
     fn answer_of_jobs(&mut self, word: &str, mut words: Words<'_>) -> Result<String, Fail> {

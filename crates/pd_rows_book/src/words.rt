@@ -1,6 +1,7 @@
 //! Rows of stories: a call and its answer, and the words of a call.
-use crate::making::{FAILS, LISTEN};
+use crate::making::{FAILS, LISTEN, edit};
 use pd_settings::Value;
+use pd_text::LineEdit;
 use std::alloc::{AllocError, Global};
 use std::mem;
 use std::test::Fail;
@@ -69,9 +70,17 @@ impl<'a> Words<'a> {
         }
     }
 
+    /// The other words as an edit: its first line, how many lines go, and the line that comes, if there is one.
+    pub fn edit(&mut self, alloc: Global) -> Result<LineEdit, Fail> {
+        let (from, remove) = (self.size()?, self.size()?);
+        let line = self.line(alloc)?;
+        let line = line.as_ref().map(|line| line.as_slice());
+        Ok(edit(alloc, from, remove, line)?)
+    }
+
     /// The other words as a line; none where there are none, `(empty)` is the empty line and `(blanks) N` one of N
     /// blanks.
-    pub fn line(&mut self, alloc: Global) -> Result<Option<Vec<u8>>, Fail> {
+    fn line(&mut self, alloc: Global) -> Result<Option<Vec<u8>>, Fail> {
         match self.rest {
             "" => Ok(None),
             "(empty)" => Ok(Some(Vec::new(alloc))),
