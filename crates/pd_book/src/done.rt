@@ -30,30 +30,35 @@ impl Model for Done {
 }
 
 impl Done {
+    /// The number of the job, from 1 on.
     pub fn number(&self) -> u64
         ensures { result ≡ self.now.number }
     {
         self.task.number
     }
 
+    /// The name of the job's script.
     pub fn name(&self) -> &Name
         ensures { result.now ≡ self.now.name }
     {
         &self.task.name
     }
 
+    /// The text that was run.
     pub fn text(&self) -> &Text
         ensures { result.now ≡ self.now.text }
     {
         &self.task.text
     }
 
+    /// The settings that it was run under.
     pub fn settings(&self) -> Settings
         ensures { result ≡ self.now.settings }
     {
         self.task.settings
     }
 
+    /// The verdict of that text under these settings.
     pub fn verdict(&self) -> Verdict
         ensures { result ≡ verdict_of self.now.text self.now.settings }
     {

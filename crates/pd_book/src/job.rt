@@ -21,6 +21,8 @@ impl Model for Job {
 }
 
 impl Job {
+    /// A job made outside a book. Its result is taken as that of an outstanding job that agrees with it in number, name,
+    /// text and settings.
     pub fn new(number: u64, name: Name, text: Text, settings: Settings) -> Job
         ensures { result ≡ record { number = number; name = name; text = text; settings = settings } }
     {
@@ -48,24 +50,28 @@ impl Job {
         task
     }
 
+    /// Its number, in a book from 1 on.
     pub fn number(&self) -> u64
         ensures { result ≡ self.now.number }
     {
         self.task.number
     }
 
+    /// The name of its script.
     pub fn name(&self) -> &Name
         ensures { result.now ≡ self.now.name }
     {
         &self.task.name
     }
 
+    /// The text to be run.
     pub fn text(&self) -> &Text
         ensures { result.now ≡ self.now.text }
     {
         &self.task.text
     }
 
+    /// The settings to run it under.
     pub fn settings(&self) -> Settings
         ensures { result ≡ self.now.settings }
     {

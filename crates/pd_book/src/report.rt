@@ -34,12 +34,14 @@ impl Report {
         Report { settings, rows }
     }
 
+    /// The settings under which its verdicts hold.
     pub fn settings(&self) -> Settings
         ensures { result ≡ self.now.settings }
     {
         self.settings
     }
 
+    /// A row for each script, in the order of adding.
     pub fn rows(&self) -> &[Row]
         ensures rows { result.now ≡ self.now.rows }
         ensures runs { All (IsRunUnder self.now.settings) self.now.rows }

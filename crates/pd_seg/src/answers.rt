@@ -24,6 +24,7 @@ pub enum Errno {
 }
 
 impl Answer {
+    /// Whether both are the same number or the same error.
     pub fn is_same(&self, other: &Answer) -> bool
         ensures { IsTrue result ↔ (self.now ≡ other.now) }
     {

@@ -17,6 +17,7 @@ pub struct Flags {
 }
 
 impl Flags {
+    /// Whether both have the same bits set.
     pub fn is_same(&self, other: &Flags) -> bool
         ensures { IsTrue result ↔ (self.now ≡ other.now) }
     {

@@ -25,6 +25,7 @@ pub enum SegOption {
 }
 
 impl SegOption {
+    /// Whether both are the same option with the same values.
     pub fn is_same(&self, other: &SegOption) -> bool
         ensures { IsTrue result ↔ (self.now ≡ other.now) }
     {
@@ -92,12 +93,14 @@ impl SegOptions {
         Ok(())
     }
 
+    /// The options in their order.
     pub fn as_slice(&self) -> &[SegOption]
         ensures { result.now ≡ self.now }
     {
         self.options.as_slice()
     }
 
+    /// Whether both have the same options in the same order.
     pub fn is_same(&self, other: &SegOptions) -> bool
         ensures { IsTrue result ↔ (self.now ≡ other.now) }
     {

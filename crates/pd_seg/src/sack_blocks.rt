@@ -12,6 +12,7 @@ pub struct Span {
 }
 
 impl Span {
+    /// Whether both have the same start and end.
     pub fn is_same(&self, other: &Span) -> bool
         ensures { IsTrue result ↔ (self.now ≡ other.now) }
     {
@@ -53,12 +54,14 @@ impl SackBlocks {
         Ok(())
     }
 
+    /// The blocks in their order.
     pub fn as_slice(&self) -> &[Span]
         ensures { result.now ≡ self.now }
     {
         self.blocks.as_slice()
     }
 
+    /// Whether both have the same blocks in the same order.
     pub fn is_same(&self, other: &SackBlocks) -> bool
         ensures { IsTrue result ↔ (self.now ≡ other.now) }
     {

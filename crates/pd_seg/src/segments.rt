@@ -36,6 +36,7 @@ impl Segment {
         self.end.saturating_sub(self.start)
     }
 
+    /// Whether both agree in every field.
     pub fn is_same(&self, other: &Segment) -> bool
         ensures { IsTrue result ↔ (self.now ≡ other.now) }
     {
@@ -67,6 +68,7 @@ impl Segment {
 }
 
 impl Sent {
+    /// Whether both agree in the segment and the moment.
     pub fn is_same(&self, other: &Sent) -> bool
         ensures { IsTrue result ↔ (self.now ≡ other.now) }
     {

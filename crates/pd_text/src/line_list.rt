@@ -31,6 +31,7 @@ impl LineList {
         LineList { lines }
     }
 
+    /// The lines, each without its newline.
     pub fn as_slice(&self) -> &[Vec<u8>]
         ensures value { lists_of result.now ≡ self.now }
         ensures lines { AreLines self.now }
@@ -38,6 +39,7 @@ impl LineList {
         self.lines.as_slice()
     }
 
+    /// How many lines it has.
     pub fn len(&self) -> usize
         ensures { result ≡ length self.now }
     {

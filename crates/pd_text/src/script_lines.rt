@@ -44,6 +44,7 @@ impl Lines {
         }
     }
 
+    /// How many lines it has, at most 4,096.
     pub fn len(&self) -> usize
         ensures len { result ≡ length self.now }
         ensures small { result ≤ 4096 }
@@ -51,6 +52,7 @@ impl Lines {
         self.lines.len()
     }
 
+    /// Whether it has no line.
     pub fn is_empty(&self) -> bool
         ensures { IsTrue result ↔ (length self.now ≡ 0) }
     {
@@ -73,6 +75,7 @@ impl Lines {
         }
     }
 
+    /// Whether both have the same lines.
     pub fn is_same(&self, other: &Lines) -> bool
         ensures { IsTrue result ↔ (self.now ≡ other.now) }
     {

@@ -57,12 +57,14 @@ impl Hash for Name {
 }
 
 impl Name {
+    /// The name of these octets, valid or not.
     pub fn new(octets: Vec<u8>) -> Name
         ensures { result ≡ octets.items }
     {
         Name { octets }
     }
 
+    /// Its octets.
     pub fn as_slice(&self) -> &[u8]
         ensures { result.now ≡ self.now }
     {
@@ -77,6 +79,7 @@ impl Name {
         1 <= len && len <= 64 && all_name_octets(self.octets.as_slice())
     }
 
+    /// Whether both have the same octets.
     pub fn is_same(&self, other: &Name) -> bool
         ensures { IsTrue result ↔ (self.now ≡ other.now) }
     {

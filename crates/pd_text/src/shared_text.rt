@@ -29,12 +29,14 @@ impl Text {
         })
     }
 
+    /// Its lines.
     pub fn lines(&self) -> &Lines
         ensures { result.now ≡ self.now }
     {
         &self.lines
     }
 
+    /// Whether both have the same lines.
     pub fn is_same(&self, other: &Text) -> bool
         ensures { IsTrue result ↔ (self.now ≡ other.now) }
     {
