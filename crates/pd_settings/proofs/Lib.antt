@@ -4,3 +4,4 @@ pub mod Names
 pub mod Overlays
 pub mod SameFields
 pub mod Taken
+pub mod ByName

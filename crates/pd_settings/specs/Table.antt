@@ -1,15 +1,15 @@
 -- Settings out of a TOML table.
-use Rattle.std.specs.Prelude.{◌≡◌, ◌⊎◌, ⊤, ℕ, pos, if◌then◌else◌, List, Option, Some, None, unwrap_or, IsSomeAnd, Result, Ok, Err}
+use Rattle.std.specs.Prelude.{◌≡◌, ◌⊎◌, ⊤, ℕ, pos, if◌then◌else◌, List, Option, Some, None, unwrap_or, Result, Ok, Err}
 use Rattle.std.specs.Option.{option_or}
 use Rattle.std.specs.Str.{bytes_eq}
 use Rattle.toml.specs.Data.{Data, integer, boolean, Members, no_members, member}
 use Rattle.pd_settings.specs.declared.faults.SettingsFault.{SettingsFault}
-use Rattle.pd_settings.specs.declared.faults.SettingsFault.TheVariants.{UnknownKey, BadValue}
 use Rattle.pd_settings.specs.declared.fields.Settings.{Settings}
 use Rattle.pd_settings.specs.declared.keys.Key.{Key}
 use Rattle.pd_settings.specs.declared.values.Value.{Value}
 use Rattle.pd_settings.specs.declared.values.Value.TheVariants.{Number, Truth, Other}
-use Rattle.pd_settings.specs.Keys.{Takes, domain_of, key_named, name_of}
+use Rattle.pd_settings.specs.Keys.{name_of}
+use Rattle.pd_settings.specs.Change.{IsAccepted, IsRefused}
 use Rattle.pd_settings.specs.Settings.{defaults, value_at, with_value}
 
 -- a TOML whole number from 0 on is a number, a TOML truth value is a truth value, and all else is neither
@@ -41,15 +41,6 @@ written name (member n entry rest) =
 -- each key has what the entries write for its name, and what the settings had where they write nothing
 abbrev pub IsOverlay : Settings → Members → Settings → Type 0
 IsOverlay s entries t = (key : Key) → value_at t key ≡ unwrap_or (written (name_of key) entries) (value_at s key)
-
--- the name is a key's, and the key takes the value
-abbrev pub IsAccepted : List ℕ → Value → Type 0
-IsAccepted name v = IsSomeAnd (key_named name) (λ key. Takes (domain_of key) v)
-
--- the name is no key's, or the key doesn't take the value
-abbrev pub IsRefused : List ℕ → Value → SettingsFault → Type 0
-IsRefused name v UnknownKey = key_named name ≡ None
-IsRefused name v BadValue = IsSomeAnd (key_named name) (λ key. ¬ Takes (domain_of key) v)
 
 -- every entry is accepted
 abbrev pub AreAccepted : Members → Type 0

@@ -57,6 +57,7 @@ macro_rules! with_field {
 }
 
 impl Settings {
+    ghost use Rattle.pd_settings.specs.Change.{IsChanged, IsRefused};
     ghost use Rattle.pd_settings.specs.Settings.{ChangesOnly, defaults, replaced, with_value};
     ghost use Rattle.pd_settings.specs.Table.{AreAccepted, IsFirstFault, IsOverlay, from_table_of, overlaid};
     ghost use Rattle.toml.specs.View.{table_view};
@@ -146,6 +147,13 @@ impl Settings {
     ///
     /// `UnknownKey` where no setting has the name, else `BadValue` where the setting doesn't take the value.
     pub fn with(&self, key: &[u8], value: Value) -> Result<Settings, SettingsFault>
+        ensures value { result ≡ with_value self.now key.now value }
+        ensures changed { MatchResult result (IsChanged self.now key.now value) (IsRefused key.now value) }
+    {
+        self.with_named(key, value)
+    }
+
+    fn with_named(&self, key: &[u8], value: Value) -> Result<Settings, SettingsFault>
         ensures { result ≡ with_value self.now key.now value }
     {
         let key = Key::named(key).ok_or(SettingsFault::UnknownKey)?;
