@@ -11,7 +11,8 @@ use Rattle.pd_lex.specs.declared.scan.Opener.{Opener}
 use Rattle.pd_lex.specs.declared.scan.Opener.TheVariants.{Comment, Quote, Backquote, Brace}
 use Rattle.pd_lex.specs.Places.{first_place, joined, line_at, standing, octets_from, place_after, before, IsPlace}
 use Rattle.pd_lex.specs.Pieces.{piece, after_end, opener_len, Front, nothing, gap, token, stray, closed, parted, front}
-use Rattle.pd_lex.specs.Tokens.{Item, lexeme, ending, bad, items}
+use Rattle.pd_lex.specs.Tokens.{Item, lexeme, ending, bad}
+use Rattle.pd_lex.specs.Lexing.{items}
 use Rattle.pd_lex.specs.Scanned.{piece_len}
 use Rattle.pd_lex.specs.Agreement.{IsInOrder, AgreeTo}
 use Rattle.pd_lex.proofs.InLine.{piece_in_line}

@@ -6,7 +6,8 @@ use Rattle.pd_lex.specs.declared.token.TokenKind.{TokenKind}
 use Rattle.pd_lex.specs.declared.token.Place.{Place}
 use Rattle.pd_lex.specs.Places.{standing, octets_from, place_after, before, IsPlace}
 use Rattle.pd_lex.specs.Pieces.{Front, nothing, gap, token, stray, front}
-use Rattle.pd_lex.specs.Tokens.{Item, lexeme, ending, bad, followed, items_within, items}
+use Rattle.pd_lex.specs.Tokens.{Item, lexeme, ending, bad}
+use Rattle.pd_lex.specs.Lexing.{followed, items_within, items}
 use Rattle.pd_lex.specs.Spellings.{IsStuck}
 use Rattle.std.proofs.lemmas.Bool.{cases_lt}
 use Rattle.pd_lex.proofs.Rests.{standing_place, octets_past, advance, same_place}

@@ -12,3 +12,4 @@ pub mod Longest
 pub mod Order
 pub mod Agreement
 pub mod KindOf
+pub mod Cut

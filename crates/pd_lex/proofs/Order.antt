@@ -15,7 +15,8 @@ use Rattle.pd_lex.specs.declared.token.TokenKind.TheVariants.{Str, Cmd, Code}
 use Rattle.pd_lex.specs.Kinds.{stays_in_line}
 use Rattle.pd_lex.specs.Places.{first_place, joined, line_at, standing, octets_from, place_after, before, IsPlace}
 use Rattle.pd_lex.specs.Pieces.{piece, after_end, opener_len, Front, nothing, gap, token, stray, closed, parted, front}
-use Rattle.pd_lex.specs.Tokens.{Item, lexeme, ending, bad, items}
+use Rattle.pd_lex.specs.Tokens.{Item, lexeme, ending, bad}
+use Rattle.pd_lex.specs.Lexing.{items}
 use Rattle.pd_lex.specs.Scanned.{IsLeftAt}
 use Rattle.pd_lex.specs.Agreement.{IsInOrder}
 use Rattle.pd_lex.proofs.Longest.{not_empty}

@@ -4,7 +4,8 @@ use Rattle.pd_text.specs.Text.{AreLines}
 use Rattle.pd_lex.specs.declared.token.Place.{Place}
 use Rattle.pd_lex.specs.Kinds.{stays_in_line}
 use Rattle.pd_lex.specs.Places.{place_after}
-use Rattle.pd_lex.specs.Tokens.{Lexeme, Item, lexeme, ending, bad, items}
+use Rattle.pd_lex.specs.Tokens.{Lexeme, Item, lexeme, ending, bad}
+use Rattle.pd_lex.specs.Lexing.{items}
 
 -- the line of the place behind a token
 abbrev pub last_line : Lexeme → ℕ

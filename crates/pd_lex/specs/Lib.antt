@@ -1,10 +1,15 @@
 -- The definitions that the contracts cite.
-pub mod Kinds
+
+-- what the tokens of a text are
 pub mod Octets
-pub mod Pieces
-pub mod Scanned
 pub mod Spellings
-pub mod Next
-pub mod Agreement
 pub mod Places
 pub mod Tokens
+pub mod Laws
+pub mod Agreement
+pub mod Kinds
+pub mod Next
+-- how they are read, piece by piece
+pub mod Pieces
+pub mod Scanned
+pub mod Lexing

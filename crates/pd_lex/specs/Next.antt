@@ -7,12 +7,13 @@ use Rattle.pd_lex.specs.declared.token.Lexed.TheVariants as lexed
 use Rattle.pd_lex.specs.Places.{IsPlace, octets_from, between}
 use Rattle.pd_lex.specs.Spellings.{IsLongest, IsStuck, Skips}
 
--- behind blanks and comments the token is the longest piece, from its first place up to its last
+-- behind blanks and comments the token is the longest piece, from its first place up to its last, both places of the text
 pub record IsTokenAt (lines : List (List ℕ)) (p : Place) (t : Token) (after : Place) : Type 0 where
   pub skipped : Skips (octets_from lines p) (octets_from lines t.span.from)
   pub longest : IsLongest (octets_from lines t.span.from) (Some t.kind) (between lines t.span.from t.span.to) (octets_from lines after)
   pub from : IsPlace lines t.span.from
   pub to : t.span.to ≡ after
+  pub behind : IsPlace lines after
 
 -- behind blanks and comments, in this line, no piece fits
 pub record IsBadAt (lines : List (List ℕ)) (p : Place) (line : ℕ) : Type 0 where

@@ -1,9 +1,17 @@
 //! Laws of the tokens of texts.
 ghost use Rattle.pd_lex.specs.Agreement.{ItemsAreInOrder, FirstLinesAgree};
+ghost use Rattle.pd_lex.specs.Laws.{ItemsAreLongest, NoOthersAreLongest};
 
 /// Two laws, and no work: the tokens of a text come in the order of their lines, and texts whose
 /// first lines are equal have the same tokens there.
 pub fn first_lines()
     ensures order { ItemsAreInOrder }
     ensures same { FirstLinesAgree }
+{}
+
+/// Two laws, and no work: the items of every text are those that the longest piece at each place
+/// gives, and nothing else is.
+pub fn longest_pieces()
+    ensures items { ItemsAreLongest }
+    ensures only { NoOthersAreLongest }
 {}

@@ -1,5 +1,5 @@
 //! The next token of a text.
-ghost use Rattle.pd_lex.specs.Tokens.{IsNext};
+ghost use Rattle.pd_lex.specs.Lexing.{IsNext};
 ghost use Rattle.pd_lex.specs.Next.{IsCut, HasLine};
 
 use crate::standing::standing_place;

@@ -66,7 +66,7 @@ pub struct Token {
 }
 
 impl Token {
-    ghost use Rattle.pd_lex.specs.Tokens.{lexeme_of};
+    ghost use Rattle.pd_lex.specs.Lexing.{lexeme_of};
 
     /// The token's octets as written; of one that goes on into further lines those in its first
     /// line.

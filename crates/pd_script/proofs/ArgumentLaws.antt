@@ -6,12 +6,12 @@ use Rattle.pd_lex.specs.declared.token.TokenKind.{TokenKind}
 use Rattle.pd_lex.specs.declared.token.TokenKind.TheVariants as kinds
 use Rattle.pd_lex.specs.Places.{first_place}
 use Rattle.pd_lex.specs.Tokens.{Item, lexeme, line_of}
-use Rattle.pd_script.specs.Items.{is_symbol, is_plain, is_any_int, is_word}
+use Rattle.pd_script.specs.Items.{is_symbol, is_any_int, is_word}
 use Rattle.pd_script.specs.Reader.{onto, machine_at, done, one}
 use Rattle.pd_script.specs.TokenReading.{symbol_at}
 use Rattle.pd_script.specs.Reading.{arguments_at, no_arguments_at}
 use Rattle.pd_script.specs.declared.drafts.Inside.{Inside}
-use Rattle.pd_script.specs.Brackets.{fresh, argument_move, longer_draft, drafted, is_empty}
+use Rattle.pd_script.proofs.Plain.{is_plain}
 use Rattle.pd_script.specs.declared.calls.Argument.{Argument}
 use Rattle.pd_script.specs.declared.brackets.Bracket.{Bracket}
 use Rattle.pd_script.specs.declared.brackets.Bracket.TheVariants as brackets
@@ -20,6 +20,7 @@ use Rattle.pd_script.specs.declared.drafts.Draft.TheVariants as drafts
 use Rattle.pd_script.proofs.Laws.{Laws, Laws-one, Laws-done, Laws-bind, Laws-when, Full, Stops, any, ok}
 use Rattle.pd_script.proofs.Machines.{Laws-machine}
 use Rattle.pd_script.proofs.Apart.{not-true, not-false}
+use Rattle.pd_script.specs.Drafts.{fresh, argument_move, longer_draft, drafted, is_empty}
 
 abbrev pub a_token : TokenKind → List ℕ → Item
 a_token kind text = lexeme (record { kind = kind; text = text; from = first_place })

@@ -4,14 +4,14 @@ use Rattle.std.specs.Prelude.{◌⊎◌}
 use Rattle.pd_lex.specs.Tokens.{Item, lexeme, ending, bad}
 use Rattle.std.specs.List.{list_all}
 use Rattle.std.proofs.lemmas.List.Folds.{list_all-append}
-use Rattle.pd_script.specs.Items.{is_symbol, is_symbol_kind, is_any_int, is_word}
-use Rattle.pd_script.specs.Reader.{Reader, stuck, ends, goes, moved, machine_at, next_is}
+use Rattle.pd_script.specs.Items.{is_symbol, is_symbol_kind, is_any_int, is_word, next_is}
+use Rattle.pd_script.specs.Reader.{Reader, stuck, ends, goes, moved, machine_at}
 use Rattle.pd_script.specs.declared.drafts.Draft.{Draft}
 use Rattle.pd_script.specs.declared.drafts.Draft.TheVariants as drafts
 use Rattle.pd_script.specs.declared.brackets.Bracket.{Bracket}
 use Rattle.pd_script.specs.declared.calls.Argument.{Argument}
 use Rattle.pd_script.specs.declared.calls.Argument.TheVariants as arguments
-use Rattle.pd_script.specs.Brackets.{fresh, argument_move, move_within, led, pairs_after, single_draft, longer_draft, drafted, is_empty}
+use Rattle.pd_script.specs.Brackets.{pairs_after}
 use Rattle.pd_script.specs.Arguments.{is_parting, Balances, argument_of, IsArgument, IsSomeArguments, IsArguments}
 use Rattle.pd_script.proofs.Laws.{ok, value_is, rest_is}
 use Rattle.pd_script.specs.Reading.{arguments_at, no_arguments_at}
@@ -19,6 +19,7 @@ use Rattle.pd_script.proofs.ArgumentLaws.{is_empty-longer_draft}
 use Rattle.pd_script.proofs.ArgumentSteps.{onto-nil}
 use Rattle.pd_script.proofs.Machines.{onto_ok}
 use Rattle.pd_script.proofs.Apart.{is_lexeme, lexical, symbol_kind, symbol_apart, symbol_no_int, symbol_no_word}
+use Rattle.pd_script.specs.Drafts.{fresh, argument_move, move_within, led, single_draft, longer_draft, drafted, is_empty}
 
 -- ---- drafts and arguments
 

@@ -3,15 +3,16 @@ use Rattle.std.proofs.Common.{◌≡◌, ◌<◌, Bool, true, false, List, [], �
 use Rattle.std.specs.Prelude.{◌||◌, ◌==◌}
 use Rattle.std.proofs.lemmas.Bool.Decides.{nat_tests}
 use Rattle.pd_lex.specs.Tokens.{Item, lexeme, ending, bad}
-use Rattle.pd_script.specs.Items.{is_symbol}
-use Rattle.pd_script.specs.Reader.{Read, Reader, stuck, ends, goes, onto, moved, machine_at, next_is}
+use Rattle.pd_script.specs.Items.{is_symbol, next_is}
+use Rattle.pd_script.specs.Reader.{Read, Reader, stuck, ends, goes, onto, moved, machine_at}
 use Rattle.pd_script.specs.declared.drafts.Inside.{Inside}
 use Rattle.pd_script.specs.declared.drafts.Draft.{Draft}
 use Rattle.pd_script.specs.declared.brackets.Bracket.{Bracket}
 use Rattle.pd_script.specs.declared.calls.Argument.{Argument}
-use Rattle.pd_script.specs.Brackets.{fresh, argument_move, move_within, led, pairs_after, longer_draft, drafted, is_empty, part_at, part_by, behind_token, is_between}
+use Rattle.pd_script.specs.Brackets.{pairs_after}
 use Rattle.pd_script.specs.Reading.{arguments_at}
 use Rattle.pd_script.proofs.Apart.{and-left, and-right, or-no}
+use Rattle.pd_script.specs.Drafts.{fresh, argument_move, move_within, led, longer_draft, drafted, is_empty, part_at, part_by, behind_token, is_between}
 
 pub onto-nil : {A : Type 0} (r : Read (List A)) → onto [] r ≡ r
 onto-nil (Ok x) = refl

@@ -3,8 +3,8 @@ use Rattle.std.proofs.Common.{◌≡◌, ℕ, zero, suc, true, false, List, [], 
 use Rattle.std.proofs.lemmas.List.{append-nil}
 use Rattle.pd_lex.specs.Tokens.{Item}
 use Rattle.pd_script.specs.declared.script_events.Event.{Event}
-use Rattle.pd_script.specs.Items.{starts_event}
-use Rattle.pd_script.specs.Reader.{Read, next_is}
+use Rattle.pd_script.specs.Items.{starts_event, next_is}
+use Rattle.pd_script.specs.Reader.{Read}
 use Rattle.pd_script.specs.Reading.{event_at}
 use Rattle.pd_script.specs.declared.parsing.Found.{Found}
 use Rattle.pd_script.specs.Script.{found_in, followed, may_follow, with_event, at_end, in_front}

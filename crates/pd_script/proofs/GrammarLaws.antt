@@ -1,6 +1,6 @@
 -- Each part of the grammar is read.
-use Rattle.std.proofs.Common.{◌≡◌, ℕ, ◌≤◌, Bool, true, false, List, [], ◌∷◌, Some, None, Ok, refl, subst, arith}
-use Rattle.std.specs.Prelude.{not, ◌||◌, nat_le, nat_lt}
+use Rattle.std.proofs.Common.{◌≡◌, ℕ, ◌≤◌, Bool, true, false, List, [], ◌∷◌, ◌++◌, Some, None, Ok, refl, ap, subst, ◌∙◌, arith}
+use Rattle.std.specs.Prelude.{not, ◌||◌, nat_le, nat_lt, ⊤}
 use Rattle.std.proofs.lemmas.Bool.Decides.{nat_tests}
 use Rattle.pd_lex.specs.declared.token.TokenKind.{TokenKind}
 use Rattle.pd_lex.specs.declared.token.TokenKind.TheVariants as kinds
@@ -8,14 +8,14 @@ use Rattle.pd_lex.specs.Tokens.{Item, lexeme, ending, bad, line_of}
 use Rattle.pd_script.specs.Items.{is_int, is_hex, is_num, is_num_from, is_dots, is_command, is_code, is_word, is_symbol, is_int_kind, is_hex_kind, is_num_kind, is_dots_kind, is_command_kind, is_code_kind, is_word_kind, is_symbol_kind, is_end, starts_event, goes_on, text_of}
 use Rattle.pd_script.specs.Values.{hex_number, microseconds, error_named, function_named}
 use Rattle.pd_script.specs.Reader.{done, one, when, machine_at}
-use Rattle.pd_script.specs.Brackets.{note_move}
+use Rattle.pd_script.specs.Drafts.{note_move}
 use Rattle.pd_script.specs.TokenReading.{symbol_at, int_at, dots_at}
 use Rattle.pd_script.specs.Reading.{hex_at, num_at, num_from_at, function_at, error_at, absolute_range_at, absolute_at, plus_num_from_at, relative_range_at, relative_at, any_time_at, time_at, relative_until_at, absolute_until_at, until_at, maybe_until_at, whole_at, hexadecimal_at, named_error_at, negative_at, outcome_at, arguments_at, note_at, maybe_note_at, call_at, call_action_at, command_at, code_at, inbound_at, outbound_at, action_at, event_at}
 use Rattle.pd_script.specs.PacketReading.{packet_at}
 use Rattle.pd_script.specs.PacketGrammar.{IsPacket}
-use Rattle.pd_script.specs.Spelling.{token, made, in_turn, either, IsSymbol, IsInt, IsDots}
-use Rattle.pd_script.specs.Grammar.{IsHex, IsNum, IsNumFrom, IsFunction, IsErrorName, IsAbsoluteRange, IsAbsolute, IsPlusNumFrom, IsRelativeRange, IsRelative, IsAnyTime, IsTime, IsRelativeUntil, IsAbsoluteUntil, IsUntil, IsMaybeUntil, IsWhole, IsHexadecimal, IsNegative, IsOutcome, IsNote, IsCall, IsCallAction, IsCommand, IsCode, IsInbound, IsOutbound, IsAction, IsEvent}
-use Rattle.pd_script.specs.Arguments.{IsArguments, IsInNote}
+use Rattle.pd_script.specs.Spelling.{Spelling, token, made, in_turn, either, IsSymbol, IsInt, IsDots}
+use Rattle.pd_script.specs.Grammar.{IsHex, IsNum, IsNumFrom, IsFunction, IsErrorName, IsAbsoluteRange, IsAbsolute, IsPlusNumFrom, IsRelativeRange, IsRelative, IsAnyTime, IsTime, IsRelativeUntil, IsAbsoluteUntil, IsUntil, IsMaybeUntil, IsWhole, IsHexadecimal, IsNegative, IsOutcome, IsCall, IsCallAction, IsCommand, IsCode, IsInbound, IsOutbound, IsAction, IsEvent}
+use Rattle.pd_script.specs.Arguments.{IsArguments, IsNote}
 use Rattle.pd_script.specs.declared.timing.Time.TheVariants as times
 use Rattle.pd_script.specs.declared.timing.Until.TheVariants as untils
 use Rattle.pd_script.specs.declared.calls.Outcome.TheVariants as outcomes
@@ -25,7 +25,7 @@ use Rattle.pd_script.proofs.Matches.{Reads, Reads-one, Reads-bind, Reads-bind_if
 use Rattle.pd_script.proofs.Apart.{IsOf, no_kind, and-left, and-right, or-left, or-right, or-elim, or-elim-no, not-true, not-false, apart, int_kind, hex_kind, num_kind, dots_kind, command_kind, code_kind, word_kind, symbol_kind, symbol_apart, symbol_no_word, end_no_token}
 use Rattle.pd_script.proofs.ArgumentLaws.{a_token, a_word, Laws-arguments}
 use Rattle.pd_script.proofs.ArgumentSound.{arguments_sound, arguments_complete, arguments_take}
-use Rattle.pd_script.proofs.NoteLaws.{Reads-in_note}
+use Rattle.pd_script.proofs.NoteLaws.{IsInNote, Reads-in_note}
 use Rattle.pd_script.proofs.TokenLaws.{all, but, last, tail, symbol, int, dots, NoStart, goes_on_not, symbol_no_start}
 use Rattle.pd_script.proofs.PacketLaws.{Reads-packet}
 
@@ -82,7 +82,7 @@ but_tilde = but (is_symbol 126)
 
 Reads-absolute_range : (n : ℕ × ℕ) → n.1 ≤ 4294967295999999 → Reads (absolute_range_at n.0 n.1) (IsAbsoluteRange n.0 n.1) (is_symbol 126) but_tilde
 Reads-absolute_range n h =
-    Reads-bind (symbol_at 126) _ (IsSymbol 126) _ (is_symbol 126) any (is_num_from n.1) but_tilde (symbol 126 refl refl)
+    Reads-bind (symbol_at 126) _ (IsSymbol "~") _ (is_symbol 126) any (is_num_from n.1) but_tilde (symbol 126 refl refl)
     (λ tilde. last (num_from_at n.1) (λ m. (n.0, times.AbsoluteRange n.1 m)) (IsNumFrom n.1) (is_num_from n.1) but_tilde (num_from n.1 h))
     (all (is_num_from n.1))
 
@@ -98,7 +98,7 @@ num_from_no_plus least t h = num_no_plus t (and-left (is_num t) _ h)
 Reads-second : (least : ℕ) → least ≤ 4294967295999999 → Reads (when (is_symbol 43) (plus_num_from_at least) (num_from_at least)) (either (IsPlusNumFrom least) (IsNumFrom least)) any any
 Reads-second least h =
     Reads-when (is_symbol 43) (plus_num_from_at least) (num_from_at least) (IsPlusNumFrom least) (IsNumFrom least) (is_symbol 43) (is_num_from least) any any
-    (Reads-bind (symbol_at 43) (λ plus. num_from_at least) (IsSymbol 43) (λ plus. IsNumFrom least) (is_symbol 43) any (is_num_from least) any (symbol 43 refl refl) (λ plus. num_from least h) (all (is_num_from least)))
+    (Reads-bind (symbol_at 43) (λ plus. num_from_at least) (IsSymbol "+") (λ plus. IsNumFrom least) (is_symbol 43) any (is_num_from least) any (symbol 43 refl refl) (λ plus. num_from least h) (all (is_num_from least)))
     (num_from least h)
     (λ t g. g)
     (num_from_no_plus least)
@@ -108,13 +108,13 @@ Reads-second least h =
 
 Reads-relative_range : (line first : ℕ) → first ≤ 4294967295999999 → Reads (relative_range_at line first) (IsRelativeRange line first) (is_symbol 126) but_tilde
 Reads-relative_range line first h =
-    Reads-bind (symbol_at 126) _ (IsSymbol 126) _ (is_symbol 126) any any but_tilde (symbol 126 refl refl)
+    Reads-bind (symbol_at 126) _ (IsSymbol "~") _ (is_symbol 126) any any but_tilde (symbol 126 refl refl)
     (λ tilde. last (when (is_symbol 43) (plus_num_from_at first) (num_from_at first)) (λ m. (line, times.RelativeRange first m)) (either (IsPlusNumFrom first) (IsNumFrom first)) any but_tilde (Reads-second first h))
     (all any)
 
 Reads-relative : Reads relative_at IsRelative (is_symbol 43) but_tilde
 Reads-relative =
-    Reads-bind (symbol_at 43) _ (IsSymbol 43) _ (is_symbol 43) any is_num but_tilde (symbol 43 refl refl)
+    Reads-bind (symbol_at 43) _ (IsSymbol "+") _ (is_symbol 43) any is_num but_tilde (symbol 43 refl refl)
     (λ line. Reads-bind_if num_at _ IsNum _ (λ n. n.1 ≤ 4294967295999999) is_num any any but_tilde num_small num
     (λ n h. tail (is_symbol 126) (relative_range_at line n.1) (IsRelativeRange line n.1) (line, times.Relative n.1) (Reads-relative_range line n.1 h) (λ w rest e. absurd cc))
     (all any))
@@ -136,7 +136,7 @@ pub Reads-time : Reads time_at IsTime starts_event but_tilde
 unfolding time_at IsTime starts_number
 Reads-time =
     Reads-when (is_symbol 42) any_time_at (when (is_symbol 43) relative_at absolute_at) IsAnyTime (either IsRelative IsAbsolute) (is_symbol 42) starts_number starts_event but_tilde
-    (last (symbol_at 42) (λ line. (line, times.Any)) (IsSymbol 42) (is_symbol 42) but_tilde (symbol 42 refl refl))
+    (last (symbol_at 42) (λ line. (line, times.Any)) (IsSymbol "*") (is_symbol 42) but_tilde (symbol 42 refl refl))
     Reads-number_time
     (λ t h. h)
     (λ t h. or-elim-no (is_num t) (is_symbol 43 t) (is_symbol 42 t) (num_no_star t) (symbol_apart 43 42 refl t) h)
@@ -179,7 +179,7 @@ starts_outcome t = is_int t || starts_other_outcome t
 
 Reads-negative : Reads negative_at IsNegative (is_symbol 45) (but is_word)
 Reads-negative =
-    Reads-bind (symbol_at 45) _ (IsSymbol 45) _ (is_symbol 45) any is_int (but is_word) (symbol 45 refl refl)
+    Reads-bind (symbol_at 45) _ (IsSymbol "-") _ (is_symbol 45) any is_int (but is_word) (symbol 45 refl refl)
     (λ line. Reads-bind int_at _ IsInt _ is_int any any (but is_word) int
     (λ n. tail is_word (named_error_at n) (in_turn IsErrorName (λ name. made (outcomes.Negative n (Some name)))) (outcomes.Negative n None)
     (last error_at (λ name. outcomes.Negative n (Some name)) IsErrorName is_word (but is_word) error_name)
@@ -211,22 +211,56 @@ Reads-outcome =
 Reads-arguments : Reads arguments_at IsArguments any any
 Reads-arguments = record { laws = Laws-arguments; sound = arguments_sound; complete = λ ts v rest h stops. arguments_complete ts v rest h; takes = arguments_take }
 
-Reads-note : Reads note_at IsNote (is_symbol 40) goes_on
-unfolding note_at IsNote
-Reads-note =
-    Reads-bind (symbol_at 40) _ (IsSymbol 40) _ (is_symbol 40) any any goes_on (symbol 40 refl refl)
-    (λ line. last (machine_at note_move []) (λ skipped. line) IsInNote any goes_on Reads-in_note)
+abbrev IsBracketed : Spelling ⊤
+IsBracketed = in_turn (IsSymbol "(") (λ opening. in_turn IsInNote (λ skipped. made tt))
+
+Reads-bracketed_note : Reads note_at IsBracketed (is_symbol 40) goes_on
+unfolding note_at
+Reads-bracketed_note =
+    Reads-bind (symbol_at 40) _ (IsSymbol "(") _ (is_symbol 40) any any goes_on (symbol 40 refl refl)
+    (λ line. last (machine_at note_move []) (λ skipped. tt) IsInNote any goes_on Reads-in_note)
     (all any)
 
-note_nothing : (w : ℕ) (rest : List Item) → note_at [] ≡ Ok (w, rest) → ⊥
+note_is : (v : ⊤) (ts rest : List Item) → IsBracketed v ts rest → IsNote v ts rest
+note_is v ts rest h =
+    let o = h.2 in
+    let n = h.3.2 in
+    let left : h.3.1 ≡ rest = h.3.3.1 in
+    record {
+      opening = o.0;
+      inside = n.inside;
+      closing = n.closing;
+      spelled = o.2.0 ∙ ap (λ (x : List Item). o.0 ∷ x) (o.3.1 ∙ n.spelled ∙ ap (λ (x : List Item). n.inside ++ n.closing ∷ x) left);
+      opens = o.2.1;
+      balanced = n.balanced;
+      ends = n.ends;
+    }
+
+bracketed_is : (v : ⊤) (ts rest : List Item) → IsNote v ts rest → IsBracketed v ts rest
+bracketed_is v ts rest h =
+    let middle : List Item = h.inside ++ h.closing ∷ rest in
+    let none : List ℕ = [] in
+    (line_of h.opening, middle, (h.opening, middle, (h.spelled, h.opens), (refl, refl)), (none, rest, record { inside = h.inside; closing = h.closing; spelled = refl; balanced = h.balanced; ends = h.ends; value = refl }, (refl, refl)))
+
+Reads-note : Reads note_at IsNote (is_symbol 40) goes_on
+Reads-note =
+    let R = Reads-bracketed_note in
+    record {
+      laws = R.laws;
+      sound = λ ts v rest e. note_is v ts rest (R.sound ts v rest e);
+      complete = λ ts v rest h stops. R.complete ts v rest (bracketed_is v ts rest h) stops;
+      takes = λ ts v rest h. R.takes ts v rest (bracketed_is v ts rest h);
+    }
+
+note_nothing : (w : ⊤) (rest : List Item) → note_at [] ≡ Ok (w, rest) → ⊥
 unfolding note_at
 note_nothing w rest e = absurd cc
 
 abbrev pub follows_outcome : Item → Bool
 follows_outcome t = is_symbol 40 t || goes_on t
 
-Reads-maybe_note : Reads maybe_note_at (either IsNote (made 0)) follows_outcome goes_on
-Reads-maybe_note = Reads-optional (is_symbol 40) goes_on note_at IsNote 0 Reads-note (goes_on_not (is_symbol 40) (symbol_no_start 40 refl refl)) note_nothing
+Reads-maybe_note : Reads maybe_note_at (either IsNote (made tt)) follows_outcome goes_on
+Reads-maybe_note = Reads-optional (is_symbol 40) goes_on note_at IsNote tt Reads-note (goes_on_not (is_symbol 40) (symbol_no_start 40 refl refl)) note_nothing
 
 follows_no_word : (t : Item) → follows_outcome t ≡ true → but is_word t ≡ true
 follows_no_word t h = or-elim (is_symbol 40 t) (goes_on t) (but is_word t) (λ g. not-false (is_word t) (symbol_no_word 40 t g)) (goes_on_no_word t) h
@@ -235,11 +269,11 @@ pub Reads-call : Reads call_at IsCall is_word goes_on
 unfolding call_at IsCall
 Reads-call =
     Reads-bind function_at _ IsFunction _ is_word any (is_symbol 40) goes_on function
-    (λ name. Reads-bind (symbol_at 40) _ (IsSymbol 40) _ (is_symbol 40) any any goes_on (symbol 40 refl refl)
+    (λ name. Reads-bind (symbol_at 40) _ (IsSymbol "(") _ (is_symbol 40) any any goes_on (symbol 40 refl refl)
     (λ o. Reads-bind arguments_at _ IsArguments _ any any (is_symbol 61) goes_on Reads-arguments
-    (λ arguments. Reads-bind (symbol_at 61) _ (IsSymbol 61) _ (is_symbol 61) any starts_outcome goes_on (symbol 61 refl refl)
+    (λ arguments. Reads-bind (symbol_at 61) _ (IsSymbol "=") _ (is_symbol 61) any starts_outcome goes_on (symbol 61 refl refl)
     (λ q. Reads-bind outcome_at _ IsOutcome _ starts_outcome (but is_word) follows_outcome goes_on Reads-outcome
-    (λ outcome. Reads-bind maybe_note_at (λ note. done _) (either IsNote (made 0)) (λ note. made _) follows_outcome goes_on goes_on goes_on Reads-maybe_note (λ note. Reads-done _ goes_on) (λ t h. h))
+    (λ outcome. Reads-bind maybe_note_at (λ note. done _) (either IsNote (made tt)) (λ note. made _) follows_outcome goes_on goes_on goes_on Reads-maybe_note (λ note. Reads-done _ goes_on) (λ t h. h))
     follows_no_word)
     (all starts_outcome))
     (all (is_symbol 61)))
@@ -259,13 +293,13 @@ call_action = Reads-bind call_at (λ call. done (actions.Call call)) IsCall (λ 
 
 inbound : Reads inbound_at IsInbound (is_symbol 60) goes_on
 inbound =
-    Reads-bind (symbol_at 60) _ (IsSymbol 60) _ (is_symbol 60) any any goes_on (symbol 60 refl refl)
+    Reads-bind (symbol_at 60) _ (IsSymbol "<") _ (is_symbol 60) any any goes_on (symbol 60 refl refl)
     (λ line. Reads-bind (packet_at true) (λ p. done (actions.Inbound p)) (IsPacket true) (λ p. made (actions.Inbound p)) any goes_on goes_on goes_on (Reads-packet true) (λ p. Reads-done (actions.Inbound p) goes_on) (λ t h. h))
     (all any)
 
 outbound : Reads outbound_at IsOutbound (is_symbol 62) goes_on
 outbound =
-    Reads-bind (symbol_at 62) _ (IsSymbol 62) _ (is_symbol 62) any any goes_on (symbol 62 refl refl)
+    Reads-bind (symbol_at 62) _ (IsSymbol ">") _ (is_symbol 62) any any goes_on (symbol 62 refl refl)
     (λ line. Reads-bind (packet_at false) (λ p. done (actions.Outbound p)) (IsPacket false) (λ p. made (actions.Outbound p)) any goes_on goes_on goes_on (Reads-packet false) (λ p. Reads-done (actions.Outbound p) goes_on) (λ t h. h))
     (all any)
 
@@ -357,7 +391,7 @@ Reads-action =
 Reads-until_number : Reads (when (is_symbol 43) relative_until_at absolute_until_at) (either IsRelativeUntil IsAbsoluteUntil) any any
 Reads-until_number =
     Reads-when (is_symbol 43) relative_until_at absolute_until_at IsRelativeUntil IsAbsoluteUntil (is_symbol 43) is_num any any
-    (Reads-bind (symbol_at 43) _ (IsSymbol 43) _ (is_symbol 43) any is_num any (symbol 43 refl refl)
+    (Reads-bind (symbol_at 43) _ (IsSymbol "+") _ (is_symbol 43) any is_num any (symbol 43 refl refl)
     (λ plus. last num_at (λ n. untils.Relative n.1) IsNum is_num any num)
     (all is_num))
     (last num_at (λ n. untils.Absolute n.1) IsNum is_num any num)

@@ -4,9 +4,10 @@ use Rattle.std.proofs.lemmas.List.{append-nil}
 use Rattle.pd_lex.specs.Tokens.{Item}
 use Rattle.pd_script.specs.declared.script_header.HeaderItem.{HeaderItem}
 use Rattle.pd_script.specs.Items.{is_header}
-use Rattle.pd_script.specs.Header.{header_item, header_of, behind_header}
+use Rattle.pd_script.specs.Header.{header_item}
 use Rattle.pd_script.specs.Reading.{header_item_at}
 use Rattle.pd_script.proofs.Laws.{ok, value_is, rest_is}
+use Rattle.pd_script.specs.Script.{header_of, behind_header}
 
 -- what was taken of the header, and what is left
 pub record SoFar (taken : List HeaderItem) (now all : List Item) : Type 0 where

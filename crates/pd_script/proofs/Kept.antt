@@ -13,15 +13,15 @@ use Rattle.pd_script.specs.declared.timing.Time.TheVariants as times
 use Rattle.pd_script.specs.declared.timing.Until.{Until}
 use Rattle.pd_script.specs.declared.parsing.Found.{Found}
 use Rattle.pd_script.specs.Values.{microseconds}
-use Rattle.pd_script.specs.Items.{is_header, is_plain, is_num, is_symbol, is_end, starts_event, goes_on, text_of}
-use Rattle.pd_script.specs.Header.{header_of, behind_header}
-use Rattle.pd_script.specs.Reader.{Read, then_read, next_is}
+use Rattle.pd_script.specs.Items.{is_header, is_num, is_symbol, is_end, starts_event, goes_on, text_of, next_is}
+use Rattle.pd_script.proofs.Plain.{is_plain}
+use Rattle.pd_script.specs.Reader.{Read, then_read}
 use Rattle.pd_script.specs.Reading.{next_line, event_at, end_at, events_at}
 use Rattle.pd_script.specs.Grammar.{IsTime, IsMaybeUntil, IsEvent}
-use Rattle.pd_script.specs.Script.{found_in, followed, may_follow, with_event, at_end, in_front, script_in}
+use Rattle.pd_script.specs.Script.{found_in, followed, may_follow, with_event, at_end, in_front, script_in, header_of, behind_header}
 use Rattle.pd_script.specs.Faults.{IsHeader, AreEvents, IsScript, IsKept, IsRead}
 use Rattle.pd_script.proofs.Laws.{Full, Stops, ok, value_is, rest_is}
-use Rattle.pd_script.proofs.Apart.{or-no, not-false}
+use Rattle.pd_script.proofs.Apart.{or-no, or-right, not-true, not-false}
 use Rattle.pd_script.proofs.ArgumentLaws.{a_token}
 use Rattle.pd_script.proofs.TokenLaws.{but}
 use Rattle.pd_script.proofs.GrammarLaws.{Reads-action, Reads-event}
@@ -160,7 +160,7 @@ not_at_once (suc n) t rest f e = by_test (starts_event t) refl
 record Kept (es : List Event) (front : List Item) : Type 0 where
   others : List Item
   goes : AreEvents es front others
-  reached : (es ≡ []) ⊎ ((next : Item) × (more : List Item) × (others ≡ next ∷ more))
+  reached : (es ≡ []) ⊎ (next_is goes_on others ≡ true)
   last : (e : Event) (next : Item) (more : List Item) → IsEvent e others (next ∷ more) → goes_on next ≡ true → ⊥
 
 kept_nothing : (front : List Item) → ((e : Event) (next : Item) (more : List Item) → IsEvent e front (next ∷ more) → goes_on next ≡ true → ⊥) → Kept [] front
@@ -206,15 +206,20 @@ event_before us front e m (u ∷ middle) t rest parts h left some =
     let same : P.front ++ u ∷ middle ≡ front = append_cancel_right (P.front ++ u ∷ middle) front (t ∷ rest) whole in
     subst (λ (x : List Item). IsEvent e x (u ∷ middle)) same (Reads-event.sound (P.front ++ u ∷ middle) e (u ∷ middle) (P.same u (middle ++ t ∷ rest) middle left))
 
-still_reached : (es : List Event) (middle others : List Item) → AreEvents es middle others → (middle ≡ [] → ⊥) → (es ≡ []) ⊎ ((next : Item) × (more : List Item) × (others ≡ next ∷ more)) → (next : Item) × (more : List Item) × (others ≡ next ∷ more)
-still_reached es middle others goes some (inr h) = h
-still_reached [] [] others goes some (inl h) = absurd (some refl)
-still_reached [] (u ∷ middle) others goes some (inl h) = (u, middle, sym goes)
-still_reached (e ∷ es) middle others goes some (inl h) = absurd cc
+-- what may follow an event and stands before the fault goes on
+goes_on_before : (n : ℕ) (m middle : List Item) (t : Item) (rest : List Item) → next_is (may_follow n) m ≡ true → m ≡ middle ++ t ∷ rest → (middle ≡ [] → ⊥) → next_is goes_on middle ≡ true
+goes_on_before n m [] t rest f left some = absurd (some refl)
+goes_on_before zero m (u ∷ middle) t rest f left some = or-right (starts_event u) (is_end u) (subst (λ (x : List Item). next_is (may_follow zero) x ≡ true) left f)
+goes_on_before (suc n) m (u ∷ middle) t rest f left some = subst (λ (x : List Item). next_is (may_follow (suc n)) x ≡ true) left f
 
-kept_more : (us front : List Item) (e : Event) (es : List Event) (m middle : List Item) (t : Item) (rest : List Item) → us ≡ front ++ t ∷ rest → event_at us ≡ ok e m → m ≡ middle ++ t ∷ rest → (middle ≡ [] → ⊥) → Kept es middle → Kept (e ∷ es) front
-kept_more us front e es m middle t rest parts h left some K =
-    record { others = K.others; goes = (middle, event_before us front e m middle t rest parts h left some, K.goes); reached = inr (still_reached es middle K.others K.goes some K.reached); last = K.last }
+still_reached : (es : List Event) (middle others : List Item) → AreEvents es middle others → next_is goes_on middle ≡ true → (es ≡ []) ⊎ (next_is goes_on others ≡ true) → next_is goes_on others ≡ true
+still_reached es middle others goes on (inr h) = h
+still_reached [] middle others goes on (inl h) = rw (← goes) on
+still_reached (e ∷ es) middle others goes on (inl h) = absurd cc
+
+kept_more : (us front : List Item) (e : Event) (es : List Event) (m middle : List Item) (t : Item) (rest : List Item) → us ≡ front ++ t ∷ rest → event_at us ≡ ok e m → m ≡ middle ++ t ∷ rest → (middle ≡ [] → ⊥) → next_is goes_on middle ≡ true → Kept es middle → Kept (e ∷ es) front
+kept_more us front e es m middle t rest parts h left some on K =
+    record { others = K.others; goes = (middle, event_before us front e m middle t rest parts h left some, K.goes); reached = inr (still_reached es middle K.others K.goes on K.reached); last = K.last }
 
 too_long : (t next : Item) (more rest : List Item) → t ∷ rest ≡ next ∷ (more ++ t ∷ rest) → ⊥
 too_long t next more rest e = omega (arith, ap length e, length-append more (t ∷ rest))
@@ -224,7 +229,7 @@ kept_followed n us front t rest e m true f parts h fault ih =
     let M = (Laws-events n).failed m (t ∷ rest) fault in
     let some : M.front ≡ [] → ⊥ = λ none. (let left : m ≡ t ∷ rest = M.parts ∙ ap (λ (x : List Item). x ++ t ∷ rest) none in
     not_at_once n t rest (subst (λ (x : List Item). next_is (may_follow n) x ≡ true) left f) (subst (λ (x : List Item). events_at n x ≡ Err (t ∷ rest)) left fault)) in
-    kept_more us front e (found_in n m).events m M.front t rest parts h M.parts some (ih M.front M.parts)
+    kept_more us front e (found_in n m).events m M.front t rest parts h M.parts some (goes_on_before n m M.front t rest f M.parts some) (ih M.front M.parts)
 kept_followed n us front t rest e m false f parts h fault ih =
     let there : m ≡ t ∷ rest = (let both = sym (not_followed n m f) ∙ fault in cc) in
     kept_nothing front (λ d next more spelled g. (let other = sym h ∙ subst (λ (x : List Item). event_at x ≡ ok d (next ∷ (more ++ t ∷ rest))) (sym parts) (read_before d front next more t rest spelled g) in
@@ -261,6 +266,18 @@ Stops-front : (s : Item → Bool) (front rest : List Item) → Stops s (front ++
 Stops-front s [] rest h = tt
 Stops-front s (t ∷ front) rest h = h
 
+no_header_next : (ts : List Item) → Stops (but is_header) ts → next_is is_header ts ≡ false
+no_header_next [] h = refl
+no_header_next (t ∷ ts) h = not-true (is_header t) h
+
+never : (b : Bool) → (b ≡ true → ⊥) → b ≡ false
+never true h = absurd (h refl)
+never false h = refl
+
+next_refused : (front others : List Item) (e : Event) (left : List Item) → ((d : Event) (next : Item) (more : List Item) → IsEvent d others (next ∷ more) → goes_on next ≡ true → ⊥) → IsEvent e others left → next_is goes_on left ≡ true → ⊥
+next_refused front others e [] last h g = absurd cc
+next_refused front others e (t ∷ left) last h g = last e t left h g
+
 pub kept_with_header : (ts front : List Item) (t : Item) (rest : List Item) → ts ≡ front ++ t ∷ rest → events_at 4096 (behind_header ts) ≡ Err (t ∷ rest) → IsKept (header_of ts) (found_in 4096 (behind_header ts)).events front
 kept_with_header ts front t rest parts fault =
     let H = header_took ts in
@@ -272,7 +289,15 @@ kept_with_header ts front t rest parts fault =
     let read : header_at (H.front ++ E.front) ≡ ok (header_of ts) E.front = H.again E.front stops in
     let spelled = header_sound (H.front ++ E.front) in
     let there : IsHeader (header_of ts) (H.front ++ E.front) E.front = subst (λ (x : List Item). IsHeader (header_of ts) (H.front ++ E.front) x) (rest_is _ _ _ _ read) (subst (λ (x : List HeaderItem). IsHeader x (H.front ++ E.front) (behind_header (H.front ++ E.front))) (value_is _ _ _ _ read) spelled) in
-    record { behind = E.front; others = K.others; begins = subst (λ (x : List Item). IsHeader (header_of ts) x E.front) same there; goes = K.goes; reached = K.reached; last = K.last }
+    record {
+      behind = E.front;
+      others = K.others;
+      begins = subst (λ (x : List Item). IsHeader (header_of ts) x E.front) same there;
+      whole = no_header_next E.front stops;
+      goes = K.goes;
+      reached = K.reached;
+      last = λ e left h. never (next_is goes_on left) (λ g. next_refused E.front K.others e left K.last h g);
+    }
 
 -- ---- what the items of a text are read as
 

@@ -4,8 +4,9 @@ use Rattle.std.specs.Prelude.{◌⊎◌}
 use Rattle.std.specs.List.{list_all}
 use Rattle.std.proofs.lemmas.List.Folds.{list_all-append}
 use Rattle.pd_lex.specs.Tokens.{Item}
-use Rattle.pd_script.specs.Items.{is_plain}
-use Rattle.pd_script.specs.Reader.{Read, Reader, then_read, ◌>>=◌, done, one, next_is, when}
+use Rattle.pd_script.proofs.Plain.{is_plain}
+use Rattle.pd_script.specs.Reader.{Read, Reader, then_read, ◌>>=◌, done, one, when}
+use Rattle.pd_script.specs.Items.{next_is}
 
 -- nothing follows, or a item of these
 abbrev pub Stops : (Item → Bool) → List Item → Type 0

@@ -13,6 +13,8 @@ pub mod ArgumentSound
 pub mod HeaderLaws
 pub mod ScriptLaws
 pub mod Kept
+pub mod Plain
+pub mod OneScript
 pub mod TextItems
 pub mod NoteLaws
 pub mod Repeating

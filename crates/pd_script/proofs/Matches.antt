@@ -5,11 +5,12 @@ use Rattle.std.specs.List.{list_all}
 use Rattle.std.proofs.lemmas.List.Folds.{list_all-append}
 use Rattle.pd_lex.specs.declared.token.TokenKind.{TokenKind}
 use Rattle.pd_lex.specs.Tokens.{Item}
-use Rattle.pd_script.specs.Items.{is_plain}
-use Rattle.pd_script.specs.Reader.{Reader, ◌>>=◌, done, one, next_is, when}
+use Rattle.pd_script.proofs.Plain.{is_plain}
+use Rattle.pd_script.specs.Reader.{Reader, ◌>>=◌, done, one, when}
 use Rattle.pd_script.specs.Spelling.{Spelling, token, made, in_turn, either}
 use Rattle.pd_script.proofs.Apart.{IsOf, is_lexeme, lexical, or-left, or-right}
 use Rattle.pd_script.proofs.Laws.{Laws, Laws-one, Laws-done, Laws-bind_if, Laws-when, goes_p, goes_q, Stops, Stops-within, Within, any, then_ok, ok, widen, narrow, value_is, rest_is}
+use Rattle.pd_script.specs.Items.{next_is}
 
 -- what is spelled takes tokens alone
 abbrev pub Takes : {A : Type 0} → Spelling A → Type 0

@@ -8,8 +8,8 @@ use Rattle.pd_lex.specs.Tokens.{Item, lexeme, ending, bad}
 use Rattle.pd_script.specs.declared.brackets.Bracket.{Bracket}
 use Rattle.pd_script.specs.declared.brackets.Bracket.TheVariants as brackets
 use Rattle.pd_script.specs.Items.{is_symbol, is_symbol_kind}
-use Rattle.pd_script.specs.Brackets.{note_move, note_led, note_part_at, note_part_by, is_last, pairs_after, behind_token}
-use Rattle.pd_script.specs.Arguments.{Balances, IsInNote}
+use Rattle.pd_script.specs.Brackets.{pairs_after}
+use Rattle.pd_script.specs.Arguments.{Balances}
 use Rattle.pd_script.specs.Reader.{Reader, ends, goes, moved, machine_at}
 use Rattle.pd_script.proofs.Laws.{Full, any, ok, value_is, rest_is}
 use Rattle.pd_script.proofs.Machines.{Laws-machine}
@@ -18,6 +18,16 @@ use Rattle.pd_script.proofs.Apart.{and-left, and-right, is_lexeme, lexical, symb
 use Rattle.pd_script.proofs.ArgumentLaws.{closing, plain_closing}
 use Rattle.pd_script.proofs.ArgumentSteps.{onto-nil}
 use Rattle.pd_script.proofs.ArgumentSound.{balanced_lexemes}
+use Rattle.pd_script.specs.Drafts.{note_move, note_led, note_part_at, note_part_by, is_last, behind_token}
+
+-- any tokens with balanced brackets, and the bracket that ends a note, whose own pair counts among the 16
+pub record IsInNote (nothing : List ℕ) (ts rest : List Item) : Type 0 where
+  pub inside : List Item
+  pub closing : Item
+  pub spelled : ts ≡ inside ++ closing ∷ rest
+  pub balanced : Balances (λ pairs t. false) 15 [] inside
+  pub ends : is_symbol 41 closing ≡ true
+  pub value : nothing ≡ []
 
 abbrev within : List Bracket → Reader (List ℕ)
 within pairs = machine_at note_move pairs

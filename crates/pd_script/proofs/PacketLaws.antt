@@ -11,8 +11,8 @@ use Rattle.std.proofs.lemmas.List.{length-append}
 use Rattle.std.proofs.lemmas.Bool.Decides.{nat_tests}
 use Rattle.pd_lex.specs.declared.token.TokenKind.TheVariants as kinds
 use Rattle.pd_lex.specs.Octets.{is_digit}
-use Rattle.pd_lex.specs.Tokens.{Item, lexeme, ending, bad, line_of}
-use Rattle.pd_script.specs.Items.{is_token, is_int, is_int_from, is_int_of, is_named, is_flags, is_option, is_num, is_dots, is_symbol, is_int_kind, is_num_kind, is_dots_kind, is_word_kind, is_symbol_kind, is_plain, is_digits, is_small, goes_on, text_of}
+use Rattle.pd_lex.specs.Tokens.{Item, lexeme, ending, bad}
+use Rattle.pd_script.specs.Items.{is_token, is_int, is_int_from, is_int_of, is_named, is_flags, is_option, is_num, is_dots, is_symbol, is_int_kind, is_num_kind, is_dots_kind, is_word_kind, is_symbol_kind, is_digits, is_small, goes_on, text_of}
 use Rattle.pd_script.specs.Values.{number, flags_of, with_ack, option_named}
 use Rattle.pd_script.specs.Reader.{Reader, done, one, when, onto}
 use Rattle.pd_script.specs.TokenReading.{symbol_at, int_at, dots_at}
@@ -30,8 +30,9 @@ use Rattle.pd_script.proofs.Laws.{any, ok}
 use Rattle.pd_script.proofs.Matches.{Reads, Reads-one, Reads-bind, Reads-bind_if, Reads-done, Reads-when, Reads-widen, Reads-narrow, Reads-optional}
 use Rattle.pd_script.proofs.Apart.{IsOf, and-left, and-right, and-false-right, or-left, or-right, or-elim, or-elim-no, not-true, not-false, apart, text_apart, int_kind, num_kind, dots_kind, symbol_kind, symbol_apart, end_no_token}
 use Rattle.pd_script.proofs.ArgumentLaws.{a_token}
-use Rattle.pd_script.proofs.TokenLaws.{all, but, last, tail, symbol, int, dots, NoStart, goes_on_not, symbol_no_start}
+use Rattle.pd_script.proofs.TokenLaws.{IsSymbolOf, all, but, last, tail, symbol, int, dots, NoStart, goes_on_not, symbol_no_start}
 use Rattle.pd_script.proofs.Repeating.{Reads-repeated, cons_is}
+use Rattle.pd_script.proofs.Plain.{is_plain}
 
 -- ---- tokens
 
@@ -60,7 +61,7 @@ option_kind = record { kind = at }
     at (bad line) h = h
 
 named : (name : List ℕ) → is_named name (a_token kinds.Word name) ≡ true → is_plain (a_token kinds.Word name) ≡ true → Reads (named_at name) (IsNamed name) (is_named name) any
-named name h g = last (one (is_named name)) (λ t. line_of t) (token (is_named name)) (is_named name) any (Reads-one is_word_kind (is_named name) (a_token kinds.Word name) (named_kind name) h g)
+named name h g = last (one (is_named name)) (λ t. tt) (token (is_named name)) (is_named name) any (Reads-one is_word_kind (is_named name) (a_token kinds.Word name) (named_kind name) h g)
 
 letters : Reads letters_at IsLetters is_flags any
 letters = last (one is_flags) (λ t. flags_of (text_of t)) (token is_flags) is_flags any (Reads-one is_word_kind is_flags (a_token kinds.Word (83 ∷ [])) flags_kind refl refl)
@@ -123,7 +124,7 @@ abbrev but_point : Item → Bool
 but_point = but (is_symbol 46)
 
 Reads-point : (f : Flags) → Reads (point_at f) (IsPoint f) (is_symbol 46) but_point
-Reads-point f = last (symbol_at 46) (λ line. with_ack f) (IsSymbol 46) (is_symbol 46) but_point (symbol 46 refl refl)
+Reads-point f = last (symbol_at 46) (λ line. with_ack f) (IsSymbol ".") (is_symbol 46) but_point (symbol 46 refl refl)
 
 Reads-lettered : Reads lettered_at IsLettered is_flags but_point
 Reads-lettered =
@@ -152,7 +153,7 @@ Reads-flags : Reads flags_at IsFlags any but_point
 unfolding flags_at IsFlags
 Reads-flags =
     Reads-when (is_symbol 45) no_flags_at (when (is_symbol 46) (point_at (flags_of [])) lettered_at) IsNoFlags (either (IsPoint (flags_of [])) IsLettered) (is_symbol 45) starts_flags any but_point
-    (last (symbol_at 45) (λ line. flags_of []) (IsSymbol 45) (is_symbol 45) but_point (symbol 45 refl refl))
+    (last (symbol_at 45) (λ line. flags_of []) (IsSymbol "-") (is_symbol 45) but_point (symbol 45 refl refl))
     Reads-some_flags
     (λ t h. h)
     (λ t h. or-elim-no (is_symbol 46 t) (is_flags t) (is_symbol 45 t) (symbol_apart 46 45 refl t) (flags_no_symbol 45 t) h)
@@ -169,11 +170,11 @@ Reads-octets : Reads octets_at IsOctets is_int any
 unfolding octets_at IsOctets
 Reads-octets =
     Reads-bind_if int_at _ IsInt _ (λ start. start ≤ 4294967295) is_int any (is_symbol 58) any int_small int
-    (λ start small. Reads-bind (symbol_at 58) _ (IsSymbol 58) _ (is_symbol 58) any (is_int_from start) any (symbol 58 refl refl)
+    (λ start small. Reads-bind (symbol_at 58) _ (IsSymbol ":") _ (is_symbol 58) any (is_int_from start) any (symbol 58 refl refl)
     (λ colon. Reads-bind_if (int_from_at start) _ (IsIntFrom start) _ (λ end. end ≤ 4294967295) (is_int_from start) any (is_symbol 40) any (int_from_small start) (int_from start small)
-    (λ end bound. Reads-bind (symbol_at 40) _ (IsSymbol 40) _ (is_symbol 40) any (is_int_of (end - start)) any (symbol 40 refl refl)
+    (λ end bound. Reads-bind (symbol_at 40) _ (IsSymbol "(") _ (is_symbol 40) any (is_int_of (end - start)) any (symbol 40 refl refl)
     (λ opening. Reads-bind (int_of_at (end - start)) _ (IsIntOf (end - start)) _ (is_int_of (end - start)) any (is_symbol 41) any (int_of (end - start) (omega arith))
-    (λ len. last (symbol_at 41) (λ closing. (start, end, len)) (IsSymbol 41) (is_symbol 41) any (symbol 41 refl refl))
+    (λ len. last (symbol_at 41) (λ closing. (start, end, len)) (IsSymbol ")") (is_symbol 41) any (symbol 41 refl refl))
     (all (is_symbol 41)))
     (all (is_int_of (end - start))))
     (all (is_symbol 40)))
@@ -244,7 +245,7 @@ Reads-win false = Reads-optional (is_named win_name) follows_win (numbered_at wi
 
 -- ---- options
 
-symbol_less : (octet : ℕ) (v : ℕ) (ts rest : List Item) → IsSymbol octet v ts rest → length rest < length ts
+symbol_less : (octet : ℕ) (v : ℕ) (ts rest : List Item) → IsSymbolOf octet v ts rest → length rest < length ts
 symbol_less octet v ts rest h = omega (arith, ap length h.2.0, ap length h.3.1)
 
 int_less : (v : ℕ) (ts rest : List Item) → IsInt v ts rest → length rest < length ts
@@ -257,7 +258,7 @@ not_longer v ts rest r h = let T = r.takes ts v rest h in omega (arith, ap lengt
 Reads-block : Reads block_at IsBlock is_int any
 Reads-block =
     Reads-bind int_at _ IsInt _ is_int any (is_symbol 58) any int
-    (λ left. Reads-bind (symbol_at 58) _ (IsSymbol 58) _ (is_symbol 58) any is_int any (symbol 58 refl refl)
+    (λ left. Reads-bind (symbol_at 58) _ (IsSymbol ":") _ (is_symbol 58) any is_int any (symbol 58 refl refl)
     (λ colon. last int_at (λ right. record { left = left; right = right }) IsInt is_int any int)
     (all is_int))
     (all (is_symbol 58))
@@ -315,7 +316,7 @@ unfolding option_at IsOption
 Reads-option = Reads-bind option_name_at option_rest_at IsOptionName IsOptionRest is_option any any but_int option_name Reads-option_rest (all any)
 
 Reads-next_option : Reads next_option_at IsNextOption (is_symbol 44) but_int
-Reads-next_option = Reads-bind (symbol_at 44) (λ comma. option_at) (IsSymbol 44) (λ comma. IsOption) (is_symbol 44) any is_option but_int (symbol 44 refl refl) (λ comma. Reads-option) (all is_option)
+Reads-next_option = Reads-bind (symbol_at 44) (λ comma. option_at) (IsSymbol ",") (λ comma. IsOption) (is_symbol 44) any is_option but_int (symbol 44 refl refl) (λ comma. Reads-option) (all is_option)
 
 pub next_option_less : (ts : List Item) (v : PacketOption) (rest : List Item) → next_option_at ts ≡ ok v rest → length rest < length ts
 next_option_less ts v rest e =
@@ -352,9 +353,9 @@ option_no_symbol = apart is_word_kind is_symbol_kind is_option (is_symbol 62) re
 Reads-list : Reads list_at IsList starts_list any
 Reads-list =
     Reads-when (is_symbol 62) unlisted_at listed_at IsUnlisted IsListed (is_symbol 62) is_option starts_list any
-    (last (symbol_at 62) (λ closing. lists.Listed []) (IsSymbol 62) (is_symbol 62) any (symbol 62 refl refl))
+    (last (symbol_at 62) (λ closing. lists.Listed []) (IsSymbol ">") (is_symbol 62) any (symbol 62 refl refl))
     (Reads-bind some_options_at _ AreOptions _ is_option (is_symbol 62) (is_symbol 62) any Reads-some_options
-    (λ os. last (symbol_at 62) (λ closing. lists.Listed os) (IsSymbol 62) (is_symbol 62) any (symbol 62 refl refl))
+    (λ os. last (symbol_at 62) (λ closing. lists.Listed os) (IsSymbol ">") (is_symbol 62) any (symbol 62 refl refl))
     (λ t h. h))
     (λ t h. h)
     option_no_symbol
@@ -373,7 +374,7 @@ Reads-inside_options true = Reads-widen starts_list any Reads-list (all starts_l
 Reads-inside_options false =
     Reads-when is_dots any_options_at list_at IsAnyOptions IsList is_dots starts_list any any
     (Reads-bind dots_at _ IsDots _ is_dots any (is_symbol 62) any dots
-    (λ line. last (symbol_at 62) (λ closing. lists.Any) (IsSymbol 62) (is_symbol 62) any (symbol 62 refl refl))
+    (λ line. last (symbol_at 62) (λ closing. lists.Any) (IsSymbol ">") (is_symbol 62) any (symbol 62 refl refl))
     (all (is_symbol 62)))
     Reads-list
     (λ t h. h)
@@ -383,7 +384,7 @@ Reads-inside_options false =
     (all starts_list)
 
 Reads-bracketed : (inbound : Bool) → Reads (bracketed_options_at inbound) (IsBracketedOptions inbound) (is_symbol 60) any
-Reads-bracketed inbound = Reads-bind (symbol_at 60) (λ opening. inside_options_at inbound) (IsSymbol 60) (λ opening. IsInsideOptions inbound) (is_symbol 60) any any any (symbol 60 refl refl) (λ opening. Reads-inside_options inbound) (all any)
+Reads-bracketed inbound = Reads-bind (symbol_at 60) (λ opening. inside_options_at inbound) (IsSymbol "<") (λ opening. IsInsideOptions inbound) (is_symbol 60) any any any (symbol 60 refl refl) (λ opening. Reads-inside_options inbound) (all any)
 
 Reads-options : (inbound : Bool) → Reads (options_at inbound) (IsOptions inbound) follows_win goes_on
 unfolding options_at IsOptions

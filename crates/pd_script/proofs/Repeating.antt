@@ -3,12 +3,13 @@ use Rattle.std.proofs.Common.{◌≡◌, ℕ, zero, suc, ◌+◌, ◌<◌, ◌�
 use Rattle.std.specs.Prelude.{◌||◌}
 use Rattle.std.proofs.lemmas.List.{append_cancel_right}
 use Rattle.pd_lex.specs.Tokens.{Item}
-use Rattle.pd_script.specs.Reader.{Read, Reader, then_read, ◌>>=◌, done, next_is, when, onto}
+use Rattle.pd_script.specs.Reader.{Read, Reader, then_read, ◌>>=◌, done, when, onto}
 use Rattle.pd_script.specs.Spelling.{Spelling, made, in_turn, either, Repeats}
 use Rattle.pd_script.specs.PacketReading.{repeated_within, repeated_at}
 use Rattle.pd_script.proofs.Laws.{Took, Failed, Stops, Within, ok, then_ok}
 use Rattle.pd_script.proofs.Apart.{or-left, or-right}
 use Rattle.pd_script.proofs.Matches.{Reads, Reads-done, Reads-bind, Reads-when, Reads-widen, Reads-same}
+use Rattle.pd_script.specs.Items.{next_is}
 
 pub cons_is : {A : Type 0} (x : A) (r : Read (List A)) → then_read r (λ xs rest. Ok (x ∷ xs, rest)) ≡ onto (x ∷ []) r
 cons_is x (Ok y) = refl

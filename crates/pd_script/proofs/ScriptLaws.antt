@@ -6,11 +6,12 @@ use Rattle.std.proofs.lemmas.List.Folds.{list_all-append}
 use Rattle.pd_lex.specs.Tokens.{Item, lexeme, ending, bad}
 use Rattle.pd_script.specs.declared.script_header.HeaderItem.{HeaderItem}
 use Rattle.pd_script.specs.declared.script_events.Event.{Event}
-use Rattle.pd_script.specs.Items.{is_header, is_header_kind, is_num, is_symbol, is_num_kind, is_symbol_kind, is_end, starts_event, goes_on}
-use Rattle.pd_script.specs.Header.{header_of, behind_header}
-use Rattle.pd_script.specs.Reader.{Reader, ◌>>=◌, done, one, next_is}
+use Rattle.pd_script.specs.Items.{is_header, is_header_kind, is_num, is_symbol, is_num_kind, is_symbol_kind, is_end, starts_event, goes_on, next_is}
+use Rattle.pd_script.specs.Script.{header_of, behind_header}
+use Rattle.pd_script.specs.Reader.{Reader, ◌>>=◌, done, one}
 use Rattle.pd_script.specs.Reading.{time_at, event_at, end_at, events_at}
 use Rattle.pd_script.specs.Faults.{IsHeader, AreEvents, IsScript, IsFault}
+use Rattle.pd_script.proofs.Plain.{all_plain}
 use Rattle.pd_script.proofs.Laws.{Laws, Laws-one, Laws-bind, Laws-done, Laws-when, Took, Stops, Stops-any, any, ok, widen, then_ok, value_is, rest_is, next-yes}
 use Rattle.pd_script.proofs.Apart.{and-left, and-right, or-left, or-right, not-true, not-false, apart, num_kind, symbol_kind, end_no_token, is_lexeme, lexical}
 use Rattle.pd_script.proofs.TokenLaws.{but, NoStart, goes_on_not}
@@ -61,7 +62,7 @@ header_sound (t ∷ ts) = by_test (is_header t) refl (header_sound ts)
     by_test true h ih = rw h (t, ts, refl, h, refl, ih)
     by_test false h ih = rw h refl
 
-header_complete : (hs : List HeaderItem) (ts rest : List Item) → IsHeader hs ts rest → Stops (but is_header) rest → header_at ts ≡ ok hs rest
+pub header_complete : (hs : List HeaderItem) (ts rest : List Item) → IsHeader hs ts rest → Stops (but is_header) rest → header_at ts ≡ ok hs rest
 header_complete [] ts rest h stops = rw h (header_stop rest stops)
 header_complete (i ∷ hs) ts rest h stops =
     let e = header_complete hs h.1 rest h.5 stops in
@@ -209,7 +210,7 @@ Stops-header : (ts : List Item) → Stops goes_on ts → Stops (but is_header) t
 Stops-header [] h = tt
 Stops-header (t ∷ ts) h = goes_on_no_header t h
 
-script_complete : (h : List HeaderItem) (es : List Event) (ts : List Item) → IsScript h es ts → script_at 4096 ts ≡ ok (h, es) []
+pub script_complete : (h : List HeaderItem) (es : List Event) (ts : List Item) → IsScript h es ts → script_at 4096 ts ≡ ok (h, es) []
 script_complete h es ts s =
     let events = events_complete 4096 es s.behind [] (record { last = s.end; goes = s.goes; ends = s.ends }) s.limit in
     let stops = Stops-header s.behind ((Laws-events 4096).begins s.behind es [] events (Stops-any [])) in
@@ -227,7 +228,7 @@ fault_is ts t rest e =
       F.parts,
       record {
         before = record { more = L.more; header = L.value.0; events = L.value.1; script = subst (λ (x : List Item). IsScript L.value.0 L.value.1 (F.front ++ x)) more S };
-        plain = L.spelled;
+        plain = all_plain L.more L.spelled;
         none = λ b. (let c = script_complete b.header b.events ((F.front ++ t ∷ []) ++ b.more) b.script in
             let d : script_at 4096 ((F.front ++ t ∷ []) ++ b.more) ≡ Err (t ∷ b.more) = rw append_assoc (F.again t rest b.more refl) in
             absurd (let both = sym c ∙ d in cc));

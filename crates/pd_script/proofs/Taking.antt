@@ -3,7 +3,8 @@ use Rattle.std.proofs.Common.{◌≡◌, ℕ, Bool, true, false, cond, List, ◌
 use Rattle.pd_lex.specs.declared.token.Place.{Place}
 use Rattle.pd_lex.specs.declared.token.Lexed.{Lexed}
 use Rattle.pd_lex.specs.declared.token.Lexed.TheVariants as lexed
-use Rattle.pd_lex.specs.Tokens.{Item, items, IsNext}
+use Rattle.pd_lex.specs.Tokens.{Item}
+use Rattle.pd_lex.specs.Lexing.{items, IsNext}
 use Rattle.pd_script.specs.Items.{given}
 use Rattle.pd_script.specs.Reader.{Read, one, done, ◌>>=◌}
 use Rattle.pd_script.specs.declared.stops.Stop.{Stop}

@@ -8,19 +8,19 @@ use Rattle.pd_text.specs.Text.{is_line}
 use Rattle.pd_lex.specs.declared.token.Place.{Place}
 use Rattle.pd_lex.specs.Places.{IsPlace, first_place, standing, octets_from, place_after, before}
 use Rattle.pd_lex.specs.Pieces.{Front, nothing, gap, token, stray, front}
-use Rattle.pd_lex.specs.Tokens.{Item, line_of, followed, items_within, items}
+use Rattle.pd_lex.specs.Tokens.{Item, line_of}
+use Rattle.pd_lex.specs.Lexing.{followed, items_within, items}
 use Rattle.pd_lex.proofs.Rests.{advance, octets_past, standing_place}
 use Rattle.pd_lex.proofs.Fronts.{IsRest, IsRest-cut, LeavesRest, front_leaves}
 use Rattle.pd_script.specs.declared.timing.Time.{Time}
 use Rattle.pd_script.specs.declared.timing.Time.TheVariants as times
 use Rattle.pd_script.specs.declared.script_events.Event.{Event}
-use Rattle.pd_script.specs.Items.{starts_event}
-use Rattle.pd_script.specs.Header.{behind_header}
-use Rattle.pd_script.specs.Reader.{Read, next_is}
+use Rattle.pd_script.specs.Items.{starts_event, next_is}
+use Rattle.pd_script.specs.Reader.{Read}
 use Rattle.pd_script.specs.Reading.{event_at}
 use Rattle.pd_script.specs.Spelling.{made, either}
 use Rattle.pd_script.specs.Grammar.{IsAbsoluteRange, IsRelativeRange, IsTime, IsEvent}
-use Rattle.pd_script.specs.Script.{found_in, followed as followed_by, may_follow, with_event, at_end, script_in, script_of}
+use Rattle.pd_script.specs.Script.{found_in, followed as followed_by, may_follow, with_event, at_end, script_in, script_of, behind_header}
 use Rattle.pd_script.specs.declared.script_header.HeaderItem.{HeaderItem}
 use Rattle.pd_script.specs.declared.parsing.Parsed.{Parsed}
 use Rattle.pd_script.specs.Faults.{IsHeader, AreEvents, IsRead}

@@ -4,15 +4,16 @@ use Rattle.std.specs.Prelude.{not, ◌&&◌, ◌||◌}
 use Rattle.std.specs.Str.{bytes_eq}
 use Rattle.pd_lex.specs.declared.token.TokenKind.TheVariants as kinds
 use Rattle.pd_lex.specs.Tokens.{Item, line_of}
-use Rattle.pd_script.specs.Items.{is_int, is_num, is_dots, is_symbol, is_int_kind, is_num_kind, is_dots_kind, is_symbol_kind, is_end, is_plain, starts_event, goes_on, text_of}
+use Rattle.pd_script.specs.Items.{is_int, is_num, is_dots, is_symbol, is_int_kind, is_num_kind, is_dots_kind, is_symbol_kind, is_end, starts_event, goes_on, text_of}
 use Rattle.pd_script.specs.Values.{number}
 use Rattle.pd_script.specs.Reader.{Reader, ◌>>=◌, done, one, when}
 use Rattle.pd_script.specs.TokenReading.{symbol_at, int_at, dots_at}
-use Rattle.pd_script.specs.Spelling.{Spelling, token, made, in_turn, either, IsSymbol, IsInt, IsDots}
+use Rattle.pd_script.specs.Spelling.{Spelling, token, made, in_turn, either, IsInt, IsDots}
 use Rattle.pd_script.proofs.Laws.{Within, any}
 use Rattle.pd_script.proofs.Matches.{Reads, Reads-one, Reads-bind, Reads-done, Reads-when}
 use Rattle.pd_script.proofs.Apart.{or-elim-no, not-true, apart, int_kind, num_kind, dots_kind, symbol_kind, symbol_apart, end_no_token}
 use Rattle.pd_script.proofs.ArgumentLaws.{a_token}
+use Rattle.pd_script.proofs.Plain.{is_plain}
 
 pub all : (f : Item → Bool) → Within f any
 all f t h = refl
@@ -30,14 +31,18 @@ tail test p P v r some = Reads-when test p (done v) P (made v) test (but test) a
 
 -- ---- single tokens
 
-pub symbol : (octet : ℕ) → is_symbol octet (a_token kinds.Symbol (octet ∷ [])) ≡ true → is_plain (a_token kinds.Symbol (octet ∷ [])) ≡ true → Reads (symbol_at octet) (IsSymbol octet) (is_symbol octet) any
+-- the symbol of an octet, with its line
+abbrev pub IsSymbolOf : ℕ → Spelling ℕ
+IsSymbolOf octet = in_turn (token (is_symbol octet)) (λ t. made (line_of t))
+
+pub symbol : (octet : ℕ) → is_symbol octet (a_token kinds.Symbol (octet ∷ [])) ≡ true → is_plain (a_token kinds.Symbol (octet ∷ [])) ≡ true → Reads (symbol_at octet) (IsSymbolOf octet) (is_symbol octet) any
 symbol octet h g = last (one (is_symbol octet)) (λ t. line_of t) (token (is_symbol octet)) (is_symbol octet) any (Reads-one is_symbol_kind (is_symbol octet) (a_token kinds.Symbol (octet ∷ [])) (symbol_kind octet) h g)
 
 pub int : Reads int_at IsInt is_int any
 int = last (one is_int) (λ t. number (text_of t)) (token is_int) is_int any (Reads-one is_int_kind is_int (a_token kinds.Int (48 ∷ [])) int_kind refl refl)
 
 pub dots : Reads dots_at IsDots is_dots any
-dots = last (one is_dots) (λ t. line_of t) (token is_dots) is_dots any (Reads-one is_dots_kind is_dots (a_token kinds.Dots (46 ∷ 46 ∷ 46 ∷ [])) dots_kind refl refl)
+dots = last (one is_dots) (λ t. tt) (token is_dots) is_dots any (Reads-one is_dots_kind is_dots (a_token kinds.Dots (46 ∷ 46 ∷ 46 ∷ [])) dots_kind refl refl)
 
 -- a test that no item passes that begins an event, nor the end
 pub record NoStart (test : Item → Bool) : Type 0 where

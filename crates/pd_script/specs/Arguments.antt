@@ -1,8 +1,8 @@
 -- Arguments of a call, and what their tokens are.
-use Rattle.std.specs.Prelude.{◌≡◌, ℕ, ◌&&◌, Bool, true, false, List, [], ◌∷◌, ◌++◌, Some, if◌then◌else◌}
+use Rattle.std.specs.Prelude.{◌≡◌, ℕ, ◌&&◌, Bool, true, false, List, [], ◌∷◌, ◌++◌, Some, if◌then◌else◌, ⊤}
 use Rattle.pd_lex.specs.Tokens.{Item}
 use Rattle.pd_script.specs.Items.{is_any_int, is_word, is_symbol, text_of}
-use Rattle.pd_script.specs.Values.{capped_number, constant_named}
+use Rattle.pd_script.specs.Values.{sign, capped_number, constant_named}
 use Rattle.pd_script.specs.Brackets.{pairs_after}
 use Rattle.pd_script.specs.declared.calls.Argument.{Argument}
 use Rattle.pd_script.specs.declared.calls.Argument.TheVariants as arguments
@@ -10,7 +10,7 @@ use Rattle.pd_script.specs.declared.brackets.Bracket.{Bracket}
 
 -- a comma outside all pairs of brackets
 abbrev pub is_parting : List Bracket → Item → Bool
-is_parting [] t = is_symbol 44 t
+is_parting [] t = is_symbol (sign ",") t
 is_parting (b ∷ pairs) t = false
 
 -- the items go on within these pairs and leave none of them open: each bracket that closes fits the innermost pair, at most
@@ -25,7 +25,7 @@ argument_of (t ∷ []) =
     if is_any_int t then arguments.Int (capped_number (text_of t))
     else (if is_word t then arguments.Constant (constant_named (text_of t)) else arguments.Other)
 argument_of (o ∷ t ∷ c ∷ []) =
-    if is_symbol 91 o && is_any_int t && is_symbol 93 c then arguments.Element (capped_number (text_of t)) else arguments.Other
+    if is_symbol (sign "[") o && is_any_int t && is_symbol (sign "]") c then arguments.Element (capped_number (text_of t)) else arguments.Other
 argument_of _ = arguments.Other
 
 -- one or more items with balanced brackets, at most 16 pairs inside one another, and no comma outside them
@@ -39,19 +39,20 @@ pub record IsArgument (argument : Argument) (ts rest : List Item) : Type 0 where
 -- one argument or more, parted by commas, and the bracket that ends them
 abbrev pub IsSomeArguments : List Argument → List Item → List Item → Type 0
 IsSomeArguments [] ts rest = ⊥
-IsSomeArguments (a ∷ []) ts rest = (c : Item) × IsArgument a ts (c ∷ rest) × (is_symbol 41 c ≡ true)
-IsSomeArguments (a ∷ b ∷ more) ts rest = (c : Item) × (middle : List Item) × IsArgument a ts (c ∷ middle) × (is_symbol 44 c ≡ true) × IsSomeArguments (b ∷ more) middle rest
+IsSomeArguments (a ∷ []) ts rest = (c : Item) × IsArgument a ts (c ∷ rest) × (is_symbol (sign ")") c ≡ true)
+IsSomeArguments (a ∷ b ∷ more) ts rest = (c : Item) × (middle : List Item) × IsArgument a ts (c ∷ middle) × (is_symbol (sign ",") c ≡ true) × IsSomeArguments (b ∷ more) middle rest
 
 -- the arguments of a call, if any, and the bracket that ends them
 abbrev pub IsArguments : List Argument → List Item → List Item → Type 0
-IsArguments [] ts rest = (c : Item) × (ts ≡ c ∷ rest) × (is_symbol 41 c ≡ true)
+IsArguments [] ts rest = (c : Item) × (ts ≡ c ∷ rest) × (is_symbol (sign ")") c ≡ true)
 IsArguments (a ∷ more) ts rest = IsSomeArguments (a ∷ more) ts rest
 
--- any tokens with balanced brackets, and the bracket that ends a note, whose own pair counts among the 16
-pub record IsInNote (nothing : List ℕ) (ts rest : List Item) : Type 0 where
+-- brackets with any tokens between them whose own brackets are balanced, at most 16 pairs inside one another with the first
+pub record IsNote (nothing : ⊤) (ts rest : List Item) : Type 0 where
+  pub opening : Item
   pub inside : List Item
   pub closing : Item
-  pub spelled : ts ≡ inside ++ closing ∷ rest
+  pub spelled : ts ≡ opening ∷ (inside ++ closing ∷ rest)
+  pub opens : is_symbol (sign "(") opening ≡ true
   pub balanced : Balances (λ pairs t. false) 15 [] inside
-  pub ends : is_symbol 41 closing ≡ true
-  pub value : nothing ≡ []
+  pub ends : is_symbol (sign ")") closing ≡ true

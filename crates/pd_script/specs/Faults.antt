@@ -1,8 +1,7 @@
 -- Scripts, and where a text that is none goes wrong.
-use Rattle.std.specs.Prelude.{◌≡◌, ℕ, ◌≤◌, true, List, [], ◌∷◌, ◌++◌, length, Option, Some, None, ◌⊎◌}
-use Rattle.std.specs.List.{list_all}
-use Rattle.pd_lex.specs.Tokens.{Item, line_of}
-use Rattle.pd_script.specs.Items.{is_header, is_end, is_plain, goes_on}
+use Rattle.std.specs.Prelude.{◌≡◌, ℕ, ◌≤◌, true, false, List, [], ◌∷◌, ◌++◌, length, Option, Some, None, ◌⊎◌, All}
+use Rattle.pd_lex.specs.Tokens.{Item, line_of, AreItemsOf}
+use Rattle.pd_script.specs.Items.{is_header, is_end, goes_on, next_is, IsPlain}
 use Rattle.pd_script.specs.Header.{header_item}
 use Rattle.pd_script.specs.Grammar.{IsEvent}
 use Rattle.pd_script.specs.declared.script_header.HeaderItem.{HeaderItem}
@@ -39,19 +38,24 @@ pub record Begins (front : List Item) : Type 0 where
 -- and with it nothing does
 pub record IsFault (front : List Item) (t : Item) : Type 0 where
   pub before : Begins front
-  pub plain : list_all is_plain before.more ≡ true
+  pub plain : All IsPlain before.more
   pub none : Begins (front ++ t ∷ []) → ⊥
 
--- the header before a fault, and the events before it whose next token stands before it too
+-- what is kept at a fault: all of the header before it, and the events before it whose next token stands before it too
 pub record IsKept (header : List HeaderItem) (events : List Event) (front : List Item) : Type 0 where
   pub behind : List Item
   pub others : List Item
   pub begins : IsHeader header front behind
+  pub whole : next_is is_header behind ≡ false
   pub goes : AreEvents events behind others
-  pub reached : (events ≡ []) ⊎ ((next : Item) × (more : List Item) × (others ≡ next ∷ more))
-  pub last : (e : Event) (next : Item) (more : List Item) → IsEvent e others (next ∷ more) → goes_on next ≡ true → ⊥
+  pub reached : (events ≡ []) ⊎ (next_is goes_on others ≡ true)
+  pub last : (e : Event) (rest : List Item) → IsEvent e others rest → next_is goes_on rest ≡ false
 
 -- the items are a script that was read, or they were read up to their fault
 abbrev pub IsRead : List Item → Parsed → Option ℕ → Type 0
 IsRead ts parsed None = IsScript parsed.header parsed.events ts
 IsRead ts parsed (Some line) = (front : List Item) × (t : Item) × (rest : List Item) × (ts ≡ front ++ t ∷ rest) × (line ≡ line_of t) × IsFault front t × IsKept parsed.header parsed.events front
+
+-- what a text is read as
+abbrev pub IsScriptOf : List (List ℕ) → Parsed → Type 0
+IsScriptOf lines parsed = (ts : List Item) × AreItemsOf lines ts × IsRead ts parsed parsed.fault

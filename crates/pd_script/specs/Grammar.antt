@@ -3,9 +3,9 @@ use Rattle.std.specs.Prelude.{ℕ, true, false, Option, Some, None}
 use Rattle.pd_lex.specs.Tokens.{line_of}
 use Rattle.pd_script.specs.Items.{is_hex, is_num, is_num_from, is_command, is_code, is_word, text_of}
 use Rattle.pd_script.specs.Values.{hex_number, microseconds, function_named, error_named}
-use Rattle.pd_script.specs.Spelling.{Spelling, token, made, ◌>>=◌, either, IsSymbol, IsInt, IsDots}
+use Rattle.pd_script.specs.Spelling.{Spelling, one_of, made, ◌>>=◌, either, IsSymbol, IsInt, IsDots}
 use Rattle.pd_script.specs.PacketGrammar.{IsPacket}
-use Rattle.pd_script.specs.Arguments.{IsArguments, IsInNote}
+use Rattle.pd_script.specs.Arguments.{IsArguments, IsNote}
 use Rattle.pd_script.specs.declared.timing.Time.{Time}
 use Rattle.pd_script.specs.declared.timing.Time.TheVariants as times
 use Rattle.pd_script.specs.declared.timing.Until.{Until}
@@ -21,38 +21,28 @@ use Rattle.pd_script.specs.declared.script_events.Event.{Event}
 
 -- a hexadecimal number of at most 4,294,967,295
 abbrev pub IsHex : Spelling ℕ
-IsHex = do
-  t ← token is_hex
-  made (hex_number (text_of t))
+IsHex = one_of is_hex (λ t. hex_number (text_of t))
 
 -- seconds, as their line and microseconds; the whole part is at most 4,294,967,295
 abbrev pub IsNum : Spelling (ℕ × ℕ)
-IsNum = do
-  t ← token is_num
-  made (line_of t, microseconds (text_of t))
+IsNum = one_of is_num (λ t. (line_of t, microseconds (text_of t)))
 
 abbrev pub IsFunction : Spelling Function
-IsFunction = do
-  t ← token is_word
-  made (function_named (text_of t))
+IsFunction = one_of is_word (λ t. function_named (text_of t))
 
 abbrev pub IsErrorName : Spelling ErrorName
-IsErrorName = do
-  t ← token is_word
-  made (error_named (text_of t))
+IsErrorName = one_of is_word (λ t. error_named (text_of t))
 
 -- ---- times
 
 -- seconds of at least so many microseconds
 abbrev pub IsNumFrom : ℕ → Spelling ℕ
-IsNumFrom least = do
-  t ← token (is_num_from least)
-  made (microseconds (text_of t))
+IsNumFrom least = one_of (is_num_from least) (λ t. microseconds (text_of t))
 
 -- `~` and a second number, at least the first
 abbrev pub IsAbsoluteRange : ℕ → ℕ → Spelling (ℕ × Time)
 IsAbsoluteRange line first = do
-  tilde ← IsSymbol 126
+  tilde ← IsSymbol "~"
   second ← IsNumFrom first
   made (line, times.AbsoluteRange first second)
 
@@ -63,25 +53,25 @@ IsAbsolute = do
 
 abbrev pub IsPlusNumFrom : ℕ → Spelling ℕ
 IsPlusNumFrom least = do
-  plus ← IsSymbol 43
+  plus ← IsSymbol "+"
   IsNumFrom least
 
 -- the second number may have a `+` of its own
 abbrev pub IsRelativeRange : ℕ → ℕ → Spelling (ℕ × Time)
 IsRelativeRange line first = do
-  tilde ← IsSymbol 126
+  tilde ← IsSymbol "~"
   second ← either (IsPlusNumFrom first) (IsNumFrom first)
   made (line, times.RelativeRange first second)
 
 abbrev pub IsRelative : Spelling (ℕ × Time)
 IsRelative = do
-  line ← IsSymbol 43
+  line ← IsSymbol "+"
   n ← IsNum
   either (IsRelativeRange line n.1) (made (line, times.Relative n.1))
 
 abbrev pub IsAnyTime : Spelling (ℕ × Time)
 IsAnyTime = do
-  line ← IsSymbol 42
+  line ← IsSymbol "*"
   made (line, times.Any)
 
 -- a time, with the line of its first token
@@ -90,7 +80,7 @@ IsTime = either IsAnyTime (either IsRelative IsAbsolute)
 
 abbrev pub IsRelativeUntil : Spelling Until
 IsRelativeUntil = do
-  plus ← IsSymbol 43
+  plus ← IsSymbol "+"
   n ← IsNum
   made (untils.Relative n.1)
 
@@ -124,7 +114,7 @@ IsHexadecimal = do
 -- the name of the error may be left out
 abbrev pub IsNegative : Spelling Outcome
 IsNegative = do
-  line ← IsSymbol 45
+  minus ← IsSymbol "-"
   n ← IsInt
   either
       (do
@@ -135,22 +125,15 @@ IsNegative = do
 unfoldable pub IsOutcome : Spelling Outcome
 IsOutcome = either IsWhole (either IsHexadecimal IsNegative)
 
--- a note in brackets
-unfoldable pub IsNote : Spelling ℕ
-IsNote = do
-  line ← IsSymbol 40
-  skipped ← IsInNote
-  made line
-
 -- the note may be left out
 unfoldable pub IsCall : Spelling Call
 IsCall = do
   function ← IsFunction
-  opening ← IsSymbol 40
+  opening ← IsSymbol "("
   arguments ← IsArguments
-  equals ← IsSymbol 61
+  equals ← IsSymbol "="
   outcome ← IsOutcome
-  note ← either IsNote (made 0)
+  note ← either IsNote (made tt)
   made (record { function = function; arguments = arguments; result = outcome })
 
 -- ---- events
@@ -161,26 +144,22 @@ IsCallAction = do
   made (actions.Call call)
 
 abbrev pub IsCommand : Spelling Action
-IsCommand = do
-  t ← token is_command
-  made actions.Command
+IsCommand = one_of is_command (λ t. actions.Command)
 
 abbrev pub IsCode : Spelling Action
-IsCode = do
-  t ← token is_code
-  made actions.Code
+IsCode = one_of is_code (λ t. actions.Code)
 
 -- `<` and a packet that arrives
 abbrev pub IsInbound : Spelling Action
 IsInbound = do
-  line ← IsSymbol 60
+  arrow ← IsSymbol "<"
   packet ← IsPacket true
   made (actions.Inbound packet)
 
 -- `>` and a packet that leaves
 abbrev pub IsOutbound : Spelling Action
 IsOutbound = do
-  line ← IsSymbol 62
+  arrow ← IsSymbol ">"
   packet ← IsPacket false
   made (actions.Outbound packet)
 

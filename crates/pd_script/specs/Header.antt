@@ -1,10 +1,10 @@
 -- The header of a script.
-use Rattle.std.specs.Prelude.{codes, ℕ, ◌&&◌, nat_le, nat_eq, List, [], ◌∷◌, drop, if◌then◌else◌}
+use Rattle.std.specs.Prelude.{codes, ℕ, ◌&&◌, nat_le, nat_eq, List, drop, if◌then◌else◌}
 use Rattle.std.specs.List.{starts_with}
 use Rattle.pd_lex.specs.declared.token.TokenKind.{TokenKind}
 use Rattle.pd_lex.specs.declared.token.TokenKind.TheVariants as kinds
 use Rattle.pd_lex.specs.Tokens.{Item, lexeme, ending, bad, line_of}
-use Rattle.pd_script.specs.Items.{is_header, is_digits}
+use Rattle.pd_script.specs.Items.{is_digits}
 use Rattle.pd_script.specs.Values.{number}
 use Rattle.pd_script.specs.declared.script_header.HeaderItem.{HeaderItem}
 use Rattle.pd_script.specs.declared.script_header.HeaderKind.{HeaderKind}
@@ -29,13 +29,3 @@ header_kind (bad line) = headers.Command
 
 abbrev pub header_item : Item → HeaderItem
 header_item t = record { line = line_of t; kind = header_kind t }
-
--- the options and commands that the items begin with
-abbrev pub header_of : List Item → List HeaderItem
-header_of [] = []
-header_of (t ∷ ts) = if is_header t then header_item t ∷ header_of ts else []
-
--- the items behind them
-abbrev pub behind_header : List Item → List Item
-behind_header [] = []
-behind_header (t ∷ ts) = if is_header t then behind_header ts else t ∷ ts

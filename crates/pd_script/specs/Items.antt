@@ -1,12 +1,13 @@
 -- What an item of a text can be for the grammar.
-use Rattle.std.specs.Prelude.{ℕ, ◌+◌, ◌&&◌, ◌||◌, ◌==◌, not, nat_le, nat_lt, nat_eq, Bool, true, false, List, [], ◌∷◌, length, drop, is_some, Option, Some, None, if◌then◌else◌}
-use Rattle.std.specs.List.{list_all, starts_with}
+use Rattle.std.specs.Prelude.{ℕ, ◌&&◌, ◌||◌, ◌==◌, nat_le, nat_lt, Bool, true, false, List, [], ◌∷◌, length, is_some, Option, Some, None, if◌then◌else◌}
+use Rattle.std.specs.List.{list_all}
 use Rattle.std.specs.Str.{bytes_eq}
 use Rattle.pd_lex.specs.declared.token.TokenKind.{TokenKind}
 use Rattle.pd_lex.specs.declared.token.TokenKind.TheVariants as kinds
-use Rattle.pd_lex.specs.Octets.{is_digit, is_hex_digit, is_word as is_word_octet, is_printable}
+use Rattle.pd_lex.specs.Octets.{is_digit}
+use Rattle.pd_lex.specs.Spellings.{IsSpelled}
 use Rattle.pd_lex.specs.Tokens.{Item, lexeme, ending, bad}
-use Rattle.pd_script.specs.Values.{number, hex_number, microseconds, whole_len, whole_digits, is_flag, option_named}
+use Rattle.pd_script.specs.Values.{sign, number, hex_number, microseconds, is_flag, option_named}
 
 abbrev pub is_int_kind : TokenKind → Bool
 is_int_kind kinds.Int = true
@@ -136,7 +137,7 @@ is_header t = is_token (λ kind text. is_header_kind kind) t
 
 -- what an event begins with
 abbrev pub starts_event : Item → Bool
-starts_event t = is_num t || is_symbol 43 t || is_symbol 42 t
+starts_event t = is_num t || is_symbol (sign "+") t || is_symbol (sign "*") t
 
 -- what an event or the end begins with
 abbrev pub goes_on : Item → Bool
@@ -146,20 +147,13 @@ goes_on t = starts_event t || is_end t
 abbrev pub is_digits : List ℕ → Bool
 is_digits text = nat_lt 0 (length text) && list_all is_digit text
 
--- the octets spell a token, which is plain
-abbrev pub is_spelled : TokenKind → List ℕ → Bool
-is_spelled kinds.Int text = is_digits text
-is_spelled kinds.Hex text = starts_with nat_eq text (48 ∷ 120 ∷ []) && nat_lt 2 (length text) && list_all is_hex_digit (drop 2 text)
-is_spelled kinds.Word text = nat_lt 0 (length text) && list_all is_word_octet text && not (list_all is_digit text)
-is_spelled kinds.Decimal text = is_digits (whole_digits text) && is_digits (drop (whole_len text + 1) text)
-is_spelled kinds.Dots text = bytes_eq text (46 ∷ 46 ∷ 46 ∷ [])
-is_spelled kinds.Cmd text = bytes_eq text (96 ∷ 96 ∷ [])
-is_spelled kinds.Code text = bytes_eq text (37 ∷ 123 ∷ 125 ∷ 37 ∷ [])
-is_spelled kinds.Symbol text = (length text == 1) && list_all is_printable text && not (list_all is_word_octet text)
-is_spelled _ text = false
+-- a token as it is spelled, or the end
+abbrev pub IsPlain : Item → Type 0
+IsPlain (lexeme x) = IsSpelled x.kind x.text
+IsPlain (ending line) = Unit {0}
+IsPlain (bad line) = ⊥
 
--- a number, a word, `...`, a symbol, or an empty command or code, as it is spelled; or the end
-abbrev pub is_plain : Item → Bool
-is_plain (lexeme x) = is_spelled x.kind x.text
-is_plain (ending line) = true
-is_plain (bad line) = false
+-- there is a next item, and it passes a test
+abbrev pub next_is : (Item → Bool) → List Item → Bool
+next_is test [] = false
+next_is test (t ∷ ts) = test t

@@ -1,19 +1,24 @@
 -- The definitions that the contracts cite.
 pub use Rattle.pd_lex.specs.Places
 pub use Rattle.pd_lex.specs.Tokens
+pub use Rattle.pd_lex.specs.Lexing
+-- what a script is
 pub mod Values
 pub mod Items
-pub mod Header
-pub mod Reader
-pub mod Cursor
+pub mod Spelling
 pub mod Brackets
 pub mod Arguments
-pub mod Spelling
 pub mod PacketGrammar
 pub mod Grammar
+pub mod Header
+pub mod Faults
+pub mod Laws
+pub mod Range
+-- how one is read from left to right
+pub mod Reader
 pub mod TokenReading
+pub mod Drafts
 pub mod PacketReading
 pub mod Reading
 pub mod Script
-pub mod Faults
-pub mod Range
+pub mod Cursor

@@ -1,9 +1,8 @@
 -- Which items spell a packet.
-use Rattle.std.specs.Prelude.{codes, ℕ, ◌-◌, Bool, true, false, List, [], ◌∷◌, Option, Some, None, unwrap_or}
-use Rattle.pd_lex.specs.Tokens.{line_of}
+use Rattle.std.specs.Prelude.{codes, ℕ, ◌-◌, Bool, true, false, List, [], ◌∷◌, Option, Some, None, unwrap_or, ⊤}
 use Rattle.pd_script.specs.Items.{is_int_from, is_int_of, is_named, is_flags, is_option, text_of}
 use Rattle.pd_script.specs.Values.{number, flags_of, with_ack, option_named}
-use Rattle.pd_script.specs.Spelling.{Spelling, token, made, in_turn, ◌>>=◌, either, IsSymbol, IsInt, IsDots, Repeats}
+use Rattle.pd_script.specs.Spelling.{Spelling, one_of, made, in_turn, ◌>>=◌, either, IsSymbol, IsInt, IsDots, Repeats}
 use Rattle.pd_script.specs.declared.names.OptionName.{OptionName}
 use Rattle.pd_script.specs.declared.names.OptionName.TheVariants as names
 use Rattle.pd_script.specs.declared.packets.Flags.{Flags}
@@ -18,46 +17,36 @@ use Rattle.pd_script.specs.declared.packets.Packet.{Packet}
 
 -- a whole number that is at least another
 abbrev pub IsIntFrom : ℕ → Spelling ℕ
-IsIntFrom least = do
-  t ← token (is_int_from least)
-  made (number (text_of t))
+IsIntFrom least = one_of (is_int_from least) (λ t. number (text_of t))
 
 -- a whole number that is just this one
 abbrev pub IsIntOf : ℕ → Spelling ℕ
-IsIntOf n = do
-  t ← token (is_int_of n)
-  made (number (text_of t))
+IsIntOf n = one_of (is_int_of n) (λ t. number (text_of t))
 
--- this word, with its line
-abbrev pub IsNamed : List ℕ → Spelling ℕ
-IsNamed name = do
-  t ← token (is_named name)
-  made (line_of t)
+-- this word
+abbrev pub IsNamed : List ℕ → Spelling ⊤
+IsNamed name = one_of (is_named name) (λ t. tt)
 
 -- a word of the letters F, S, R, P, U, E, W and C
 abbrev pub IsLetters : Spelling Flags
-IsLetters = do
-  t ← token is_flags
-  made (flags_of (text_of t))
+IsLetters = one_of is_flags (λ t. flags_of (text_of t))
 
 -- a word that names a TCP option
 abbrev pub IsOptionName : Spelling OptionName
-IsOptionName = do
-  t ← token is_option
-  made (unwrap_or (option_named (text_of t)) names.Nop)
+IsOptionName = one_of is_option (λ t. unwrap_or (option_named (text_of t)) names.Nop)
 
 -- ---- flags
 
 -- `-`
 abbrev pub IsNoFlags : Spelling Flags
 IsNoFlags = do
-  line ← IsSymbol 45
+  minus ← IsSymbol "-"
   made (flags_of [])
 
 -- the point, which is the ACK flag
 abbrev pub IsPoint : Flags → Spelling Flags
 IsPoint f = do
-  line ← IsSymbol 46
+  point ← IsSymbol "."
   made (with_ack f)
 
 abbrev pub IsLettered : Spelling Flags
@@ -74,17 +63,17 @@ IsFlags = either IsNoFlags (either (IsPoint (flags_of [])) IsLettered)
 unfoldable pub IsOctets : Spelling (ℕ × ℕ × ℕ)
 IsOctets = do
   start ← IsInt
-  colon ← IsSymbol 58
+  colon ← IsSymbol ":"
   end ← IsIntFrom start
-  opening ← IsSymbol 40
+  opening ← IsSymbol "("
   len ← IsIntOf (end - start)
-  closing ← IsSymbol 41
+  closing ← IsSymbol ")"
   made (start, end, len)
 
 -- a word and a number
 abbrev pub IsNumbered : List ℕ → Spelling (Option ℕ)
 IsNumbered name = do
-  line ← IsNamed name
+  word ← IsNamed name
   n ← IsInt
   made (Some n)
 
@@ -101,7 +90,7 @@ IsWin false = either (IsNumbered (codes "win")) (made None)
 abbrev pub IsBlock : Spelling Block
 IsBlock = do
   left ← IsInt
-  colon ← IsSymbol 58
+  colon ← IsSymbol ":"
   right ← IsInt
   made (record { left = left; right = right })
 
@@ -137,7 +126,7 @@ IsOption = do
 
 abbrev pub IsNextOption : Spelling PacketOption
 IsNextOption = do
-  comma ← IsSymbol 44
+  comma ← IsSymbol ","
   IsOption
 
 -- one option or more, parted by commas
@@ -150,19 +139,19 @@ AreOptions = do
 abbrev pub IsListed : Spelling Options
 IsListed = do
   os ← AreOptions
-  closing ← IsSymbol 62
+  closing ← IsSymbol ">"
   made (lists.Listed os)
 
 abbrev pub IsUnlisted : Spelling Options
 IsUnlisted = do
-  closing ← IsSymbol 62
+  closing ← IsSymbol ">"
   made (lists.Listed [])
 
 -- `...` for any options
 abbrev pub IsAnyOptions : Spelling Options
 IsAnyOptions = do
   dots ← IsDots
-  closing ← IsSymbol 62
+  closing ← IsSymbol ">"
   made lists.Any
 
 abbrev pub IsList : Spelling Options
@@ -175,7 +164,7 @@ IsInsideOptions false = either IsAnyOptions IsList
 
 abbrev pub IsBracketedOptions : Bool → Spelling Options
 IsBracketedOptions inbound = do
-  opening ← IsSymbol 60
+  opening ← IsSymbol "<"
   IsInsideOptions inbound
 
 unfoldable pub IsOptions : Bool → Spelling Options

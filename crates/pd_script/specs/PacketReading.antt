@@ -1,8 +1,8 @@
 -- The parts of packets, read from left to right.
-use Rattle.std.specs.Prelude.{codes, ℕ, zero, suc, ◌-◌, Bool, true, false, List, [], ◌∷◌, length, Option, Some, None, unwrap_or}
-use Rattle.pd_lex.specs.Tokens.{Item, line_of}
+use Rattle.std.specs.Prelude.{codes, ℕ, zero, suc, ◌-◌, Bool, true, false, List, [], ◌∷◌, length, Option, Some, None, unwrap_or, ⊤}
+use Rattle.pd_lex.specs.Tokens.{Item}
 use Rattle.pd_script.specs.Items.{is_int, is_int_from, is_int_of, is_named, is_flags, is_option, is_dots, is_symbol, text_of}
-use Rattle.pd_script.specs.Values.{number, flags_of, with_ack, option_named}
+use Rattle.pd_script.specs.Values.{sign, number, flags_of, with_ack, option_named}
 use Rattle.pd_script.specs.Reader.{Reader, ◌>>=◌, done, one, when}
 use Rattle.pd_script.specs.TokenReading.{symbol_at, int_at, dots_at}
 use Rattle.pd_script.specs.declared.names.OptionName.{OptionName}
@@ -27,10 +27,10 @@ int_of_at n = do
   t ← one (is_int_of n)
   done (number (text_of t))
 
-abbrev pub named_at : List ℕ → Reader ℕ
+abbrev pub named_at : List ℕ → Reader ⊤
 named_at name = do
   t ← one (is_named name)
-  done (line_of t)
+  done tt
 
 abbrev pub letters_at : Reader Flags
 letters_at = do
@@ -61,21 +61,21 @@ repeated_at test p ts = repeated_within (length ts) test p ts
 
 abbrev pub no_flags_at : Reader Flags
 no_flags_at = do
-  line ← symbol_at 45
+  line ← symbol_at (sign "-")
   done (flags_of [])
 
 abbrev pub point_at : Flags → Reader Flags
 point_at f = do
-  line ← symbol_at 46
+  line ← symbol_at (sign ".")
   done (with_ack f)
 
 abbrev pub lettered_at : Reader Flags
 lettered_at = do
   f ← letters_at
-  when (is_symbol 46) (point_at f) (done f)
+  when (is_symbol (sign ".")) (point_at f) (done f)
 
 unfoldable pub flags_at : Reader Flags
-flags_at = when (is_symbol 45) no_flags_at (when (is_symbol 46) (point_at (flags_of [])) lettered_at)
+flags_at = when (is_symbol (sign "-")) no_flags_at (when (is_symbol (sign ".")) (point_at (flags_of [])) lettered_at)
 
 -- ---- numbers
 
@@ -83,11 +83,11 @@ flags_at = when (is_symbol 45) no_flags_at (when (is_symbol 46) (point_at (flags
 unfoldable pub octets_at : Reader (ℕ × ℕ × ℕ)
 octets_at = do
   start ← int_at
-  colon ← symbol_at 58
+  colon ← symbol_at (sign ":")
   end ← int_from_at start
-  opening ← symbol_at 40
+  opening ← symbol_at (sign "(")
   len ← int_of_at (end - start)
-  closing ← symbol_at 41
+  closing ← symbol_at (sign ")")
   done (start, end, len)
 
 abbrev pub numbered_at : List ℕ → Reader (Option ℕ)
@@ -109,7 +109,7 @@ win_at false = when (is_named (codes "win")) (numbered_at (codes "win")) (done N
 abbrev pub block_at : Reader Block
 block_at = do
   left ← int_at
-  colon ← symbol_at 58
+  colon ← symbol_at (sign ":")
   right ← int_at
   done (record { left = left; right = right })
 
@@ -143,34 +143,34 @@ option_at = do
 
 abbrev pub next_option_at : Reader PacketOption
 next_option_at = do
-  comma ← symbol_at 44
+  comma ← symbol_at (sign ",")
   option_at
 
 unfoldable pub some_options_at : Reader (List PacketOption)
 some_options_at = do
   o ← option_at
-  os ← repeated_at (is_symbol 44) next_option_at
+  os ← repeated_at (is_symbol (sign ",")) next_option_at
   done (o ∷ os)
 
 abbrev pub listed_at : Reader Options
 listed_at = do
   os ← some_options_at
-  closing ← symbol_at 62
+  closing ← symbol_at (sign ">")
   done (lists.Listed os)
 
 abbrev pub unlisted_at : Reader Options
 unlisted_at = do
-  closing ← symbol_at 62
+  closing ← symbol_at (sign ">")
   done (lists.Listed [])
 
 abbrev pub any_options_at : Reader Options
 any_options_at = do
   dots ← dots_at
-  closing ← symbol_at 62
+  closing ← symbol_at (sign ">")
   done lists.Any
 
 abbrev pub list_at : Reader Options
-list_at = when (is_symbol 62) unlisted_at listed_at
+list_at = when (is_symbol (sign ">")) unlisted_at listed_at
 
 -- an inbound packet has its options listed
 abbrev pub inside_options_at : Bool → Reader Options
@@ -179,11 +179,11 @@ inside_options_at false = when is_dots any_options_at list_at
 
 abbrev pub bracketed_options_at : Bool → Reader Options
 bracketed_options_at inbound = do
-  opening ← symbol_at 60
+  opening ← symbol_at (sign "<")
   inside_options_at inbound
 
 unfoldable pub options_at : Bool → Reader Options
-options_at inbound = when (is_symbol 60) (bracketed_options_at inbound) (done lists.Absent)
+options_at inbound = when (is_symbol (sign "<")) (bracketed_options_at inbound) (done lists.Absent)
 
 -- ---- packets
 

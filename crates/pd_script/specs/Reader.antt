@@ -1,6 +1,7 @@
 -- Reading from left to right with one item of lookahead: a value and what is left, or what is left at the fault.
-use Rattle.std.specs.Prelude.{Bool, false, List, [], ◌∷◌, ◌++◌, Result, Ok, Err, if◌then◌else◌}
+use Rattle.std.specs.Prelude.{Bool, List, [], ◌∷◌, ◌++◌, Result, Ok, Err, if◌then◌else◌}
 use Rattle.pd_lex.specs.Tokens.{Item}
+use Rattle.pd_script.specs.Items.{next_is}
 
 abbrev pub Read : Type 0 → Type 0
 Read A = Result (A × List Item) (List Item)
@@ -25,10 +26,6 @@ done x ts = Ok (x, ts)
 abbrev pub one : (Item → Bool) → Reader Item
 one test [] = Err []
 one test (t ∷ ts) = if test t then Ok (t, ts) else Err (t ∷ ts)
-
-abbrev pub next_is : (Item → Bool) → List Item → Bool
-next_is test [] = false
-next_is test (t ∷ ts) = test t
 
 -- the first where the next item passes the test, else the second
 abbrev pub when : {A : Type 0} → (Item → Bool) → Reader A → Reader A → Reader A

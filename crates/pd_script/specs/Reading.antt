@@ -1,14 +1,14 @@
 -- The grammar, read from left to right.
-use Rattle.std.specs.Prelude.{ℕ, zero, suc, true, false, List, [], ◌∷◌, Option, Some, None}
+use Rattle.std.specs.Prelude.{ℕ, zero, suc, true, false, List, [], ◌∷◌, Option, Some, None, ⊤}
 use Rattle.pd_lex.specs.Tokens.{Item, line_of}
 use Rattle.pd_script.specs.Items.{is_int, is_hex, is_num, is_num_from, is_dots, is_command, is_code, is_word, is_symbol, is_header, is_end, starts_event, text_of}
-use Rattle.pd_script.specs.Values.{hex_number, microseconds, function_named, error_named}
+use Rattle.pd_script.specs.Values.{sign, hex_number, microseconds, function_named, error_named}
 use Rattle.pd_script.specs.Header.{header_item}
 use Rattle.pd_script.specs.declared.script_header.HeaderItem.{HeaderItem}
 use Rattle.pd_script.specs.Reader.{Reader, ◌>>=◌, done, one, when, machine_at}
 use Rattle.pd_script.specs.TokenReading.{symbol_at, int_at, dots_at}
 use Rattle.pd_script.specs.PacketReading.{packet_at}
-use Rattle.pd_script.specs.Brackets.{fresh, argument_move, note_move}
+use Rattle.pd_script.specs.Drafts.{fresh, argument_move, note_move}
 use Rattle.pd_script.specs.declared.timing.Time.{Time}
 use Rattle.pd_script.specs.declared.timing.Time.TheVariants as times
 use Rattle.pd_script.specs.declared.timing.Until.{Until}
@@ -66,44 +66,44 @@ num_from_at least = do
 
 abbrev pub absolute_range_at : ℕ → ℕ → Reader (ℕ × Time)
 absolute_range_at line first = do
-  tilde ← symbol_at 126
+  tilde ← symbol_at (sign "~")
   second ← num_from_at first
   done (line, times.AbsoluteRange first second)
 
 abbrev pub absolute_at : Reader (ℕ × Time)
 absolute_at = do
   n ← num_at
-  when (is_symbol 126) (absolute_range_at n.0 n.1) (done (n.0, times.Absolute n.1))
+  when (is_symbol (sign "~")) (absolute_range_at n.0 n.1) (done (n.0, times.Absolute n.1))
 
 abbrev pub plus_num_from_at : ℕ → Reader ℕ
 plus_num_from_at least = do
-  plus ← symbol_at 43
+  plus ← symbol_at (sign "+")
   num_from_at least
 
 abbrev pub relative_range_at : ℕ → ℕ → Reader (ℕ × Time)
 relative_range_at line first = do
-  tilde ← symbol_at 126
-  second ← when (is_symbol 43) (plus_num_from_at first) (num_from_at first)
+  tilde ← symbol_at (sign "~")
+  second ← when (is_symbol (sign "+")) (plus_num_from_at first) (num_from_at first)
   done (line, times.RelativeRange first second)
 
 abbrev pub relative_at : Reader (ℕ × Time)
 relative_at = do
-  line ← symbol_at 43
+  line ← symbol_at (sign "+")
   n ← num_at
-  when (is_symbol 126) (relative_range_at line n.1) (done (line, times.Relative n.1))
+  when (is_symbol (sign "~")) (relative_range_at line n.1) (done (line, times.Relative n.1))
 
 abbrev pub any_time_at : Reader (ℕ × Time)
 any_time_at = do
-  line ← symbol_at 42
+  line ← symbol_at (sign "*")
   done (line, times.Any)
 
 -- a time, and the line of its first token
 unfoldable pub time_at : Reader (ℕ × Time)
-time_at = when (is_symbol 42) any_time_at (when (is_symbol 43) relative_at absolute_at)
+time_at = when (is_symbol (sign "*")) any_time_at (when (is_symbol (sign "+")) relative_at absolute_at)
 
 abbrev pub relative_until_at : Reader Until
 relative_until_at = do
-  plus ← symbol_at 43
+  plus ← symbol_at (sign "+")
   n ← num_at
   done (untils.Relative n.1)
 
@@ -115,7 +115,7 @@ absolute_until_at = do
 abbrev pub until_at : Reader (Option Until)
 until_at = do
   dots ← dots_at
-  until ← when (is_symbol 43) relative_until_at absolute_until_at
+  until ← when (is_symbol (sign "+")) relative_until_at absolute_until_at
   done (Some until)
 
 -- the end of a blocking call, which may be left out
@@ -139,7 +139,7 @@ named_error_at n = do
 
 abbrev pub negative_at : Reader Outcome
 negative_at = do
-  line ← symbol_at 45
+  line ← symbol_at (sign "-")
   n ← int_at
   when is_word (named_error_at n) (done (outcomes.Negative n None))
 
@@ -149,30 +149,30 @@ outcome_at = when is_int whole_at (when is_hex hexadecimal_at negative_at)
 
 abbrev pub no_arguments_at : Reader (List Argument)
 no_arguments_at = do
-  line ← symbol_at 41
+  line ← symbol_at (sign ")")
   done []
 
 -- the arguments of a call and the bracket that ends them
 unfoldable pub arguments_at : Reader (List Argument)
-arguments_at = when (is_symbol 41) no_arguments_at (machine_at argument_move fresh)
+arguments_at = when (is_symbol (sign ")")) no_arguments_at (machine_at argument_move fresh)
 
--- a note in brackets, which gives its line
-unfoldable pub note_at : Reader ℕ
+-- a note in brackets
+unfoldable pub note_at : Reader ⊤
 note_at = do
-  line ← symbol_at 40
+  opening ← symbol_at (sign "(")
   skipped ← machine_at note_move []
-  done line
+  done tt
 
 -- it may be left out
-abbrev pub maybe_note_at : Reader ℕ
-maybe_note_at = when (is_symbol 40) note_at (done 0)
+abbrev pub maybe_note_at : Reader ⊤
+maybe_note_at = when (is_symbol (sign "(")) note_at (done tt)
 
 unfoldable pub call_at : Reader Call
 call_at = do
   function ← function_at
-  opening ← symbol_at 40
+  opening ← symbol_at (sign "(")
   arguments ← arguments_at
-  equals ← symbol_at 61
+  equals ← symbol_at (sign "=")
   outcome ← outcome_at
   note ← maybe_note_at
   done (record { function = function; arguments = arguments; result = outcome })
@@ -194,18 +194,18 @@ code_at = do
 
 abbrev pub inbound_at : Reader Action
 inbound_at = do
-  line ← symbol_at 60
+  line ← symbol_at (sign "<")
   packet ← packet_at true
   done (actions.Inbound packet)
 
 abbrev pub outbound_at : Reader Action
 outbound_at = do
-  line ← symbol_at 62
+  line ← symbol_at (sign ">")
   packet ← packet_at false
   done (actions.Outbound packet)
 
 unfoldable pub action_at : Reader Action
-action_at = when is_command command_at (when is_code code_at (when (is_symbol 60) inbound_at (when (is_symbol 62) outbound_at call_action_at)))
+action_at = when is_command command_at (when is_code code_at (when (is_symbol (sign "<")) inbound_at (when (is_symbol (sign ">")) outbound_at call_action_at)))
 
 unfoldable pub event_at : Reader Event
 event_at = do

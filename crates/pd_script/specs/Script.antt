@@ -1,14 +1,26 @@
 -- What a text is read as.
 use Rattle.std.specs.Prelude.{ℕ, zero, suc, Bool, List, [], ◌∷◌, ◌++◌, Some, None, Ok, Err, if◌then◌else◌}
-use Rattle.pd_lex.specs.Tokens.{Item, items}
+use Rattle.pd_lex.specs.Tokens.{Item}
+use Rattle.pd_lex.specs.Lexing.{items}
 use Rattle.pd_lex.specs.Places.{first_place}
-use Rattle.pd_script.specs.Items.{is_end, starts_event, goes_on}
-use Rattle.pd_script.specs.Header.{header_of, behind_header}
-use Rattle.pd_script.specs.Reader.{Read, next_is}
+use Rattle.pd_script.specs.Items.{is_header, is_end, starts_event, goes_on, next_is}
+use Rattle.pd_script.specs.Header.{header_item}
+use Rattle.pd_script.specs.Reader.{Read}
 use Rattle.pd_script.specs.Reading.{next_line, event_at}
+use Rattle.pd_script.specs.declared.script_header.HeaderItem.{HeaderItem}
 use Rattle.pd_script.specs.declared.script_events.Event.{Event}
 use Rattle.pd_script.specs.declared.parsing.Found.{Found}
 use Rattle.pd_script.specs.declared.parsing.Parsed.{Parsed}
+
+-- the options and commands that the items begin with
+abbrev pub header_of : List Item → List HeaderItem
+header_of [] = []
+header_of (t ∷ ts) = if is_header t then header_item t ∷ header_of ts else []
+
+-- the items behind them
+abbrev pub behind_header : List Item → List Item
+behind_header [] = []
+behind_header (t ∷ ts) = if is_header t then behind_header ts else t ∷ ts
 
 -- what may follow an event when there may be so many more
 abbrev pub may_follow : ℕ → Item → Bool

@@ -1,8 +1,9 @@
 -- Which items spell what: sequences and alternatives, and no lookahead.
-use Rattle.std.specs.Prelude.{◌≡◌, ℕ, Bool, true, List, [], ◌∷◌, ◌⊎◌}
+use Prim.Native.String.{String}
+use Rattle.std.specs.Prelude.{◌≡◌, ℕ, Bool, true, List, [], ◌∷◌, ◌⊎◌, ⊤}
 use Rattle.pd_lex.specs.Tokens.{Item, line_of}
 use Rattle.pd_script.specs.Items.{is_int, is_symbol, is_dots, text_of}
-use Rattle.pd_script.specs.Values.{number}
+use Rattle.pd_script.specs.Values.{number, sign}
 
 -- a value, items that begin with a spelling of it, and what is left of them
 abbrev pub Spelling : Type 0 → Type 1
@@ -30,22 +31,23 @@ either one other v ts rest = one v ts rest ⊎ other v ts rest
 
 -- ---- tokens
 
--- the symbol of an octet, with its line
-abbrev pub IsSymbol : ℕ → Spelling ℕ
-IsSymbol octet = do
-  t ← token (is_symbol octet)
-  made (line_of t)
+-- one that passes a test, and what it stands for
+abbrev pub one_of : {A : Type 0} → (Item → Bool) → (Item → A) → Spelling A
+one_of test value = do
+  t ← token test
+  made (value t)
+
+-- this symbol, with its line
+abbrev pub IsSymbol : String → Spelling ℕ
+IsSymbol text = one_of (is_symbol (sign text)) line_of
 
 -- a whole number of at most 4,294,967,295
 abbrev pub IsInt : Spelling ℕ
-IsInt = do
-  t ← token is_int
-  made (number (text_of t))
+IsInt = one_of is_int (λ t. number (text_of t))
 
-abbrev pub IsDots : Spelling ℕ
-IsDots = do
-  t ← token is_dots
-  made (line_of t)
+-- `...`
+abbrev pub IsDots : Spelling ⊤
+IsDots = one_of is_dots (λ t. tt)
 
 -- none or more spellings, one after the other
 abbrev pub Repeats : {A : Type 0} → Spelling A → Spelling (List A)

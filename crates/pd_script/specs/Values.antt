@@ -1,6 +1,6 @@
 -- What the octets of a token stand for.
-use Rattle.std.specs.Prelude.{codes, ℕ, ◌+◌, ◌-◌, ◌*◌, ◌^◌, ◌==◌, ◌||◌, Bool, true, false, not, Option, List, [], ◌∷◌, ◌++◌, take, drop, replicate, min, find, unwrap_or}
-use Rattle.std.specs.Char.{digit_value}
+use Prim.Native.String.{String}
+use Rattle.std.specs.Prelude.{codes, get_or, ℕ, ◌+◌, ◌-◌, ◌^◌, ◌==◌, ◌||◌, Bool, true, false, not, Option, List, [], ◌∷◌, ◌++◌, take, drop, replicate, min, find, unwrap_or}
 use Rattle.std.specs.List.{prefix_len, list_any}
 use Rattle.std.specs.Str.{bytes_eq}
 use Rattle.std.specs.Str.Parse.{digits_value}
@@ -14,6 +14,10 @@ use Rattle.pd_script.specs.declared.names.OptionName.{OptionName}
 use Rattle.pd_script.specs.declared.names.OptionName.TheVariants as options
 use Rattle.pd_script.specs.declared.packets.Flags.{Flags}
 
+-- the octet of a character of ASCII
+abbrev pub sign : String → ℕ
+sign text = get_or (codes text) 0 0
+
 -- the number of a run of digits
 abbrev pub number : List ℕ → ℕ
 number text = digits_value 10 text
@@ -24,7 +28,7 @@ hex_number text = digits_value 16 (drop 2 text)
 
 -- how many octets stand before the point
 abbrev pub whole_len : List ℕ → ℕ
-whole_len text = prefix_len (λ octet. not (octet == 46)) text
+whole_len text = prefix_len (λ octet. not (octet == sign ".")) text
 
 -- the digits before the point
 abbrev pub whole_digits : List ℕ → List ℕ
@@ -32,7 +36,7 @@ whole_digits text = take (whole_len text) text
 
 -- the six decimals behind the point; those not written are zeros, further ones are dropped
 abbrev pub six_decimals : List ℕ → List ℕ
-six_decimals text = take 6 (drop (whole_len text + 1) text ++ replicate 6 48)
+six_decimals text = take 6 (drop (whole_len text + 1) text ++ replicate 6 (sign "0"))
 
 -- the microseconds of seconds in digits, or in digits with a point
 unfoldable pub microseconds : List ℕ → ℕ
@@ -97,10 +101,6 @@ named_errors = errors.Ebadf ∷ errors.Einval ∷ errors.Eagain ∷ errors.Epipe
 unfoldable pub error_named : List ℕ → ErrorName
 error_named text = unwrap_or (find (λ e. bytes_eq (error_name e) text) named_errors) errors.Unknown
 
--- a number with one digit more, where one above the greatest of 64 bits stands as that
-abbrev pub capped_digit : ℕ → ℕ → ℕ → ℕ
-capped_digit radix n digit = min (min (n * radix) (2 ^ 64 - 1) + digit_value digit) (2 ^ 64 - 1)
-
 -- the name of a TCP option
 abbrev pub option_name : OptionName → List ℕ
 option_name options.Mss = codes "mss"
@@ -121,17 +121,17 @@ option_named text = find (λ o. bytes_eq (option_name o) text) named_options
 
 -- the letters of flags: F, S, R, P, U, E, W and C
 abbrev pub is_flag : ℕ → Bool
-is_flag octet = (octet == 70) || (octet == 83) || (octet == 82) || (octet == 80) || (octet == 85) || (octet == 69) || (octet == 87) || (octet == 67)
+is_flag octet = (octet == sign "F") || (octet == sign "S") || (octet == sign "R") || (octet == sign "P") || (octet == sign "U") || (octet == sign "E") || (octet == sign "W") || (octet == sign "C")
 
 -- the flags that letters name, without the point
 unfoldable pub flags_of : List ℕ → Flags
 flags_of text = record {
-  syn = list_any (λ octet. octet == 83) text;
-  fin = list_any (λ octet. octet == 70) text;
-  rst = list_any (λ octet. octet == 82) text;
-  psh = list_any (λ octet. octet == 80) text;
+  syn = list_any (λ octet. octet == sign "S") text;
+  fin = list_any (λ octet. octet == sign "F") text;
+  rst = list_any (λ octet. octet == sign "R") text;
+  psh = list_any (λ octet. octet == sign "P") text;
   ack = false;
-  other = list_any (λ octet. (octet == 85) || (octet == 69) || (octet == 87) || (octet == 67)) text;
+  other = list_any (λ octet. (octet == sign "U") || (octet == sign "E") || (octet == sign "W") || (octet == sign "C")) text;
 }
 
 -- with the point

@@ -1,6 +1,7 @@
 //! Pairs of brackets.
 ghost use Rattle.std.specs.Prelude.{◌≡◌, ◌<◌, ◌≤◌, [], ◌∷◌, length, Some, None, IfSome, IfNone, OnOk, OnErr, nat_eq, ◌==◌};
-ghost use Rattle.pd_lex.specs.Tokens.{lexeme, lexeme_of};
+ghost use Rattle.pd_lex.specs.Tokens.{lexeme};
+ghost use Rattle.pd_lex.specs.Lexing.{lexeme_of};
 ghost use Rattle.pd_script.specs.Brackets.{opened_by, is_closing, closing_octet, pairs_after};
 
 use crate::stops::Stop;

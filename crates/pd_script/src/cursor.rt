@@ -1,13 +1,12 @@
 //! A cursor over the tokens of a text.
 ghost use Rattle.std.specs.Prelude.{◌≡◌, Ok, Err, IfSome, IfNone};
 ghost use Rattle.pd_lex.specs.Places.{first_place};
-ghost use Rattle.pd_lex.specs.Tokens.{items};
-ghost use Rattle.pd_script.specs.Items.{is_int, is_named, is_hex, is_dots, is_command, is_code, is_word, is_symbol, is_end, starts_event, goes_on};
-ghost use Rattle.pd_script.specs.Reader.{next_is};
+ghost use Rattle.pd_lex.specs.Lexing.{items};
+ghost use Rattle.pd_script.specs.Items.{is_int, is_named, is_hex, is_dots, is_command, is_code, is_word, is_symbol, is_end, starts_event, goes_on, next_is};
+ghost use Rattle.pd_script.specs.Drafts.{part_at, note_part_at, behind_token};
 ghost use Rattle.pd_script.specs.TokenReading.{symbol_at, int_at, dots_at};
 ghost use Rattle.pd_script.specs.PacketReading.{int_from_at, int_of_at, named_at, letters_at, option_name_at};
 ghost use Rattle.pd_script.specs.Reading.{next_line, header_item_at, hex_at, num_at, num_from_at, command_at, code_at, function_at, error_at};
-ghost use Rattle.pd_script.specs.Brackets.{part_at, note_part_at, behind_token};
 ghost use Rattle.pd_script.specs.Cursor.{Leaves};
 
 use crate::brackets::{MAX_DEPTH, OpenPairs};
@@ -19,9 +18,9 @@ use crate::script_events::Action;
 use crate::script_header::HeaderItem;
 use crate::stops::Stop;
 use crate::token_tests::{
-    code_of, command_of, dots_line, error_of, flags_of, function_of, header_item_of, hex_of,
-    int_equal_of, int_from_of, int_of, is_code, is_command, is_dots, is_hex, is_int, is_named,
-    is_num, is_symbol, is_word, named_line, num_from_of, num_of, option_of, symbol_line,
+    code_of, command_of, error_of, flags_of, function_of, header_item_of, hex_of, int_equal_of,
+    int_from_of, int_of, is_code, is_command, is_dots, is_hex, is_int, is_named, is_num, is_symbol,
+    is_word, num_from_of, num_of, option_of, symbol_line,
 };
 use pd_lex::{Lexed, Place, next_token};
 use pd_text::Lines;
@@ -55,7 +54,7 @@ impl<'a> Cursor<'a> {
     }
 
     /// The line in which the next token, the end or the bad place begins.
-    #[tactic(auto, unfolding(pd_lex::specs::Tokens::lexeme_of))]
+    #[tactic(auto, unfolding(pd_lex::specs::Lexing::lexeme_of))]
     pub fn line(&self) -> usize
         ensures { result ≡ next_line self.now }
     {
@@ -192,18 +191,18 @@ impl<'a> Cursor<'a> {
         Ok(microseconds)
     }
 
-    /// Takes three points, and answers their line.
-    pub fn dots(&mut self) -> Result<usize, Stop>
+    /// Takes three points.
+    pub fn dots(&mut self) -> Result<(), Stop>
         ensures { Leaves result self.new (dots_at self.old) }
     {
         let Lexed::Token(token, after) = self.next else {
             return Err(Stop::Syntax);
         };
-        let Some(line) = dots_line(self.lines, &token) else {
+        if !is_dots(self.lines, &token) {
             return Err(Stop::Syntax);
-        };
+        }
         self.next = next_token(self.lines, after);
-        Ok(line)
+        Ok(())
     }
 
     /// Takes a shell command.
@@ -292,18 +291,18 @@ impl<'a> Cursor<'a> {
         Ok(number)
     }
 
-    /// Takes this word, and answers its line.
-    pub fn named(&mut self, name: &[u8]) -> Result<usize, Stop>
+    /// Takes this word.
+    pub fn named(&mut self, name: &[u8]) -> Result<(), Stop>
         ensures { Leaves result self.new (named_at name.now self.old) }
     {
         let Lexed::Token(token, after) = self.next else {
             return Err(Stop::Syntax);
         };
-        let Some(line) = named_line(self.lines, &token, name) else {
+        if !is_named(self.lines, &token, name) {
             return Err(Stop::Syntax);
-        };
+        }
         self.next = next_token(self.lines, after);
-        Ok(line)
+        Ok(())
     }
 
     /// Takes the letters of flags.

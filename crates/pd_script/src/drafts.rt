@@ -27,10 +27,11 @@ pub enum Draft {
 }
 
 impl Draft {
-    ghost use Rattle.pd_lex.specs.Tokens.{lexeme, lexeme_of};
-    ghost use Rattle.pd_script.specs.Brackets.{single_draft, longer_draft, drafted, is_empty};
+    ghost use Rattle.pd_lex.specs.Tokens.{lexeme};
+    ghost use Rattle.pd_lex.specs.Lexing.{lexeme_of};
+    ghost use Rattle.pd_script.specs.Drafts.{single_draft, longer_draft, drafted, is_empty};
 
-    #[tactic(auto, unfolding(pd_lex::specs::Tokens::lexeme_of))]
+    #[tactic(auto, unfolding(pd_lex::specs::Lexing::lexeme_of))]
     fn single(lines: &Lines, token: &Token) -> Draft
         ensures { result ≡ single_draft (lexeme (lexeme_of lines.now token.now)) }
     {
@@ -46,7 +47,7 @@ impl Draft {
     }
 
     /// The draft with one token more.
-    #[tactic(auto, unfolding(pd_lex::specs::Tokens::lexeme_of))]
+    #[tactic(auto, unfolding(pd_lex::specs::Lexing::lexeme_of))]
     pub fn with(self, lines: &Lines, token: &Token) -> Draft
         ensures { result ≡ longer_draft self (lexeme (lexeme_of lines.now token.now)) }
     {
@@ -84,7 +85,7 @@ pub struct Inside {
 }
 
 impl Inside {
-    ghost use Rattle.pd_script.specs.Brackets.{fresh};
+    ghost use Rattle.pd_script.specs.Drafts.{fresh};
 
     /// Where an argument begins.
     pub fn fresh() -> Inside

@@ -5,7 +5,8 @@ ghost use Rattle.std.specs.Str.Parse.{digits_value, digits_value_after};
 ghost use Rattle.std.specs.List.{list_all};
 ghost use Rattle.pd_lex.specs.Octets.{is_digit};
 ghost use Rattle.pd_script.specs.Items.{is_digits};
-ghost use Rattle.pd_script.specs.Values.{number, hex_number, capped_number, capped_digit, whole_len, whole_digits, microseconds};
+ghost use Rattle.pd_script.specs.Values.{number, hex_number, capped_number, whole_len, whole_digits, microseconds};
+ghost use Rattle.pd_script.specs.TokenReading.{capped_digit};
 
 /// A time is below so many microseconds.
 pub const TIME_LIMIT: u64 = 4_294_967_296_000_000;

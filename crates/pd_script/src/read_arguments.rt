@@ -1,7 +1,7 @@
 //! Reading the arguments of a call.
 ghost use Rattle.std.specs.Prelude.{◌≡◌, []};
 ghost use Rattle.pd_script.specs.Reading.{arguments_at};
-ghost use Rattle.pd_script.specs.Brackets.{is_between, is_last, note_move};
+ghost use Rattle.pd_script.specs.Drafts.{is_between, is_last, note_move};
 ghost use Rattle.pd_script.specs.Reader.{machine_at};
 ghost use Rattle.pd_script.specs.Cursor.{Leaves, SkipsNote};
 

@@ -88,12 +88,11 @@ impl<'a> Cursor<'a> {
 
     /// Goes over a note.
     #[tactic(auto, unfolding(crate::specs::Reading::note_at))]
-    fn note(&mut self) -> Result<usize, Stop>
+    fn note(&mut self) -> Result<(), Stop>
         ensures { Leaves result self.new (note_at self.old) }
     {
-        let line = self.symbol(b'(')?;
-        self.note_inside()?;
-        Ok(line)
+        self.symbol(b'(')?;
+        self.note_inside()
     }
 
     #[tactic(auto, unfolding(crate::specs::Reading::call_at))]

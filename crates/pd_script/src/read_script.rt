@@ -1,14 +1,12 @@
 //! Reading a whole script.
 ghost use Rattle.std.specs.Prelude.{◌≡◌, ◌≤◌, length, IfOk, OnOk};
 ghost use Rattle.pd_lex.specs.Places.{first_place};
-ghost use Rattle.pd_lex.specs.Tokens.{items};
-ghost use Rattle.pd_script.specs.Faults.{IsRead};
+ghost use Rattle.pd_lex.specs.Lexing.{items};
+ghost use Rattle.pd_script.specs.Faults.{IsScriptOf};
 ghost use Rattle.pd_script.specs.Range.{HasLines};
-ghost use Rattle.pd_script.specs.Items.{starts_event};
-ghost use Rattle.pd_script.specs.Header.{header_of, behind_header};
-ghost use Rattle.pd_script.specs.Reader.{next_is};
+ghost use Rattle.pd_script.specs.Items.{starts_event, next_is};
 ghost use Rattle.pd_script.specs.Reading.{event_at};
-ghost use Rattle.pd_script.specs.Script.{followed, may_follow, at_end, found_in, script_of};
+ghost use Rattle.pd_script.specs.Script.{followed, may_follow, at_end, found_in, script_of, header_of, behind_header};
 ghost use Rattle.pd_script.specs.Cursor.{Leaves};
 
 use crate::cursor::Cursor;
@@ -100,7 +98,7 @@ pub fn parse(alloc: Global, lines: &Lines) -> Result<Parsed, AllocError>
     ensures script { IfOk result (λ parsed. parsed ≡ script_of lines.now) }
 
     // What was read is spelled so, or the fault is the first item at which no script goes on.
-    ensures read { IfOk result (λ parsed. IsRead (items lines.now first_place) parsed parsed.fault) }
+    ensures read { IfOk result (IsScriptOf lines.now) }
     ensures limit { IfOk result (λ parsed. length parsed.events ≤ 4096) }
     ensures lines { IfOk result (λ parsed. HasLines lines.now parsed) }
 {

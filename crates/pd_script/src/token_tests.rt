@@ -1,7 +1,8 @@
 //! What a token is for the grammar.
 ghost use Rattle.std.specs.Prelude.{◌≡◌, ◌≤◌, true, unwrap_or};
 ghost use Rattle.std.specs.List.{list_all};
-ghost use Rattle.pd_lex.specs.Tokens.{lexeme, lexeme_of, line_of};
+ghost use Rattle.pd_lex.specs.Tokens.{lexeme, line_of};
+ghost use Rattle.pd_lex.specs.Lexing.{lexeme_of};
 ghost use Rattle.pd_script.specs.Items.{is_int, is_any_int, is_hex, is_num, is_num_from, is_dots, is_command, is_code, is_word, is_symbol, is_named, is_int_from, is_int_of, is_flags, is_option, is_header, given, text_of};
 ghost use Rattle.pd_script.specs.Header.{header_item};
 ghost use Rattle.pd_script.specs.Values.{number, hex_number, microseconds, function_named, error_named, is_flag, flags_of, option_named};
@@ -16,7 +17,7 @@ use pd_lex::{Token, TokenKind};
 use pd_text::Lines;
 
 /// An Int of any size.
-#[tactic(auto, unfolding(pd_lex::specs::Tokens::lexeme_of))]
+#[tactic(auto, unfolding(pd_lex::specs::Lexing::lexeme_of))]
 pub fn is_any_int(lines: &Lines, token: &Token) -> bool
     ensures { result ≡ is_any_int (lexeme (lexeme_of lines.now token.now)) }
 {
@@ -24,7 +25,7 @@ pub fn is_any_int(lines: &Lines, token: &Token) -> bool
     matches!(token.kind, TokenKind::Int)
 }
 
-#[tactic(auto, unfolding(pd_lex::specs::Tokens::lexeme_of))]
+#[tactic(auto, unfolding(pd_lex::specs::Lexing::lexeme_of))]
 pub fn is_word(lines: &Lines, token: &Token) -> bool
     ensures { result ≡ is_word (lexeme (lexeme_of lines.now token.now)) }
 {
@@ -33,7 +34,7 @@ pub fn is_word(lines: &Lines, token: &Token) -> bool
 }
 
 /// The symbol of this octet.
-#[tactic(auto, unfolding(pd_lex::specs::Tokens::lexeme_of))]
+#[tactic(auto, unfolding(pd_lex::specs::Lexing::lexeme_of))]
 pub fn is_symbol(lines: &Lines, token: &Token, octet: u8) -> bool
     ensures { result ≡ is_symbol octet (lexeme (lexeme_of lines.now token.now)) }
 {
@@ -41,7 +42,7 @@ pub fn is_symbol(lines: &Lines, token: &Token, octet: u8) -> bool
 }
 
 /// An Int of at most 4,294,967,295.
-#[tactic(auto, unfolding(pd_lex::specs::Tokens::lexeme_of))]
+#[tactic(auto, unfolding(pd_lex::specs::Lexing::lexeme_of))]
 pub fn is_int(lines: &Lines, token: &Token) -> bool
     ensures { result ≡ is_int (lexeme (lexeme_of lines.now token.now)) }
 {
@@ -49,7 +50,7 @@ pub fn is_int(lines: &Lines, token: &Token) -> bool
 }
 
 /// A Hex of at most 4,294,967,295.
-#[tactic(auto, unfolding(pd_lex::specs::Tokens::lexeme_of))]
+#[tactic(auto, unfolding(pd_lex::specs::Lexing::lexeme_of))]
 pub fn is_hex(lines: &Lines, token: &Token) -> bool
     ensures { result ≡ is_hex (lexeme (lexeme_of lines.now token.now)) }
 {
@@ -57,7 +58,7 @@ pub fn is_hex(lines: &Lines, token: &Token) -> bool
 }
 
 /// An Int or a Decimal below 4,294,967,296 seconds.
-#[tactic(auto, unfolding(pd_lex::specs::Tokens::lexeme_of))]
+#[tactic(auto, unfolding(pd_lex::specs::Lexing::lexeme_of))]
 pub fn is_num(lines: &Lines, token: &Token) -> bool
     ensures { result ≡ is_num (lexeme (lexeme_of lines.now token.now)) }
 {
@@ -66,7 +67,7 @@ pub fn is_num(lines: &Lines, token: &Token) -> bool
 }
 
 /// Three points.
-#[tactic(auto, unfolding(pd_lex::specs::Tokens::lexeme_of))]
+#[tactic(auto, unfolding(pd_lex::specs::Lexing::lexeme_of))]
 pub fn is_dots(lines: &Lines, token: &Token) -> bool
     ensures { result ≡ is_dots (lexeme (lexeme_of lines.now token.now)) }
 {
@@ -75,7 +76,7 @@ pub fn is_dots(lines: &Lines, token: &Token) -> bool
 }
 
 /// A shell command.
-#[tactic(auto, unfolding(pd_lex::specs::Tokens::lexeme_of))]
+#[tactic(auto, unfolding(pd_lex::specs::Lexing::lexeme_of))]
 pub fn is_command(lines: &Lines, token: &Token) -> bool
     ensures { result ≡ is_command (lexeme (lexeme_of lines.now token.now)) }
 {
@@ -83,7 +84,7 @@ pub fn is_command(lines: &Lines, token: &Token) -> bool
     matches!(token.kind, TokenKind::Cmd)
 }
 
-#[tactic(auto, unfolding(pd_lex::specs::Tokens::lexeme_of))]
+#[tactic(auto, unfolding(pd_lex::specs::Lexing::lexeme_of))]
 pub fn is_code(lines: &Lines, token: &Token) -> bool
     ensures { result ≡ is_code (lexeme (lexeme_of lines.now token.now)) }
 {
@@ -92,27 +93,15 @@ pub fn is_code(lines: &Lines, token: &Token) -> bool
 }
 
 /// Whether it is this word.
-#[tactic(auto, unfolding(pd_lex::specs::Tokens::lexeme_of))]
+#[tactic(auto, unfolding(pd_lex::specs::Lexing::lexeme_of))]
 pub fn is_named(lines: &Lines, token: &Token, name: &[u8]) -> bool
     ensures { result ≡ is_named name.now (lexeme (lexeme_of lines.now token.now)) }
 {
     matches!(token.kind, TokenKind::Word) && token.text(lines) == name
 }
 
-/// The line of a token, if it is this word.
-#[tactic(auto, unfolding(pd_lex::specs::Tokens::lexeme_of))]
-pub fn named_line(lines: &Lines, token: &Token, name: &[u8]) -> Option<usize>
-    ensures { result ≡ given (is_named name.now) (λ t. line_of t) (lexeme (lexeme_of lines.now token.now)) }
-{
-    if is_named(lines, token, name) {
-        Some(token.line)
-    } else {
-        None
-    }
-}
-
 /// The number of a token, if it is an Int that is at least another.
-#[tactic(auto, unfolding(pd_lex::specs::Tokens::lexeme_of))]
+#[tactic(auto, unfolding(pd_lex::specs::Lexing::lexeme_of))]
 pub fn int_from_of(lines: &Lines, token: &Token, least: u32) -> Option<u32>
     ensures { result ≡ given (is_int_from least) (λ t. number (text_of t)) (lexeme (lexeme_of lines.now token.now)) }
 {
@@ -121,7 +110,7 @@ pub fn int_from_of(lines: &Lines, token: &Token, least: u32) -> Option<u32>
 }
 
 /// The number of a token, if it is an Int of just this number.
-#[tactic(auto, unfolding(pd_lex::specs::Tokens::lexeme_of))]
+#[tactic(auto, unfolding(pd_lex::specs::Lexing::lexeme_of))]
 pub fn int_equal_of(lines: &Lines, token: &Token, wanted: u32) -> Option<u32>
     ensures { result ≡ given (is_int_of wanted) (λ t. number (text_of t)) (lexeme (lexeme_of lines.now token.now)) }
 {
@@ -130,7 +119,7 @@ pub fn int_equal_of(lines: &Lines, token: &Token, wanted: u32) -> Option<u32>
 }
 
 /// The flags that a token names, if it is a word of their letters.
-#[tactic(auto, unfolding(pd_lex::specs::Tokens::lexeme_of))]
+#[tactic(auto, unfolding(pd_lex::specs::Lexing::lexeme_of))]
 pub fn flags_of(lines: &Lines, token: &Token) -> Option<Flags>
     ensures { result ≡ given is_flags (λ t. flags_of (text_of t)) (lexeme (lexeme_of lines.now token.now)) }
 {
@@ -154,7 +143,7 @@ fn all_flags(octets: &[u8]) -> bool
 }
 
 /// The TCP option that a token names, if it is such a word.
-#[tactic(auto, unfolding(pd_lex::specs::Tokens::lexeme_of))]
+#[tactic(auto, unfolding(pd_lex::specs::Lexing::lexeme_of))]
 pub fn option_of(lines: &Lines, token: &Token) -> Option<OptionName>
     ensures { result ≡ given is_option (λ t. unwrap_or (option_named (text_of t)) OptionName.Nop) (lexeme (lexeme_of lines.now token.now)) }
 {
@@ -166,7 +155,7 @@ pub fn option_of(lines: &Lines, token: &Token) -> Option<OptionName>
 }
 
 /// The line of a token, if it is the symbol of this octet.
-#[tactic(auto, unfolding(pd_lex::specs::Tokens::lexeme_of))]
+#[tactic(auto, unfolding(pd_lex::specs::Lexing::lexeme_of))]
 pub fn symbol_line(lines: &Lines, token: &Token, octet: u8) -> Option<usize>
     ensures { result ≡ given (is_symbol octet) (λ t. line_of t) (lexeme (lexeme_of lines.now token.now)) }
 {
@@ -178,7 +167,7 @@ pub fn symbol_line(lines: &Lines, token: &Token, octet: u8) -> Option<usize>
 }
 
 /// The number of a token, if it is an Int of at most 4,294,967,295.
-#[tactic(auto, unfolding(pd_lex::specs::Tokens::lexeme_of))]
+#[tactic(auto, unfolding(pd_lex::specs::Lexing::lexeme_of))]
 pub fn int_of(lines: &Lines, token: &Token) -> Option<u32>
     ensures { result ≡ given is_int (λ t. number (text_of t)) (lexeme (lexeme_of lines.now token.now)) }
 {
@@ -189,7 +178,7 @@ pub fn int_of(lines: &Lines, token: &Token) -> Option<u32>
 }
 
 /// The number of a token, if it is a Hex of at most 4,294,967,295.
-#[tactic(auto, unfolding(pd_lex::specs::Tokens::lexeme_of))]
+#[tactic(auto, unfolding(pd_lex::specs::Lexing::lexeme_of))]
 pub fn hex_of(lines: &Lines, token: &Token) -> Option<u32>
     ensures { result ≡ given is_hex (λ t. hex_number (text_of t)) (lexeme (lexeme_of lines.now token.now)) }
 {
@@ -200,7 +189,7 @@ pub fn hex_of(lines: &Lines, token: &Token) -> Option<u32>
 }
 
 /// The line and the microseconds of a token, if it is an Int or a Decimal below 4,294,967,296 seconds.
-#[tactic(auto, unfolding(pd_lex::specs::Tokens::lexeme_of))]
+#[tactic(auto, unfolding(pd_lex::specs::Lexing::lexeme_of))]
 pub fn num_of(lines: &Lines, token: &Token) -> Option<(usize, u64)>
     ensures { result ≡ given is_num (λ t. (line_of t, microseconds (text_of t))) (lexeme (lexeme_of lines.now token.now)) }
 {
@@ -216,7 +205,7 @@ pub fn num_of(lines: &Lines, token: &Token) -> Option<(usize, u64)>
 }
 
 /// The microseconds of a token, if it is such a number of at least so many.
-#[tactic(auto, unfolding(pd_lex::specs::Tokens::lexeme_of))]
+#[tactic(auto, unfolding(pd_lex::specs::Lexing::lexeme_of))]
 pub fn num_from_of(lines: &Lines, token: &Token, least: u64) -> Option<u64>
     ensures { result ≡ given (is_num_from least) (λ t. microseconds (text_of t)) (lexeme (lexeme_of lines.now token.now)) }
 {
@@ -231,20 +220,8 @@ pub fn num_from_of(lines: &Lines, token: &Token, least: u64) -> Option<u64>
     }
 }
 
-/// The line of a token, if it is three points.
-#[tactic(auto, unfolding(pd_lex::specs::Tokens::lexeme_of))]
-pub fn dots_line(lines: &Lines, token: &Token) -> Option<usize>
-    ensures { result ≡ given is_dots (λ t. line_of t) (lexeme (lexeme_of lines.now token.now)) }
-{
-    if is_dots(lines, token) {
-        Some(token.line)
-    } else {
-        None
-    }
-}
-
 /// What a token does, if it is a shell command.
-#[tactic(auto, unfolding(pd_lex::specs::Tokens::lexeme_of))]
+#[tactic(auto, unfolding(pd_lex::specs::Lexing::lexeme_of))]
 pub fn command_of(lines: &Lines, token: &Token) -> Option<Action>
     ensures { result ≡ given is_command (λ t. Action.Command) (lexeme (lexeme_of lines.now token.now)) }
 {
@@ -256,7 +233,7 @@ pub fn command_of(lines: &Lines, token: &Token) -> Option<Action>
 }
 
 /// What a token does, if it is code.
-#[tactic(auto, unfolding(pd_lex::specs::Tokens::lexeme_of))]
+#[tactic(auto, unfolding(pd_lex::specs::Lexing::lexeme_of))]
 pub fn code_of(lines: &Lines, token: &Token) -> Option<Action>
     ensures { result ≡ given is_code (λ t. Action.Code) (lexeme (lexeme_of lines.now token.now)) }
 {
@@ -268,7 +245,7 @@ pub fn code_of(lines: &Lines, token: &Token) -> Option<Action>
 }
 
 /// The call that a token names, if it is a word.
-#[tactic(auto, unfolding(pd_lex::specs::Tokens::lexeme_of))]
+#[tactic(auto, unfolding(pd_lex::specs::Lexing::lexeme_of))]
 pub fn function_of(lines: &Lines, token: &Token) -> Option<Function>
     ensures { result ≡ given is_word (λ t. function_named (text_of t)) (lexeme (lexeme_of lines.now token.now)) }
 {
@@ -280,7 +257,7 @@ pub fn function_of(lines: &Lines, token: &Token) -> Option<Function>
 }
 
 /// The error that a token names, if it is a word.
-#[tactic(auto, unfolding(pd_lex::specs::Tokens::lexeme_of))]
+#[tactic(auto, unfolding(pd_lex::specs::Lexing::lexeme_of))]
 pub fn error_of(lines: &Lines, token: &Token) -> Option<ErrorName>
     ensures { result ≡ given is_word (λ t. error_named (text_of t)) (lexeme (lexeme_of lines.now token.now)) }
 {
@@ -292,7 +269,7 @@ pub fn error_of(lines: &Lines, token: &Token) -> Option<ErrorName>
 }
 
 /// What a token is in the header, if it is an option or a command.
-#[tactic(auto, unfolding(pd_lex::specs::Tokens::lexeme_of))]
+#[tactic(auto, unfolding(pd_lex::specs::Lexing::lexeme_of))]
 pub fn header_item_of(lines: &Lines, token: &Token) -> Option<HeaderItem>
     ensures { result ≡ given is_header (λ t. header_item t) (lexeme (lexeme_of lines.now token.now)) }
 {

@@ -1,7 +1,7 @@
 -- Each step keeps the items, and the last one gives the first of them.
 use Rattle.std.proofs.Common.{◌≡◌, ◌∙◌, refl, List, ℕ}
 use Rattle.pd_lex.specs.Places.{octets_from, between}
-use Rattle.pd_lex.specs.Tokens.{lexeme_of}
+use Rattle.pd_lex.specs.Lexing.{lexeme_of}
 use Rattle.pd_lex.specs.Spellings.{Skips, here}
 use Rattle.pd_lex.proofs.Rests.{octets_past}
 use Rattle.pd_lex.proofs.Texts.{octets_standing}
@@ -36,7 +36,7 @@ pub returns-in-Token : goal.returns-in-Token
 unfolding lexeme_of between
 returns-in-Token c = record {
   next = c.gaps.invariant.same ∙ items_at_token c.args.lines.now c.standing_place.ensures.lines c.gaps.here c.in-Token.after c.in-Token.kind c.gaps.invariant.place c.in-Token.ensures.0 c.in-Token.ensures.1;
-  cut = record { skipped = c.gaps.invariant.skipped; longest = longest_token (octets_from c.args.lines.now c.gaps.here) (octets_from c.args.lines.now c.in-Token.after) c.in-Token.kind c.in-Token.ensures.1; from = c.gaps.invariant.place; to = refl };
+  cut = record { skipped = c.gaps.invariant.skipped; longest = longest_token (octets_from c.args.lines.now c.gaps.here) (octets_from c.args.lines.now c.in-Token.after) c.in-Token.kind c.in-Token.ensures.1; from = c.gaps.invariant.place; to = refl; behind = c.in-Token.ensures.0 };
   line = token_line c.args.lines.now c.standing_place.ensures.lines c.gaps.here c.in-Token.after c.in-Token.kind c.gaps.invariant.place c.in-Token.ensures.1;
 }
 

@@ -2,7 +2,7 @@
 use Rattle.std.proofs.Common.{◌≡◌, length}
 use Rattle.pd_lex.specs.Places.{octets_from, IsPlace}
 use Rattle.pd_lex.specs.Spellings.{Skips}
-use Rattle.pd_lex.specs.Tokens.{items}
+use Rattle.pd_lex.specs.Lexing.{items}
 use Rattle.pd_lex.proofs.next.next_token.Given as goal
 
 abbrev pub invariant-gaps : goal.invariant-gaps

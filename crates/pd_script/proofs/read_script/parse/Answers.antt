@@ -1,14 +1,13 @@
 use Rattle.std.proofs.Common.{◌≤◌, sym, subst, length}
-use Rattle.pd_lex.specs.Places.{first_place}
-use Rattle.pd_lex.specs.Tokens.{items}
 use Rattle.pd_script.specs.declared.parsing.Parsed.{Parsed}
-use Rattle.pd_script.specs.Faults.{IsRead}
+use Rattle.pd_script.specs.Faults.{IsScriptOf}
 use Rattle.pd_script.specs.Range.{HasLines}
-use Rattle.pd_script.proofs.TextItems.{script_is_read, script_has_lines, script_is_short}
+use Rattle.pd_script.proofs.TextItems.{script_has_lines, script_is_short}
+use Rattle.pd_script.proofs.OneScript.{script_is_so}
 use Rattle.pd_script.proofs.read_script.parse.Goals as goal
 
 pub returns-clause-read : goal.returns-clause-read
-returns-clause-read c = let lines = c.args.lines.now in subst (λ (p : Parsed). IsRead (items lines first_place) p p.fault) (sym c.in_ok-parsed.ensures) (script_is_read lines)
+returns-clause-read c = let lines = c.args.lines.now in subst (λ (p : Parsed). IsScriptOf lines p) (sym c.in_ok-parsed.ensures) (script_is_so lines)
 
 pub returns-clause-limit : goal.returns-clause-limit
 returns-clause-limit c = subst (λ (p : Parsed). length p.events ≤ 4096) (sym c.in_ok-parsed.ensures) (script_is_short c.args.lines.now)

@@ -1,6 +1,6 @@
 -- A token that stays in its line has no newline.
 use Rattle.std.proofs.Common.{◌∙◌, sym}
-use Rattle.pd_lex.specs.Tokens.{lexeme_of}
+use Rattle.pd_lex.specs.Lexing.{lexeme_of}
 use Rattle.pd_lex.proofs.Texts.{whole_line}
 use Rattle.pd_lex.proofs.token.Token.text.Goals as goal
 

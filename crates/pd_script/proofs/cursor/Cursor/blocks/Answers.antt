@@ -2,8 +2,8 @@ use Rattle.std.proofs.Common.{◌≡◌, ◌∙◌, sym, ap, List, [], ◌∷◌
 use Rattle.std.proofs.lemmas.List.{append-nil}
 use Rattle.std.proofs.lemmas.Result.{err_from_is_err_and}
 use Rattle.pd_script.specs.declared.packets.Block.{Block}
-use Rattle.pd_script.specs.Items.{is_int}
-use Rattle.pd_script.specs.Reader.{Read, onto, next_is}
+use Rattle.pd_script.specs.Items.{is_int, next_is}
+use Rattle.pd_script.specs.Reader.{Read, onto}
 use Rattle.pd_script.specs.PacketReading.{repeated_at, block_at, blocks_at}
 use Rattle.pd_script.proofs.ArgumentSteps.{onto-append}
 use Rattle.pd_script.proofs.Repeating.{repeat_goes, repeat_err, repeat_stops}

@@ -1,6 +1,5 @@
 use Rattle.std.proofs.Common.{◌≡◌, ◌∙◌, sym, ◌+◌, ◌-◌, Some, Ok, Err, true, false, arith}
-use Rattle.pd_script.specs.Items.{starts_event}
-use Rattle.pd_script.specs.Reader.{next_is}
+use Rattle.pd_script.specs.Items.{starts_event, next_is}
 use Rattle.pd_script.specs.Reading.{next_line}
 use Rattle.pd_script.specs.Script.{found_in, at_end}
 use Rattle.pd_script.proofs.Finding.{found_step, found_none, found_zero, in_front-append, in_front-none}

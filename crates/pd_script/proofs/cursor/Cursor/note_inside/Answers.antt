@@ -1,7 +1,7 @@
 use Rattle.std.proofs.Common.{◌≡◌, ◌∙◌, sym, ℕ, [], true, false}
 use Rattle.std.proofs.lemmas.Result.{err_from_is_err_and}
 use Rattle.pd_script.specs.Reader.{machine_at}
-use Rattle.pd_script.specs.Brackets.{note_move, note_part_at, is_last}
+use Rattle.pd_script.specs.Drafts.{note_move, note_part_at, is_last}
 use Rattle.pd_script.proofs.NoteLaws.{note_goes, note_stuck, note_ends}
 use Rattle.pd_script.proofs.Taking.{err_skips}
 use Rattle.pd_script.proofs.cursor.Cursor.note_inside.Goals as goal
