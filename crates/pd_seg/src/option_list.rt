@@ -122,13 +122,9 @@ impl SegOptions {
 fn same_options(mine: &[SegOption], its: &[SegOption]) -> bool
     ensures { IsTrue result ↔ (mine.now ≡ its.now) }
 {
-    if mine.len() != its.len() {
-        return false;
-    }
-    for (place, option) in mine.iter().enumerate() {
-        if !option.is_same(&its[place]) {
-            return false;
-        }
-    }
-    true
+    mine.len() == its.len()
+        && mine
+            .iter()
+            .zip(its)
+            .all(|(option, other)| option.is_same(other))
 }

@@ -81,13 +81,9 @@ impl SackBlocks {
 fn same_blocks(mine: &[Span], its: &[Span]) -> bool
     ensures { IsTrue result ↔ (mine.now ≡ its.now) }
 {
-    if mine.len() != its.len() {
-        return false;
-    }
-    for (place, block) in mine.iter().enumerate() {
-        if *block != its[place] {
-            return false;
-        }
-    }
-    true
+    mine.len() == its.len()
+        && mine
+            .iter()
+            .zip(its)
+            .all(|(block, other)| block.is_same(other))
 }

@@ -13,7 +13,7 @@ pub struct Segment {
     pub start: u32,
     /// The number after the last octet of data; SYN and FIN don't count.
     pub end: u32,
-    /// The acknowledgment number; 0 without the ACK flag.
+    /// The acknowledgment number. The sender puts 0 where the ACK flag isn't set; a segment that arrives may have any.
     pub ack: u32,
     /// The window field as it stands in the segment, not scaled.
     pub win: u16,
@@ -40,16 +40,12 @@ impl Segment {
     pub fn is_same(&self, other: &Segment) -> bool
         ensures { IsTrue result ↔ (self.now ≡ other.now) }
     {
-        if !self.flags.is_same(&other.flags) {
-            return false;
-        }
-        if self.start != other.start || self.end != other.end {
-            return false;
-        }
-        if self.ack != other.ack || self.win != other.win {
-            return false;
-        }
-        self.options.is_same(&other.options)
+        self.flags.is_same(&other.flags)
+            && self.start == other.start
+            && self.end == other.end
+            && self.ack == other.ack
+            && self.win == other.win
+            && self.options.is_same(&other.options)
     }
 
     /// The same segment once more.

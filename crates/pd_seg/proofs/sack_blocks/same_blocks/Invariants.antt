@@ -1,6 +1,0 @@
--- The blocks so far are equal.
-use Rattle.std.proofs.Common.{◌≡◌, take}
-use Rattle.pd_seg.proofs.sack_blocks.same_blocks.Given as goal
-
-abbrev pub invariant-loop-place : goal.invariant-loop-place
-invariant-loop-place l = take l.place l.mine ≡ take l.place l.its
