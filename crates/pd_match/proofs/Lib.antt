@@ -1,3 +1,5 @@
 -- The lemmas of this crate.
 pub mod Agreements
 pub mod FirstFailing
+pub mod Pairs
+pub mod Results

@@ -2,3 +2,4 @@
 pub mod Packets
 pub mod Calls
 pub mod Agreement
+pub mod Laws

@@ -18,15 +18,7 @@ pub fn has_options(written: &Options, sent: &SegOptions) -> bool
 fn is_list(written: &[PacketOption], sent: &[SegOption]) -> bool
     ensures { result ≡ each_pair same_option written.now sent.now }
 {
-    if written.len() != sent.len() {
-        return false;
-    }
-    for (place, option) in written.iter().enumerate() {
-        if !is_option(option, &sent[place]) {
-            return false;
-        }
-    }
-    true
+    written.len() == sent.len() && written.iter().zip(sent).all(|(w, s)| is_option(w, s))
 }
 
 fn is_option(written: &PacketOption, sent: &SegOption) -> bool
@@ -51,15 +43,7 @@ fn is_option(written: &PacketOption, sent: &SegOption) -> bool
 fn are_blocks(written: &[Block], sent: &[Span]) -> bool
     ensures { result ≡ each_pair same_block written.now sent.now }
 {
-    if written.len() != sent.len() {
-        return false;
-    }
-    for (place, block) in written.iter().enumerate() {
-        if !is_block(block, &sent[place]) {
-            return false;
-        }
-    }
-    true
+    written.len() == sent.len() && written.iter().zip(sent).all(|(w, s)| is_block(w, s))
 }
 
 fn is_block(written: &Block, sent: &Span) -> bool

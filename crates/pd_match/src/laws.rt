@@ -1,0 +1,8 @@
+//! Laws of comparisons: functions without code, whose contracts are the laws.
+ghost use Rattle.pd_match.specs.Laws.{MismatchIsFirst, MatchIsResult};
+
+/// What it says that a packet, or the answer of a call, differs in nothing or in a field.
+pub fn comparisons_are_lawful()
+    ensures packets { MismatchIsFirst }
+    ensures calls { MatchIsResult }
+{}
