@@ -1,21 +1,23 @@
 -- The test of each field decides whether the packet agrees in it.
 use Rattle.std.proofs.Common.{◌≡◌, ℕ, ◌≤◌, Bool, ◌&&◌, leb, ◌==◌, List, [], ◌∷◌, map, Option, Some, None, refl, ap, arith}
 use Rattle.std.specs.Bool.{Decides}
+use Rattle.std.specs.Cmp.{booleans_Decides}
 use Rattle.std.proofs.lemmas.Bool.Decides.{Decides-and, Decides-eqb, nat_tests}
 use Rattle.pd_script.specs.declared.packets.Block.{Block}
+use Rattle.pd_script.specs.declared.packets.Flags as script
 use Rattle.pd_script.specs.declared.packets.Options.{Options}
 use Rattle.pd_script.specs.declared.packets.Options.TheVariants.{Absent, Any, Listed}
 use Rattle.pd_script.specs.declared.packets.Packet.{Packet}
 use Rattle.pd_script.specs.declared.packets.PacketOption.{PacketOption}
 use Rattle.pd_script.specs.declared.packets.PacketOption.TheVariants as written
+use Rattle.pd_seg.specs.declared.control_bits.Flags.{Flags}
 use Rattle.pd_seg.specs.declared.option_list.SegOption.{SegOption}
 use Rattle.pd_seg.specs.declared.option_list.SegOption.TheVariants as sent
 use Rattle.pd_seg.specs.declared.sack_blocks.Span.{Span}
 use Rattle.pd_seg.specs.declared.segments.Sent.{Sent}
-use Rattle.pd_seg.proofs.SameBits.{same_bits-is, is-same_bits}
 use Rattle.pd_match.specs.declared.kinds.Kind.{Kind}
 use Rattle.pd_match.specs.declared.kinds.Kind.TheVariants as kind
-use Rattle.pd_match.specs.Packets.{passes, in_time, same_if_written, each_pair, same_block, same_option, same_options}
+use Rattle.pd_match.specs.Packets.{passes, in_time, same_if_written, same_flags, each_pair, same_block, same_option, same_options}
 use Rattle.pd_match.specs.Agreement.{Agrees, IsInTime, IsIfWritten, HasOptions, block_of, option_of, flags_of}
 
 decides_le : (a b : ℕ) → Decides (leb a b) (a ≤ b)
@@ -69,11 +71,21 @@ options_decide Absent [] = (λ e. refl, λ h. refl)
 options_decide Absent (y ∷ ys) = (λ e. absurd cc, λ h. absurd cc)
 options_decide (Listed w) s = pairs_decide same_option option_of option_decides w s
 
+flags_decide : (w : script.Flags) (s : Flags) → Decides (same_flags w s) (flags_of w ≡ s)
+flags_decide w s =
+    let bits : Decides (same_flags w s) ((w.syn ≡ s.syn) × ((w.fin ≡ s.fin) × ((w.rst ≡ s.rst) × ((w.psh ≡ s.psh) × (w.ack ≡ s.ack))))) =
+    Decides-and _ _ (booleans_Decides _ _) (Decides-and _ _ (booleans_Decides _ _) (Decides-and _ _ (booleans_Decides _ _) (Decides-and _ _ (booleans_Decides _ _) (booleans_Decides _ _)))) in (
+      λ e. let all = bits.0 e in λ i. record { syn = all.0 i; fin = all.1.0 i; rst = all.1.1.0 i; psh = all.1.1.1.0 i; ack = all.1.1.1.1 i },
+      λ h. bits.1 (
+        ap (λ (f : Flags). f.syn) h,
+        (ap (λ (f : Flags). f.fin) h, (ap (λ (f : Flags). f.rst) h, (ap (λ (f : Flags). f.psh) h, ap (λ (f : Flags). f.ack) h))),
+      ),
+    )
+
 pub passes_decides : (packet : Packet) (moments : Option (ℕ × ℕ)) (s : Sent) (tolerance : ℕ) (k : Kind)
     → Decides (passes packet moments s tolerance k) (Agrees packet moments s tolerance k)
 passes_decides packet moments s tolerance kind.Time = in_time_decides moments s.at tolerance
-passes_decides packet moments s tolerance kind.Flags =
-    (same_bits-is (flags_of packet.flags) s.segment.flags, is-same_bits (flags_of packet.flags) s.segment.flags)
+passes_decides packet moments s tolerance kind.Flags = flags_decide packet.flags s.segment.flags
 passes_decides packet moments s tolerance kind.Seq =
     Decides-and _ _ (Decides-eqb _ _) (Decides-and _ _ (Decides-eqb _ _) (Decides-eqb _ _))
 passes_decides packet moments s tolerance kind.Ack = if_written_decides packet.ack s.segment.ack

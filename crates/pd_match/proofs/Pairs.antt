@@ -1,5 +1,5 @@
 -- Lists as long agree where all their pairs do.
-use Rattle.std.proofs.Common.{◌≡◌, ℕ, Bool, true, false, ◌&&◌, List, [], ◌∷◌, length, refl, ap, arith}
+use Rattle.std.proofs.Common.{◌≡◌, Bool, ◌&&◌, List, [], ◌∷◌, length, refl, ap, arith}
 use Rattle.std.specs.List.{zip, list_all}
 use Rattle.pd_match.specs.Packets.{each_pair}
 
