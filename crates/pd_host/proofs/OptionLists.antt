@@ -1,44 +1,47 @@
 -- One option further in a list of options.
-use Rattle.std.proofs.Common.{◌≡◌, refl, sym, ap, ◌∙◌, ℕ, ◌+◌, ◌<◌, List, ◌∷◌, drop, get_or, length}
+use Rattle.std.proofs.Common.{◌≡◌, refl, sym, ap, ◌∙◌, ℕ, ◌+◌, ◌<◌, Bool, true, false, ◌||◌, List, ◌∷◌, drop, get_or, length, Option, Some, None}
+use Rattle.std.specs.Option.{option_or}
 use Rattle.std.proofs.lemmas.List.{drop_more}
 use Rattle.pd_seg.specs.declared.option_list.SegOption.{SegOption}
 use Rattle.pd_seg.specs.declared.option_list.SegOption.TheVariants.{Mss, Wscale, SackOk, Nop, Eol, Timestamp, Sack}
-use Rattle.pd_host.specs.Handshake.{offered_mss, offered_count, offers_sack}
+use Rattle.pd_host.specs.Handshake.{offered_mss, offered_count, offers_sack, offered_too}
+use Rattle.pd_host.specs.declared.offers.Offers.{Offers}
+
+-- what was offered so far, and what is left offers
+abbrev pub in_all : Offers → List SegOption → Offers
+in_all f options = record {
+  mss = option_or f.mss (offered_mss options);
+  count = option_or f.count (offered_count options);
+  sack = f.sack || offers_sack options;
+}
+
+first_stays : {X : Type 0} (o p : Option X) (x : X) → option_or (option_or o (Some x)) p ≡ option_or o (Some x)
+first_stays None p x = refl
+first_stays (Some y) p x = refl
+
+or_true : (b : Bool) → (b || true) ≡ true
+or_true true = refl
+or_true false = refl
+
+one_more : (f : Offers) (o : SegOption) (rest : List SegOption) → (o ≡ Eol → ⊥) → in_all (offered_too f o) rest ≡ in_all f (o ∷ rest)
+one_more f (Mss x) rest not_end = ap (λ (m : Option ℕ). record { mss = m; count = option_or f.count (offered_count rest); sack = f.sack || offers_sack rest }) (first_stays f.mss (offered_mss rest) x)
+one_more f (Wscale x) rest not_end = ap (λ (m : Option ℕ). record { mss = option_or f.mss (offered_mss rest); count = m; sack = f.sack || offers_sack rest }) (first_stays f.count (offered_count rest) x)
+one_more f SackOk rest not_end = ap (λ (b : Bool). record { mss = option_or f.mss (offered_mss rest); count = option_or f.count (offered_count rest); sack = b }) (sym (or_true f.sack))
+one_more f Nop rest not_end = refl
+one_more f Eol rest not_end = absurd (not_end refl)
+one_more f (Timestamp x y) rest not_end = refl
+one_more f (Sack x) rest not_end = refl
 
 -- the option at i stands first in what is left
-pub at_option : {Y : Type 0} (F : List SegOption → Y) (options : List SegOption) (i : ℕ) (o p : SegOption)
-    → i < length options → o ≡ get_or options i o → o ≡ p → F (drop i options) ≡ F options
-    → F (p ∷ drop (i + 1) options) ≡ F options
-at_option F options i o p within here is same =
-    sym (ap F (drop_more options i o within ∙ ap (λ (x : SegOption). x ∷ drop (i + 1) options) (sym here ∙ is))) ∙ same
+at_option : (f : Offers) (options : List SegOption) (i : ℕ) (o : SegOption) (whole : Offers)
+    → i < length options → o ≡ get_or options i o → in_all f (drop i options) ≡ whole
+    → in_all f (o ∷ drop (i + 1) options) ≡ whole
+at_option f options i o whole within here same =
+    sym (ap (in_all f) (drop_more options i o within ∙ ap (λ (x : SegOption). x ∷ drop (i + 1) options) (sym here))) ∙ same
 
--- an option that isn't looked for is passed over
-pub past_mss : (o : SegOption) (rest : List SegOption) → (o ≡ Eol → ⊥) → ((x : ℕ) → o ≡ Mss x → ⊥)
-    → offered_mss (o ∷ rest) ≡ offered_mss rest
-past_mss (Mss x) rest not_end not_it = absurd (not_it x refl)
-past_mss (Wscale x) rest not_end not_it = refl
-past_mss SackOk rest not_end not_it = refl
-past_mss Nop rest not_end not_it = refl
-past_mss Eol rest not_end not_it = absurd (not_end refl)
-past_mss (Timestamp x y) rest not_end not_it = refl
-past_mss (Sack x) rest not_end not_it = refl
-
-pub past_count : (o : SegOption) (rest : List SegOption) → (o ≡ Eol → ⊥) → ((x : ℕ) → o ≡ Wscale x → ⊥)
-    → offered_count (o ∷ rest) ≡ offered_count rest
-past_count (Mss x) rest not_end not_it = refl
-past_count (Wscale x) rest not_end not_it = absurd (not_it x refl)
-past_count SackOk rest not_end not_it = refl
-past_count Nop rest not_end not_it = refl
-past_count Eol rest not_end not_it = absurd (not_end refl)
-past_count (Timestamp x y) rest not_end not_it = refl
-past_count (Sack x) rest not_end not_it = refl
-
-pub past_sack : (o : SegOption) (rest : List SegOption) → (o ≡ Eol → ⊥) → (o ≡ SackOk → ⊥)
-    → offers_sack (o ∷ rest) ≡ offers_sack rest
-past_sack (Mss x) rest not_end not_it = refl
-past_sack (Wscale x) rest not_end not_it = refl
-past_sack SackOk rest not_end not_it = absurd (not_it refl)
-past_sack Nop rest not_end not_it = refl
-past_sack Eol rest not_end not_it = absurd (not_end refl)
-past_sack (Timestamp x y) rest not_end not_it = refl
-past_sack (Sack x) rest not_end not_it = refl
+-- an option further
+pub one_further : (f : Offers) (options : List SegOption) (i : ℕ) (o : SegOption) (whole : Offers)
+    → i < length options → o ≡ get_or options i o → (o ≡ Eol → ⊥) → in_all f (drop i options) ≡ whole
+    → in_all (offered_too f o) (drop (i + 1) options) ≡ whole
+one_further f options i o whole within here not_end same =
+    one_more f o (drop (i + 1) options) not_end ∙ at_option f options i o whole within here same

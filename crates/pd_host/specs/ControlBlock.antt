@@ -5,31 +5,41 @@ use Rattle.pd_host.specs.declared.scaling.Scaling.{Scaling}
 
 -- a connection's transmission control block (RFC 9293, section 3.3.1); numbers are relative, both initial ones at 0
 pub record ControlBlock : Type 0 where
-  -- the MSS that the SYN/ACK announces, and the greatest segment that is sent, in octets
+  -- the MSS that the SYN/ACK announces, in octets (RFC 9293, section 3.7.1)
   pub announced : ℕ
+  -- SMSS: the greatest segment that is sent, in octets (RFC 5681, section 2)
   pub smss : ℕ
-  -- whether SACK was agreed, and by how much windows are shifted, if that was agreed
+  -- whether SACK was agreed (RFC 2018, section 2)
   pub sack : Bool
+  -- by how much windows are shifted, if that was agreed (RFC 7323, section 2)
   pub scaling : Option Scaling
-  -- the number of the next octet that the peer sends, and how many it may send
+  -- RCV.NXT: the number of the next octet that the peer sends
   pub rcv_nxt : ℕ
+  -- RCV.WND: how many octets the peer may send
   pub rcv_wnd : ℕ
-  -- the oldest number that isn't acknowledged, the place to send from, the number after all that was sent, and the
-  -- number after all that is queued
+  -- SND.UNA: the oldest number that isn't acknowledged
   pub una : ℕ
+  -- SND.NXT: the place to send from
   pub next : ℕ
+  -- the number after all that was sent
   pub top : ℕ
+  -- the number after all that is queued
   pub end : ℕ
-  -- the peer's window, the sequence and ack number of the segment that it was taken from, and the largest one seen
+  -- SND.WND: the peer's window, in octets
   pub rwnd : ℕ
+  -- SND.WL1: the sequence number of the segment that it was taken from
   pub wl1 : ℕ
+  -- SND.WL2: the ack number of that segment
   pub wl2 : ℕ
+  -- the largest of the peer's windows seen so far, in octets (RFC 9293, section 3.8.6.2.1: Max(SND.WND))
   pub widest : ℕ
-  -- whether Nagle's algorithm is on
+  -- whether Nagle's algorithm is on (RFC 9293, section 3.7.4)
   pub nagle : Bool
-  -- whether the handshake was finished, `accept` has handed out the connection, and an RST has ended it
+  -- whether the handshake was finished
   pub established : Bool
+  -- whether `accept` has handed out the connection
   pub accepted : Bool
+  -- whether an RST has ended it
   pub reset : Bool
 
 -- what is acknowledged was sent, and what was sent was queued; all numbers stay below 2^31

@@ -1,6 +1,7 @@
 -- The first segment, what it agrees, and the end of the handshake.
 use Rattle.std.specs.Prelude.{ℕ, ◌-◌, ◌*◌, ◌^◌, ◌==◌, nat_le, min, max, Bool, true, false, not, ◌&&◌, List, [], ◌∷◌, slice_get, Option, Some, None, option_map, unwrap_or, Result, Err, if◌then◌else◌}
 use Rattle.std.specs.List.{filter_map, list_any}
+use Rattle.std.specs.Option.{option_or}
 use Rattle.pd_settings.specs.declared.fields.Settings.{Settings}
 use Rattle.pd_seg.specs.declared.control_bits.Flags.{Flags}
 use Rattle.pd_seg.specs.declared.option_list.SegOption.{SegOption}
@@ -10,6 +11,7 @@ use Rattle.pd_host.specs.declared.halts.Halt.{Halt}
 use Rattle.pd_host.specs.declared.halts.Halt.TheVariants.{Unsupported}
 use Rattle.pd_host.specs.declared.listeners.Listener.{Listener}
 use Rattle.pd_host.specs.declared.listeners.Listener.TheVariants.{Listens}
+use Rattle.pd_host.specs.declared.offers.Offers.{Offers}
 use Rattle.pd_host.specs.declared.scaling.Scaling.{Scaling}
 use Rattle.pd_host.specs.declared.use_set.UseSet.{UseSet}
 use Rattle.pd_host.specs.Packets.{peer_count, syn_ack_of}
@@ -54,6 +56,17 @@ offered_count options = slice_get (filter_map count_in (looked_at options)) 0
 abbrev pub offers_sack : List SegOption → Bool
 offers_sack options = list_any is_sack_ok (looked_at options)
 
+-- what the options of a SYN offer
+abbrev pub offers_of : List SegOption → Offers
+offers_of options = record { mss = offered_mss options; count = offered_count options; sack = offers_sack options }
+
+-- what is offered with one more option; what was offered before counts
+abbrev pub offered_too : Offers → SegOption → Offers
+offered_too offers (Mss octets) = record offers { mss = option_or offers.mss (Some octets) }
+offered_too offers (Wscale count) = record offers { count = option_or offers.count (Some count) }
+offered_too offers SackOk = record offers { sack = true }
+offered_too offers _ = offers
+
 -- an MSS below 64 isn't run (own profile)
 abbrev pub is_mss_run : Option ℕ → Bool
 is_mss_run None = true
@@ -79,24 +92,24 @@ is_opening listener segment =
     && is_mss_run (offered_mss segment.options))))
 
 -- SMSS is the lesser of the setting and the peer's MSS, which is 536 where it names none (RFC 9293, section 3.7.1)
-abbrev pub smss_of : Settings → Segment → ℕ
-smss_of settings syn = min settings.mss (unwrap_or (offered_mss syn.options) 536)
+abbrev pub smss_of : Settings → Offers → ℕ
+smss_of settings offers = min settings.mss (unwrap_or offers.mss 536)
 
 -- SACK is agreed where the peer offers it and the setting allows it (RFC 2018, section 2)
-abbrev pub is_sack_agreed : Settings → Segment → Bool
-is_sack_agreed settings syn = settings.sack && offers_sack syn.options
+abbrev pub is_sack_agreed : Settings → Offers → Bool
+is_sack_agreed settings offers = settings.sack && offers.sack
 
 -- scaling is agreed where the peer offers it; its count above 14 is taken as 14 (RFC 7323, section 2.3)
-abbrev pub scaling_of : Settings → Segment → Option Scaling
-scaling_of settings syn = option_map (λ count. record { own = settings.wscale; peer = min count 14 }) (offered_count syn.options)
+abbrev pub scaling_of : Settings → Offers → Option Scaling
+scaling_of settings offers = option_map (λ count. record { own = settings.wscale; peer = min count 14 }) offers.count
 
 -- the connection after the SYN: our SYN is sent, and the SYN's own window isn't shifted (RFC 7323, section 2.2)
 abbrev pub begun : Settings → Segment → ControlBlock
 begun settings syn = record {
   announced = settings.mss;
-  smss = smss_of settings syn;
-  sack = is_sack_agreed settings syn;
-  scaling = scaling_of settings syn;
+  smss = smss_of settings (offers_of syn.options);
+  sack = is_sack_agreed settings (offers_of syn.options);
+  scaling = scaling_of settings (offers_of syn.options);
   rcv_nxt = 1;
   rcv_wnd = settings.rcv_wnd;
   una = 0;

@@ -1,9 +1,12 @@
--- What holds of every arrival, whatever the checks and their order.
+-- What holds of every arrival and every call, whatever the checks and their order.
 use Rattle.std.specs.Prelude.{◌≡◌, ◌⊎◌, ℕ, true, false, ◌∷◌, [], ◌++◌, Some, Ok}
 use Rattle.pd_settings.specs.declared.fields.Settings.{Settings}
+use Rattle.pd_script.specs.declared.calls.Call.{Call}
+use Rattle.pd_seg.specs.declared.answers.Answer.{Answer}
 use Rattle.pd_seg.specs.declared.segments.Segment.{Segment}
 use Rattle.pd_seg.specs.declared.segments.Sent.{Sent}
 use Rattle.pd_host.specs.Arrivals.{is_in_window, arrived}
+use Rattle.pd_host.specs.Calls.{called}
 use Rattle.pd_host.specs.ControlBlock.{ControlBlock}
 use Rattle.pd_host.specs.declared.sender_state.State.{State}
 use Rattle.pd_host.specs.declared.use_set.UseSet.{UseSet}
@@ -35,6 +38,11 @@ PutsOutAtMostOne =
     → arrived segment now s ≡ Ok t
     → (t.endpoint.outbox ≡ s.endpoint.outbox)
     ⊎ ((packet : Sent) × (packet.at ≡ now) × (t.endpoint.outbox ≡ s.endpoint.outbox ++ packet ∷ []))
+
+-- a call puts out no packet
+abbrev pub CallsKeepTheOutbox : Type 0
+CallsKeepTheOutbox =
+    (call : Call) (s t : State) (answer : Answer) → called call s ≡ Ok (t, answer) → t.endpoint.outbox ≡ s.endpoint.outbox
 
 -- the same state with other settings held
 abbrev pub rebound : Settings → State → State

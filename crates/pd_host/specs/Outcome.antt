@@ -1,42 +1,42 @@
 -- What an input of a host answers, and what state it leaves.
 use Rattle.std.specs.Prelude.{◌≡◌, Option, Some, None, Result, Ok, Err}
 use Rattle.pd_host.specs.declared.halts.Halt.{Halt}
-use Rattle.pd_host.specs.declared.halts.Stop.{Stop}
-use Rattle.pd_host.specs.declared.halts.Stop.TheVariants.{Halted, OutOfMemory}
+use Rattle.pd_host.specs.declared.halts.Ending.{Ending}
+use Rattle.pd_host.specs.declared.halts.Ending.TheVariants.{Halted, OutOfMemory}
 use Rattle.pd_host.specs.declared.sender_state.State.{State}
 use Rattle.pd_host.specs.Sender.{Sender}
 
 -- what the rules give came: the next state, or the halt. Of want of memory nothing is said
-abbrev pub Gives : {S : Type 0} → Result S Halt → Result (Unit {0}) Stop → S → Type 0
+abbrev pub Gives : {S : Type 0} → Result S Halt → Result (Unit {0}) Ending → S → Type 0
 Gives outcome (Ok done) new = outcome ≡ Ok new
 Gives outcome (Err (Halted halt)) new = outcome ≡ Err halt
 Gives outcome (Err OutOfMemory) new = Unit {0}
 
 -- the same, with what is answered
-abbrev pub GivesAnswer : {S A : Type 0} → Result (S × A) Halt → Result A Stop → S → Type 0
+abbrev pub GivesAnswer : {S A : Type 0} → Result (S × A) Halt → Result A Ending → S → Type 0
 GivesAnswer outcome (Ok answer) new = outcome ≡ Ok (new, answer)
 GivesAnswer outcome (Err (Halted halt)) new = outcome ≡ Err halt
 GivesAnswer outcome (Err OutOfMemory) new = Unit {0}
 
 -- a host ends exactly where it answers an error, and with that
-abbrev pub EndsBy : {A : Type 0} → Result A Stop → Sender → Type 0
+abbrev pub EndsBy : {A : Type 0} → Result A Ending → Sender → Type 0
 EndsBy (Ok answer) new = new.ended ≡ None
-EndsBy (Err stop) new = new.ended ≡ Some stop
+EndsBy (Err ending) new = new.ended ≡ Some ending
 
 -- a host that goes on does what the rules say; one that has ended answers that again, and stays as it is
-abbrev pub GoesFrom : Option Stop → Sender → (State → Result State Halt) → Result (Unit {0}) Stop → Sender → Type 0
+abbrev pub GoesFrom : Option Ending → Sender → (State → Result State Halt) → Result (Unit {0}) Ending → Sender → Type 0
 GoesFrom None old rule result new = Gives (rule old.state) result new.state × EndsBy result new
-GoesFrom (Some stop) old rule result new = (result ≡ Err stop) × (new ≡ old)
+GoesFrom (Some ending) old rule result new = (result ≡ Err ending) × (new ≡ old)
 
 -- an input of a host, by whether it has ended
-abbrev pub Goes : Sender → (State → Result State Halt) → Result (Unit {0}) Stop → Sender → Type 0
+abbrev pub Goes : Sender → (State → Result State Halt) → Result (Unit {0}) Ending → Sender → Type 0
 Goes old rule result new = GoesFrom old.ended old rule result new
 
 -- the same, with what is answered
-abbrev pub AnswersFrom : {A : Type 0} → Option Stop → Sender → (State → Result (State × A) Halt) → Result A Stop → Sender → Type 0
+abbrev pub AnswersFrom : {A : Type 0} → Option Ending → Sender → (State → Result (State × A) Halt) → Result A Ending → Sender → Type 0
 AnswersFrom None old rule result new = GivesAnswer (rule old.state) result new.state × EndsBy result new
-AnswersFrom (Some stop) old rule result new = (result ≡ Err stop) × (new ≡ old)
+AnswersFrom (Some ending) old rule result new = (result ≡ Err ending) × (new ≡ old)
 
 -- an input that is answered, by whether the host has ended
-abbrev pub Answers : {A : Type 0} → Sender → (State → Result (State × A) Halt) → Result A Stop → Sender → Type 0
+abbrev pub Answers : {A : Type 0} → Sender → (State → Result (State × A) Halt) → Result A Ending → Sender → Type 0
 Answers old rule result new = AnswersFrom old.ended old rule result new

@@ -6,8 +6,8 @@ use Rattle.pd_seg.specs.declared.segments.Sent.{Sent}
 use Rattle.pd_host.specs.declared.endpoint.Endpoint.{Endpoint}
 use Rattle.pd_host.specs.declared.halts.Halt.{Halt}
 use Rattle.pd_host.specs.declared.halts.Halt.TheVariants.{Limit}
-use Rattle.pd_host.specs.declared.halts.Stop.{Stop}
-use Rattle.pd_host.specs.declared.halts.Stop.TheVariants.{OutOfMemory}
+use Rattle.pd_host.specs.declared.halts.Ending.{Ending}
+use Rattle.pd_host.specs.declared.halts.Ending.TheVariants.{OutOfMemory}
 use Rattle.pd_host.specs.declared.listeners.Listener.TheVariants.{Absent}
 use Rattle.pd_host.specs.declared.sender_state.State.{State}
 use Rattle.pd_host.specs.declared.use_set.UseSet.{UseSet}
@@ -15,7 +15,7 @@ use Rattle.pd_host.specs.declared.use_set.UseSet.{UseSet}
 -- a host: its state, and why it has ended, if it has
 pub record Sender : Type 0 where
   pub state : State
-  pub ended : Option Stop
+  pub ended : Option Ending
 
 -- no setting was consulted
 abbrev pub no_uses : UseSet
@@ -78,7 +78,7 @@ without_oldest sender = record sender { state = record sender.state { endpoint =
     rest e = record e { outbox = drop 1 e.outbox }
 
 -- why a sender for which no memory was found has ended: by that, unless it had ended before
-abbrev pub end_of : Sender → Stop
+abbrev pub end_of : Sender → Ending
 end_of sender = unwrap_or sender.ended OutOfMemory
 
 -- a sender for which no memory was found has ended

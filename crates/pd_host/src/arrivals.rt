@@ -5,19 +5,19 @@ ghost use Rattle.pd_host.specs.Handshake.{is_syn_alone, is_opening, opened_by};
 ghost use Rattle.pd_host.specs.Outcome.{Gives};
 
 use crate::connection::{Connection, refusal};
-use crate::halts::{Halt, Stop};
+use crate::halts::{Ending, Halt};
 use crate::listeners::Listener;
-use crate::offers::{is_mss_run, offered_mss};
+use crate::offers::{Offers, is_mss_run};
 use crate::rulings::Ruling;
 use crate::sender_state::State;
 use pd_seg::{Flags, Segment};
 
 /// What stops a segment that isn't run.
-const NOT_RUN: Stop = Stop::Halted(Halt::Unsupported);
+const NOT_RUN: Ending = Ending::Halted(Halt::Unsupported);
 
 impl State {
     /// A segment arrives at a moment: the first one, or one on the connection that was begun.
-    pub fn arrive(&mut self, segment: &Segment, now: u64) -> Result<(), Stop>
+    pub fn arrive(&mut self, segment: &Segment, now: u64) -> Result<(), Ending>
         ensures { Gives (arrived segment.now now self.old) result self.new }
     {
         let Some(connection) = &mut self.endpoint.connection else {
@@ -29,8 +29,7 @@ impl State {
             Some(Ruling::Dropped) => Ok(()),
             Some(Ruling::Answered) => {
                 let ack = connection.acknowledgment(outbox.allocator());
-                outbox.put_out(ack, now)?;
-                Ok(())
+                outbox.put_out(ack, now)
             }
             Some(Ruling::Reset) => {
                 connection.reset();
@@ -43,8 +42,7 @@ impl State {
             }
             Some(Ruling::Refused) => {
                 let rst = refusal(segment.ack, outbox.allocator());
-                outbox.put_out(rst, now)?;
-                Ok(())
+                outbox.put_out(rst, now)
             }
             None => {
                 connection.take(segment);
@@ -54,7 +52,7 @@ impl State {
     }
 
     /// The first segment begins the connection, or isn't run.
-    fn open(&mut self, segment: &Segment, now: u64) -> Result<(), Stop>
+    fn open(&mut self, segment: &Segment, now: u64) -> Result<(), Ending>
         ensures { Gives (opened_by now segment.now self.old) result self.new }
     {
         if !is_opening(self.endpoint.listener, segment) {
@@ -64,8 +62,7 @@ impl State {
         let syn_ack = connection.syn_ack(self.endpoint.outbox.allocator())?;
         self.uses = self.uses.with_syn();
         self.endpoint.connection = Some(connection);
-        self.endpoint.outbox.put_out(syn_ack, now)?;
-        Ok(())
+        self.endpoint.outbox.put_out(syn_ack, now)
     }
 }
 
@@ -83,5 +80,5 @@ fn is_opening(listener: Listener, segment: &Segment) -> bool
         && is_syn_alone(segment.flags)
         && segment.start == 0
         && segment.len() == 0
-        && is_mss_run(offered_mss(segment.options.as_slice()))
+        && is_mss_run(Offers::of(segment.options.as_slice()).mss)
 }

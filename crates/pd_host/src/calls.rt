@@ -5,7 +5,7 @@ ghost use Rattle.pd_host.specs.Outcome.{GivesAnswer};
 
 use crate::descriptors::Descriptor;
 use crate::endpoint::Endpoint;
-use crate::halts::{Halt, Stop};
+use crate::halts::{Ending, Halt};
 use crate::listeners::Listener;
 use crate::requests::{Operation, Request};
 use pd_seg::{Answer, Errno};
@@ -20,11 +20,11 @@ const CONNECTION: u32 = 4;
 const DONE: Answer = Answer::Number(0);
 
 /// What stops a call that isn't run.
-const NOT_RUN: Stop = Stop::Halted(Halt::Unsupported);
+const NOT_RUN: Ending = Ending::Halted(Halt::Unsupported);
 
 impl Endpoint {
     /// Answers a request. A descriptor that isn't open answers EBADF, before all else.
-    pub fn call(&mut self, request: Request) -> Result<Answer, Stop>
+    pub fn call(&mut self, request: Request) -> Result<Answer, Ending>
         ensures { GivesAnswer (reply_to self.old request) result self.new }
     {
         match request {
@@ -77,7 +77,7 @@ impl Endpoint {
     }
 
     /// The row of an operation on an open descriptor.
-    fn operate(&mut self, descriptor: Descriptor, operation: Operation) -> Result<Answer, Stop>
+    fn operate(&mut self, descriptor: Descriptor, operation: Operation) -> Result<Answer, Ending>
         ensures { GivesAnswer (operated self.old descriptor operation) result self.new }
     {
         match operation {
@@ -91,7 +91,7 @@ impl Endpoint {
         }
     }
 
-    fn socket(&mut self) -> Result<Answer, Stop>
+    fn socket(&mut self) -> Result<Answer, Ending>
         ensures { GivesAnswer (socket_reply self.old self.old.listener) result self.new }
     {
         match self.listener {
@@ -163,7 +163,7 @@ impl Endpoint {
         DONE
     }
 
-    fn write(&mut self, descriptor: Descriptor, n: u64) -> Result<Answer, Stop>
+    fn write(&mut self, descriptor: Descriptor, n: u64) -> Result<Answer, Ending>
         ensures { GivesAnswer (write_reply self.old n descriptor) result self.new }
     {
         match descriptor {
@@ -180,7 +180,7 @@ impl Endpoint {
         }
     }
 
-    fn close(&mut self, descriptor: Descriptor) -> Result<Answer, Stop>
+    fn close(&mut self, descriptor: Descriptor) -> Result<Answer, Ending>
         ensures { GivesAnswer (close_reply self.old descriptor) result self.new }
     {
         match descriptor {

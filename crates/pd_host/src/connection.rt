@@ -8,7 +8,7 @@ ghost use Rattle.pd_host.specs.Packets.{peer_count};
 mod checks;
 mod packets;
 
-use crate::offers::{offered_count, offered_mss, offers_sack};
+use crate::offers::Offers;
 use crate::scaling::Scaling;
 pub use packets::refusal;
 use pd_seg::Segment;
@@ -66,19 +66,18 @@ fn peer_count(scaling: Option<Scaling>) -> u8
     }
 }
 
-/// The greatest segment that is sent to a peer with this SYN, in octets.
-fn smss_of(settings: &Settings, syn: &Segment) -> u16
-    ensures { result ≡ smss_of settings.now syn.now }
+/// The greatest segment that is sent to a peer that offers this, in octets.
+fn smss_of(settings: &Settings, offers: Offers) -> u16
+    ensures { result ≡ smss_of settings.now offers }
 {
-    let offered = offered_mss(syn.options.as_slice()).unwrap_or(DEFAULT_MSS);
-    settings.mss.min(offered)
+    settings.mss.min(offers.mss.unwrap_or(DEFAULT_MSS))
 }
 
-fn scaling_of(settings: &Settings, syn: &Segment) -> Option<Scaling>
-    ensures agreed { result ≡ scaling_of settings.now syn.now }
+fn scaling_of(settings: &Settings, offers: Offers) -> Option<Scaling>
+    ensures agreed { result ≡ scaling_of settings.now offers }
     ensures small { IsScalable result }
 {
-    match offered_count(syn.options.as_slice()) {
+    match offers.count {
         None => None,
         Some(count) => Some(Scaling {
             own: settings.wscale,
@@ -93,11 +92,12 @@ impl Connection {
         ensures { result ≡ begun settings.now syn.now }
     {
         let window = u32::from(syn.win);
+        let offers = Offers::of(syn.options.as_slice());
         Connection {
             announced: settings.mss,
-            smss: smss_of(settings, syn),
-            sack: settings.sack && offers_sack(syn.options.as_slice()),
-            scaling: scaling_of(settings, syn),
+            smss: smss_of(settings, offers),
+            sack: settings.sack && offers.sack,
+            scaling: scaling_of(settings, offers),
             rcv_nxt: 1,
             rcv_wnd: settings.rcv_wnd,
             una: 0,

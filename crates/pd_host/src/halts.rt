@@ -15,20 +15,20 @@ pub enum Halt {
 
 /// Why a host has ended.
 #[derive(Clone, Copy, Debug, PartialEq, Eq, Error)]
-pub enum Stop {
+pub enum Ending {
     #[error("{0}")]
     Halted(Halt),
     #[error("out of memory")]
     OutOfMemory,
 }
 
-impl From<AllocError> for Stop {
+impl From<AllocError> for Ending {
     ghost use Rattle.std.specs.Prelude.{◌≡◌};
-    ghost use Rattle.pd_host.specs.declared.halts.Stop.TheVariants.{OutOfMemory};
+    ghost use Rattle.pd_host.specs.declared.halts.Ending.TheVariants.{OutOfMemory};
 
-    ghost from_gives = { λ _ stop. stop ≡ OutOfMemory };
+    ghost from_gives = { λ _ ending. ending ≡ OutOfMemory };
 
-    fn from(_error: AllocError) -> Stop {
-        Stop::OutOfMemory
+    fn from(_error: AllocError) -> Ending {
+        Ending::OutOfMemory
     }
 }

@@ -6,7 +6,7 @@ ghost use Rattle.pd_host.specs.Outcome.{Goes, Answers};
 ghost use Rattle.pd_host.specs.Sender.{fresh, advanced, deadline_of, without_oldest, exhausted, end_of};
 
 use crate::endpoint::Endpoint;
-use crate::halts::{Halt, Stop};
+use crate::halts::{Ending, Halt};
 use crate::outbox::Outbox;
 use crate::requests::Request;
 use crate::sender_state::State;
@@ -23,7 +23,7 @@ use std::marker::Model;
 #[derive(Debug, Drop)]
 pub struct Host {
     state: State,
-    ended: Option<Stop>,
+    ended: Option<Ending>,
 }
 
 impl Model for Host {
@@ -54,18 +54,18 @@ impl Host {
     /// # Errors
     ///
     /// `Halted` for a call that isn't run.
-    pub fn call(&mut self, call: &Call, now: u64) -> Result<Answer, Stop>
+    pub fn call(&mut self, call: &Call, now: u64) -> Result<Answer, Ending>
         ensures { Answers self.old (called call.now) result self.new }
     {
-        if let Some(stop) = self.ended {
-            return Err(stop);
+        if let Some(ending) = self.ended {
+            return Err(ending);
         }
         let Some(request) = Request::of(call) else {
-            return Err(self.end(Stop::Halted(Halt::Unsupported)));
+            return Err(self.end(Ending::Halted(Halt::Unsupported)));
         };
         match self.state.endpoint.call(request) {
             Ok(answer) => Ok(answer),
-            Err(stop) => Err(self.end(stop)),
+            Err(ending) => Err(self.end(ending)),
         }
     }
 
@@ -74,24 +74,24 @@ impl Host {
     /// # Errors
     ///
     /// `Halted` for a segment that isn't run, and where more than 1,024 packets would stand untaken.
-    pub fn arrive(&mut self, segment: &Segment, now: u64) -> Result<(), Stop>
+    pub fn arrive(&mut self, segment: &Segment, now: u64) -> Result<(), Ending>
         ensures { Goes self.old (arrived segment.now now) result self.new }
     {
-        if let Some(stop) = self.ended {
-            return Err(stop);
+        if let Some(ending) = self.ended {
+            return Err(ending);
         }
         match self.state.arrive(segment, now) {
             Ok(()) => Ok(()),
-            Err(stop) => Err(self.end(stop)),
+            Err(ending) => Err(self.end(ending)),
         }
     }
 
     /// Performs all expiries up to a moment, in order.
-    pub fn advance(&mut self, until: u64) -> Result<(), Stop>
+    pub fn advance(&mut self, until: u64) -> Result<(), Ending>
         ensures { Goes self.old (advanced until) result self.new }
     {
         match self.ended {
-            Some(stop) => Err(stop),
+            Some(ending) => Err(ending),
             None => Ok(()),
         }
     }
@@ -119,7 +119,7 @@ impl Host {
     }
 
     /// Why the host has ended, if it has.
-    pub fn stopped(&self) -> Option<Stop>
+    pub fn ended(&self) -> Option<Ending>
         ensures { result ≡ self.now.ended }
     {
         self.ended
@@ -127,20 +127,20 @@ impl Host {
 
     /// No memory was found for what was to come in: the host answers that from now on, unless it has ended already.
     /// What it answers is returned.
-    pub fn exhaust(&mut self) -> Stop
-        ensures stop { result ≡ end_of self.old }
+    pub fn exhaust(&mut self) -> Ending
+        ensures ending { result ≡ end_of self.old }
         ensures ended { self.new ≡ exhausted self.old }
     {
-        let stop = self.ended.unwrap_or(Stop::OutOfMemory);
-        self.end(stop)
+        let ending = self.ended.unwrap_or(Ending::OutOfMemory);
+        self.end(ending)
     }
 
     /// The host has ended by this.
-    fn end(&mut self, stop: Stop) -> Stop
-        ensures stop { result ≡ stop }
-        ensures ended { self.new ≡ record self.old { ended = Some stop } }
+    fn end(&mut self, ending: Ending) -> Ending
+        ensures ending { result ≡ ending }
+        ensures ended { self.new ≡ record self.old { ended = Some ending } }
     {
-        self.ended = Some(stop);
-        stop
+        self.ended = Some(ending);
+        ending
     }
 }

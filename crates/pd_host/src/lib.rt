@@ -18,9 +18,9 @@ mod scaling;
 mod sender_state;
 mod use_set;
 
-pub use halts::{Halt, Stop};
+pub use halts::{Ending, Halt};
 pub use host::Host;
-pub use laws::arrivals_are_lawful;
+pub use laws::{arrivals_are_lawful, calls_are_lawful};
 pub use outbox::Outbox;
 pub use requests::{Operation, Request, is_run};
 pub use use_set::UseSet;

@@ -1,52 +1,59 @@
 //! What the options of a SYN offer. Options behind `eol` aren't looked at; of a repeated one the first counts.
 ghost use Rattle.std.specs.Prelude.{◌≡◌};
-ghost use Rattle.pd_host.specs.Handshake.{offered_mss, offered_count, offers_sack, is_mss_run};
+ghost use Rattle.pd_host.specs.Handshake.{offered_too, offers_of, is_mss_run};
 
 use pd_seg::SegOption;
 
 /// The least MSS of a peer that is run, in octets.
 const LEAST_PEER_MSS: u16 = 64;
 
-/// The peer's MSS in octets, if it names one.
-pub fn offered_mss(options: &[SegOption]) -> Option<u16>
-    ensures { result ≡ offered_mss options.now }
-{
-    for option in options {
-        match option {
-            SegOption::Eol => return None,
-            SegOption::Mss(octets) => return Some(*octets),
-            _ => {}
-        }
-    }
-    None
+/// What the options of a SYN offer.
+#[derive(Clone, Copy, Debug, PartialEq, Eq)]
+pub struct Offers {
+    /// The peer's MSS in octets, if it names one.
+    pub mss: Option<u16>,
+    /// The peer's shift count, if it scales windows.
+    pub count: Option<u8>,
+    /// Whether the peer permits SACK.
+    pub sack: bool,
 }
 
-/// The peer's shift count, if it scales windows.
-pub fn offered_count(options: &[SegOption]) -> Option<u8>
-    ensures { result ≡ offered_count options.now }
-{
-    for option in options {
-        match option {
-            SegOption::Eol => return None,
-            SegOption::Wscale(count) => return Some(*count),
-            _ => {}
+impl Offers {
+    /// What these options offer.
+    pub fn of(options: &[SegOption]) -> Offers
+        ensures { result ≡ offers_of options.now }
+    {
+        let mut offers = Offers {
+            mss: None,
+            count: None,
+            sack: false,
+        };
+        for option in options {
+            if let SegOption::Eol = option {
+                return offers;
+            }
+            offers = offers.with(option);
         }
+        offers
     }
-    None
-}
 
-/// Whether the peer permits SACK.
-pub fn offers_sack(options: &[SegOption]) -> bool
-    ensures { result ≡ offers_sack options.now }
-{
-    for option in options {
+    /// What is offered with one more option.
+    fn with(self, option: &SegOption) -> Offers
+        ensures { result ≡ offered_too self option.now }
+    {
         match option {
-            SegOption::Eol => return false,
-            SegOption::SackOk => return true,
-            _ => {}
+            SegOption::Mss(octets) => Offers {
+                mss: self.mss.or(Some(*octets)),
+                ..self
+            },
+            SegOption::Wscale(count) => Offers {
+                count: self.count.or(Some(*count)),
+                ..self
+            },
+            SegOption::SackOk => Offers { sack: true, ..self },
+            _ => self,
         }
     }
-    false
 }
 
 /// Whether a peer with this MSS is run.

@@ -4,7 +4,7 @@ ghost use Rattle.std.specs.Option.{option_copied};
 ghost use Rattle.pd_host.specs.Outcome.{Gives};
 ghost use Rattle.pd_host.specs.Sender.{with_packet};
 
-use crate::halts::{Halt, Stop};
+use crate::halts::{Ending, Halt};
 use pd_seg::{Segment, Sent};
 use std::alloc::Global;
 use std::collections::VecDeque;
@@ -71,15 +71,15 @@ impl Outbox {
     /// # Errors
     ///
     /// `Halted` by `Limit` where the outbox is full.
-    pub fn put_out(&mut self, segment: Segment, now: u64) -> Result<(), Stop>
+    pub fn put_out(&mut self, segment: Segment, now: u64) -> Result<(), Ending>
         ensures { Gives (with_packet now segment self.old) result self.new }
     {
         if self.is_full() {
-            return Err(Stop::Halted(Halt::Limit));
+            return Err(Ending::Halted(Halt::Limit));
         }
         match self.packets.push_back(Sent { segment, at: now }) {
             Ok(()) => Ok(()),
-            Err(_) => Err(Stop::OutOfMemory),
+            Err(_) => Err(Ending::OutOfMemory),
         }
     }
 

@@ -13,11 +13,10 @@ use Rattle.pd_seg.specs.declared.answers.Answer.{Answer}
 use Rattle.pd_seg.specs.declared.segments.Segment.{Segment}
 use Rattle.pd_seg.specs.declared.segments.Sent.{Sent}
 use Rattle.pd_host.specs.Arrivals.{arrived}
+use Rattle.pd_host.specs.Laws.{PutsOutAtMostOne, CallsKeepTheOutbox}
 use Rattle.pd_host.specs.Sender.{without_oldest}
 use Rattle.pd_host.specs.declared.halts.Halt.{Halt}
 use Rattle.pd_host.specs.declared.sender_state.State.{State}
-use Rattle.pd_host.proofs.KeptOutbox.{call_keeps_outbox}
-use Rattle.pd_host.proofs.OneMore.{puts_out_at_most_one}
 use Rattle.pd_match.specs.Calls.{result_mismatch}
 use Rattle.pd_match.specs.Packets.{mismatch}
 use Rattle.pd_match.specs.declared.kinds.Kind.{Kind}
@@ -98,10 +97,10 @@ acted_within n r e t within moment packets =
     let clock : r.clock ≤ n = within.clock in
     record { live = within.live; clock = omega arith; base = moment; packets = packets }
 
-arrival_packets : (n now : ℕ) (segment : Segment) (s t : State) → now ≤ n → NoneLater n s.endpoint.outbox → arrived segment now s ≡ Ok t
+arrival_packets : PutsOutAtMostOne → (n now : ℕ) (segment : Segment) (s t : State) → now ≤ n → NoneLater n s.endpoint.outbox → arrived segment now s ≡ Ok t
     → NoneLater n t.endpoint.outbox
-arrival_packets n now segment s t le packets came =
-    elim (puts_out_at_most_one segment now s t came) [
+arrival_packets law n now segment s t le packets came =
+    elim (law segment now s t came) [
       | inl same ↦ subst (NoneLater n) (sym same) packets
       | inr more ↦ subst (NoneLater n) (sym more.2) (one_more n s.endpoint.outbox more.0 packets (subst (λ (m : ℕ). m ≤ n) (sym more.1) le))
     ]
@@ -148,21 +147,21 @@ leaves_within n r s e p true within moment h = absurd cc
 leaves_within n r s e p false within moment h =
     taken_within n r s e p (slice_get r.host.state.endpoint.outbox 0) within moment (λ sent is. oldest n r.host.state.endpoint.outbox sent within.packets is) h
 
-performed_within : (n : ℕ) (r s : Running) (e : Event) (action : Action)
+performed_within : PutsOutAtMostOne → CallsKeepTheOutbox → (n : ℕ) (r s : Running) (e : Event) (action : Action)
     → IsWithin n r → moment_of r.base e.time ≤ n + 3600000000 → performed r e action ≡ Ok s → IsWithin (n + 3600000000) s
-performed_within n r s e (Inbound p) within moment h =
+performed_within arrivals calls n r s e (Inbound p) within moment h =
     let clock : r.clock ≤ n = within.clock in
     let packets : NoneLater (n + 3600000000) r.host.state.endpoint.outbox =
     none_later n (n + 3600000000) r.host.state.endpoint.outbox (omega arith) within.packets in
     let at : acts_at r e ≤ n + 3600000000 = omega arith in
-    arrival_within n r s e (arrives r e p) within moment (λ t came. arrival_packets (n + 3600000000) (acts_at r e) (segment_in p) r.host.state t at packets came) h
-performed_within n r s e (Outbound p) within moment h = leaves_within n r s e p (length r.host.state.endpoint.outbox == 0) within moment h
-performed_within n r s e (Calls call) within moment h =
+    arrival_within n r s e (arrives r e p) within moment (λ t came. arrival_packets arrivals (n + 3600000000) (acts_at r e) (segment_in p) r.host.state t at packets came) h
+performed_within arrivals calls n r s e (Outbound p) within moment h = leaves_within n r s e p (length r.host.state.endpoint.outbox == 0) within moment h
+performed_within arrivals calls n r s e (Calls call) within moment h =
     let packets : NoneLater (n + 3600000000) r.host.state.endpoint.outbox =
     none_later n (n + 3600000000) r.host.state.endpoint.outbox (omega arith) within.packets in
-    answer_within n r s e call (answers r e call) within moment (λ t a came. subst (NoneLater (n + 3600000000)) (sym (call_keeps_outbox call r.host.state t a came)) packets) h
-performed_within n r s e Command within moment h = absurd cc
-performed_within n r s e Code within moment h = absurd cc
+    answer_within n r s e call (answers r e call) within moment (λ t a came. subst (NoneLater (n + 3600000000)) (sym (calls call r.host.state t a came)) packets) h
+performed_within arrivals calls n r s e Command within moment h = absurd cc
+performed_within arrivals calls n r s e Code within moment h = absurd cc
 
 -- a step that goes on performed its event's action
 pub step_performs : (r s : Running) (e : Event) → step r e ≡ Ok s → performed r e e.action ≡ Ok s
@@ -183,8 +182,8 @@ step_short r s e h =
     let limit : (is_over_limit e ≡ false) × (unlimited ≡ Ok s) = let_through (is_over_limit e) (Limit e.line) unlimited s h in
     or_false _ _ (or_false _ _ limit.0)
 
-pub step_within : (n : ℕ) (r s : Running) (e : Event) → IsWithin n r → step r e ≡ Ok s → IsWithin (n + 3600000000) s
-step_within n r s e within h =
+pub step_within : PutsOutAtMostOne → CallsKeepTheOutbox → (n : ℕ) (r s : Running) (e : Event) → IsWithin n r → step r e ≡ Ok s → IsWithin (n + 3600000000) s
+step_within arrivals calls n r s e within h =
     let base : r.base ≤ n = within.base in
     let moment : moment_of r.base e.time ≤ r.base + 3600000000 = moment_within r.base e.time (step_short r s e h) in
-    performed_within n r s e e.action within (omega arith) (step_performs r s e h)
+    performed_within arrivals calls n r s e e.action within (omega arith) (step_performs r s e h)

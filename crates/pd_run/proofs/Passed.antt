@@ -1,30 +1,21 @@
 -- What passes agrees with what the script expects, and the tolerance stays.
 use Rattle.std.proofs.Common.{◌≡◌, Bool, true, false, ◌&&◌, if◌then◌else◌, ℕ, ◌==◌, length, slice_get, Option, Some, None, Result, Ok, Err, refl, sym, ap, subst, ◌∙◌}
-use Rattle.std.proofs.lemmas.Bool.Decides.{Decides-int_eq}
 use Rattle.std.specs.List.{AllByRecursion}
-use Rattle.std.specs.Ordering.{int_eq}
 use Rattle.pd_script.specs.declared.calls.Call.{Call}
-use Rattle.pd_script.specs.declared.calls.ErrorName.{ErrorName}
-use Rattle.pd_script.specs.declared.calls.ErrorName.TheVariants as named
-use Rattle.pd_script.specs.declared.calls.Outcome.{Outcome}
-use Rattle.pd_script.specs.declared.calls.Outcome.TheVariants.{Negative}
 use Rattle.pd_script.specs.declared.packets.Packet.{Packet}
 use Rattle.pd_script.specs.declared.script_events.Action.{Action}
 use Rattle.pd_script.specs.declared.script_events.Action.TheVariants.{Inbound, Outbound, Call as Calls, Command, Code}
 use Rattle.pd_script.specs.declared.script_events.Event.{Event}
 use Rattle.pd_seg.specs.declared.answers.Answer.{Answer}
-use Rattle.pd_seg.specs.declared.answers.Answer.TheVariants.{Error}
-use Rattle.pd_seg.specs.declared.answers.Errno.TheVariants as answered
 use Rattle.pd_seg.specs.declared.segments.Sent.{Sent}
 use Rattle.pd_host.specs.declared.halts.Halt.{Halt}
 use Rattle.pd_host.specs.declared.sender_state.State.{State}
-use Rattle.pd_match.specs.Agreement.{Agrees, IsFirstFailing, IsNamed, HasError, IsResult}
-use Rattle.pd_match.specs.Calls.{value_written, value_answered, is_answered, same_error, result_mismatch}
-use Rattle.pd_match.specs.Packets.{compared, passes, mismatch}
+use Rattle.pd_match.specs.Agreement.{Agrees, IsFirstFailing}
+use Rattle.pd_match.specs.Laws.{MismatchIsFirst, MatchIsResult}
+use Rattle.pd_match.specs.Calls.{result_mismatch}
+use Rattle.pd_match.specs.Packets.{compared, mismatch}
 use Rattle.pd_match.specs.declared.kinds.Kind.{Kind}
-use Rattle.pd_match.specs.declared.kinds.Kind.TheVariants.{Missing, Result as WrongResult}
-use Rattle.pd_match.proofs.Agreements.{passes_decides}
-use Rattle.pd_match.proofs.FirstFailing.{first_failing}
+use Rattle.pd_match.specs.declared.kinds.Kind.TheVariants.{Missing}
 use Rattle.pd_run.specs.Laws.{PassedPacketsAgree, PassedCallsAnswer, ToleranceStays}
 use Rattle.pd_run.specs.Step.{Running, on_step, judged, acted, arrives, on_arrival, answers, on_answer, awaited, taken, performed}
 use Rattle.pd_run.specs.Times.{moments_of}
@@ -51,52 +42,29 @@ of_awaited : (e : Event) (p : Packet) (s : Running) (came : Result Running Verdi
 of_awaited e p s (Ok t) h = (t, refl, of_taken e p t s (slice_get t.host.state.endpoint.outbox 0) h)
 of_awaited e p s (Err v) h = absurd cc
 
-all_agree : (p : Packet) (moments : Option (ℕ × ℕ)) (sent : Sent) (tolerance : ℕ) → mismatch p moments sent tolerance ≡ None
+all_agree : MismatchIsFirst → (p : Packet) (moments : Option (ℕ × ℕ)) (sent : Sent) (tolerance : ℕ) → mismatch p moments sent tolerance ≡ None
     → AllByRecursion (Agrees p moments sent tolerance) compared
-all_agree p moments sent tolerance none =
-    subst (IsFirstFailing (Agrees p moments sent tolerance) compared) none
-    (first_failing (passes p moments sent tolerance) (Agrees p moments sent tolerance) (passes_decides p moments sent tolerance) compared)
+all_agree law p moments sent tolerance none =
+    subst (IsFirstFailing (Agrees p moments sent tolerance) compared) none (law p moments sent tolerance)
 
-pub passed_packets_agree : PassedPacketsAgree
-passed_packets_agree r s e p is h =
+pub passed_packets_agree : MismatchIsFirst → PassedPacketsAgree
+passed_packets_agree law r s e p is h =
     let went : performed r e (Outbound p) ≡ Ok s = ap (performed r e) (sym is) ∙ step_performs r s e h in
     let came = of_awaited e p s (awaited r e) went in
     let t : Running = came.0 in
     let sent : Sent = came.2.0 in
-    (t, sent, came.1, came.2.1, all_agree p (moments_of t.base e.time) sent t.tolerance came.2.2)
-
--- a named error that matches is the answer
-is_error : (name : ErrorName) (a : Answer) → is_answered name a ≡ true → IsNamed name a
-is_error named.Ebadf (Error answered.Ebadf) h = refl
-is_error named.Einval (Error answered.Einval) h = refl
-is_error named.Eagain (Error answered.Eagain) h = refl
-is_error named.Epipe (Error answered.Epipe) h = refl
-is_error _ _ h = absurd cc
-
-has_error : (o : Outcome) (a : Answer) → same_error o a ≡ true → HasError o a
-has_error (Negative n (Some name)) a h = is_error name a h
-has_error _ a h = tt
-
-no_mismatch : (x y : Bool) → (if x && y then None else Some WrongResult) ≡ None → (x ≡ true) × (y ≡ true)
-no_mismatch true true h = (refl, refl)
-no_mismatch true false h = absurd cc
-no_mismatch false y h = absurd cc
-
-is_result : (o : Outcome) (a : Answer) → result_mismatch o a ≡ None → IsResult o a
-is_result o a none =
-    let both : (int_eq (value_written o) (value_answered a) ≡ true) × (same_error o a ≡ true) = no_mismatch _ _ none in
-    ((Decides-int_eq (value_written o) (value_answered a)).0 both.0, has_error o a both.1)
+    (t, sent, came.1, came.2.1, all_agree law p (moments_of t.base e.time) sent t.tolerance came.2.2)
 
 of_answer : (r s : Running) (e : Event) (call : Call) (came : Result (State × Answer) Halt) → on_answer r e call came ≡ Ok s
     → (t : State) × (a : Answer) × (came ≡ Ok (t, a)) × (result_mismatch call.result a ≡ None)
 of_answer r s e call (Ok (t, a)) h = (t, a, refl, no_kind e.line _ s (result_mismatch call.result a) h)
 of_answer r s e call (Err halt) h = absurd cc
 
-pub passed_calls_answer : PassedCallsAnswer
-passed_calls_answer r s e call is h =
+pub passed_calls_answer : MatchIsResult → PassedCallsAnswer
+passed_calls_answer law r s e call is h =
     let went : performed r e (Calls call) ≡ Ok s = ap (performed r e) (sym is) ∙ step_performs r s e h in
     let came = of_answer r s e call (answers r e call) went in
-    (came.0, came.1, came.2, is_result call.result came.1 came.3)
+    (came.0, came.1, came.2, law call.result came.1 came.3)
 
 arrival_keeps : (r s : Running) (e : Event) (came : Result State Halt) → on_arrival r e came ≡ Ok s → s.tolerance ≡ r.tolerance
 arrival_keeps r s e (Ok t) h = ap (λ (q : Running). q.tolerance) (sym (given (acted r e t) s h))

@@ -13,8 +13,8 @@ use Rattle.pd_host.specs.Calls.{called}
 use Rattle.pd_host.specs.Sender.{Sender, then_on, advanced, deadline_of, without_oldest}
 use Rattle.pd_host.specs.declared.halts.Halt.{Halt}
 use Rattle.pd_host.specs.declared.halts.Halt.TheVariants as halt
-use Rattle.pd_host.specs.declared.halts.Stop.{Stop}
-use Rattle.pd_host.specs.declared.halts.Stop.TheVariants.{Halted, OutOfMemory}
+use Rattle.pd_host.specs.declared.halts.Ending.{Ending}
+use Rattle.pd_host.specs.declared.halts.Ending.TheVariants.{Halted, OutOfMemory}
 use Rattle.pd_host.specs.declared.sender_state.State.{State}
 use Rattle.pd_match.specs.Calls.{result_mismatch}
 use Rattle.pd_match.specs.Packets.{mismatch}
@@ -25,7 +25,7 @@ use Rattle.pd_run.specs.Times.{moment_of, moments_of, is_backwards, is_in_reach,
 use Rattle.pd_run.specs.Inbound.{segment_in}
 use Rattle.pd_run.specs.Shapes.{is_run}
 use Rattle.pd_run.specs.declared.stepping.StepEnd.{StepEnd}
-use Rattle.pd_run.specs.declared.stepping.StepEnd.TheVariants.{Go, Stop as Stopped}
+use Rattle.pd_run.specs.declared.stepping.StepEnd.TheVariants.{Go, Stop}
 use Rattle.pd_run.specs.declared.verdicts.Verdict.{Verdict}
 use Rattle.pd_run.specs.declared.verdicts.Verdict.TheVariants.{Fail, Unsupported, Limit}
 
@@ -48,9 +48,9 @@ verdict_by line halt.Unsupported = Unsupported line
 verdict_by line halt.Limit = Limit line
 
 -- how a step ends there where the sender has ended
-abbrev pub stopped_by : ℕ → Stop → Result StepEnd AllocError
-stopped_by line (Halted h) = Ok (Stopped (verdict_by line h))
-stopped_by line OutOfMemory = Err alloc_error
+abbrev pub ended_by : ℕ → Ending → Result StepEnd AllocError
+ended_by line (Halted h) = Ok (Stop (verdict_by line h))
+ended_by line OutOfMemory = Err alloc_error
 
 -- what was compared agrees, or the event fails by what differs first
 abbrev pub judged : ℕ → Running → Option Kind → Result Running Verdict
@@ -132,11 +132,11 @@ step r e =
 -- what a step answered, and the state it left where the run goes on
 abbrev pub Tells : Result Running Verdict → StepEnd → Running → Type 0
 Tells outcome Go new = outcome ≡ Ok new
-Tells outcome (Stopped v) new = outcome ≡ Err v
+Tells outcome (Stop v) new = outcome ≡ Err v
 
 -- a step by whether the sender has ended: of a run that was stopped by a halt nothing is said, and one that has found no
 -- memory takes no further step
-abbrev pub StepsFrom : Option Stop → Running → Event → StepEnd → Running → Type 0
+abbrev pub StepsFrom : Option Ending → Running → Event → StepEnd → Running → Type 0
 StepsFrom None old e end new = Tells (step old e) end new
 StepsFrom (Some (Halted h)) old e end new = Unit {0}
 StepsFrom (Some OutOfMemory) old e end new = ⊥

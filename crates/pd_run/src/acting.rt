@@ -8,7 +8,7 @@ ghost use Rattle.pd_run.specs.Inbound.{segment_in};
 ghost use Rattle.pd_run.specs.Limits.{is_packet_over};
 
 use crate::inbound::segment_of;
-use pd_host::{Host, Stop};
+use pd_host::{Ending, Host};
 use pd_script::{Call, Packet};
 use pd_seg::Answer;
 
@@ -17,14 +17,11 @@ use pd_seg::Answer;
 /// # Errors
 ///
 /// Why the host has ended, here or before.
-pub fn arrive(host: &mut Host, packet: &Packet, moment: u64) -> Result<(), Stop>
+pub fn arrive(host: &mut Host, packet: &Packet, moment: u64) -> Result<(), Ending>
     requires fits { is_packet_over packet.now ≡ false }
     ensures { Goes host.old (λ s. then_on (arrived (segment_in packet.now) moment) (advanced moment s)) result host.new }
 {
-    match host.advance(moment) {
-        Ok(()) => {}
-        Err(stop) => return Err(stop),
-    }
+    host.advance(moment)?;
     match segment_of(host.outbox().allocator(), packet) {
         Ok(segment) => host.arrive(&segment, moment),
         Err(_) => Err(host.exhaust()),
@@ -36,12 +33,9 @@ pub fn arrive(host: &mut Host, packet: &Packet, moment: u64) -> Result<(), Stop>
 /// # Errors
 ///
 /// Why the host has ended, here or before.
-pub fn answer(host: &mut Host, call: &Call, moment: u64) -> Result<Answer, Stop>
+pub fn answer(host: &mut Host, call: &Call, moment: u64) -> Result<Answer, Ending>
     ensures { Answers host.old (λ s. then_on (called call.now) (advanced moment s)) result host.new }
 {
-    match host.advance(moment) {
-        Ok(()) => {}
-        Err(stop) => return Err(stop),
-    }
+    host.advance(moment)?;
     host.call(call, moment)
 }

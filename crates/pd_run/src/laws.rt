@@ -1,9 +1,13 @@
-//! Laws of runs: functions without code, whose contracts are the laws.
+//! Laws of runs: functions whose contracts are the laws; they call those that they rest on.
 ghost use Rattle.pd_run.specs.Laws.{PassedPacketsAgree, PassedCallsAnswer, ToleranceStays};
+
+use pd_match::comparisons_are_lawful;
 
 /// What holds of every step that goes on, whatever the checks and their order.
 pub fn steps_are_lawful()
     ensures packets { PassedPacketsAgree }
     ensures calls { PassedCallsAnswer }
     ensures tolerance { ToleranceStays }
-{}
+{
+    comparisons_are_lawful();
+}

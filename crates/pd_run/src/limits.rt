@@ -13,6 +13,21 @@ const LONGEST_TIME: u64 = 3_600_000_000;
 /// The greatest sequence, ack or SACK number.
 const HIGHEST_NUMBER: u32 = 2_147_483_647;
 
+/// The greatest window field.
+const WIDEST_FIELD: u32 = 65_535;
+
+/// The greatest MSS that an option can name, in octets.
+const GREATEST_MSS: u64 = 65_535;
+
+/// The greatest shift count that an option can name.
+const GREATEST_SHIFT: u64 = 255;
+
+/// The most options of a packet.
+const MOST_OPTIONS: usize = 16;
+
+/// The most blocks of a SACK option.
+const MOST_BLOCKS: usize = 4;
+
 /// The greatest count of one `write`, in octets.
 const LARGEST_WRITE: u64 = 262_144;
 
@@ -72,7 +87,7 @@ fn is_packet_over(packet: &Packet) -> bool
     packet.start > HIGHEST_NUMBER
         || packet.end > HIGHEST_NUMBER
         || is_some_over(HIGHEST_NUMBER, packet.ack)
-        || is_some_over(65_535, packet.win)
+        || is_some_over(WIDEST_FIELD, packet.win)
         || are_options_over(&packet.options)
 }
 
@@ -89,7 +104,7 @@ fn are_options_over(options: &Options) -> bool
     ensures { result ≡ are_options_over options.now }
 {
     match options {
-        Options::Listed(list) => list.len() > 16 || is_one_over(list.as_slice()),
+        Options::Listed(list) => list.len() > MOST_OPTIONS || is_one_over(list.as_slice()),
         Options::Absent => false,
         Options::Any => false,
     }
@@ -105,9 +120,9 @@ fn is_option_over(option: &PacketOption) -> bool
     ensures { result ≡ is_option_over option.now }
 {
     match option {
-        PacketOption::Mss(n) => *n > 65_535,
-        PacketOption::Wscale(n) => *n > 255,
-        PacketOption::Sack(blocks) => blocks.len() > 4 || is_edge_high(blocks.as_slice()),
+        PacketOption::Mss(n) => *n > GREATEST_MSS,
+        PacketOption::Wscale(n) => *n > GREATEST_SHIFT,
+        PacketOption::Sack(blocks) => blocks.len() > MOST_BLOCKS || is_edge_high(blocks.as_slice()),
         _ => false,
     }
 }

@@ -1,7 +1,7 @@
 //! The state of a run between two events.
 ghost use Rattle.std.specs.Prelude.{◌≡◌, ◌<◌, ◌^◌, false, None, Some, IfOk, OnErr, max, slice_get};
 ghost use Rattle.std.specs.List.{list_any};
-ghost use Rattle.pd_host.specs.declared.halts.Stop.TheVariants.{OutOfMemory};
+ghost use Rattle.pd_host.specs.declared.halts.Ending.TheVariants.{OutOfMemory};
 ghost use Rattle.pd_run.specs.Limits.{is_long, written_times, is_packet_over};
 ghost use Rattle.pd_run.specs.Times.{moment_of};
 ghost use Rattle.pd_run.specs.Run.{start_of};
@@ -10,7 +10,7 @@ ghost use Rattle.pd_run.specs.Step.{acts_at, acted, arrives, on_arrival, answers
 use crate::acting::{answer, arrive};
 use crate::limits::is_over_limit;
 use crate::shapes::is_run;
-use crate::stepping::{StepEnd, stopped};
+use crate::stepping::{StepEnd, end_by};
 use crate::times::{base_after, is_backwards, is_in_reach, moment_of, moments_of};
 use crate::verdicts::Verdict;
 use pd_host::Host;
@@ -70,8 +70,8 @@ impl RunState {
         ensures ends { IfOk result (λ end. Steps self.old event.now end self.new) }
         ensures memory { OnErr result (self.new.host.ended ≡ Some OutOfMemory) }
     {
-        if let Some(stop) = self.host.stopped() {
-            return stopped(stop, event.line);
+        if let Some(ending) = self.host.ended() {
+            return end_by(ending, event.line);
         }
         if is_over_limit(event) {
             return Ok(StepEnd::Stop(Verdict::Limit(event.line)));
@@ -122,7 +122,7 @@ impl RunState {
         let moment = self.acts_at(event);
         match arrive(&mut self.host, packet, moment) {
             Ok(()) => {}
-            Err(stop) => return stopped(stop, event.line),
+            Err(ending) => return end_by(ending, event.line),
         }
         self.pass(event);
         Ok(StepEnd::Go)
@@ -138,7 +138,7 @@ impl RunState {
         let moment = self.acts_at(event);
         let answer = match answer(&mut self.host, call, moment) {
             Ok(answer) => answer,
-            Err(stop) => return stopped(stop, event.line),
+            Err(ending) => return end_by(ending, event.line),
         };
         if let Some(kind) = check_call(call, &answer) {
             return Ok(StepEnd::Stop(Verdict::Fail(event.line, kind)));
@@ -156,7 +156,7 @@ impl RunState {
     {
         match self.wait(event)? {
             StepEnd::Go => Ok(self.take(event, packet)),
-            stop => Ok(stop),
+            end => Ok(end),
         }
     }
 
@@ -177,7 +177,7 @@ impl RunState {
             Some(at) if is_in_reach(moments, self.tolerance, at) => {
                 match self.host.advance(at) {
                     Ok(()) => {}
-                    Err(stop) => return stopped(stop, event.line),
+                    Err(ending) => return end_by(ending, event.line),
                 }
                 self.clock = at;
                 Ok(StepEnd::Go)

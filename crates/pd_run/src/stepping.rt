@@ -1,11 +1,11 @@
 //! Steps of a run, and who takes them.
 ghost use Rattle.std.specs.Prelude.{◌≡◌, ◌+◌, ◌-◌, ◌<◌, ◌^◌, ℕ, Some, IfOk, OnErr};
-ghost use Rattle.pd_host.specs.declared.halts.Stop.TheVariants.{OutOfMemory};
-ghost use Rattle.pd_run.specs.Step.{stopped_by, Steps};
+ghost use Rattle.pd_host.specs.declared.halts.Ending.TheVariants.{OutOfMemory};
+ghost use Rattle.pd_run.specs.Step.{ended_by, Steps};
 
 use crate::run_state::RunState;
 use crate::verdicts::Verdict;
-use pd_host::{Halt, Stop};
+use pd_host::{Ending, Halt};
 use pd_script::Event;
 use pd_settings::Settings;
 use std::alloc::AllocError;
@@ -20,13 +20,13 @@ pub enum StepEnd {
 }
 
 /// How a step ends at this line where the host has ended.
-pub(crate) fn stopped(stop: Stop, line: usize) -> Result<StepEnd, AllocError>
-    ensures { result ≡ stopped_by line stop }
+pub(crate) fn end_by(ending: Ending, line: usize) -> Result<StepEnd, AllocError>
+    ensures { result ≡ ended_by line ending }
 {
-    match stop {
-        Stop::Halted(Halt::Unsupported) => Ok(StepEnd::Stop(Verdict::Unsupported(line))),
-        Stop::Halted(Halt::Limit) => Ok(StepEnd::Stop(Verdict::Limit(line))),
-        Stop::OutOfMemory => Err(AllocError),
+    match ending {
+        Ending::Halted(Halt::Unsupported) => Ok(StepEnd::Stop(Verdict::Unsupported(line))),
+        Ending::Halted(Halt::Limit) => Ok(StepEnd::Stop(Verdict::Limit(line))),
+        Ending::OutOfMemory => Err(AllocError),
     }
 }
 

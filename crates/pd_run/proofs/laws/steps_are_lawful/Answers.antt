@@ -3,4 +3,8 @@ use Rattle.pd_run.proofs.Passed.{passed_packets_agree, passed_calls_answer, tole
 use Rattle.pd_run.proofs.laws.steps_are_lawful.Goals as goal
 
 pub returns : goal.returns
-returns c = record { packets = passed_packets_agree; calls = passed_calls_answer; tolerance = tolerance_stays }
+returns c = record {
+  packets = passed_packets_agree c.comparisons_are_lawful.ensures.packets;
+  calls = passed_calls_answer c.comparisons_are_lawful.ensures.calls;
+  tolerance = tolerance_stays;
+}

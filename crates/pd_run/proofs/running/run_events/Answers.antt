@@ -19,7 +19,7 @@ loop-event-preserved g c =
     drop_more c.args.events.now c.loop-event.event-index c.event-item.result c.loop-event-test.true
     ∙ ap (λ (e : Event). e ∷ rest) (sym c.event-item.is) in
     let next : IsWithin (3600000000 * c.loop-event.event-index + 3600000000) c.step.new.state =
-    step_within (3600000000 * c.loop-event.event-index) c.loop-event.state c.step.new.state c.event-item.result within told in
+    step_within c.arrivals_are_lawful.ensures.packets c.calls_are_lawful.ensures.outbox (3600000000 * c.loop-event.event-index) c.loop-event.state c.step.new.state c.event-item.result within told in
     let longer : 3600000000 * c.loop-event.event-index + 3600000000 ≡ 3600000000 * (c.loop-event.event-index + 1) = omega arith in
     let steps : stepped_from (drop c.loop-event.event-index c.args.events.now) c.loop-event.state ≡ 1 + stepped_from rest c.step.new.state =
     stepped_after (drop c.loop-event.event-index c.args.events.now) rest c.loop-event.state c.step.new.state c.event-item.result split told in
