@@ -12,7 +12,7 @@ pub enum Ruling {
 }
 
 /// An accepted call that changed a book. Jobs are named by their numbers, from 1.
-#[derive(Debug, Drop)]
+#[derive(Drop)]
 pub enum Act {
     Add(Name, Text),
     Edit(Name, LineEdit),

@@ -11,7 +11,7 @@ use std::alloc::Global;
 use std::marker::Model;
 
 /// What a job came to. `run_job` alone makes one: its verdict is the run of its text under its settings.
-#[derive(Debug, Drop)]
+#[derive(Drop)]
 pub struct Done {
     task: Task,
     verdict: Verdict,

@@ -7,7 +7,7 @@ use pd_text::{Name, Text};
 use std::marker::Model;
 
 /// A script's text to be run under settings, with the number that a book gave it.
-#[derive(Debug, Drop)]
+#[derive(Drop)]
 pub struct Job {
     task: Task,
 }

@@ -8,7 +8,7 @@ use std::marker::Model;
 
 /// The settings and a row for each script, in order of adding. Each verdict in it is the run of its row's
 /// text under these settings.
-#[derive(Debug, Drop)]
+#[derive(Drop)]
 pub struct Report {
     settings: Settings,
     rows: Vec<Row>,

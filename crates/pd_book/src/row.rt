@@ -3,7 +3,7 @@ use pd_run::Verdict;
 use pd_text::{Name, Text};
 
 /// A script in a report; `None` means that its verdict is pending.
-#[derive(Debug, Drop)]
+#[derive(Drop)]
 pub struct Row {
     pub name: Name,
     pub text: Text,

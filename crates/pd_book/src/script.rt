@@ -6,7 +6,7 @@ use pd_run::Verdict;
 use pd_text::Text;
 
 /// How a script stands since its last change.
-#[derive(Clone, Copy, Debug, PartialEq, Eq)]
+#[derive(Clone, Copy, PartialEq, Eq)]
 pub enum State {
     Pending,
     /// The job of this number runs.
@@ -15,7 +15,7 @@ pub enum State {
 }
 
 /// A script: its present text and how it stands.
-#[derive(Debug, Drop)]
+#[derive(Drop)]
 pub struct Script {
     pub text: Text,
     pub state: State,

@@ -6,7 +6,7 @@ use pd_text::{Name, Text};
 use std::alloc::AllocError;
 
 /// What a job is to run: the text of a script under the settings, both as at the job's start.
-#[derive(Debug, Drop)]
+#[derive(Drop)]
 pub struct Task {
     pub number: u64,
     pub name: Name,

@@ -1,7 +1,7 @@
 //! What the program's words choose.
 
 /// What the program's words choose.
-#[derive(Clone, Copy, Debug, PartialEq, Eq)]
+#[derive(Clone, Copy, PartialEq, Eq)]
 pub struct Options<'a> {
     /// A TOML text of settings.
     pub settings: &'a str,

@@ -15,7 +15,7 @@ use std::alloc::{AllocError, Global};
 use std::io::Read;
 
 /// A command with its lines; these are `None` where they alone are over the limits of a text.
-#[derive(Debug, Drop)]
+#[derive(Drop)]
 pub enum Command {
     Add(Name, Option<Lines>),
     Edit(Name, Option<LineEdit>),

@@ -76,7 +76,7 @@ fn kind_word(kind: Kind) -> &'static [u8]
 }
 
 /// A class of rows, which the totals count.
-#[derive(Clone, Copy, Debug, PartialEq, Eq)]
+#[derive(Clone, Copy, PartialEq, Eq)]
 pub enum Class {
     Pass,
     Fail,

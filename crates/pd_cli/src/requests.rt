@@ -13,7 +13,7 @@ use std::marker::Model;
 const MAX_COMMAND: usize = 256;
 
 /// A word of a command, as written.
-#[derive(Debug, Drop)]
+#[derive(Drop)]
 pub struct Word {
     octets: Vec<u8>,
 }
@@ -44,7 +44,7 @@ impl Word {
 }
 
 /// What a line asks for. A count is the number of lines that follow.
-#[derive(Debug, Drop)]
+#[derive(Drop)]
 pub enum Request {
     /// It has no words.
     Nothing,

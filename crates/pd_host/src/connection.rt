@@ -22,7 +22,7 @@ const DEFAULT_MSS: u16 = 536;
 const MOST_SHIFT: u8 = 14;
 
 /// A connection that a SYN has begun.
-#[derive(Debug, Drop)]
+#[derive(Drop)]
 pub struct Connection {
     announced: u16,
     smss: u16,

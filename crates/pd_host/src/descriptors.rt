@@ -1,7 +1,7 @@
 //! The open descriptors.
 
 /// An open descriptor.
-#[derive(Clone, Copy, Debug, PartialEq, Eq)]
+#[derive(Clone, Copy, PartialEq, Eq)]
 pub enum Descriptor {
     /// Descriptor 3, which listens or may come to listen.
     Listening,

@@ -8,7 +8,7 @@ use crate::outbox::Outbox;
 use std::alloc::Global;
 
 /// Descriptor 3, the connection once it was begun, and the packets that were put out and not yet taken.
-#[derive(Debug, Drop)]
+#[derive(Drop)]
 pub struct Endpoint {
     pub listener: Listener,
     pub connection: Option<Connection>,

@@ -20,7 +20,7 @@ use std::marker::Model;
 /// A TCP sender in virtual time. Moments are microseconds since the start of the run.
 ///
 /// A host that has halted, or found no memory, answers that to each later input.
-#[derive(Debug, Drop)]
+#[derive(Drop)]
 pub struct Host {
     state: State,
     ended: Option<Ending>,

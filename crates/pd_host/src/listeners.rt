@@ -4,7 +4,7 @@ ghost use Rattle.pd_host.specs.Calls.{is_listener_open};
 ghost use Rattle.pd_host.specs.Handshake.{is_listening};
 
 /// How far descriptor 3 has come.
-#[derive(Clone, Copy, Debug, PartialEq, Eq)]
+#[derive(Clone, Copy, PartialEq, Eq)]
 pub enum Listener {
     /// No `socket` was called.
     Absent,

@@ -8,7 +8,7 @@ use pd_seg::SegOption;
 const LEAST_PEER_MSS: u16 = 64;
 
 /// What the options of a SYN offer.
-#[derive(Clone, Copy, Debug, PartialEq, Eq)]
+#[derive(Clone, Copy, PartialEq, Eq)]
 pub struct Offers {
     /// The peer's MSS in octets, if it names one.
     pub mss: Option<u16>,

@@ -14,7 +14,7 @@ use std::marker::Model;
 const MOST_PACKETS: usize = 1_024;
 
 /// The packets that were put out and not yet taken, the oldest first: at most 1,024.
-#[derive(Debug, Drop)]
+#[derive(Drop)]
 pub struct Outbox {
     packets: VecDeque<Sent>,
 }

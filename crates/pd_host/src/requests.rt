@@ -5,7 +5,7 @@ ghost use Rattle.pd_host.specs.Requests.{is_tcp, is_tcp_level, socket_request, n
 use pd_script::{Argument, Call, Constant, Function};
 
 /// What a call asks of the sender.
-#[derive(Clone, Copy, Debug, PartialEq, Eq)]
+#[derive(Clone, Copy, PartialEq, Eq)]
 pub enum Request {
     Socket,
     /// An operation on the descriptor of this number.
@@ -13,7 +13,7 @@ pub enum Request {
 }
 
 /// What is asked of a descriptor.
-#[derive(Clone, Copy, Debug, PartialEq, Eq)]
+#[derive(Clone, Copy, PartialEq, Eq)]
 pub enum Operation {
     Bind,
     Listen,

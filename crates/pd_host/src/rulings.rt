@@ -1,7 +1,7 @@
 //! What becomes of a segment that arrives on a connection.
 
 /// What becomes of a segment that doesn't pass all checks.
-#[derive(Clone, Copy, Debug, PartialEq, Eq)]
+#[derive(Clone, Copy, PartialEq, Eq)]
 pub enum Ruling {
     /// It isn't run.
     NotRun,

@@ -1,7 +1,7 @@
 //! The scaling of windows.
 
 /// By how many bits windows are shifted, each at most 14 (RFC 7323, section 2.2).
-#[derive(Clone, Copy, Debug, PartialEq, Eq)]
+#[derive(Clone, Copy, PartialEq, Eq)]
 pub struct Scaling {
     /// The windows that we send.
     pub own: u8,

@@ -5,7 +5,7 @@ use crate::use_set::UseSet;
 use pd_settings::Settings;
 
 /// The endpoint, and beside it the settings and which of them were consulted so far.
-#[derive(Debug, Drop)]
+#[derive(Drop)]
 pub struct State {
     pub settings: Settings,
     pub uses: UseSet,

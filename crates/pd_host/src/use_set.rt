@@ -4,7 +4,7 @@ ghost use Rattle.pd_host.specs.Sender.{no_uses};
 ghost use Rattle.pd_host.specs.Handshake.{syn_uses, establishment_uses};
 
 /// Whether each of the settings was consulted so far.
-#[derive(Clone, Copy, Debug, PartialEq, Eq)]
+#[derive(Clone, Copy, PartialEq, Eq)]
 pub struct UseSet {
     pub mss: bool,
     pub sack: bool,

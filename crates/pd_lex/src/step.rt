@@ -11,7 +11,7 @@ use crate::token::{Place, TokenKind};
 use pd_text::Lines;
 
 /// What stands at a place, and the place behind it.
-#[derive(Clone, Copy, Debug, PartialEq, Eq)]
+#[derive(Clone, Copy, PartialEq, Eq)]
 pub enum Step {
     /// The end of the text.
     Nothing,

@@ -19,7 +19,7 @@ const COMPARED: [Kind; 6] = [
 ];
 
 /// An outbound packet of a script, and when it may be sent.
-#[derive(Clone, Copy, Debug)]
+#[derive(Clone, Copy)]
 pub struct Expect<'a> {
     pub packet: &'a Packet,
     /// The first and the last moment, in microseconds since the start of the run; None for `*`.

@@ -24,7 +24,7 @@ use std::marker::Model;
 /// tolerance.
 ///
 /// A run that has found no memory answers that to each further step.
-#[derive(Debug, Drop)]
+#[derive(Drop)]
 pub struct RunState {
     host: Host,
     clock: u64,

@@ -12,7 +12,7 @@ use std::alloc::AllocError;
 use std::marker::Model;
 
 /// How a step ended.
-#[derive(Clone, Copy, Debug, PartialEq, Eq)]
+#[derive(Clone, Copy, PartialEq, Eq)]
 pub enum StepEnd {
     /// The run goes on.
     Go,
@@ -54,7 +54,7 @@ pub trait Stepper {
 }
 
 /// The stepper of the product, seen as the number of steps that it took.
-#[derive(Debug, Drop)]
+#[derive(Drop)]
 pub struct Plain {
     steps: u64,
 }

@@ -15,7 +15,7 @@ use std::marker::Model;
 pub const MAX_DEPTH: usize = 16;
 
 /// A pair of brackets.
-#[derive(Clone, Copy, Debug, Default, PartialEq, Eq)]
+#[derive(Clone, Copy, Default, PartialEq, Eq)]
 pub enum Bracket {
     #[default]
     Round,

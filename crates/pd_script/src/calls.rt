@@ -5,7 +5,7 @@ use std::alloc::{AllocError, Global};
 use std::marker::Model;
 
 /// A system call with its arguments and the result that the script expects.
-#[derive(Debug, Drop)]
+#[derive(Drop)]
 pub struct Call {
     pub function: Function,
     pub arguments: Arguments,
@@ -28,7 +28,7 @@ pub enum Function {
 }
 
 /// The arguments of a call, in order.
-#[derive(Debug, Drop)]
+#[derive(Drop)]
 pub struct Arguments {
     arguments: Vec<Argument>,
 }
@@ -43,7 +43,7 @@ impl Model for Arguments {
 }
 
 /// An argument of a call.
-#[derive(Clone, Copy, Debug, PartialEq, Eq)]
+#[derive(Clone, Copy, PartialEq, Eq)]
 pub enum Argument {
     /// A whole number in digits; one above the greatest `u64` stands as that.
     Int(u64),
@@ -56,7 +56,7 @@ pub enum Argument {
 }
 
 /// A word that stands as an argument.
-#[derive(Clone, Copy, Debug, PartialEq, Eq)]
+#[derive(Clone, Copy, PartialEq, Eq)]
 pub enum Constant {
     SockStream,
     IpprotoTcp,

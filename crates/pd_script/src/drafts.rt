@@ -10,7 +10,7 @@ use pd_lex::Token;
 use pd_text::Lines;
 
 /// The tokens of an argument so far.
-#[derive(Clone, Copy, Debug, PartialEq, Eq)]
+#[derive(Clone, Copy, PartialEq, Eq)]
 pub enum Draft {
     /// None.
     Empty,

@@ -6,7 +6,7 @@ use std::alloc::{AllocError, Global};
 use std::marker::Model;
 
 /// A TCP segment as written. Sequence numbers are relative, the SYN at 0.
-#[derive(Debug, Drop)]
+#[derive(Drop)]
 pub struct Packet {
     pub flags: Flags,
     /// The number of the first octet of data.
@@ -23,7 +23,7 @@ pub struct Packet {
 }
 
 /// The flags of a packet.
-#[derive(Clone, Copy, Debug, PartialEq, Eq)]
+#[derive(Clone, Copy, PartialEq, Eq)]
 pub struct Flags {
     /// `S`.
     pub syn: bool,
@@ -80,7 +80,7 @@ impl Flags {
 }
 
 /// The TCP options of a packet.
-#[derive(Debug, Drop)]
+#[derive(Drop)]
 pub enum Options {
     /// No angle brackets are written.
     Absent,
@@ -91,7 +91,7 @@ pub enum Options {
 }
 
 /// TCP options in order.
-#[derive(Debug, Drop)]
+#[derive(Drop)]
 pub struct OptionList {
     options: Vec<PacketOption>,
 }
@@ -106,7 +106,7 @@ impl Model for OptionList {
 }
 
 /// A TCP option with its numbers as written, each at most 4,294,967,295.
-#[derive(Debug, Drop)]
+#[derive(Drop)]
 pub enum PacketOption {
     /// `mss`, in octets.
     Mss(u64),
@@ -125,7 +125,7 @@ pub enum PacketOption {
 }
 
 /// The blocks of a `sack` option, in order.
-#[derive(Debug, Drop)]
+#[derive(Drop)]
 pub struct Blocks {
     blocks: Vec<Block>,
 }
@@ -140,7 +140,7 @@ impl Model for Blocks {
 }
 
 /// A run of octets: the number of its first, and the number after its last.
-#[derive(Clone, Copy, Debug, PartialEq, Eq)]
+#[derive(Clone, Copy, PartialEq, Eq)]
 pub struct Block {
     pub left: u64,
     pub right: u64,

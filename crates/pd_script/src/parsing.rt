@@ -3,7 +3,7 @@ use crate::script_events::Events;
 use crate::script_header::Header;
 
 /// What a text was read as.
-#[derive(Debug, Drop)]
+#[derive(Drop)]
 pub struct Parsed {
     pub header: Header,
     pub events: Events,

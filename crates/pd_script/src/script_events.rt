@@ -8,7 +8,7 @@ use std::alloc::{AllocError, Global};
 use std::marker::Model;
 
 /// An event: what happens, and when.
-#[derive(Debug, Drop)]
+#[derive(Drop)]
 pub struct Event {
     /// The line of its first token, counted from 1.
     pub line: usize,
@@ -19,7 +19,7 @@ pub struct Event {
 }
 
 /// What happens at an event.
-#[derive(Debug, Drop)]
+#[derive(Drop)]
 pub enum Action {
     /// `<`: a packet arrives.
     Inbound(Packet),
@@ -34,7 +34,7 @@ pub enum Action {
 }
 
 /// Events in order.
-#[derive(Debug, Drop)]
+#[derive(Drop)]
 pub struct Events {
     events: Vec<Event>,
 }

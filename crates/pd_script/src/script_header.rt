@@ -6,7 +6,7 @@ use std::alloc::{AllocError, Global};
 use std::marker::Model;
 
 /// An option or a command that stands before a script's events.
-#[derive(Clone, Copy, Debug, PartialEq, Eq)]
+#[derive(Clone, Copy, PartialEq, Eq)]
 pub struct HeaderItem {
     /// The line of its first octet, counted from 1.
     pub line: usize,
@@ -25,7 +25,7 @@ pub enum HeaderKind {
 }
 
 /// The items of a header, in order.
-#[derive(Debug, Drop)]
+#[derive(Drop)]
 pub struct Header {
     items: Vec<HeaderItem>,
 }

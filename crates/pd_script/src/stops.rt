@@ -2,7 +2,7 @@
 use std::alloc::AllocError;
 
 /// Why reading stops before the end of what is read.
-#[derive(Clone, Copy, Debug, PartialEq, Eq)]
+#[derive(Clone, Copy, PartialEq, Eq)]
 pub enum Stop {
     /// No script goes on with the next token.
     Syntax,

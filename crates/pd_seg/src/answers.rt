@@ -2,7 +2,7 @@
 ghost use Rattle.std.specs.Prelude.{◌≡◌, ◌↔◌, IsTrue};
 
 /// What a call answers.
-#[derive(Clone, Copy, Debug, PartialEq, Eq)]
+#[derive(Clone, Copy, PartialEq, Eq)]
 pub enum Answer {
     /// A number from 0 on: a descriptor, a count of octets, or 0 for a call that was done.
     Number(u32),
@@ -11,7 +11,7 @@ pub enum Answer {
 }
 
 /// The errors that a call answers, by their names in POSIX.
-#[derive(Clone, Copy, Debug, PartialEq, Eq)]
+#[derive(Clone, Copy, PartialEq, Eq)]
 pub enum Errno {
     /// The descriptor isn't open.
     Ebadf,

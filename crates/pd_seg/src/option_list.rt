@@ -6,7 +6,7 @@ use std::alloc::{AllocError, Global};
 use std::marker::Model;
 
 /// A TCP option.
-#[derive(Debug, Drop)]
+#[derive(Drop)]
 pub enum SegOption {
     /// Maximum segment size, in octets (RFC 9293, section 3.7.1).
     Mss(u16),
@@ -60,7 +60,7 @@ impl SegOption {
 }
 
 /// The options of a segment in order.
-#[derive(Debug, Drop)]
+#[derive(Drop)]
 pub struct SegOptions {
     options: Vec<SegOption>,
 }

@@ -5,7 +5,7 @@ use std::alloc::{AllocError, Global};
 use std::marker::Model;
 
 /// The octets from `start` up to `end`, which isn't one of them.
-#[derive(Clone, Copy, Debug, PartialEq, Eq)]
+#[derive(Clone, Copy, PartialEq, Eq)]
 pub struct Span {
     pub start: u32,
     pub end: u32,
@@ -21,7 +21,7 @@ impl Span {
 }
 
 /// The blocks of a SACK option in order (RFC 2018, section 3).
-#[derive(Debug, Drop)]
+#[derive(Drop)]
 pub struct SackBlocks {
     blocks: Vec<Span>,
 }

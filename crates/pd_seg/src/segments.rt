@@ -6,7 +6,7 @@ use crate::option_list::SegOptions;
 use std::alloc::AllocError;
 
 /// A TCP segment. Sequence numbers are relative, both initial ones at 0.
-#[derive(Debug, Drop)]
+#[derive(Drop)]
 pub struct Segment {
     pub flags: Flags,
     /// The number of the first octet of data.
@@ -21,7 +21,7 @@ pub struct Segment {
 }
 
 /// A segment that was put out, and when.
-#[derive(Debug, Drop)]
+#[derive(Drop)]
 pub struct Sent {
     pub segment: Segment,
     /// Microseconds since the start of the run.

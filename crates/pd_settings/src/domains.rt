@@ -4,7 +4,7 @@ ghost use Rattle.pd_settings.specs.Keys.{Takes};
 ghost use Rattle.pd_settings.specs.declared.values.Value.TheVariants.{Number};
 
 /// The values that a setting takes.
-#[derive(Clone, Copy, Debug, PartialEq, Eq)]
+#[derive(Clone, Copy, PartialEq, Eq)]
 pub enum Domain {
     /// The whole numbers from the first up to the second, both included.
     Numbers(u64, u64),

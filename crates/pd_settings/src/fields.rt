@@ -10,7 +10,7 @@ use crate::values::Value;
 use toml::Table;
 
 /// The settings of a run, each in its range.
-#[derive(Clone, Copy, Debug, PartialEq, Eq)]
+#[derive(Clone, Copy, PartialEq, Eq)]
 pub struct Settings {
     /// The maximum segment size that is announced, in octets (RFC 9293, section 3.7.1): 64 to 65,495.
     pub mss: u16,

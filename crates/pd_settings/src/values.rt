@@ -4,7 +4,7 @@ ghost use Rattle.pd_settings.specs.Table.{value_of};
 ghost use Rattle.toml.specs.View.{view};
 
 /// A value for a setting, as written.
-#[derive(Clone, Copy, Debug, PartialEq, Eq)]
+#[derive(Clone, Copy, PartialEq, Eq)]
 pub enum Value {
     /// A whole number.
     Number(u64),

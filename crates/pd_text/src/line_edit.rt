@@ -5,7 +5,7 @@ use crate::line_list::LineList;
 use std::alloc::AllocError;
 
 /// An edit: removes `remove` lines beginning at line `from`, counted from 1, and puts `insert` there.
-#[derive(Debug, Drop)]
+#[derive(Drop)]
 pub struct LineEdit {
     pub from: usize,
     pub remove: usize,

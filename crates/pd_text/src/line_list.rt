@@ -6,7 +6,7 @@ use std::alloc::AllocError;
 use std::marker::Model;
 
 /// A list of lines, each its octets without the newline.
-#[derive(Debug, Drop)]
+#[derive(Drop)]
 pub struct LineList {
     lines: Vec<Vec<u8>>,
 }

@@ -10,7 +10,7 @@ pub const MAX_LINES: usize = 4_096;
 pub const MAX_OCTETS: usize = 65_536;
 
 /// How many lines and octets a text may still get.
-#[derive(Clone, Copy, Debug, PartialEq, Eq)]
+#[derive(Clone, Copy, PartialEq, Eq)]
 pub struct Room {
     pub lines: usize,
     pub octets: usize,

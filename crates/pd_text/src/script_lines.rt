@@ -10,7 +10,7 @@ use crate::room::fits;
 use std::marker::Model;
 
 /// The text of a script: at most 4,096 lines and 65,536 octets, no line with a newline in it.
-#[derive(Debug, Drop)]
+#[derive(Drop)]
 pub struct Lines {
     lines: Vec<Vec<u8>>,
 }

@@ -8,7 +8,7 @@ use std::hash::{Hash, Hasher};
 use std::marker::Model;
 
 /// The name of a script, or what was given as one: any octets.
-#[derive(Debug, Drop)]
+#[derive(Drop)]
 pub struct Name {
     octets: Vec<u8>,
 }

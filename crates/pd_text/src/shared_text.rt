@@ -7,7 +7,7 @@ use std::marker::Model;
 use std::sync::Arc;
 
 /// A text that is held once, however many owners keep it.
-#[derive(Debug, Drop)]
+#[derive(Drop)]
 pub struct Text {
     lines: Arc<Lines>,
 }
