@@ -2,8 +2,8 @@
 # Refuses each allocation in turn, one a run, the numbers going up until a run meets no refusal:
 #   - of the built program, for each input of examples/ and for those named on the command line. It says so by status 2
 #     and a fault, and what it wrote is a prefix of what it writes with memory; or the refusal made no difference.
-#   - of the crates' built tests (`rt test` leaves them in out/) of the modules `memory`, which let a first want of
-#     memory pass and make the call again.
+#   - of the crates' built tests (`rt test` leaves them in out/) of the modules `memory`, and of the check `memory` of the
+#     program pd_streams (`rt run` leaves it in out/), which let a first want of memory pass and make the call again.
 # Outside the gate: needs a C compiler.
 #
 #   tools/fail_alloc.sh [INPUT..]
@@ -35,20 +35,23 @@ is_prefix() { # FILE OF: the octets of FILE begin OF
     cmp -s -n "$(wc -c <"$1")" "$1" "$2"
 }
 
-try_program() {
+try_program() { # NAME COMMAND..: NAME says what is run
+    name=$1
+    shift
+    "$@" <"$input" >"$work/whole" 2>"$work/error" || true
     n=1
-    while refusing "$n" "$program"; do
+    while refusing "$n" "$@"; do
         if [ "$status" -ge 128 ]; then
-            complain "$input: allocation $n: ended by a signal ($status)"
+            complain "$name: allocation $n: ended by a signal ($status)"
         elif [ "$status" -eq 2 ] && grep -q '^pdregress: \|memory' "$work/error"; then
-            is_prefix "$work/out" "$work/whole" || complain "$input: allocation $n: no prefix was written"
+            is_prefix "$work/out" "$work/whole" || complain "$name: allocation $n: no prefix was written"
         elif ! cmp -s "$work/out" "$work/whole"; then
-            complain "$input: allocation $n: other output, status $status: $(cat "$work/error")"
+            complain "$name: allocation $n: other output, status $status: $(cat "$work/error")"
         fi
         n=$((n + 1))
     done
-    cmp -s "$work/out" "$work/whole" || complain "$input: other output with memory"
-    echo "$input: $((n - 1)) allocations refused, one a run"
+    cmp -s "$work/out" "$work/whole" || complain "$name: other output with memory"
+    echo "$name: $((n - 1)) allocations refused, one a run"
 }
 
 try_test() { # TESTS NAME
@@ -63,10 +66,16 @@ try_test() { # TESTS NAME
 
 [ $# -gt 0 ] || set -- "$top"/examples/*.txt
 for input in "$@"; do
-    "$program" <"$input" >"$work/whole" 2>"$work/error" || true
-    try_program
+    try_program "$input" "$program"
 done
 input=/dev/null
+streams=$top/crates/pd_streams/out/pd_streams
+if [ -x "$streams" ]; then
+    try_program "pd_streams memory" "$streams" memory
+    grep -q '^memory: 1 runs, 0 wrong$' "$work/whole" || complain "pd_streams memory: fails with memory"
+else
+    complain "pd_streams memory: not built, so not tried"
+fi
 for tests in "$top"/crates/*/out/*_tests; do
     [ -x "$tests" ] || continue
     for name in $("$tests" --list | grep -o '^memory::[a-z0-9_]*'); do
