@@ -2,8 +2,8 @@
 # Refuses each allocation in turn, one a run, the numbers going up until a run meets no refusal:
 #   - of the built program, for each input of examples/ and for those named on the command line. It says so by status 2
 #     and a fault, and what it wrote is a prefix of what it writes with memory; or the refusal made no difference.
-#   - of the crates' built tests (`rt test` leaves them in out/) of the modules `memory`, and of the check `memory` of the
-#     program pd_streams (`rt run` leaves it in out/), which let a first want of memory pass and make the call again.
+#   - of the built programs pd_memory_* and of the check `memory` of pd_streams (`rt run` leaves them in out/), which let
+#     a first want of memory pass and make the call again.
 # Outside the gate: needs a C compiler.
 #
 #   tools/fail_alloc.sh [INPUT..]
@@ -54,14 +54,16 @@ try_program() { # NAME COMMAND..: NAME says what is run
     echo "$name: $((n - 1)) allocations refused, one a run"
 }
 
-try_test() { # TESTS NAME
+try_test() { # NAME COMMAND..
+    name=$1
+    shift
     n=1
-    while refusing "$n" "$1" "$2"; do
-        [ "$status" -eq 0 ] || complain "$2: allocation $n: status $status: $(tail -n 3 "$work/out" "$work/error")"
+    while refusing "$n" "$@"; do
+        [ "$status" -eq 0 ] || complain "$name: allocation $n: status $status: $(tail -n 3 "$work/out" "$work/error")"
         n=$((n + 1))
     done
-    [ "$status" -eq 0 ] || complain "$2: fails with memory"
-    echo "$2: $((n - 1)) allocations refused, one a run"
+    [ "$status" -eq 0 ] || complain "$name: fails with memory"
+    echo "$name: $((n - 1)) allocations refused, one a run"
 }
 
 [ $# -gt 0 ] || set -- "$top"/examples/*.txt
@@ -76,10 +78,8 @@ if [ -x "$streams" ]; then
 else
     complain "pd_streams memory: not built, so not tried"
 fi
-for tests in "$top"/crates/*/out/*_tests; do
-    [ -x "$tests" ] || continue
-    for name in $("$tests" --list | grep -o '^memory::[a-z0-9_]*'); do
-        try_test "$tests" "$name"
-    done
+for made in "$top"/crates/pd_memory_*/out/pd_memory_*; do
+    [ -f "$made" ] && [ -x "$made" ] || continue
+    try_test "$(basename "$made")" "$made"
 done
 exit $bad

@@ -1,12 +1,12 @@
-//! Rows of stories: a call and its answer, and the words of a call.
-use crate::making::{FAILS, LISTEN, edit};
+//! The words of a call.
+use crate::faults::StoryFault;
+use crate::making::edit;
 use pd_settings::Value;
 use pd_text::LineEdit;
 use std::alloc::{AllocError, Global};
 use std::mem;
-use std::test::Fail;
 
-/// The words of a call, parted by single spaces.
+/// The words of a call that aren't read yet, parted by single blanks.
 #[derive(Drop)]
 pub struct Words<'a> {
     rest: &'a str,
@@ -15,6 +15,11 @@ pub struct Words<'a> {
 impl<'a> Words<'a> {
     pub fn new(call: &'a str) -> Words<'a> {
         Words { rest: call }
+    }
+
+    /// All words that are left.
+    pub fn rest(self) -> &'a str {
+        self.rest
     }
 
     /// The next word; empty where there is none.
@@ -29,32 +34,27 @@ impl<'a> Words<'a> {
     }
 
     /// The next word as a number.
-    pub fn number(&mut self) -> Result<u64, Fail> {
-        Ok(self.word().parse::<u64>()?)
+    pub fn number(&mut self) -> Result<u64, StoryFault> {
+        match self.word().parse::<u64>() {
+            Ok(number) => Ok(number),
+            Err(_) => Err(StoryFault::NotANumber),
+        }
     }
 
     /// The next word as a number of lines or of jobs.
-    pub fn size(&mut self) -> Result<usize, Fail> {
-        Ok(self.word().parse::<usize>()?)
+    pub fn size(&mut self) -> Result<usize, StoryFault> {
+        match self.word().parse::<usize>() {
+            Ok(size) => Ok(size),
+            Err(_) => Err(StoryFault::NotANumber),
+        }
     }
 
-    /// The next word as a script's name; two words stand for what isn't one word.
+    /// The next word as a script's name: `(nothing)` is the empty one, `(spaced)` one with a blank in it.
     pub fn script(&mut self) -> &'a [u8] {
         match self.word() {
             "(nothing)" => b"",
             "(spaced)" => b"a b",
             word => word.as_bytes(),
-        }
-    }
-
-    /// The text that the next word names.
-    pub fn text(&mut self) -> Result<&'static [u8], Fail> {
-        match self.word() {
-            "listen" => Ok(LISTEN),
-            "fails" => Ok(FAILS),
-            "comma" => Ok(b","),
-            "empty" => Ok(b""),
-            _ => Err("no such text")?,
         }
     }
 
@@ -71,24 +71,21 @@ impl<'a> Words<'a> {
     }
 
     /// The other words as an edit: its first line, how many lines go, and the line that comes, if there is one.
-    pub fn edit(&mut self, alloc: Global) -> Result<LineEdit, Fail> {
-        let (from, remove) = (self.size()?, self.size()?);
-        let line = self.line(alloc)?;
-        let line = line.as_ref().map(|line| line.as_slice());
-        Ok(edit(alloc, from, remove, line)?)
-    }
-
-    /// The other words as a line; none where there are none, `(empty)` is the empty line and `(blanks) N` one of N
-    /// blanks.
-    fn line(&mut self, alloc: Global) -> Result<Option<Vec<u8>>, Fail> {
-        match self.rest {
-            "" => Ok(None),
-            "(empty)" => Ok(Some(Vec::new(alloc))),
+    pub fn edit(mut self, alloc: Global) -> Result<LineEdit, StoryFault> {
+        let from = self.size()?;
+        let remove = self.size()?;
+        let made = match self.rest {
+            "" => edit(alloc, from, remove, None)?,
+            "(empty)" => edit(alloc, from, remove, Some(b""))?,
             rest => match rest.strip_prefix("(blanks) ") {
-                Some(count) => Ok(Some(blanks(alloc, count.parse::<usize>()?)?)),
-                None => Ok(Some(rest.as_bytes().to_vec(alloc)?)),
+                Some(count) => {
+                    let line = blanks(alloc, Words::new(count).size()?)?;
+                    edit(alloc, from, remove, Some(line.as_slice()))?
+                }
+                None => edit(alloc, from, remove, Some(rest.as_bytes()))?,
             },
-        }
+        };
+        Ok(made)
     }
 }
 

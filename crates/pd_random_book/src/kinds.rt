@@ -1,0 +1,58 @@
+//! Texts of a few kinds of lines, and what they come to.
+use pd_run::{Kind, Verdict};
+
+/// The lines that texts are made of; a kind is a number of one of them.
+const LINES: [&[u8]; 6] = [
+    b"+0 bind(9, ..., ...) = -1 EBADF",
+    b"// nothing",
+    b"+0 bind(9, ..., ...) = 0",
+    b"+0 f() = 0",
+    b"+3601 f() = 0",
+    b",",
+];
+
+/// The line of a kind.
+pub fn line(kind: u8) -> &'static [u8] {
+    match LINES.get(usize::from(kind)) {
+        Some(line) => *line,
+        None => b"",
+    }
+}
+
+/// Where a line of a kind stops a run.
+fn stop(kind: u8, line: usize) -> Option<Verdict> {
+    match kind {
+        0 | 1 => None,
+        2 => Some(Verdict::Fail(line, Kind::Result)),
+        3 => Some(Verdict::Unsupported(line)),
+        4 => Some(Verdict::Limit(line)),
+        _ => Some(Verdict::Syntax(line)),
+    }
+}
+
+/// The line of the first line of a kind, counted from 1.
+fn first_of(kinds: &[u8], wanted: u8) -> Option<usize> {
+    for (i, kind) in kinds.iter().enumerate() {
+        if *kind == wanted {
+            return Some(i.wrapping_add(1));
+        }
+    }
+    None
+}
+
+/// What a text of lines of these kinds comes to.
+pub fn verdict_of(kinds: &[u8]) -> Verdict {
+    if let Some(line) = first_of(kinds, 5) {
+        return Verdict::Syntax(line);
+    }
+    let mut events = 0usize;
+    for (i, kind) in kinds.iter().enumerate() {
+        if let Some(verdict) = stop(*kind, i.wrapping_add(1)) {
+            return verdict;
+        }
+        if *kind == 0 {
+            events = events.wrapping_add(1);
+        }
+    }
+    Verdict::Pass(events)
+}
