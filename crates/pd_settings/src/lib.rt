@@ -5,8 +5,6 @@ mod domains;
 mod faults;
 mod fields;
 mod keys;
-#[cfg(test)]
-mod tests;
 mod values;
 
 pub use domains::Domain;
