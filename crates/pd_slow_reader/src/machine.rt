@@ -1,17 +1,17 @@
 //! A reader that keeps all ways to read a script at once, token by token.
-use crate::grammar::{Part, Ways};
+use crate::grammar::{Name, Part, RULES};
 use crate::items::{Item, Token, items};
-use crate::making::octets_of;
 use crate::measures::{MAX_EVENTS, Measures};
+use crate::stops::Stop;
+use crate::texts::octets_of;
 use pd_text::Lines;
 use std::alloc::{AllocError, Global};
-use std::test::Fail;
 
 /// More parts are never written out before one token.
 const MAX_PARTS: usize = 1_000;
 
 /// What a text is read as, by the lines in which its parts begin.
-#[derive(Debug, PartialEq, Eq, Drop)]
+#[derive(Drop)]
 pub struct Reading {
     /// The line at which no script goes on.
     pub fault: Option<usize>,
@@ -22,12 +22,18 @@ pub struct Reading {
 }
 
 impl Reading {
-    fn new(alloc: Global) -> Reading {
+    pub fn new(alloc: Global) -> Reading {
         Reading {
             fault: None,
             header: Vec::new(alloc),
             events: Vec::new(alloc),
         }
+    }
+
+    pub fn is_same(&self, other: &Reading) -> bool {
+        self.fault == other.fault
+            && self.header.as_slice() == other.header.as_slice()
+            && self.events.as_slice() == other.events.as_slice()
     }
 
     /// Adds a token's line, if it is of the header or the first of an event.
@@ -66,7 +72,7 @@ struct State {
 impl State {
     fn first(alloc: Global) -> Result<State, AllocError> {
         let mut pending = Vec::new(alloc);
-        pending.push(Part::Script)?;
+        pending.push(Part::Of(Name::Script))?;
         Ok(State {
             pending,
             measures: Measures::new(),
@@ -85,9 +91,24 @@ impl State {
         })
     }
 
+    /// The same way behind this token, if it may come next.
+    fn behind(self, token: Token) -> Option<State> {
+        let State {
+            mut pending,
+            measures,
+        } = self;
+        match pending.pop()? {
+            Part::One(test) => {
+                let measures = measures.behind(test, token)?;
+                Some(State { pending, measures })
+            }
+            Part::Of(_) => None,
+        }
+    }
+
     /// Counts an event that begins, if it may begin.
-    fn count(&mut self, part: Part) -> bool {
-        if !matches!(part, Part::Event) {
+    fn count(&mut self, name: Name) -> bool {
+        if name != Name::Event {
             return true;
         }
         self.measures.events = self.measures.events.saturating_add(1);
@@ -96,32 +117,45 @@ impl State {
 }
 
 /// The same ways to read, each with one token to come next, or nothing more.
-fn written_out(alloc: Global, states: Vec<State>) -> Result<Vec<State>, Fail> {
+fn written_out(alloc: Global, states: Vec<State>) -> Result<Vec<State>, Stop> {
     let mut left = states;
     let mut ready = Vec::new(alloc);
     for _part in 0..MAX_PARTS {
-        let Some(mut state) = left.pop() else {
+        let Some(state) = left.pop() else {
             return Ok(ready);
         };
-        let Some(part) = state.pending.pop() else {
-            ready.push(state)?;
-            continue;
-        };
-        match part.ways() {
-            None => {
-                state.pending.push(part)?;
-                ready.push(state)?;
-            }
-            Some(ways) if state.count(part) => push_ways(&mut left, &state, ways)?,
-            Some(_) => {}
-        }
+        write_out_next(&mut left, &mut ready, state)?;
     }
-    Err("too many parts before a token")?
+    Err(Stop::TooManyParts)
 }
 
-fn push_ways(states: &mut Vec<State>, state: &State, ways: Ways) -> Result<(), AllocError> {
-    for way in ways {
-        states.push(state.with(way)?)?;
+/// Writes out the next part of a way to read; one that stands before a token is ready.
+fn write_out_next(
+    left: &mut Vec<State>,
+    ready: &mut Vec<State>,
+    state: State,
+) -> Result<(), AllocError> {
+    let mut state = state;
+    match state.pending.pop() {
+        None => ready.push(state)?,
+        Some(Part::Of(name)) => {
+            if state.count(name) {
+                push_ways(left, &state, name)?;
+            }
+        }
+        Some(test) => {
+            state.pending.push(test)?;
+            ready.push(state)?;
+        }
+    }
+    Ok(())
+}
+
+fn push_ways(states: &mut Vec<State>, state: &State, name: Name) -> Result<(), AllocError> {
+    for rule in RULES {
+        if rule.0 == name {
+            states.push(state.with(rule.1)?)?;
+        }
     }
     Ok(())
 }
@@ -130,14 +164,8 @@ fn push_ways(states: &mut Vec<State>, state: &State, ways: Ways) -> Result<(), A
 fn behind(alloc: Global, ready: Vec<State>, token: Token) -> Result<Vec<State>, AllocError> {
     let mut states = Vec::new(alloc);
     for state in ready {
-        let State {
-            mut pending,
-            measures,
-        } = state;
-        if let Some(part) = pending.pop() {
-            if let Some(measures) = measures.behind(part, token) {
-                states.push(State { pending, measures })?;
-            }
+        if let Some(state) = state.behind(token) {
+            states.push(state)?;
         }
     }
     Ok(states)
@@ -145,32 +173,47 @@ fn behind(alloc: Global, ready: Vec<State>, token: Token) -> Result<Vec<State>, 
 
 /// How many events have begun.
 fn begun(states: &[State]) -> usize {
-    let counts = states.iter().map(|state| state.measures.events);
-    counts.fold(0, |most, count| most.max(count))
+    let mut most = 0usize;
+    for state in states {
+        most = most.max(state.measures.events);
+    }
+    most
+}
+
+/// Whether some way has nothing more to come.
+fn is_whole(ready: &[State]) -> bool {
+    ready.iter().any(|state| state.pending.is_empty())
 }
 
 /// Reads a text. Each part can be written where it is asked for, so items begin a script as long as a way is left.
-pub fn read(alloc: Global, lines: &Lines) -> Result<Reading, Fail> {
+pub fn read(alloc: Global, lines: &Lines) -> Result<Reading, Stop> {
     let octets = octets_of(alloc, lines)?;
+    let items = items(alloc, octets.as_slice(), lines.len())?;
+    read_items(alloc, items.as_slice())
+}
+
+fn read_items(alloc: Global, items: &[Item]) -> Result<Reading, Stop> {
     let mut reading = Reading::new(alloc);
+    let mut states = first_states(alloc)?;
+    for item in items {
+        let ready = written_out(alloc, states)?;
+        let token = match *item {
+            Item::Token(token) => token,
+            Item::End(_) if is_whole(ready.as_slice()) => return Ok(reading),
+            Item::End(line) | Item::Bad(line) => return Ok(reading.refused(line)),
+        };
+        states = behind(alloc, ready, token)?;
+        if states.is_empty() {
+            return Ok(reading.refused(token.line));
+        }
+        reading.add(token.line, begun(states.as_slice()))?;
+    }
+    Err(Stop::TooManyParts)
+}
+
+/// The one way to begin: a whole script has to come.
+fn first_states(alloc: Global) -> Result<Vec<State>, AllocError> {
     let mut states = Vec::new(alloc);
     states.push(State::first(alloc)?)?;
-    for item in items(alloc, octets.as_slice(), lines.len())? {
-        let ready = written_out(alloc, states)?;
-        match item {
-            Item::Bad(line) => return Ok(reading.refused(line)),
-            Item::End(_) if ready.iter().any(|state| state.pending.is_empty()) => {
-                return Ok(reading);
-            }
-            Item::End(line) => return Ok(reading.refused(line)),
-            Item::Token(token) => {
-                states = behind(alloc, ready, token)?;
-                if states.is_empty() {
-                    return Ok(reading.refused(token.line));
-                }
-                reading.add(token.line, begun(states.as_slice()))?;
-            }
-        }
-    }
-    Err("a text without an end")?
+    Ok(states)
 }

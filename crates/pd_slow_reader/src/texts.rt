@@ -1,4 +1,4 @@
-//! Texts for the tests.
+//! Texts, made of octets and read as octets.
 ghost use Rattle.std.specs.Prelude.{◌≡◌, IfOk};
 ghost use Rattle.pd_text.specs.Text.{is_line};
 

@@ -1,5 +1,5 @@
-//! Whether a token is written as a part asks, with the numbers that later tokens are compared with.
-use crate::grammar::Part;
+//! Whether a token is written as a test asks, with the numbers that later tokens are compared with.
+use crate::grammar::Test;
 use crate::items::Token;
 use crate::spelling::Kind;
 
@@ -15,7 +15,7 @@ const MAX_NUMBER: u64 = 4_294_967_295;
 const BRACKETS: &[u8] = b"()[]{}";
 
 /// What was read so far that later tokens are compared with.
-#[derive(Clone, Copy, Debug)]
+#[derive(Clone, Copy)]
 pub struct Measures {
     /// How many events have begun.
     pub events: usize,
@@ -39,24 +39,24 @@ impl Measures {
         }
     }
 
-    /// What is known behind a token that is written as the part asks.
-    pub fn behind(self, part: Part, token: Token) -> Option<Measures> {
-        match part {
-            Part::Token(kind) => self.if_true(token.kind == kind),
-            Part::Symbol(octet) => self.if_true(token.is_symbol(octet)),
-            Part::Named(name) => self.if_true(token.kind == Kind::Word && token.text == name),
-            Part::Letters => self.if_true(token.kind == Kind::Word && are_flags(token.text)),
-            Part::Plain => self.if_true(!token.is_symbol_of(BRACKETS)),
-            Part::Argued => {
+    /// What is known behind a token that is written as the test asks.
+    pub fn behind(self, test: Test, token: Token) -> Option<Measures> {
+        match test {
+            Test::Token(kind) => self.if_true(token.kind == kind),
+            Test::Symbol(octet) => self.if_true(token.is_symbol(octet)),
+            Test::Named(name) => self.if_true(token.kind == Kind::Word && token.text == name),
+            Test::Letters => self.if_true(token.kind == Kind::Word && are_flags(token.text)),
+            Test::Plain => self.if_true(!token.is_symbol_of(BRACKETS)),
+            Test::Argued => {
                 self.if_true(!token.is_symbol_of(BRACKETS) && !token.is_symbol(b','))
             }
-            Part::Opening(octet) => self.opened(token.is_symbol(octet)),
-            Part::Closing(octet) => self.closed(token.is_symbol(octet)),
-            Part::First | Part::Second | Part::Seconds => {
-                self.behind_seconds(part, token.microseconds()?)
+            Test::Opening(octet) => self.opened(token.is_symbol(octet)),
+            Test::Closing(octet) => self.closed(token.is_symbol(octet)),
+            Test::First | Test::Second | Test::Seconds => {
+                self.behind_seconds(test, token.microseconds()?)
             }
-            Part::Hexadecimal => self.if_true(token.hexadecimal()? <= MAX_NUMBER),
-            _ => self.behind_number(part, token.number()?),
+            Test::Hexadecimal => self.if_true(token.hexadecimal()? <= MAX_NUMBER),
+            _ => self.behind_number(test, token.number()?),
         }
     }
 
@@ -74,30 +74,30 @@ impl Measures {
         Measures { pairs, ..self }.if_true(is_bracket)
     }
 
-    fn behind_seconds(self, part: Part, microseconds: u64) -> Option<Measures> {
-        match part {
-            Part::First => Some(Measures {
+    fn behind_seconds(self, test: Test, microseconds: u64) -> Option<Measures> {
+        match test {
+            Test::First => Some(Measures {
                 first: microseconds,
                 ..self
             }),
-            Part::Second => self.if_true(microseconds >= self.first),
+            Test::Second => self.if_true(microseconds >= self.first),
             _ => Some(self),
         }
     }
 
-    fn behind_number(self, part: Part, number: u64) -> Option<Measures> {
-        match part {
-            Part::Start => Some(Measures {
+    fn behind_number(self, test: Test, number: u64) -> Option<Measures> {
+        match test {
+            Test::Start => Some(Measures {
                 start: number,
                 ..self
             }),
-            Part::End => Measures {
+            Test::End => Measures {
                 end: number,
                 ..self
             }
             .if_true(number >= self.start),
-            Part::Length => self.if_true(number == self.end.saturating_sub(self.start)),
-            Part::Number => Some(self),
+            Test::Length => self.if_true(number == self.end.saturating_sub(self.start)),
+            Test::Number => Some(self),
             _ => None,
         }
     }
@@ -171,7 +171,8 @@ fn digit_value(digit: u8) -> u64 {
     u64::from(value)
 }
 
-fn decimal_value(digits: &[u8]) -> u64 {
+/// The value of digits, as great as it can be.
+pub fn decimal_value(digits: &[u8]) -> u64 {
     let mut value = 0u64;
     for digit in digits {
         value = value.saturating_mul(10).saturating_add(digit_value(*digit));

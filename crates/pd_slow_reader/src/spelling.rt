@@ -1,7 +1,7 @@
 //! How each kind of piece is spelled, asked of a whole piece.
 
 /// A kind of piece of a text: a blank, a comment or a token.
-#[derive(Clone, Copy, Debug, PartialEq, Eq)]
+#[derive(Clone, Copy, PartialEq, Eq)]
 pub enum Kind {
     Blank,
     LineComment,
@@ -51,6 +51,33 @@ impl Kind {
             Kind::Cmd => is_enclosed(piece, b"`", b"`"),
             Kind::Code => is_enclosed(piece, b"%{", b"}%"),
             Kind::Symbol => matches!(piece, [33..=126]) && !is_run(piece),
+        }
+    }
+
+    /// How many octets a piece of this kind has at most, of a text of so many.
+    pub fn most_octets(self, octets: usize) -> usize {
+        match self {
+            Kind::Blank | Kind::Symbol => octets.min(1),
+            Kind::Dots => octets.min(3),
+            _ => octets,
+        }
+    }
+
+    pub fn name(self) -> &'static str {
+        match self {
+            Kind::Blank => "Blank",
+            Kind::LineComment => "LineComment",
+            Kind::BlockComment => "BlockComment",
+            Kind::Int => "Int",
+            Kind::Hex => "Hex",
+            Kind::Word => "Word",
+            Kind::Decimal => "Decimal",
+            Kind::Dots => "Dots",
+            Kind::Opt => "Opt",
+            Kind::Str => "Str",
+            Kind::Cmd => "Cmd",
+            Kind::Code => "Code",
+            Kind::Symbol => "Symbol",
         }
     }
 

@@ -1,16 +1,18 @@
 //! The items of a text: its tokens, and then its end or the first place where no token can be read.
 use crate::spelling::{KINDS, Kind, is_opened};
+use crate::stops::Stop;
+use crate::texts::{octets_of, text};
 use std::alloc::{AllocError, Global};
 
 /// A token as written, and the line of its first octet.
-#[derive(Clone, Copy, Debug)]
+#[derive(Clone, Copy)]
 pub struct Token<'a> {
     pub kind: Kind,
     pub text: &'a [u8],
     pub line: usize,
 }
 
-#[derive(Clone, Copy, Debug)]
+#[derive(Clone, Copy)]
 pub enum Item<'a> {
     Token(Token<'a>),
     /// The end of the text, in this line.
@@ -21,15 +23,30 @@ pub enum Item<'a> {
 
 /// The longest piece at the front of a text, and what stands behind it.
 fn front(text: &[u8]) -> Option<(Kind, &[u8], &[u8])> {
-    for cut in 0..text.len() {
-        let (piece, behind) = text.split_at(text.len() - cut);
-        for kind in KINDS {
-            if kind.is_spelled(piece) && (kind != Kind::Symbol || !is_opened(text)) {
-                return Some((kind, piece, behind));
-            }
+    let mut longest = None;
+    let mut most = 0usize;
+    for kind in KINDS {
+        let octets = longest_of(kind, text);
+        if octets > most {
+            longest = Some(kind);
+            most = octets;
         }
     }
-    None
+    let kind = longest?;
+    Some((kind, text.get(..most)?, text.get(most..)?))
+}
+
+/// How many octets the longest piece of this kind has at the front of a text; 0 where there is none.
+fn longest_of(kind: Kind, text: &[u8]) -> usize {
+    if kind == Kind::Symbol && is_opened(text) {
+        return 0;
+    }
+    for octets in (1..=kind.most_octets(text.len())).rev() {
+        if kind.is_spelled(text.get(..octets).unwrap_or(&[])) {
+            return octets;
+        }
+    }
+    0
 }
 
 /// The items of a text of so many lines, each with its newline.
@@ -58,4 +75,20 @@ pub fn items<'a>(alloc: Global, text: &'a [u8], lines: usize) -> Result<Vec<Item
     }
     items.push(Item::End(lines.max(1)))?;
     Ok(items)
+}
+
+/// The kinds of a text's tokens, by their names.
+pub fn kinds_of(alloc: Global, octets: &[u8]) -> Result<String, Stop> {
+    let lines = text(alloc, octets)?;
+    let octets = octets_of(alloc, &lines)?;
+    let mut names = String::new(alloc);
+    for item in items(alloc, octets.as_slice(), lines.len())? {
+        if let Item::Token(token) = item {
+            if !names.is_empty() {
+                names.push(' ')?;
+            }
+            names.push_str(token.kind.name())?;
+        }
+    }
+    Ok(names)
 }
