@@ -41,7 +41,7 @@ fn longest_of(kind: Kind, text: &[u8]) -> usize {
     if kind == Kind::Symbol && is_opened(text) {
         return 0;
     }
-    for octets in (1..=kind.most_octets(text.len())).rev() {
+    for octets in (1..=kind.most_octets(text)).rev() {
         if kind.is_spelled(text.get(..octets).unwrap_or(&[])) {
             return octets;
         }

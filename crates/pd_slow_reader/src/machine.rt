@@ -81,7 +81,9 @@ impl State {
 
     /// The state that has these parts to come first.
     fn with(&self, way: &[Part]) -> Result<State, AllocError> {
-        let mut pending = self.pending.clone()?;
+        let parts = self.pending.len().saturating_add(way.len());
+        let mut pending = Vec::with_capacity(*self.pending.allocator(), parts)?;
+        pending.extend_from_slice(self.pending.as_slice())?;
         for part in way.iter().rev() {
             pending.push(*part)?;
         }

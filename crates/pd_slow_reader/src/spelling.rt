@@ -54,12 +54,34 @@ impl Kind {
         }
     }
 
-    /// How many octets a piece of this kind has at most, of a text of so many.
-    pub fn most_octets(self, octets: usize) -> usize {
+    /// Whether a piece of this kind can begin with this octet.
+    pub fn may_begin(self, octet: u8) -> bool {
         match self {
-            Kind::Blank | Kind::Symbol => octets.min(1),
-            Kind::Dots => octets.min(3),
-            _ => octets,
+            Kind::Blank => !is_solid(octet),
+            Kind::LineComment | Kind::BlockComment => octet == b'/',
+            Kind::Int => octet.is_ascii_digit(),
+            Kind::Hex => octet == b'0',
+            Kind::Word => is_word_octet(octet),
+            Kind::Decimal => octet == b'.' || octet.is_ascii_digit(),
+            Kind::Dots => octet == b'.',
+            Kind::Opt => octet == b'-',
+            Kind::Str => octet == b'"',
+            Kind::Cmd => octet == b'`',
+            Kind::Code => octet == b'%',
+            Kind::Symbol => !is_word_octet(octet),
+        }
+    }
+
+    /// How many octets a piece of this kind has at most, at the front of this text.
+    pub fn most_octets(self, text: &[u8]) -> usize {
+        let [first, ..] = text else {
+            return 0;
+        };
+        match self {
+            _ if !self.may_begin(*first) => 0,
+            Kind::Blank | Kind::Symbol => 1,
+            Kind::Dots => text.len().min(3),
+            _ => text.len(),
         }
     }
 
