@@ -1,13 +1,17 @@
 -- Nothing but an RST at RCV.NXT resets a connection.
-use Rattle.std.proofs.Common.{◌≡◌, ℕ, ◌==◌, Bool, true, false, if◌then◌else◌, nat_lt, length, ◌∷◌, [], Option, None, Some, Ok, refl, sym, ap, ◌∙◌, arith}
+use Rattle.std.proofs.Common.{◌≡◌, ℕ, ◌==◌, Bool, true, false, if◌then◌else◌, nat_lt, max, length, List, ◌∷◌, [], Option, None, Some, Ok, Err, refl, sym, ap, ◌∙◌, arith}
 use Rattle.std.proofs.lemmas.Bool.Decides.{nat_tests}
 use Rattle.pd_seg.specs.declared.segments.Segment.{Segment}
-use Rattle.pd_host.specs.Arrivals.{first_ruling, ruled, arrived_on, is_current, acknowledged, taken_by, ruling_of}
+use Rattle.pd_seg.specs.declared.segments.Sent.{Sent}
+use Rattle.pd_host.specs.Arrivals.{first_ruling, ruled, arrived_on, is_current, acknowledged, window_renewed, taken_by, ruling_of}
 use Rattle.pd_host.specs.ControlBlock.{ControlBlock}
-use Rattle.pd_host.specs.Handshake.{with_window, established_by}
+use Rattle.pd_host.specs.Handshake.{window_in, with_window, established_by}
 use Rattle.pd_host.specs.Laws.{OnlyAnExactRstResets}
+use Rattle.pd_host.specs.Sender.{beside, with_outbox}
+use Rattle.pd_host.specs.declared.established.Established.{Established}
+use Rattle.pd_host.specs.declared.halts.Halt.TheVariants.{Limit}
 use Rattle.pd_host.specs.declared.rulings.Ruling.{Ruling}
-use Rattle.pd_host.specs.declared.rulings.Ruling.TheVariants.{NotRun, Dropped, Answered, Reset, Established, Refused}
+use Rattle.pd_host.specs.declared.rulings.Ruling.TheVariants.{NotRun, StrayRst, OutsideWindow, ExactRst, ChallengedRst, WithoutAck, FirstAck, RefusedAck, EarlyAck, OldAck}
 use Rattle.pd_host.specs.declared.sender_state.State.{State}
 use Rattle.pd_host.proofs.Harmless.{given, outbox_keeps}
 
@@ -20,24 +24,41 @@ window_keeps : (b : Bool) (c d : ControlBlock) → c.reset ≡ d.reset → (if b
 window_keeps true c d same = same
 window_keeps false c d same = refl
 
+renewed_keeps : (segment : Segment) (c : ControlBlock) (o : Option Established) → (window_renewed segment c o).reset ≡ c.reset
+renewed_keeps segment c None = refl
+renewed_keeps segment c (Some e) =
+    window_keeps (is_current e segment)
+    (record c { widest = max c.widest (window_in c segment); established = Some (with_window (window_in c segment) segment e) }) c refl
+
 taken_keeps : (segment : Segment) (c : ControlBlock) → (taken_by segment c).reset ≡ c.reset
-taken_keeps segment c =
-    window_keeps (is_current (acknowledged segment c) segment) (with_window segment (acknowledged segment c)) (acknowledged segment c) refl
+taken_keeps segment c = renewed_keeps segment (acknowledged segment c) c.established
+
+-- what leaves the connection resets nothing
+stays : (s t : State) (c d : ControlBlock) → s.endpoint.connection ≡ Some c → t.endpoint.connection ≡ Some d → c.reset ≡ false → d.reset ≡ true
+    → s ≡ t → ⊥
+stays s t c d hc hd still was same = not_same c d _ _ hc hd (ap (λ (u : State). u.endpoint.connection) (sym same)) still was
+
+-- nor does a packet more
+answers : (s t : State) (c d : ControlBlock) (packets : List Sent) → s.endpoint.connection ≡ Some c → t.endpoint.connection ≡ Some d → c.reset ≡ false → d.reset ≡ true
+    → beside s (with_outbox s.endpoint (if nat_lt (length s.endpoint.outbox) 1024 then Ok packets else Err Limit)) ≡ Ok t → ⊥
+answers s t c d packets hc hd still was h = not_same c d _ _ hc hd (outbox_keeps (nat_lt (length s.endpoint.outbox) 1024) packets s t h) still was
 
 -- the ruling that resets
 resets : (r : Option Ruling) (segment : Segment) (now : ℕ) (s t : State) (c d : ControlBlock)
     → s.endpoint.connection ≡ Some c → t.endpoint.connection ≡ Some d → c.reset ≡ false → d.reset ≡ true
     → ruled now segment c s r ≡ Ok t
-    → r ≡ Some Reset
+    → r ≡ Some ExactRst
 resets (Some NotRun) segment now s t c d hc hd still was h = absurd cc
-resets (Some Dropped) segment now s t c d hc hd still was h = absurd (not_same c d _ _ hc hd (ap (λ (u : State). u.endpoint.connection) (given _ t h)) still was)
-resets (Some Answered) segment now s t c d hc hd still was h =
-    absurd (not_same c d _ _ hc hd (outbox_keeps (nat_lt (length s.endpoint.outbox) 1024) _ s t h) still was)
-resets (Some Reset) segment now s t c d hc hd still was h = refl
-resets (Some Established) segment now s t c d hc hd still was h =
+resets (Some StrayRst) segment now s t c d hc hd still was h = absurd (stays s t c d hc hd still was (sym (given _ t h)))
+resets (Some OutsideWindow) segment now s t c d hc hd still was h = absurd (answers s t c d _ hc hd still was h)
+resets (Some ExactRst) segment now s t c d hc hd still was h = refl
+resets (Some ChallengedRst) segment now s t c d hc hd still was h = absurd (answers s t c d _ hc hd still was h)
+resets (Some WithoutAck) segment now s t c d hc hd still was h = absurd (stays s t c d hc hd still was (sym (given _ t h)))
+resets (Some FirstAck) segment now s t c d hc hd still was h =
     absurd (not_same (established_by s.settings segment c) d _ _ refl hd (ap (λ (u : State). u.endpoint.connection) (given _ t h)) still was)
-resets (Some Refused) segment now s t c d hc hd still was h =
-    absurd (not_same c d _ _ hc hd (outbox_keeps (nat_lt (length s.endpoint.outbox) 1024) _ s t h) still was)
+resets (Some RefusedAck) segment now s t c d hc hd still was h = absurd (answers s t c d _ hc hd still was h)
+resets (Some EarlyAck) segment now s t c d hc hd still was h = absurd (answers s t c d _ hc hd still was h)
+resets (Some OldAck) segment now s t c d hc hd still was h = absurd (stays s t c d hc hd still was (sym (given _ t h)))
 resets None segment now s t c d hc hd still was h =
     absurd (not_same (taken_by segment c) d _ _ refl hd (ap (λ (u : State). u.endpoint.connection) (given _ t h)) (taken_keeps segment c ∙ still) was)
 
@@ -45,12 +66,12 @@ resets None segment now s t c d hc hd still was h =
 at_rcv_nxt : (bad inside rst here flag shaken sent above below : Bool)
     → first_ruling (
     (if bad then Some NotRun else None)
-    ∷ (if inside then None else Some (if rst then Dropped else Answered))
-    ∷ (if rst then Some (if here then Reset else Answered) else None)
-    ∷ (if flag then None else Some Dropped)
-    ∷ (if shaken then None else Some (if sent then Established else Refused))
-    ∷ (if above then Some Answered else if below then Some Dropped else None)
-    ∷ []) ≡ Some Reset
+    ∷ (if inside then None else Some (if rst then StrayRst else OutsideWindow))
+    ∷ (if rst then Some (if here then ExactRst else ChallengedRst) else None)
+    ∷ (if flag then None else Some WithoutAck)
+    ∷ (if shaken then None else Some (if sent then FirstAck else RefusedAck))
+    ∷ (if above then Some EarlyAck else if below then Some OldAck else None)
+    ∷ []) ≡ Some ExactRst
     → (rst ≡ true) × (here ≡ true)
 at_rcv_nxt true inside rst here flag shaken sent above below h = absurd cc
 at_rcv_nxt false false true here flag shaken sent above below h = absurd cc
@@ -69,7 +90,7 @@ equal m n h = grind (arith, nat_tests)
 
 pub only_an_exact_rst_resets : OnlyAnExactRstResets
 only_an_exact_rst_resets segment now s t c d hc hd still was came =
-    let ruling : ruling_of c segment ≡ Some Reset = resets (ruling_of c segment) segment now s t c d hc hd still was (ap (arrived_on now segment s) (sym hc) ∙ came) in
+    let ruling : ruling_of c segment ≡ Some ExactRst = resets (ruling_of c segment) segment now s t c d hc hd still was (ap (arrived_on now segment s) (sym hc) ∙ came) in
     let at : (segment.flags.rst ≡ true) × ((segment.start == c.rcv_nxt) ≡ true) =
     at_rcv_nxt _ _ segment.flags.rst (segment.start == c.rcv_nxt) _ _ _ _ _ ruling in
     (at.0, equal segment.start c.rcv_nxt at.1)

@@ -9,7 +9,7 @@ use Rattle.pd_host.specs.Sender.{beside, with_outbox}
 use Rattle.pd_host.specs.declared.halts.Halt.{Halt}
 use Rattle.pd_host.specs.declared.halts.Halt.TheVariants.{Limit}
 use Rattle.pd_host.specs.declared.rulings.Ruling.{Ruling}
-use Rattle.pd_host.specs.declared.rulings.Ruling.TheVariants.{NotRun, Dropped, Answered}
+use Rattle.pd_host.specs.declared.rulings.Ruling.TheVariants.{NotRun, StrayRst, OutsideWindow}
 use Rattle.pd_host.specs.declared.sender_state.State.{State}
 
 -- the state that came
@@ -29,7 +29,7 @@ outbox_keeps false packets s t h = absurd cc
 -- of the first two checks one rules
 outside : (bad inside rst : Bool) (checks : List (Option Ruling)) (segment : Segment) (now : ℕ) (s t : State) (c : ControlBlock)
     → inside ≡ false
-    → ruled now segment c s (first_ruling ((if bad then Some NotRun else None) ∷ (if inside then None else Some (if rst then Dropped else Answered)) ∷ checks)) ≡ Ok t
+    → ruled now segment c s (first_ruling ((if bad then Some NotRun else None) ∷ (if inside then None else Some (if rst then StrayRst else OutsideWindow)) ∷ checks)) ≡ Ok t
     → t.endpoint.connection ≡ s.endpoint.connection
 outside true inside rst checks segment now s t c o h = absurd cc
 outside false true rst checks segment now s t c o h = absurd cc

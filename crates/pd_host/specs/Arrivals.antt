@@ -1,14 +1,15 @@
 -- A segment that arrives: its checks in their order, and what each ruling does.
-use Rattle.std.specs.Prelude.{ℕ, ◌+◌, ◌==◌, nat_lt, nat_le, max, Bool, true, ◌&&◌, ◌||◌, List, [], ◌∷◌, Option, Some, None, Result, Ok, Err, if◌then◌else◌}
+use Rattle.std.specs.Prelude.{ℕ, ◌+◌, ◌==◌, nat_lt, nat_le, max, Bool, true, ◌&&◌, ◌||◌, List, [], ◌∷◌, Option, Some, None, is_some, Result, Ok, Err, if◌then◌else◌}
 use Rattle.pd_seg.specs.declared.segments.Segment.{Segment}
 use Rattle.pd_host.specs.declared.halts.Halt.{Halt}
 use Rattle.pd_host.specs.declared.halts.Halt.TheVariants.{Unsupported}
 use Rattle.pd_host.specs.declared.rulings.Ruling.{Ruling}
-use Rattle.pd_host.specs.declared.rulings.Ruling.TheVariants.{NotRun, Dropped, Answered, Reset, Established, Refused}
-use Rattle.pd_host.specs.Handshake.{length_of, opened_by, established_by, establishment_uses, with_window}
+use Rattle.pd_host.specs.declared.rulings.Ruling.TheVariants.{NotRun, StrayRst, OutsideWindow, ExactRst, ChallengedRst, WithoutAck, FirstAck, RefusedAck, EarlyAck, OldAck}
+use Rattle.pd_host.specs.Handshake.{length_of, opened_by, established_by, establishment_uses, window_in, with_window}
 use Rattle.pd_host.specs.Packets.{ack_of, refusal_of}
 use Rattle.pd_host.specs.ControlBlock.{ControlBlock}
 use Rattle.pd_host.specs.declared.endpoint.Endpoint.{Endpoint}
+use Rattle.pd_host.specs.declared.established.Established.{Established}
 use Rattle.pd_host.specs.declared.sender_state.State.{State}
 use Rattle.pd_host.specs.Sender.{beside, put_out}
 
@@ -25,31 +26,31 @@ is_in_window c segment = nat_le c.rcv_nxt segment.start && nat_lt segment.start 
 -- 3.10.7.4, first check)
 abbrev pub check_window : ControlBlock → Segment → Option Ruling
 check_window c segment =
-    if is_in_window c segment then None else Some (if segment.flags.rst then Dropped else Answered)
+    if is_in_window c segment then None else Some (if segment.flags.rst then StrayRst else OutsideWindow)
 
 -- 3. an RST at RCV.NXT resets the connection; elsewhere in the window it is answered by an ACK and dropped (RFC 9293,
 -- section 3.10.7.4, second check; RFC 5961, section 3.2)
 abbrev pub check_rst : ControlBlock → Segment → Option Ruling
 check_rst c segment =
-    if segment.flags.rst then Some (if segment.start == c.rcv_nxt then Reset else Answered) else None
+    if segment.flags.rst then Some (if segment.start == c.rcv_nxt then ExactRst else ChallengedRst) else None
 
 -- 4. a segment without the ACK flag is dropped (RFC 9293, section 3.10.7.4, fifth check)
 abbrev pub check_ack_flag : Segment → Option Ruling
-check_ack_flag segment = if segment.flags.ack then None else Some Dropped
+check_ack_flag segment = if segment.flags.ack then None else Some WithoutAck
 
 -- 5. in the handshake an ACK of our SYN establishes the connection; any other is refused by an RST (RFC 9293, section
 -- 3.10.7.4, fifth check, SYN-RECEIVED)
 abbrev pub check_handshake : ControlBlock → Segment → Option Ruling
 check_handshake c segment =
-    if c.established then None
-    else Some (if nat_lt c.una segment.ack && nat_le segment.ack c.top then Established else Refused)
+    if is_some c.established then None
+    else Some (if nat_lt c.una segment.ack && nat_le segment.ack c.top then FirstAck else RefusedAck)
 
 -- 6. an ACK of what wasn't sent is answered by an ACK and dropped; one below what is acknowledged is dropped (RFC 9293,
 -- section 3.10.7.4, fifth check, ESTABLISHED)
 abbrev pub check_ack : ControlBlock → Segment → Option Ruling
 check_ack c segment =
-    if nat_lt c.top segment.ack then Some Answered
-    else if nat_lt segment.ack c.una then Some Dropped
+    if nat_lt c.top segment.ack then Some EarlyAck
+    else if nat_lt segment.ack c.una then Some OldAck
     else None
 
 -- the ruling of the first check that rules
@@ -74,14 +75,22 @@ abbrev pub acknowledged : Segment → ControlBlock → ControlBlock
 acknowledged segment c = record c { una = segment.ack; next = max c.next segment.ack }
 
 -- the segment is no older than the one that the window was taken from
-abbrev pub is_current : ControlBlock → Segment → Bool
-is_current c segment = nat_lt c.wl1 segment.start || (c.wl1 == segment.start && nat_le c.wl2 segment.ack)
+abbrev pub is_current : Established → Segment → Bool
+is_current e segment = nat_lt e.wl1 segment.start || (e.wl1 == segment.start && nat_le e.wl2 segment.ack)
+
+-- the window is taken from the segment, where that is current
+abbrev pub window_renewed : Segment → ControlBlock → Option Established → ControlBlock
+window_renewed segment c None = c
+window_renewed segment c (Some e) =
+    if is_current e segment
+    then record c { widest = max c.widest (window_in c segment); established = Some (with_window (window_in c segment) segment e) }
+    else c
 
 -- 9. the window is taken unless the segment is old (RFC 9293, section 3.10.7.4: SND.WL1 and SND.WL2)
 abbrev pub with_new_window : Segment → ControlBlock → ControlBlock
-with_new_window segment c = if is_current c segment then with_window segment c else c
+with_new_window segment c = window_renewed segment c c.established
 
--- the connection after a segment that passed all checks
+-- the connection after a segment that passed all checks: first its ack number, then its window
 abbrev pub taken_by : Segment → ControlBlock → ControlBlock
 taken_by segment c = with_new_window segment (acknowledged segment c)
 
@@ -93,17 +102,21 @@ reset_of c = record c { reset = true }
 abbrev pub with_connection : ControlBlock → Endpoint → Endpoint
 with_connection c e = record e { connection = Some c }
 
--- what the checks make of the connection c and the rest of the state; a segment that passed them is taken
+-- what comes of a segment that a check rules out, on the connection c of the state; one that passed them all is taken
 abbrev pub ruled : ℕ → Segment → ControlBlock → State → Option Ruling → Result State Halt
 ruled now segment c s (Some NotRun) = Err Unsupported
-ruled now segment c s (Some Dropped) = Ok s
-ruled now segment c s (Some Answered) = beside s (put_out now (ack_of c) s.endpoint)
-ruled now segment c s (Some Reset) = beside s (Ok (with_connection (reset_of c) s.endpoint))
-ruled now segment c s (Some Established) = Ok (record s {
+ruled now segment c s (Some StrayRst) = Ok s
+ruled now segment c s (Some OutsideWindow) = beside s (put_out now (ack_of c) s.endpoint)
+ruled now segment c s (Some ExactRst) = beside s (Ok (with_connection (reset_of c) s.endpoint))
+ruled now segment c s (Some ChallengedRst) = beside s (put_out now (ack_of c) s.endpoint)
+ruled now segment c s (Some WithoutAck) = Ok s
+ruled now segment c s (Some FirstAck) = Ok (record s {
   uses = establishment_uses s.uses;
   endpoint = with_connection (established_by s.settings segment c) s.endpoint;
 })
-ruled now segment c s (Some Refused) = beside s (put_out now (refusal_of segment.ack) s.endpoint)
+ruled now segment c s (Some RefusedAck) = beside s (put_out now (refusal_of segment.ack) s.endpoint)
+ruled now segment c s (Some EarlyAck) = beside s (put_out now (ack_of c) s.endpoint)
+ruled now segment c s (Some OldAck) = Ok s
 ruled now segment c s None = beside s (Ok (with_connection (taken_by segment c) s.endpoint))
 
 -- an arrival, by whether a connection was begun

@@ -1,12 +1,13 @@
 -- The table of calls: what each answers, and what it changes (own profile of POSIX's socket calls). Every call answers at
 -- once, as on a descriptor that doesn't block.
-use Rattle.std.specs.Prelude.{ℕ, ◌==◌, Bool, true, false, not, ◌&&◌, Option, Some, None, Result, Ok, Err, if◌then◌else◌}
+use Rattle.std.specs.Prelude.{ℕ, ◌==◌, Bool, true, false, not, ◌&&◌, Option, Some, None, is_some, option_map, Result, Ok, Err, if◌then◌else◌}
 use Rattle.pd_script.specs.declared.calls.Call.{Call}
 use Rattle.pd_seg.specs.declared.answers.Answer.{Answer}
 use Rattle.pd_seg.specs.declared.answers.Answer.TheVariants.{Number, Error}
 use Rattle.pd_seg.specs.declared.answers.Errno.TheVariants.{Ebadf, Einval, Eagain, Epipe}
 use Rattle.pd_host.specs.declared.descriptors.Descriptor.{Descriptor}
-use Rattle.pd_host.specs.declared.descriptors.Descriptor.TheVariants.{Listening, Stream}
+use Rattle.pd_host.specs.declared.descriptors.Descriptor.TheVariants.{Listening, Connected}
+use Rattle.pd_host.specs.declared.established.Established.{Established}
 use Rattle.pd_host.specs.declared.halts.Halt.{Halt}
 use Rattle.pd_host.specs.declared.halts.Halt.TheVariants.{Unsupported}
 use Rattle.pd_host.specs.declared.listeners.Listener.{Listener}
@@ -15,18 +16,28 @@ use Rattle.pd_host.specs.declared.requests.Operation.{Operation}
 use Rattle.pd_host.specs.declared.requests.Operation.TheVariants.{Bind, Listen, Accept, ReuseAddress, NoDelay, SetFlags, Write, Close}
 use Rattle.pd_host.specs.declared.requests.Request.{Request}
 use Rattle.pd_host.specs.declared.requests.Request.TheVariants.{Socket, On}
+use Rattle.pd_host.specs.declared.streams.Stream.{Stream}
+use Rattle.pd_host.specs.declared.streams.Stream.TheVariants as stream
 use Rattle.pd_host.specs.Requests.{request_of}
 use Rattle.pd_host.specs.ControlBlock.{ControlBlock}
 use Rattle.pd_host.specs.declared.endpoint.Endpoint.{Endpoint}
 use Rattle.pd_host.specs.declared.sender_state.State.{State}
 
--- the endpoint after a call with what the call answers, or a halt
+-- the state after a call with what the call answers, or a halt
 abbrev pub Reply : Type 0
-Reply = Result (Endpoint × Answer) Halt
+Reply = Result (State × Answer) Halt
 
--- an answer, with the endpoint after it
-abbrev pub answered : Endpoint → Answer → Reply
-answered e answer = Ok (e, answer)
+-- an answer, with the state after it
+abbrev pub answered : State → Answer → Reply
+answered s answer = Ok (s, answer)
+
+-- the state with another listener
+abbrev pub with_listener : Listener → State → State
+with_listener l s = record s { endpoint = record s.endpoint { listener = l } }
+
+-- the state with another connection
+abbrev pub with_stored : Option ControlBlock → State → State
+with_stored c s = record s { endpoint = record s.endpoint { connection = c } }
 
 -- whether descriptor 3 is open
 abbrev pub is_listener_open : Listener → Bool
@@ -34,116 +45,133 @@ is_listener_open Absent = false
 is_listener_open Closed = false
 is_listener_open _ = true
 
--- whether `accept` has handed out the connection
-abbrev pub is_accepted : Option ControlBlock → Bool
-is_accepted None = false
-is_accepted (Some c) = c.accepted
+-- whether `accept` has still to hand out descriptor 4
+abbrev pub is_waiting : Stream → Bool
+is_waiting stream.Waiting = true
+is_waiting _ = false
+
+-- whether descriptor 4 is open
+abbrev pub is_open : Stream → Bool
+is_open stream.Open = true
+is_open _ = false
+
+-- descriptor 4, which waits for `accept` from the SYN on
+abbrev pub stream_in : Option Established → Stream
+stream_in None = stream.Waiting
+stream_in (Some e) = e.stream
+
+-- descriptor 4 of a connection
+abbrev pub stream_of : ControlBlock → Stream
+stream_of c = stream_in c.established
+
+-- whether descriptor 4 is open, on a connection if one was begun
+abbrev pub is_stream_open : Option ControlBlock → Bool
+is_stream_open None = false
+is_stream_open (Some c) = is_open (stream_of c)
 
 -- whether a connection was begun that isn't accepted
 abbrev pub is_pending : Option ControlBlock → Bool
 is_pending None = false
-is_pending (Some c) = not c.accepted
+is_pending (Some c) = is_waiting (stream_of c)
 
 -- the open descriptor of a number: 3 is the listener, 4 the accepted connection
 abbrev pub opened : Endpoint → ℕ → Option Descriptor
 opened e fd =
     if fd == 3 && is_listener_open e.listener then Some Listening
-    else if fd == 4 && is_accepted e.connection then Some Stream
+    else if fd == 4 && is_stream_open e.connection then Some Connected
     else None
 
 -- `socket`: 3; a second one isn't run
-abbrev pub socket_reply : Endpoint → Listener → Reply
-socket_reply e Absent = answered (record e { listener = Open }) (Number 3)
-socket_reply e _ = Err Unsupported
+abbrev pub socket_reply : State → Listener → Reply
+socket_reply s Absent = answered (with_listener Open s) (Number 3)
+socket_reply s _ = Err Unsupported
 
 -- `bind`: 0 once on 3, else EINVAL
-abbrev pub bind_reply : Endpoint → Listener → Descriptor → Reply
-bind_reply e Open Listening = answered (record e { listener = Bound }) (Number 0)
-bind_reply e _ _ = answered e (Error Einval)
+abbrev pub bind_reply : State → Listener → Descriptor → Reply
+bind_reply s Open Listening = answered (with_listener Bound s) (Number 0)
+bind_reply s _ _ = answered s (Error Einval)
 
 -- `listen`: 0 on a bound 3, also again, else EINVAL
-abbrev pub listen_reply : Endpoint → Listener → Descriptor → Reply
-listen_reply e Bound Listening = answered (record e { listener = Listens }) (Number 0)
-listen_reply e Listens Listening = answered e (Number 0)
-listen_reply e _ _ = answered e (Error Einval)
+abbrev pub listen_reply : State → Listener → Descriptor → Reply
+listen_reply s Bound Listening = answered (with_listener Listens s) (Number 0)
+listen_reply s Listens Listening = answered s (Number 0)
+listen_reply s _ _ = answered s (Error Einval)
+
+-- the connection with descriptor 4 that far
+abbrev pub with_stream : Stream → ControlBlock → ControlBlock
+with_stream d c = record c { established = option_map {T = Established} (λ e. record e { stream = d }) c.established }
 
 -- `accept` hands out 4 where the connection was established, also if it was reset since, and isn't accepted; else EAGAIN
-abbrev pub handed_out : Endpoint → Option ControlBlock → Reply
-handed_out e None = answered e (Error Eagain)
-handed_out e (Some c) =
-    if c.established && not c.accepted
-    then answered (record e { connection = Some (record c { accepted = true }) }) (Number 4)
-    else answered e (Error Eagain)
+abbrev pub handed_out : State → Option ControlBlock → Reply
+handed_out s None = answered s (Error Eagain)
+handed_out s (Some c) =
+    if is_some c.established && is_waiting (stream_of c)
+    then answered (with_stored (Some (with_stream stream.Open c)) s) (Number 4)
+    else answered s (Error Eagain)
 
 -- `accept`: so on a listening 3, else EINVAL
-abbrev pub accept_reply : Endpoint → Listener → Descriptor → Reply
-accept_reply e Listens Listening = handed_out e e.connection
-accept_reply e _ _ = answered e (Error Einval)
+abbrev pub accept_reply : State → Listener → Descriptor → Reply
+accept_reply s Listens Listening = handed_out s s.endpoint.connection
+accept_reply s _ _ = answered s (Error Einval)
 
--- Nagle's algorithm is off where `TCP_NODELAY` is set (RFC 9293, section 3.7.4)
-abbrev pub with_no_delay : Bool → Option ControlBlock → Option ControlBlock
-with_no_delay set None = None
-with_no_delay set (Some c) = Some (record c { nagle = not set })
+-- Nagle's algorithm is switched on or off (RFC 9293, section 3.7.4)
+abbrev pub with_nagle : Bool → ControlBlock → ControlBlock
+with_nagle on c = record c { established = option_map {T = Established} (λ e. record e { nagle = on }) c.established }
 
--- `setsockopt` with `TCP_NODELAY`: 0; it has an effect on 4 alone
-abbrev pub no_delay_reply : Endpoint → Bool → Descriptor → Reply
-no_delay_reply e set Listening = answered e (Number 0)
-no_delay_reply e set Stream = answered (record e { connection = with_no_delay set e.connection }) (Number 0)
+-- `setsockopt` with `TCP_NODELAY`: 0; on 4 Nagle's algorithm is off where it is set
+abbrev pub no_delay_reply : State → Bool → Descriptor → Reply
+no_delay_reply s set Listening = answered s (Number 0)
+no_delay_reply s set Connected = answered (with_stored (option_map (with_nagle (not set)) s.endpoint.connection) s) (Number 0)
 
 -- `setsockopt` with `SO_REUSEADDR`, and `fcntl` with `F_SETFL`: 0, no effect
-abbrev pub idle_reply : Endpoint → Reply
-idle_reply e = answered e (Number 0)
+abbrev pub idle_reply : State → Reply
+idle_reply s = answered s (Number 0)
 
 -- whether the connection was reset
 abbrev pub is_reset : Option ControlBlock → Bool
 is_reset None = false
 is_reset (Some c) = c.reset
 
--- `write`: EINVAL on 3; on 4 only a count of 0 is run yet: EPIPE after a reset, else 0
-abbrev pub write_reply : Endpoint → ℕ → Descriptor → Reply
-write_reply e n Listening = answered e (Error Einval)
-write_reply e n Stream =
+-- `write` at a moment: EINVAL on 3; on 4 only a count of 0 is run yet: EPIPE after a reset, else 0
+abbrev pub write_reply : ℕ → State → ℕ → Descriptor → Reply
+write_reply now s n Listening = answered s (Error Einval)
+write_reply now s n Connected =
     if not (n == 0) then Err Unsupported
-    else if is_reset e.connection then answered e (Error Epipe)
-    else answered e (Number 0)
+    else if is_reset s.endpoint.connection then answered s (Error Epipe)
+    else answered s (Number 0)
 
--- `close`: 0 on 3, but not while a connection was begun and isn't accepted; on 4 it isn't run yet
-abbrev pub close_reply : Endpoint → Descriptor → Reply
-close_reply e Listening =
-    if is_pending e.connection then Err Unsupported else answered (record e { listener = Closed }) (Number 0)
-close_reply e Stream = Err Unsupported
+-- `close` at a moment: 0 on 3, but not while a connection was begun and isn't accepted; on 4 it isn't run yet
+abbrev pub close_reply : ℕ → State → Descriptor → Reply
+close_reply now s Listening =
+    if is_pending s.endpoint.connection then Err Unsupported else answered (with_listener Closed s) (Number 0)
+close_reply now s Connected = Err Unsupported
 
 -- the row of an operation on an open descriptor
-abbrev pub operated : Endpoint → Descriptor → Operation → Reply
-operated e descriptor Bind = bind_reply e e.listener descriptor
-operated e descriptor Listen = listen_reply e e.listener descriptor
-operated e descriptor Accept = accept_reply e e.listener descriptor
-operated e descriptor ReuseAddress = idle_reply e
-operated e descriptor (NoDelay set) = no_delay_reply e set descriptor
-operated e descriptor SetFlags = idle_reply e
-operated e descriptor (Write n) = write_reply e n descriptor
-operated e descriptor Close = close_reply e descriptor
+abbrev pub operated : ℕ → State → Descriptor → Operation → Reply
+operated now s descriptor Bind = bind_reply s s.endpoint.listener descriptor
+operated now s descriptor Listen = listen_reply s s.endpoint.listener descriptor
+operated now s descriptor Accept = accept_reply s s.endpoint.listener descriptor
+operated now s descriptor ReuseAddress = idle_reply s
+operated now s descriptor (NoDelay set) = no_delay_reply s set descriptor
+operated now s descriptor SetFlags = idle_reply s
+operated now s descriptor (Write n) = write_reply now s n descriptor
+operated now s descriptor Close = close_reply now s descriptor
 
 -- a descriptor that isn't open answers EBADF, before all else
-abbrev pub on_open : Endpoint → Operation → Option Descriptor → Reply
-on_open e operation None = answered e (Error Ebadf)
-on_open e operation (Some descriptor) = operated e descriptor operation
+abbrev pub on_open : ℕ → State → Operation → Option Descriptor → Reply
+on_open now s operation None = answered s (Error Ebadf)
+on_open now s operation (Some descriptor) = operated now s descriptor operation
 
 -- the reply to a request
-abbrev pub reply_to : Endpoint → Request → Reply
-reply_to e Socket = socket_reply e e.listener
-reply_to e (On fd operation) = on_open e operation (opened e fd)
+abbrev pub reply_to : ℕ → State → Request → Reply
+reply_to now s Socket = socket_reply s s.endpoint.listener
+reply_to now s (On fd operation) = on_open now s operation (opened s.endpoint fd)
 
--- what a reply is for the whole state: settings and uses stay
-abbrev pub beside_reply : State → Reply → Result (State × Answer) Halt
-beside_reply s (Ok (endpoint, answer)) = Ok (record s { endpoint = endpoint }, answer)
-beside_reply s (Err halt) = Err halt
+-- what a request does; without one the call isn't run
+abbrev pub requested : ℕ → State → Option Request → Reply
+requested now s None = Err Unsupported
+requested now s (Some request) = reply_to now s request
 
--- what a request does to the state; without one the call isn't run
-abbrev pub requested : State → Option Request → Result (State × Answer) Halt
-requested s None = Err Unsupported
-requested s (Some request) = beside_reply s (reply_to s.endpoint request)
-
--- a call: the state after it and its answer; a call whose name or shape isn't run halts
-abbrev pub called : Call → State → Result (State × Answer) Halt
-called call s = requested s (request_of call)
+-- a call at a moment: the state after it and its answer; a call whose name or shape isn't run halts
+abbrev pub called : Call → ℕ → State → Reply
+called call now s = requested now s (request_of call)

@@ -1,6 +1,7 @@
 -- A connection's transmission control block.
 use Rattle.std.specs.Prelude.{ℕ, ◌≤◌, ◌<◌, ◌^◌, Bool, Option}
 use Rattle.std.specs.Option.{ForSome}
+use Rattle.pd_host.specs.declared.established.Established.{Established}
 use Rattle.pd_host.specs.declared.scaling.Scaling.{Scaling}
 
 -- a connection's transmission control block (RFC 9293, section 3.3.1); numbers are relative, both initial ones at 0
@@ -25,20 +26,12 @@ pub record ControlBlock : Type 0 where
   pub top : ℕ
   -- the number after all that is queued
   pub end : ℕ
-  -- SND.WND: the peer's window, in octets
-  pub rwnd : ℕ
-  -- SND.WL1: the sequence number of the segment that it was taken from
-  pub wl1 : ℕ
-  -- SND.WL2: the ack number of that segment
-  pub wl2 : ℕ
-  -- the largest of the peer's windows seen so far, in octets (RFC 9293, section 3.8.6.2.1: Max(SND.WND))
+  -- the largest of the peer's windows seen so far, in octets, the SYN's too (RFC 9293, section 3.8.6.2.1: Max(SND.WND))
   pub widest : ℕ
-  -- whether Nagle's algorithm is on (RFC 9293, section 3.7.4)
-  pub nagle : Bool
-  -- whether the handshake was finished
-  pub established : Bool
-  -- whether `accept` has handed out the connection
-  pub accepted : Bool
+  -- whether the SYN/ACK was sent again (RFC 5681, section 3.1; RFC 6298, section 5.7)
+  pub resent : Bool
+  -- the peer's window, Nagle's algorithm and descriptor 4, once the handshake is finished
+  pub established : Option Established
   -- whether an RST has ended it
   pub reset : Bool
 

@@ -3,17 +3,19 @@ use Rattle.std.specs.Prelude.{ℕ, ◌-◌, ◌*◌, ◌^◌, ◌==◌, nat_le, 
 use Rattle.std.specs.List.{filter_map, list_any}
 use Rattle.std.specs.Option.{option_or}
 use Rattle.pd_settings.specs.declared.fields.Settings.{Settings}
+use Rattle.pd_settings.specs.declared.use_set.UseSet.{UseSet}
 use Rattle.pd_seg.specs.declared.control_bits.Flags.{Flags}
 use Rattle.pd_seg.specs.declared.option_list.SegOption.{SegOption}
 use Rattle.pd_seg.specs.declared.option_list.SegOption.TheVariants.{Mss, Wscale, SackOk, Eol}
 use Rattle.pd_seg.specs.declared.segments.Segment.{Segment}
+use Rattle.pd_host.specs.declared.established.Established.{Established}
 use Rattle.pd_host.specs.declared.halts.Halt.{Halt}
 use Rattle.pd_host.specs.declared.halts.Halt.TheVariants.{Unsupported}
 use Rattle.pd_host.specs.declared.listeners.Listener.{Listener}
 use Rattle.pd_host.specs.declared.listeners.Listener.TheVariants.{Listens}
 use Rattle.pd_host.specs.declared.offers.Offers.{Offers}
 use Rattle.pd_host.specs.declared.scaling.Scaling.{Scaling}
-use Rattle.pd_host.specs.declared.use_set.UseSet.{UseSet}
+use Rattle.pd_host.specs.declared.streams.Stream.TheVariants.{Waiting}
 use Rattle.pd_host.specs.Packets.{peer_count, syn_ack_of}
 use Rattle.pd_host.specs.ControlBlock.{ControlBlock}
 use Rattle.pd_host.specs.declared.sender_state.State.{State}
@@ -116,13 +118,9 @@ begun settings syn = record {
   next = 1;
   top = 1;
   end = 1;
-  rwnd = syn.win;
-  wl1 = 0;
-  wl2 = 0;
   widest = syn.win;
-  nagle = true;
-  established = false;
-  accepted = false;
+  resent = false;
+  established = None;
   reset = false;
 }
 
@@ -147,18 +145,28 @@ abbrev pub window_in : ControlBlock → Segment → ℕ
 window_in c segment = segment.win * 2 ^ peer_count c.scaling
 
 -- the window is taken from a segment (RFC 9293, section 3.10.7.4: SND.WND, SND.WL1 and SND.WL2)
-abbrev pub with_window : Segment → ControlBlock → ControlBlock
-with_window segment c = record c {
+abbrev pub with_window : ℕ → Segment → Established → Established
+with_window window segment e = record e { rwnd = window; wl1 = segment.start; wl2 = segment.ack }
+
+-- what a connection has from the end of its handshake on: the window, Nagle's algorithm as the setting says, and a
+-- descriptor that `accept` has still to hand out
+abbrev pub established_with : Settings → Segment → ControlBlock → Established
+established_with settings segment c = record {
   rwnd = window_in c segment;
   wl1 = segment.start;
   wl2 = segment.ack;
-  widest = max c.widest (window_in c segment);
+  nagle = settings.nagle;
+  stream = Waiting;
 }
 
 -- the handshake is finished: our SYN is acknowledged, and the window is taken (RFC 9293, section 3.10.7.4, fifth check,
 -- SYN-RECEIVED)
 abbrev pub established_by : Settings → Segment → ControlBlock → ControlBlock
-established_by settings segment c = record (with_window segment c) { una = 1; nagle = settings.nagle; established = true }
+established_by settings segment c = record c {
+  una = 1;
+  widest = max c.widest (window_in c segment);
+  established = Some (established_with settings segment c);
+}
 
 -- the settings that the establishment consults
 abbrev pub establishment_uses : UseSet → UseSet

@@ -1,5 +1,6 @@
 -- The sender: what it holds between two inputs, and how a rule changes that or halts.
-use Rattle.std.specs.Prelude.{ℕ, nat_lt, false, List, [], ◌∷◌, ◌++◌, length, drop, Option, Some, None, unwrap_or, Result, Ok, Err, if◌then◌else◌}
+use Rattle.std.specs.Prelude.{ℕ, nat_lt, List, [], ◌∷◌, ◌++◌, length, drop, Option, Some, None, unwrap_or, Result, Ok, Err, if◌then◌else◌}
+use Rattle.pd_settings.specs.Uses.{no_uses}
 use Rattle.pd_settings.specs.declared.fields.Settings.{Settings}
 use Rattle.pd_seg.specs.declared.segments.Segment.{Segment}
 use Rattle.pd_seg.specs.declared.segments.Sent.{Sent}
@@ -10,28 +11,11 @@ use Rattle.pd_host.specs.declared.halts.Ending.{Ending}
 use Rattle.pd_host.specs.declared.halts.Ending.TheVariants.{OutOfMemory}
 use Rattle.pd_host.specs.declared.listeners.Listener.TheVariants.{Absent}
 use Rattle.pd_host.specs.declared.sender_state.State.{State}
-use Rattle.pd_host.specs.declared.use_set.UseSet.{UseSet}
 
 -- a host: its state, and why it has ended, if it has
 pub record Sender : Type 0 where
   pub state : State
   pub ended : Option Ending
-
--- no setting was consulted
-abbrev pub no_uses : UseSet
-no_uses = record {
-  mss = false;
-  sack = false;
-  wscale = false;
-  sndbuf = false;
-  rcv_wnd = false;
-  initial_ssthresh = false;
-  min_rto_us = false;
-  max_rto_us = false;
-  granularity_us = false;
-  nagle = false;
-  tolerance_us = false;
-}
 
 -- an endpoint that nothing has happened to
 abbrev pub fresh_endpoint : Endpoint

@@ -10,6 +10,7 @@ use crate::listeners::Listener;
 use crate::offers::{Offers, is_mss_run};
 use crate::rulings::Ruling;
 use crate::sender_state::State;
+use crate::uses::{with_establishment, with_syn};
 use pd_seg::{Flags, Segment};
 
 /// What stops a segment that isn't run.
@@ -26,26 +27,27 @@ impl State {
         let outbox = &mut self.endpoint.outbox;
         match connection.ruling(segment) {
             Some(Ruling::NotRun) => Err(NOT_RUN),
-            Some(Ruling::Dropped) => Ok(()),
-            Some(Ruling::Answered) => {
+            Some(Ruling::StrayRst | Ruling::WithoutAck | Ruling::OldAck) => Ok(()),
+            Some(Ruling::OutsideWindow | Ruling::ChallengedRst | Ruling::EarlyAck) => {
                 let ack = connection.acknowledgment(outbox.allocator());
                 outbox.put_out(ack, now)
             }
-            Some(Ruling::Reset) => {
+            Some(Ruling::ExactRst) => {
                 connection.reset();
                 Ok(())
             }
-            Some(Ruling::Established) => {
+            Some(Ruling::FirstAck) => {
                 connection.establish(&self.settings, segment);
-                self.uses = self.uses.with_establishment();
+                self.uses = with_establishment(self.uses);
                 Ok(())
             }
-            Some(Ruling::Refused) => {
+            Some(Ruling::RefusedAck) => {
                 let rst = refusal(segment.ack, outbox.allocator());
                 outbox.put_out(rst, now)
             }
             None => {
-                connection.take(segment);
+                connection.acknowledge(segment);
+                connection.take_new_window(segment);
                 Ok(())
             }
         }
@@ -60,7 +62,7 @@ impl State {
         }
         let connection = Connection::begin(&self.settings, segment);
         let syn_ack = connection.syn_ack(self.endpoint.outbox.allocator())?;
-        self.uses = self.uses.with_syn();
+        self.uses = with_syn(self.uses);
         self.endpoint.connection = Some(connection);
         self.endpoint.outbox.put_out(syn_ack, now)
     }

@@ -1,6 +1,6 @@
 //! The table of calls.
 ghost use Rattle.std.specs.Prelude.{◌≡◌, Ok};
-ghost use Rattle.pd_host.specs.Calls.{opened, is_accepted, is_pending, is_reset, socket_reply, bind_reply, listen_reply, accept_reply, handed_out, no_delay_reply, write_reply, close_reply, operated, reply_to};
+ghost use Rattle.pd_host.specs.Calls.{opened, is_stream_open, is_pending, is_reset, socket_reply, bind_reply, listen_reply, accept_reply, handed_out, no_delay_reply, write_reply, close_reply, operated, reply_to};
 ghost use Rattle.pd_host.specs.Outcome.{GivesAnswer};
 
 use crate::descriptors::Descriptor;
@@ -8,6 +8,7 @@ use crate::endpoint::Endpoint;
 use crate::halts::{Ending, Halt};
 use crate::listeners::Listener;
 use crate::requests::{Operation, Request};
+use crate::sender_state::State;
 use pd_seg::{Answer, Errno};
 
 /// The number of the listening descriptor.
@@ -23,38 +24,25 @@ const DONE: Answer = Answer::Number(0);
 const NOT_RUN: Ending = Ending::Halted(Halt::Unsupported);
 
 impl Endpoint {
-    /// Answers a request. A descriptor that isn't open answers EBADF, before all else.
-    pub fn call(&mut self, request: Request) -> Result<Answer, Ending>
-        ensures { GivesAnswer (reply_to self.old request) result self.new }
-    {
-        match request {
-            Request::Socket => self.socket(),
-            Request::On(fd, operation) => match self.opened(fd) {
-                None => Ok(Answer::Error(Errno::Ebadf)),
-                Some(descriptor) => self.operate(descriptor, operation),
-            },
-        }
-    }
-
     /// The open descriptor of a number.
     fn opened(&self, fd: u64) -> Option<Descriptor>
         ensures { result ≡ opened self.now fd }
     {
         if fd == u64::from(LISTENER) && self.listener.is_open() {
             Some(Descriptor::Listening)
-        } else if fd == u64::from(CONNECTION) && self.is_accepted() {
-            Some(Descriptor::Stream)
+        } else if fd == u64::from(CONNECTION) && self.is_stream_open() {
+            Some(Descriptor::Connected)
         } else {
             None
         }
     }
 
-    fn is_accepted(&self) -> bool
-        ensures { result ≡ is_accepted self.now.connection }
+    fn is_stream_open(&self) -> bool
+        ensures { result ≡ is_stream_open self.now.connection }
     {
         match &self.connection {
             None => false,
-            Some(connection) => connection.is_accepted(),
+            Some(connection) => connection.stream().is_open(),
         }
     }
 
@@ -63,7 +51,7 @@ impl Endpoint {
     {
         match &self.connection {
             None => false,
-            Some(connection) => !connection.is_accepted(),
+            Some(connection) => connection.stream().is_waiting(),
         }
     }
 
@@ -75,10 +63,30 @@ impl Endpoint {
             Some(connection) => connection.is_reset(),
         }
     }
+}
+
+impl State {
+    /// Answers a request at a moment. A descriptor that isn't open answers EBADF, before all else.
+    pub fn call(&mut self, request: Request, now: u64) -> Result<Answer, Ending>
+        ensures { GivesAnswer (reply_to now self.old request) result self.new }
+    {
+        match request {
+            Request::Socket => self.socket(),
+            Request::On(fd, operation) => match self.endpoint.opened(fd) {
+                None => Ok(Answer::Error(Errno::Ebadf)),
+                Some(descriptor) => self.operate(descriptor, operation, now),
+            },
+        }
+    }
 
     /// The row of an operation on an open descriptor.
-    fn operate(&mut self, descriptor: Descriptor, operation: Operation) -> Result<Answer, Ending>
-        ensures { GivesAnswer (operated self.old descriptor operation) result self.new }
+    fn operate(
+        &mut self,
+        descriptor: Descriptor,
+        operation: Operation,
+        now: u64,
+    ) -> Result<Answer, Ending>
+        ensures { GivesAnswer (operated now self.old descriptor operation) result self.new }
     {
         match operation {
             Operation::Bind => Ok(self.bind(descriptor)),
@@ -86,17 +94,17 @@ impl Endpoint {
             Operation::Accept => Ok(self.accept(descriptor)),
             Operation::ReuseAddress | Operation::SetFlags => Ok(DONE),
             Operation::NoDelay(set) => Ok(self.set_no_delay(descriptor, set)),
-            Operation::Write(n) => self.write(descriptor, n),
-            Operation::Close => self.close(descriptor),
+            Operation::Write(n) => self.write(descriptor, n, now),
+            Operation::Close => self.close(descriptor, now),
         }
     }
 
     fn socket(&mut self) -> Result<Answer, Ending>
-        ensures { GivesAnswer (socket_reply self.old self.old.listener) result self.new }
+        ensures { GivesAnswer (socket_reply self.old self.old.endpoint.listener) result self.new }
     {
-        match self.listener {
+        match self.endpoint.listener {
             Listener::Absent => {
-                self.listener = Listener::Open;
+                self.endpoint.listener = Listener::Open;
                 Ok(Answer::Number(LISTENER))
             }
             _ => Err(NOT_RUN),
@@ -104,11 +112,11 @@ impl Endpoint {
     }
 
     fn bind(&mut self, descriptor: Descriptor) -> Answer
-        ensures { bind_reply self.old self.old.listener descriptor ≡ Ok (self.new, result) }
+        ensures { bind_reply self.old self.old.endpoint.listener descriptor ≡ Ok (self.new, result) }
     {
-        match (self.listener, descriptor) {
+        match (self.endpoint.listener, descriptor) {
             (Listener::Open, Descriptor::Listening) => {
-                self.listener = Listener::Bound;
+                self.endpoint.listener = Listener::Bound;
                 DONE
             }
             _ => Answer::Error(Errno::Einval),
@@ -116,11 +124,11 @@ impl Endpoint {
     }
 
     fn listen(&mut self, descriptor: Descriptor) -> Answer
-        ensures { listen_reply self.old self.old.listener descriptor ≡ Ok (self.new, result) }
+        ensures { listen_reply self.old self.old.endpoint.listener descriptor ≡ Ok (self.new, result) }
     {
-        match (self.listener, descriptor) {
+        match (self.endpoint.listener, descriptor) {
             (Listener::Bound, Descriptor::Listening) => {
-                self.listener = Listener::Listens;
+                self.endpoint.listener = Listener::Listens;
                 DONE
             }
             (Listener::Listens, Descriptor::Listening) => DONE,
@@ -129,9 +137,9 @@ impl Endpoint {
     }
 
     fn accept(&mut self, descriptor: Descriptor) -> Answer
-        ensures { accept_reply self.old self.old.listener descriptor ≡ Ok (self.new, result) }
+        ensures { accept_reply self.old self.old.endpoint.listener descriptor ≡ Ok (self.new, result) }
     {
-        match (self.listener, descriptor) {
+        match (self.endpoint.listener, descriptor) {
             (Listener::Listens, Descriptor::Listening) => self.hand_out(),
             _ => Answer::Error(Errno::Einval),
         }
@@ -139,12 +147,12 @@ impl Endpoint {
 
     /// Hands out the connection, if it was established and isn't accepted.
     fn hand_out(&mut self) -> Answer
-        ensures { handed_out self.old self.old.connection ≡ Ok (self.new, result) }
+        ensures { handed_out self.old self.old.endpoint.connection ≡ Ok (self.new, result) }
     {
-        let Some(connection) = &mut self.connection else {
+        let Some(connection) = &mut self.endpoint.connection else {
             return Answer::Error(Errno::Eagain);
         };
-        if connection.is_established() && !connection.is_accepted() {
+        if connection.is_established() && connection.stream().is_waiting() {
             connection.accept();
             Answer::Number(CONNECTION)
         } else {
@@ -155,23 +163,23 @@ impl Endpoint {
     fn set_no_delay(&mut self, descriptor: Descriptor, set: bool) -> Answer
         ensures { no_delay_reply self.old set descriptor ≡ Ok (self.new, result) }
     {
-        if let Descriptor::Stream = descriptor {
-            if let Some(connection) = &mut self.connection {
+        if let Descriptor::Connected = descriptor {
+            if let Some(connection) = &mut self.endpoint.connection {
                 connection.set_nagle(!set);
             }
         }
         DONE
     }
 
-    fn write(&mut self, descriptor: Descriptor, n: u64) -> Result<Answer, Ending>
-        ensures { GivesAnswer (write_reply self.old n descriptor) result self.new }
+    fn write(&mut self, descriptor: Descriptor, n: u64, _now: u64) -> Result<Answer, Ending>
+        ensures { GivesAnswer (write_reply _now self.old n descriptor) result self.new }
     {
         match descriptor {
             Descriptor::Listening => Ok(Answer::Error(Errno::Einval)),
-            Descriptor::Stream => {
+            Descriptor::Connected => {
                 if n > 0 {
                     Err(NOT_RUN)
-                } else if self.is_reset() {
+                } else if self.endpoint.is_reset() {
                     Ok(Answer::Error(Errno::Epipe))
                 } else {
                     Ok(DONE)
@@ -180,19 +188,19 @@ impl Endpoint {
         }
     }
 
-    fn close(&mut self, descriptor: Descriptor) -> Result<Answer, Ending>
-        ensures { GivesAnswer (close_reply self.old descriptor) result self.new }
+    fn close(&mut self, descriptor: Descriptor, _now: u64) -> Result<Answer, Ending>
+        ensures { GivesAnswer (close_reply _now self.old descriptor) result self.new }
     {
         match descriptor {
             Descriptor::Listening => {
-                if self.is_pending() {
+                if self.endpoint.is_pending() {
                     Err(NOT_RUN)
                 } else {
-                    self.listener = Listener::Closed;
+                    self.endpoint.listener = Listener::Closed;
                     Ok(DONE)
                 }
             }
-            Descriptor::Stream => Err(NOT_RUN),
+            Descriptor::Connected => Err(NOT_RUN),
         }
     }
 }

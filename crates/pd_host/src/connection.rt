@@ -1,15 +1,19 @@
 //! A connection: what was agreed, the numbers that it sends by, and how far it has come.
-ghost use Rattle.std.specs.Prelude.{◌≡◌, ◌≤◌, true};
-ghost use Rattle.pd_host.specs.Arrivals.{is_current, taken_by, reset_of};
+ghost use Rattle.std.specs.Prelude.{◌≡◌, ◌≤◌, is_some};
+ghost use Rattle.pd_host.specs.Arrivals.{acknowledged, with_new_window, reset_of};
+ghost use Rattle.pd_host.specs.Calls.{stream_of, with_stream, with_nagle};
 ghost use Rattle.pd_host.specs.ControlBlock.{IsScalable};
-ghost use Rattle.pd_host.specs.Handshake.{smss_of, scaling_of, begun, with_window, established_by};
+ghost use Rattle.pd_host.specs.Handshake.{smss_of, scaling_of, begun, window_in, established_by};
+ghost use Rattle.pd_host.specs.declared.streams.Stream.TheVariants.{Open as StreamOpen};
 ghost use Rattle.pd_host.specs.Packets.{peer_count};
 
 mod checks;
 mod packets;
 
+use crate::established::Established;
 use crate::offers::Offers;
 use crate::scaling::Scaling;
+use crate::streams::Stream;
 pub use packets::refusal;
 use pd_seg::Segment;
 use pd_settings::Settings;
@@ -34,13 +38,9 @@ pub struct Connection {
     next: u32,
     top: u32,
     end: u32,
-    rwnd: u32,
-    wl1: u32,
-    wl2: u32,
     widest: u32,
-    nagle: bool,
-    established: bool,
-    accepted: bool,
+    resent: bool,
+    established: Option<Established>,
     reset: bool,
 }
 
@@ -49,7 +49,7 @@ impl Model for Connection {
 
     ghost Value = { ControlBlock };
 
-    ghost view = { λ c. record { announced = c.announced; smss = c.smss; sack = c.sack; scaling = c.scaling; rcv_nxt = c.rcv_nxt; rcv_wnd = c.rcv_wnd; una = c.una; next = c.next; top = c.top; end = c.end; rwnd = c.rwnd; wl1 = c.wl1; wl2 = c.wl2; widest = c.widest; nagle = c.nagle; established = c.established; accepted = c.accepted; reset = c.reset } };
+    ghost view = { λ c. record { announced = c.announced; smss = c.smss; sack = c.sack; scaling = c.scaling; rcv_nxt = c.rcv_nxt; rcv_wnd = c.rcv_wnd; una = c.una; next = c.next; top = c.top; end = c.end; widest = c.widest; resent = c.resent; established = c.established; reset = c.reset } };
 
     ghost invariant = { λ c. IsControlled c.una c.next c.top c.end c.scaling };
 }
@@ -91,7 +91,6 @@ impl Connection {
     pub fn begin(settings: &Settings, syn: &Segment) -> Connection
         ensures { result ≡ begun settings.now syn.now }
     {
-        let window = u32::from(syn.win);
         let offers = Offers::of(syn.options.as_slice());
         Connection {
             announced: settings.mss,
@@ -104,13 +103,9 @@ impl Connection {
             next: 1,
             top: 1,
             end: 1,
-            rwnd: window,
-            wl1: 0,
-            wl2: 0,
-            widest: window,
-            nagle: true,
-            established: false,
-            accepted: false,
+            widest: u32::from(syn.win),
+            resent: false,
+            established: None,
             reset: false,
         }
     }
@@ -119,40 +114,46 @@ impl Connection {
     pub fn establish(&mut self, settings: &Settings, segment: &Segment)
         ensures { self.new ≡ established_by settings.now segment.now self.old }
     {
-        self.take_window(segment);
+        let window = self.window_in(segment);
         self.una = 1;
-        self.nagle = settings.nagle;
-        self.established = true;
+        self.widest = self.widest.max(window);
+        self.established = Some(Established {
+            rwnd: window,
+            wl1: segment.start,
+            wl2: segment.ack,
+            nagle: settings.nagle,
+            stream: Stream::Waiting,
+        });
     }
 
-    /// The ack number and the window of a segment that passed all checks are taken.
-    pub fn take(&mut self, segment: &Segment)
+    /// The ack number of a segment that passed all checks is taken.
+    pub fn acknowledge(&mut self, segment: &Segment)
         requires known { self.old.una ≤ segment.now.ack }
         requires sent { segment.now.ack ≤ self.old.top }
-        ensures { self.new ≡ taken_by segment.now self.old }
+        ensures { self.new ≡ acknowledged segment.now self.old }
     {
-        let is_current = self.is_current(segment);
         self.una = segment.ack;
         self.next = self.next.max(segment.ack);
-        if is_current {
-            self.take_window(segment);
+    }
+
+    /// The window of such a segment is taken, unless the segment is old.
+    pub fn take_new_window(&mut self, segment: &Segment)
+        ensures { self.new ≡ with_new_window segment.now self.old }
+    {
+        let window = self.window_in(segment);
+        if let Some(established) = &mut self.established {
+            if established.is_current(segment) {
+                established.take_window(segment, window);
+                self.widest = self.widest.max(window);
+            }
         }
     }
 
-    fn is_current(&self, segment: &Segment) -> bool
-        ensures { result ≡ is_current self.now segment.now }
+    /// The window that a segment tells, in octets.
+    fn window_in(&self, segment: &Segment) -> u32
+        ensures { result ≡ window_in self.now segment.now }
     {
-        self.wl1 < segment.start || (self.wl1 == segment.start && self.wl2 <= segment.ack)
-    }
-
-    fn take_window(&mut self, segment: &Segment)
-        ensures { self.new ≡ with_window segment.now self.old }
-    {
-        let window = u32::from(segment.win) << peer_count(self.scaling);
-        self.rwnd = window;
-        self.wl1 = segment.start;
-        self.wl2 = segment.ack;
-        self.widest = self.widest.max(window);
+        u32::from(segment.win) << peer_count(self.scaling)
     }
 
     /// An RST ends the connection for good.
@@ -164,28 +165,36 @@ impl Connection {
 
     /// `accept` hands out the connection.
     pub fn accept(&mut self)
-        ensures { self.new ≡ record self.old { accepted = true } }
+        ensures { self.new ≡ with_stream StreamOpen self.old }
     {
-        self.accepted = true;
+        if let Some(established) = &mut self.established {
+            established.stream = Stream::Open;
+        }
     }
 
     /// Switches Nagle's algorithm on or off.
     pub fn set_nagle(&mut self, on: bool)
-        ensures { self.new ≡ record self.old { nagle = on } }
+        ensures { self.new ≡ with_nagle on self.old }
     {
-        self.nagle = on;
+        if let Some(established) = &mut self.established {
+            established.nagle = on;
+        }
     }
 
     pub fn is_established(&self) -> bool
-        ensures { result ≡ self.now.established }
+        ensures { result ≡ is_some self.now.established }
     {
-        self.established
+        self.established.is_some()
     }
 
-    pub fn is_accepted(&self) -> bool
-        ensures { result ≡ self.now.accepted }
+    /// How far descriptor 4 has come.
+    pub fn stream(&self) -> Stream
+        ensures { result ≡ stream_of self.now }
     {
-        self.accepted
+        match &self.established {
+            None => Stream::Waiting,
+            Some(established) => established.stream,
+        }
     }
 
     pub fn is_reset(&self) -> bool

@@ -6,5 +6,5 @@ pub enum Descriptor {
     /// Descriptor 3, which listens or may come to listen.
     Listening,
     /// Descriptor 4, the connection that `accept` has handed out.
-    Stream,
+    Connected,
 }

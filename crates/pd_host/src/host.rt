@@ -1,5 +1,5 @@
 //! A host: the sender behind one interface, with the reason why it has ended.
-ghost use Rattle.std.specs.Prelude.{◌≡◌, slice_get};
+ghost use Rattle.std.specs.Prelude.{◌≡◌, ◌<◌, ◌^◌, slice_get};
 ghost use Rattle.pd_host.specs.Arrivals.{arrived};
 ghost use Rattle.pd_host.specs.Calls.{called};
 ghost use Rattle.pd_host.specs.Outcome.{Goes, Answers};
@@ -10,14 +10,13 @@ use crate::halts::{Ending, Halt};
 use crate::outbox::Outbox;
 use crate::requests::Request;
 use crate::sender_state::State;
-use crate::use_set::UseSet;
 use pd_script::Call;
 use pd_seg::{Answer, Segment, Sent};
-use pd_settings::Settings;
+use pd_settings::{Settings, UseSet};
 use std::alloc::Global;
 use std::marker::Model;
 
-/// A TCP sender in virtual time. Moments are microseconds since the start of the run.
+/// A TCP sender in virtual time. Moments are microseconds since the start of the run, below 2^62.
 ///
 /// A host that has halted, or found no memory, answers that to each later input.
 #[derive(Drop)]
@@ -55,7 +54,8 @@ impl Host {
     ///
     /// `Halted` for a call that isn't run.
     pub fn call(&mut self, call: &Call, now: u64) -> Result<Answer, Ending>
-        ensures { Answers self.old (called call.now) result self.new }
+        requires early { now < 2 ^ 62 }
+        ensures { Answers self.old (called call.now now) result self.new }
     {
         if let Some(ending) = self.ended {
             return Err(ending);
@@ -63,7 +63,7 @@ impl Host {
         let Some(request) = Request::of(call) else {
             return Err(self.end(Ending::Halted(Halt::Unsupported)));
         };
-        match self.state.endpoint.call(request) {
+        match self.state.call(request, now) {
             Ok(answer) => Ok(answer),
             Err(ending) => Err(self.end(ending)),
         }
@@ -75,6 +75,7 @@ impl Host {
     ///
     /// `Halted` for a segment that isn't run, and where more than 1,024 packets would stand untaken.
     pub fn arrive(&mut self, segment: &Segment, now: u64) -> Result<(), Ending>
+        requires early { now < 2 ^ 62 }
         ensures { Goes self.old (arrived segment.now now) result self.new }
     {
         if let Some(ending) = self.ended {
@@ -88,6 +89,7 @@ impl Host {
 
     /// Performs all expiries up to a moment, in order.
     pub fn advance(&mut self, until: u64) -> Result<(), Ending>
+        requires early { until < 2 ^ 62 }
         ensures { Goes self.old (advanced until) result self.new }
     {
         match self.ended {

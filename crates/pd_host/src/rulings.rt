@@ -1,17 +1,26 @@
 //! What becomes of a segment that arrives on a connection.
 
-/// What becomes of a segment that doesn't pass all checks.
+/// The check that a segment doesn't pass, and so what becomes of it.
 #[derive(Clone, Copy, PartialEq, Eq)]
 pub enum Ruling {
-    /// It isn't run.
+    /// Data, a SYN, a FIN, or anything after a reset: it isn't run.
     NotRun,
-    Dropped,
-    /// It is answered by an ACK and dropped.
-    Answered,
-    /// It resets the connection.
-    Reset,
-    /// It establishes the connection.
-    Established,
-    /// It is refused by an RST.
-    Refused,
+    /// An RST from outside the receive window: it is dropped.
+    StrayRst,
+    /// Another segment from outside the receive window: it is answered by an ACK and dropped.
+    OutsideWindow,
+    /// An RST at RCV.NXT: it resets the connection.
+    ExactRst,
+    /// Another RST: it is answered by an ACK and dropped.
+    ChallengedRst,
+    /// A segment without the ACK flag: it is dropped.
+    WithoutAck,
+    /// An ACK of our SYN: it establishes the connection.
+    FirstAck,
+    /// Another ACK in the handshake: it is refused by an RST.
+    RefusedAck,
+    /// An ACK of what wasn't sent: it is answered by an ACK and dropped.
+    EarlyAck,
+    /// An ACK below what is acknowledged: it is dropped.
+    OldAck,
 }

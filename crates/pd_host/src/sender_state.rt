@@ -1,8 +1,7 @@
 //! The sender's state, with the settings that it consults.
 
 use crate::endpoint::Endpoint;
-use crate::use_set::UseSet;
-use pd_settings::Settings;
+use pd_settings::{Settings, UseSet};
 
 /// The endpoint, and beside it the settings and which of them were consulted so far.
 #[derive(Drop)]

@@ -1,7 +1,8 @@
--- How far a step moves the clock and the base, and how late the packets are that stand untaken.
-use Rattle.std.proofs.Common.{◌≡◌, inl, inr, ℕ, ◌+◌, ◌≤◌, ◌==◌, max, Bool, true, false, not, ◌||◌, if◌then◌else◌, Option, Some, None, List, [], ◌∷◌, ◌++◌, drop, length, slice_get, Result, Ok, Err, refl, sym, subst, arith}
+-- How far a step moves the clock and the base, and that the sender stays up to date.
+use Rattle.std.proofs.Common.{◌≡◌, ℕ, ◌+◌, ◌<◌, ◌≤◌, ◌==◌, max, Bool, true, false, not, ◌||◌, if◌then◌else◌, Option, Some, None, List, [], ◌∷◌, length, slice_get, Result, Ok, Err, refl, sym, subst, arith}
 use Rattle.std.proofs.lemmas.Bool.Decides.{nat_tests}
-use Rattle.std.specs.List.{list_any, AllByRecursion}
+use Rattle.std.specs.List.{list_any}
+use Rattle.std.specs.Prelude.{IfSome}
 use Rattle.pd_script.specs.declared.calls.Call.{Call}
 use Rattle.pd_script.specs.declared.packets.Packet.{Packet}
 use Rattle.pd_script.specs.declared.script_events.Action.{Action}
@@ -13,8 +14,10 @@ use Rattle.pd_seg.specs.declared.answers.Answer.{Answer}
 use Rattle.pd_seg.specs.declared.segments.Segment.{Segment}
 use Rattle.pd_seg.specs.declared.segments.Sent.{Sent}
 use Rattle.pd_host.specs.Arrivals.{arrived}
-use Rattle.pd_host.specs.Laws.{PutsOutAtMostOne, CallsKeepTheOutbox}
-use Rattle.pd_host.specs.Sender.{without_oldest}
+use Rattle.pd_host.specs.Calls.{called}
+use Rattle.pd_host.specs.Laws.{AreInOrder, IsUpTo, AdvancesKeepUp, ArrivalsKeepUp, CallsKeepUp, TakingKeepsUp}
+use Rattle.pd_host.specs.Outcome.{Goes, GoesFrom, Answers, AnswersFrom}
+use Rattle.pd_host.specs.Sender.{Sender, then_on, advanced, deadline_of, without_oldest}
 use Rattle.pd_host.specs.declared.halts.Halt.{Halt}
 use Rattle.pd_host.specs.declared.sender_state.State.{State}
 use Rattle.pd_match.specs.Calls.{result_mismatch}
@@ -24,37 +27,24 @@ use Rattle.pd_match.specs.declared.kinds.Kind.TheVariants.{Missing, Backwards}
 use Rattle.pd_run.specs.Inbound.{segment_in}
 use Rattle.pd_run.specs.Limits.{is_long, written_times, is_over_limit}
 use Rattle.pd_run.specs.Shapes.{is_run}
-use Rattle.pd_run.specs.Step.{Running, on_step, judged, acts_at, acted, arrives, on_arrival, answers, on_answer, taken, performed, step}
-use Rattle.pd_run.specs.Times.{is_single, moment_of, moments_of, is_backwards, base_after}
+use Rattle.pd_run.specs.Step.{Running, IsUpToDate, on_step, judged, with_state, acts_at, acted, arrives, on_arrival, answers, on_answer, on_expiry, expires, awaited, taken, performed, step}
+use Rattle.pd_run.specs.Times.{is_single, moment_of, moments_of, is_backwards, is_in_reach, base_after}
 use Rattle.pd_run.specs.declared.verdicts.Verdict.{Verdict}
 use Rattle.pd_run.specs.declared.verdicts.Verdict.TheVariants.{Fail, Unsupported, Limit}
 
--- no packet left later than a moment
-abbrev NoneLater : ℕ → List Sent → Type 0
-NoneLater n packets = AllByRecursion (λ (p : Sent). p.at ≤ n) packets
-
-none_later : (n m : ℕ) (packets : List Sent) → n ≤ m → NoneLater n packets → NoneLater m packets
-none_later n m [] le h = tt
-none_later n m (p ∷ packets) le h = (omega (arith, h.0), none_later n m packets le h.1)
-
-one_more : (n : ℕ) (packets : List Sent) (p : Sent) → NoneLater n packets → p.at ≤ n → NoneLater n (packets ++ p ∷ [])
-one_more n [] p h at = (at, tt)
-one_more n (q ∷ packets) p h at = (h.0, one_more n packets p h.1 at)
-
-one_less : (n : ℕ) (packets : List Sent) → NoneLater n packets → NoneLater n (drop 1 packets)
-one_less n [] h = tt
-one_less n (p ∷ packets) h = h.1
-
-oldest : (n : ℕ) (packets : List Sent) (p : Sent) → NoneLater n packets → slice_get packets 0 ≡ Some p → p.at ≤ n
-oldest n [] p h is = absurd cc
-oldest n (q ∷ packets) p h is = let same : q ≡ p = cc in subst (λ (x : Sent). x.at ≤ n) same h.0
-
--- the clock, the base and the packets of a run that goes on lie at or before a moment
+-- the clock and the base of a run that goes on lie at or before a moment, and its sender is up to date
 pub record IsWithin (n : ℕ) (r : Running) : Type 0 where
   pub live : r.host.ended ≡ None
   pub clock : r.clock ≤ n
   pub base : r.base ≤ n
-  pub packets : AllByRecursion (λ (p : Sent). p.at ≤ n) r.host.state.endpoint.outbox
+  pub up_to : IsUpTo r.clock r.host.state
+
+-- the laws of the sender's moments
+pub record Moments : Type 0 where
+  pub advances : AdvancesKeepUp
+  pub arrivals : ArrivalsKeepUp
+  pub calls : CallsKeepUp
+  pub taking : TakingKeepsUp
 
 -- where a refusal comes first, an `Ok` means that it didn't
 let_through : (b : Bool) (v : Verdict) (rest : Result Running Verdict) (s : Running)
@@ -89,79 +79,162 @@ pub agreed : (line : ℕ) (r s : Running) (kind : Option Kind) → judged line r
 agreed line r s None h = given r s h
 agreed line r s (Some kind) h = absurd cc
 
+-- an `Ok` of two rules is one of each
+both : {A B : Type 0} (next : A → Result B Halt) (came : Result A Halt) (t : B) → then_on next came ≡ Ok t → (s : A) × (came ≡ Ok s) × (next s ≡ Ok t)
+both next (Ok s) t h = (s, refl, h)
+both next (Err halt) t h = absurd cc
+
+-- a packet that arrives, and a call, after all expiries up to a later moment
+pub arrival_keeps_up : Moments → (segment : Segment) (clock moment : ℕ) (s t : State) → clock ≤ moment → IsUpTo clock s
+    → then_on (arrived segment moment) (advanced moment s) ≡ Ok t → IsUpTo moment t
+arrival_keeps_up laws segment clock moment s t le up h =
+    let came = both (arrived segment moment) (advanced moment s) t h in
+    laws.arrivals segment moment came.0 t (laws.advances clock moment s came.0 le up came.1) came.2
+
+pub call_keeps_up : Moments → (call : Call) (clock moment : ℕ) (s t : State) (answer : Answer) → clock ≤ moment → IsUpTo clock s
+    → then_on (called call moment) (advanced moment s) ≡ Ok (t, answer) → IsUpTo moment t
+call_keeps_up laws call clock moment s t answer le up h =
+    let came = both (called call moment) (advanced moment s) (t, answer) h in
+    laws.calls call moment came.0 t answer (laws.advances clock moment s came.0 le up came.1) came.2
+
+-- of a host that hasn't ended an input tells
+goes_on : (old new : Sender) (rule : State → Result State Halt) (u : Unit {0}) → old.ended ≡ None → Goes old rule (Ok u) new → rule old.state ≡ Ok new.state
+goes_on old new rule u live h = let told : GoesFrom None old rule (Ok u) new = subst (λ o. GoesFrom o old rule (Ok u) new) live h in told.0
+
+answers_on : (old new : Sender) (rule : State → Result (State × Answer) Halt) (a : Answer) → old.ended ≡ None → Answers old rule (Ok a) new → rule old.state ≡ Ok (new.state, a)
+answers_on old new rule a live h = let told : AnswersFrom None old rule (Ok a) new = subst (λ o. AnswersFrom o old rule (Ok a) new) live h in told.0
+
+-- so the sender is up to date at the moment of the packet, and of the call
+pub host_after_arrival : Moments → (old new : Sender) (segment : Segment) (clock moment : ℕ) (u : Unit {0})
+    → IsUpToDate old clock → old.ended ≡ None → clock ≤ moment
+    → Goes old (λ s. then_on (arrived segment moment) (advanced moment s)) (Ok u) new
+    → IsUpToDate new moment
+host_after_arrival laws old new segment clock moment u up live le h =
+    λ _. arrival_keeps_up laws segment clock moment old.state new.state le (up live) (goes_on old new (λ s. then_on (arrived segment moment) (advanced moment s)) u live h)
+
+pub host_after_call : Moments → (old new : Sender) (call : Call) (clock moment : ℕ) (answer : Answer)
+    → IsUpToDate old clock → old.ended ≡ None → clock ≤ moment
+    → Answers old (λ s. then_on (called call moment) (advanced moment s)) (Ok answer) new
+    → IsUpToDate new moment
+host_after_call laws old new call clock moment answer up live le h =
+    λ _. call_keeps_up laws call clock moment old.state new.state answer le (up live) (answers_on old new (λ s. then_on (called call moment) (advanced moment s)) answer live h)
+
+-- an event acts at the clock or later
+pub acts_later : (r : Running) (e : Event) (clock moment : ℕ) → clock ≡ r.clock → moment ≡ acts_at r e → clock ≤ moment
+acts_later r e clock moment same is = omega (arith, same, is)
+
+-- where the next expiry lies
+pub ahead : (clock most at : ℕ) (o : Option ℕ) → IfSome o (λ x. (clock < x) × (x ≤ clock + most)) → o ≡ Some at → (clock < at) × (at ≤ clock + most)
+ahead clock most at None h is = absurd cc
+ahead clock most at (Some x) h is = let same : x ≡ at = cc in subst (λ (y : ℕ). (clock < y) × (y ≤ clock + most)) same h
+
+oldest : (n : ℕ) (packets : List Sent) (p : Sent) → AreInOrder n packets → slice_get packets 0 ≡ Some p → p.at ≤ n
+oldest n [] p h is = absurd cc
+oldest n (q ∷ packets) p h is = let same : q ≡ p = cc in subst (λ (x : Sent). x.at ≤ n) same h.0
+
 -- after an event that acted
 acted_within : (n : ℕ) (r : Running) (e : Event) (t : State)
-    → IsWithin n r → moment_of r.base e.time ≤ n + 3600000000 → NoneLater (n + 3600000000) t.endpoint.outbox
+    → IsWithin n r → moment_of r.base e.time ≤ n + 3600000000 → IsUpTo (acts_at r e) t
     → IsWithin (n + 3600000000) (acted r e t)
-acted_within n r e t within moment packets =
+acted_within n r e t within moment up =
     let clock : r.clock ≤ n = within.clock in
-    record { live = within.live; clock = omega arith; base = moment; packets = packets }
+    record { live = within.live; clock = omega arith; base = moment; up_to = up }
 
-arrival_packets : PutsOutAtMostOne → (n now : ℕ) (segment : Segment) (s t : State) → now ≤ n → NoneLater n s.endpoint.outbox → arrived segment now s ≡ Ok t
-    → NoneLater n t.endpoint.outbox
-arrival_packets law n now segment s t le packets came =
-    elim (law segment now s t came) [
-      | inl same ↦ subst (NoneLater n) (sym same) packets
-      | inr more ↦ subst (NoneLater n) (sym more.2) (one_more n s.endpoint.outbox more.0 packets (subst (λ (m : ℕ). m ≤ n) (sym more.1) le))
-    ]
-
-arrival_within : (n : ℕ) (r s : Running) (e : Event) (came : Result State Halt)
+arrival_within : Moments → (n : ℕ) (r s : Running) (e : Event) (p : Packet) (came : Result State Halt) → arrives r e p ≡ came
     → IsWithin n r → moment_of r.base e.time ≤ n + 3600000000
-    → ((t : State) → came ≡ Ok t → NoneLater (n + 3600000000) t.endpoint.outbox)
     → on_arrival r e came ≡ Ok s → IsWithin (n + 3600000000) s
-arrival_within n r s e (Ok t) within moment packets h =
-    subst (IsWithin (n + 3600000000)) (given (acted r e t) s h) (acted_within n r e t within moment (packets t refl))
-arrival_within n r s e (Err halt) within moment packets h = absurd cc
+arrival_within laws n r s e p (Ok t) is within moment h =
+    subst (IsWithin (n + 3600000000)) (given (acted r e t) s h)
+    (acted_within n r e t within moment (arrival_keeps_up laws (segment_in p) r.clock (acts_at r e) r.host.state t (omega arith) within.up_to is))
+arrival_within laws n r s e p (Err halt) is within moment h = absurd cc
 
-answer_within : (n : ℕ) (r s : Running) (e : Event) (call : Call) (came : Result (State × Answer) Halt)
+answer_within : Moments → (n : ℕ) (r s : Running) (e : Event) (call : Call) (came : Result (State × Answer) Halt) → answers r e call ≡ came
     → IsWithin n r → moment_of r.base e.time ≤ n + 3600000000
-    → ((t : State) (a : Answer) → came ≡ Ok (t, a) → NoneLater (n + 3600000000) t.endpoint.outbox)
     → on_answer r e call came ≡ Ok s → IsWithin (n + 3600000000) s
-answer_within n r s e call (Ok (t, a)) within moment packets h =
-    subst (IsWithin (n + 3600000000)) (agreed e.line (acted r e t) s (result_mismatch call.result a) h) (acted_within n r e t within moment (packets t a refl))
-answer_within n r s e call (Err halt) within moment packets h = absurd cc
+answer_within laws n r s e call (Ok (t, a)) is within moment h =
+    subst (IsWithin (n + 3600000000)) (agreed e.line (acted r e t) s (result_mismatch call.result a) h)
+    (acted_within n r e t within moment (call_keeps_up laws call r.clock (acts_at r e) r.host.state t a (omega arith) within.up_to is))
+answer_within laws n r s e call (Err halt) is within moment h = absurd cc
 
-taken_within : (n : ℕ) (r s : Running) (e : Event) (p : Packet) (first : Option Sent)
-    → IsWithin n r → moment_of r.base e.time ≤ n + 3600000000
-    → ((sent : Sent) → first ≡ Some sent → sent.at ≤ n)
-    → taken e p r first ≡ Ok s → IsWithin (n + 3600000000) s
-taken_within n r s e p None within moment at h = absurd cc
-taken_within n r s e p (Some sent) within moment at h =
+-- after a packet that was taken
+taken_within : Moments → (n : ℕ) (r s : Running) (e : Event) (p : Packet) (first : Option Sent) → slice_get r.host.state.endpoint.outbox 0 ≡ first
+    → IsWithin n r → moment_of r.base e.time ≤ n
+    → taken e p r first ≡ Ok s → IsWithin n s
+taken_within laws n r s e p None is within moment h = absurd cc
+taken_within laws n r s e p (Some sent) is within moment h =
     let next : Running = record r { host = without_oldest r.host; base = base_after r.base e.time sent.at } in
     let same : next ≡ s = agreed e.line next s (mismatch p (moments_of r.base e.time) sent r.tolerance) h in
     let clock : r.clock ≤ n = within.clock in
-    let base : r.base ≤ n = within.base in
-    let left : sent.at ≤ n = at sent refl in
-    subst (IsWithin (n + 3600000000)) same (record {
+    let left : sent.at ≤ r.clock = oldest r.clock r.host.state.endpoint.outbox sent within.up_to.packets is in
+    subst (IsWithin n) same (record {
       live = within.live;
-      clock = omega arith;
-      base = base_within (is_single e.time) (moment_of r.base e.time) r.base sent.at (n + 3600000000) moment (omega arith) (omega arith);
-      packets = one_less (n + 3600000000) r.host.state.endpoint.outbox (none_later n (n + 3600000000) r.host.state.endpoint.outbox (omega arith) within.packets);
+      clock = within.clock;
+      base = base_within (is_single e.time) (moment_of r.base e.time) r.base sent.at n moment within.base (omega arith);
+      up_to = laws.taking r.clock r.host within.up_to;
     })
 
-leaves_within : (n : ℕ) (r s : Running) (e : Event) (p : Packet) (empty : Bool)
-    → IsWithin n r → moment_of r.base e.time ≤ n + 3600000000
-    → on_step (λ q. taken e p q (slice_get q.host.state.endpoint.outbox 0)) (λ v. Err v) (if empty then Err (Fail e.line Missing) else Ok r) ≡ Ok s
-    → IsWithin (n + 3600000000) s
-leaves_within n r s e p true within moment h = absurd cc
-leaves_within n r s e p false within moment h =
-    taken_within n r s e p (slice_get r.host.state.endpoint.outbox 0) within moment (λ sent is. oldest n r.host.state.endpoint.outbox sent within.packets is) h
+-- after an expiry that was awaited: the base stays
+abbrev Waited : ℕ → Running → Running → Type 0
+Waited n r s = IsWithin (n + 3600000000) s × (s.base ≡ r.base)
 
-performed_within : PutsOutAtMostOne → CallsKeepTheOutbox → (n : ℕ) (r s : Running) (e : Event) (action : Action)
-    → IsWithin n r → moment_of r.base e.time ≤ n + 3600000000 → performed r e action ≡ Ok s → IsWithin (n + 3600000000) s
-performed_within arrivals calls n r s e (Inbound p) within moment h =
+expired : Moments → (n at : ℕ) (r s : Running) (e : Event) (came : Result State Halt) → advanced at r.host.state ≡ came
+    → deadline_of r.host.state ≡ Some at → IsWithin n r → on_expiry r e at came ≡ Ok s → Waited n r s
+expired laws n at r s e (Ok t) is due within h =
     let clock : r.clock ≤ n = within.clock in
-    let packets : NoneLater (n + 3600000000) r.host.state.endpoint.outbox =
-    none_later n (n + 3600000000) r.host.state.endpoint.outbox (omega arith) within.packets in
-    let at : acts_at r e ≤ n + 3600000000 = omega arith in
-    arrival_within n r s e (arrives r e p) within moment (λ t came. arrival_packets arrivals (n + 3600000000) (acts_at r e) (segment_in p) r.host.state t at packets came) h
-performed_within arrivals calls n r s e (Outbound p) within moment h = leaves_within n r s e p (length r.host.state.endpoint.outbox == 0) within moment h
-performed_within arrivals calls n r s e (Calls call) within moment h =
-    let packets : NoneLater (n + 3600000000) r.host.state.endpoint.outbox =
-    none_later n (n + 3600000000) r.host.state.endpoint.outbox (omega arith) within.packets in
-    answer_within n r s e call (answers r e call) within moment (λ t a came. subst (NoneLater (n + 3600000000)) (sym (calls call r.host.state t a came)) packets) h
-performed_within arrivals calls n r s e Command within moment h = absurd cc
-performed_within arrivals calls n r s e Code within moment h = absurd cc
+    let base : r.base ≤ n = within.base in
+    let most : r.host.state.settings.max_rto_us ≤ 3600000000 = r.host.state.settings.max_rto_us_in_range.1 in
+    let reach : (r.clock < at) × (at ≤ r.clock + r.host.state.settings.max_rto_us) =
+    ahead r.clock r.host.state.settings.max_rto_us at (deadline_of r.host.state) within.up_to.deadline due in
+    subst (Waited n r) (given (record (with_state r t) { clock = at }) s h) (
+      record {
+        live = within.live;
+        clock = omega (arith, clock, most, reach.1);
+        base = omega (arith, base);
+        up_to = laws.advances r.clock at r.host.state t (omega (arith, reach.0)) within.up_to is;
+      },
+      refl,
+    )
+expired laws n at r s e (Err halt) is due within h = absurd cc
+
+pub in_reach : (b : Bool) (line : ℕ) (x : Result Running Verdict) (s : Running) → (if b then x else Err (Fail line Missing)) ≡ Ok s → x ≡ Ok s
+in_reach true line x s h = h
+in_reach false line x s h = absurd cc
+
+expires_within : Moments → (n : ℕ) (r s : Running) (e : Event) (o : Option ℕ) → deadline_of r.host.state ≡ o
+    → IsWithin n r → expires r e o ≡ Ok s → Waited n r s
+expires_within laws n r s e None due within h = absurd cc
+expires_within laws n r s e (Some at) due within h =
+    expired laws n at r s e (advanced at r.host.state) refl due within
+    (in_reach (is_in_reach (moments_of r.base e.time) r.tolerance at) e.line (on_expiry r e at (advanced at r.host.state)) s h)
+
+later : (n : ℕ) (r : Running) → IsWithin n r → IsWithin (n + 3600000000) r
+later n r within =
+    let clock : r.clock ≤ n = within.clock in
+    let base : r.base ≤ n = within.base in
+    record { live = within.live; clock = omega arith; base = omega arith; up_to = within.up_to }
+
+awaited_within : Moments → (n : ℕ) (r s : Running) (e : Event) (empty : Bool) → IsWithin n r
+    → (if empty then expires r e (deadline_of r.host.state) else Ok r) ≡ Ok s → Waited n r s
+awaited_within laws n r s e true within h = expires_within laws n r s e (deadline_of r.host.state) refl within h
+awaited_within laws n r s e false within h = subst (Waited n r) (given r s h) (later n r within, refl)
+
+leaves_within : Moments → (n : ℕ) (r s : Running) (e : Event) (p : Packet) (came : Result Running Verdict) → awaited r e ≡ came
+    → IsWithin n r → moment_of r.base e.time ≤ n + 3600000000
+    → on_step (λ q. taken e p q (slice_get q.host.state.endpoint.outbox 0)) (λ v. Err v) came ≡ Ok s
+    → IsWithin (n + 3600000000) s
+leaves_within laws n r s e p (Ok t) is within moment h =
+    let waited : Waited n r t = awaited_within laws n r t e (length r.host.state.endpoint.outbox == 0) within is in
+    taken_within laws (n + 3600000000) t s e p (slice_get t.host.state.endpoint.outbox 0) refl waited.0
+    (subst (λ (b : ℕ). moment_of b e.time ≤ n + 3600000000) (sym waited.1) moment) h
+leaves_within laws n r s e p (Err v) is within moment h = absurd cc
+
+performed_within : Moments → (n : ℕ) (r s : Running) (e : Event) (action : Action)
+    → IsWithin n r → moment_of r.base e.time ≤ n + 3600000000 → performed r e action ≡ Ok s → IsWithin (n + 3600000000) s
+performed_within laws n r s e (Inbound p) within moment h = arrival_within laws n r s e p (arrives r e p) refl within moment h
+performed_within laws n r s e (Outbound p) within moment h = leaves_within laws n r s e p (awaited r e) refl within moment h
+performed_within laws n r s e (Calls call) within moment h = answer_within laws n r s e call (answers r e call) refl within moment h
+performed_within laws n r s e Command within moment h = absurd cc
+performed_within laws n r s e Code within moment h = absurd cc
 
 -- a step that goes on performed its event's action
 pub step_performs : (r s : Running) (e : Event) → step r e ≡ Ok s → performed r e e.action ≡ Ok s
@@ -182,8 +255,8 @@ step_short r s e h =
     let limit : (is_over_limit e ≡ false) × (unlimited ≡ Ok s) = let_through (is_over_limit e) (Limit e.line) unlimited s h in
     or_false _ _ (or_false _ _ limit.0)
 
-pub step_within : PutsOutAtMostOne → CallsKeepTheOutbox → (n : ℕ) (r s : Running) (e : Event) → IsWithin n r → step r e ≡ Ok s → IsWithin (n + 3600000000) s
-step_within arrivals calls n r s e within h =
+pub step_within : Moments → (n : ℕ) (r s : Running) (e : Event) → IsWithin n r → step r e ≡ Ok s → IsWithin (n + 3600000000) s
+step_within laws n r s e within h =
     let base : r.base ≤ n = within.base in
     let moment : moment_of r.base e.time ≤ r.base + 3600000000 = moment_within r.base e.time (step_short r s e h) in
-    performed_within arrivals calls n r s e e.action within (omega arith) (step_performs r s e h)
+    performed_within laws n r s e e.action within (omega arith) (step_performs r s e h)

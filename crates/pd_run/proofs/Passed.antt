@@ -1,5 +1,5 @@
 -- What passes agrees with what the script expects, and the tolerance stays.
-use Rattle.std.proofs.Common.{◌≡◌, Bool, true, false, ◌&&◌, if◌then◌else◌, ℕ, ◌==◌, length, slice_get, Option, Some, None, Result, Ok, Err, refl, sym, ap, subst, ◌∙◌}
+use Rattle.std.proofs.Common.{◌≡◌, Bool, true, false, if◌then◌else◌, ℕ, ◌==◌, length, slice_get, Option, Some, None, Result, Ok, Err, refl, sym, ap, subst, ◌∙◌}
 use Rattle.std.specs.List.{AllByRecursion}
 use Rattle.pd_script.specs.declared.calls.Call.{Call}
 use Rattle.pd_script.specs.declared.packets.Packet.{Packet}
@@ -8,6 +8,7 @@ use Rattle.pd_script.specs.declared.script_events.Action.TheVariants.{Inbound, O
 use Rattle.pd_script.specs.declared.script_events.Event.{Event}
 use Rattle.pd_seg.specs.declared.answers.Answer.{Answer}
 use Rattle.pd_seg.specs.declared.segments.Sent.{Sent}
+use Rattle.pd_host.specs.Sender.{advanced, deadline_of}
 use Rattle.pd_host.specs.declared.halts.Halt.{Halt}
 use Rattle.pd_host.specs.declared.sender_state.State.{State}
 use Rattle.pd_match.specs.Agreement.{Agrees, IsFirstFailing}
@@ -15,13 +16,11 @@ use Rattle.pd_match.specs.Laws.{MismatchIsFirst, MatchIsResult}
 use Rattle.pd_match.specs.Calls.{result_mismatch}
 use Rattle.pd_match.specs.Packets.{compared, mismatch}
 use Rattle.pd_match.specs.declared.kinds.Kind.{Kind}
-use Rattle.pd_match.specs.declared.kinds.Kind.TheVariants.{Missing}
 use Rattle.pd_run.specs.Laws.{PassedPacketsAgree, PassedCallsAnswer, ToleranceStays}
-use Rattle.pd_run.specs.Step.{Running, on_step, judged, acted, arrives, on_arrival, answers, on_answer, awaited, taken, performed}
-use Rattle.pd_run.specs.Times.{moments_of}
+use Rattle.pd_run.specs.Step.{Running, on_step, judged, with_state, acted, arrives, on_arrival, answers, on_answer, on_expiry, expires, awaited, taken, performed}
+use Rattle.pd_run.specs.Times.{moments_of, is_in_reach}
 use Rattle.pd_run.specs.declared.verdicts.Verdict.{Verdict}
-use Rattle.pd_run.specs.declared.verdicts.Verdict.TheVariants.{Fail}
-use Rattle.pd_run.proofs.Bounds.{given, agreed, step_performs}
+use Rattle.pd_run.proofs.Bounds.{given, agreed, in_reach, step_performs}
 
 -- what was judged and passed differs in nothing
 no_kind : (line : ℕ) (r s : Running) (kind : Option Kind) → judged line r kind ≡ Ok s → kind ≡ None
@@ -80,15 +79,30 @@ taken_keeps r s e p None h = absurd cc
 taken_keeps r s e p (Some sent) h =
     ap (λ (q : Running). q.tolerance) (sym (agreed e.line _ s (mismatch p (moments_of r.base e.time) sent r.tolerance) h))
 
-leaves_keeps : (r s : Running) (e : Event) (p : Packet) (empty : Bool)
-    → on_step (λ q. taken e p q (slice_get q.host.state.endpoint.outbox 0)) (λ v. Err v) (if empty then Err (Fail e.line Missing) else Ok r) ≡ Ok s
+expiry_keeps : (r s : Running) (e : Event) (at : ℕ) (came : Result State Halt) → on_expiry r e at came ≡ Ok s → s.tolerance ≡ r.tolerance
+expiry_keeps r s e at (Ok t) h = ap (λ (q : Running). q.tolerance) (sym (given (record (with_state r t) { clock = at }) s h))
+expiry_keeps r s e at (Err halt) h = absurd cc
+
+expires_keeps : (r s : Running) (e : Event) (o : Option ℕ) → expires r e o ≡ Ok s → s.tolerance ≡ r.tolerance
+expires_keeps r s e None h = absurd cc
+expires_keeps r s e (Some at) h =
+    expiry_keeps r s e at (advanced at r.host.state)
+    (in_reach (is_in_reach (moments_of r.base e.time) r.tolerance at) e.line (on_expiry r e at (advanced at r.host.state)) s h)
+
+awaited_keeps : (r s : Running) (e : Event) (empty : Bool) → (if empty then expires r e (deadline_of r.host.state) else Ok r) ≡ Ok s → s.tolerance ≡ r.tolerance
+awaited_keeps r s e true h = expires_keeps r s e (deadline_of r.host.state) h
+awaited_keeps r s e false h = ap (λ (q : Running). q.tolerance) (sym (given r s h))
+
+leaves_keeps : (r s : Running) (e : Event) (p : Packet) (came : Result Running Verdict) → awaited r e ≡ came
+    → on_step (λ q. taken e p q (slice_get q.host.state.endpoint.outbox 0)) (λ v. Err v) came ≡ Ok s
     → s.tolerance ≡ r.tolerance
-leaves_keeps r s e p true h = absurd cc
-leaves_keeps r s e p false h = taken_keeps r s e p (slice_get r.host.state.endpoint.outbox 0) h
+leaves_keeps r s e p (Ok t) is h =
+    taken_keeps t s e p (slice_get t.host.state.endpoint.outbox 0) h ∙ awaited_keeps r t e (length r.host.state.endpoint.outbox == 0) is
+leaves_keeps r s e p (Err v) is h = absurd cc
 
 performed_keeps : (r s : Running) (e : Event) (action : Action) → performed r e action ≡ Ok s → s.tolerance ≡ r.tolerance
 performed_keeps r s e (Inbound p) h = arrival_keeps r s e (arrives r e p) h
-performed_keeps r s e (Outbound p) h = leaves_keeps r s e p (length r.host.state.endpoint.outbox == 0) h
+performed_keeps r s e (Outbound p) h = leaves_keeps r s e p (awaited r e) refl h
 performed_keeps r s e (Calls call) h = answer_keeps r s e call (answers r e call) h
 performed_keeps r s e Command h = absurd cc
 performed_keeps r s e Code h = absurd cc

@@ -10,6 +10,7 @@ use Rattle.pd_seg.specs.declared.answers.Answer.{Answer}
 use Rattle.pd_seg.specs.declared.segments.Sent.{Sent}
 use Rattle.pd_host.specs.Arrivals.{arrived}
 use Rattle.pd_host.specs.Calls.{called}
+use Rattle.pd_host.specs.Laws.{IsUpTo}
 use Rattle.pd_host.specs.Sender.{Sender, then_on, advanced, deadline_of, without_oldest}
 use Rattle.pd_host.specs.declared.halts.Halt.{Halt}
 use Rattle.pd_host.specs.declared.halts.Halt.TheVariants as halt
@@ -36,6 +37,10 @@ pub record Running : Type 0 where
   pub clock : ℕ
   pub base : ℕ
   pub tolerance : ℕ
+
+-- the sender of a run that goes on is up to date at the run's clock
+abbrev pub IsUpToDate : Sender → ℕ → Type 0
+IsUpToDate host clock = host.ended ≡ None → IsUpTo clock host.state
 
 -- what follows a step: goes on from its state, or stops with its verdict
 abbrev pub on_step : {A : Type 0} → (Running → A) → (Verdict → A) → Result Running Verdict → A
@@ -79,7 +84,7 @@ on_arrival r e (Err h) = Err (verdict_by e.line h)
 
 -- a call is made, after all expiries up to its moment, and its result is compared
 abbrev pub answers : Running → Event → Call → Result (State × Answer) Halt
-answers r e call = then_on (called call) (advanced (acts_at r e) r.host.state)
+answers r e call = then_on (called call (acts_at r e)) (advanced (acts_at r e) r.host.state)
 
 abbrev pub on_answer : Running → Event → Call → Result (State × Answer) Halt → Result Running Verdict
 on_answer r e call (Ok (s, answer)) = judged e.line (acted r e s) (result_mismatch call.result answer)

@@ -1,5 +1,5 @@
 //! What an event asks of the host, after all expiries up to its moment.
-ghost use Rattle.std.specs.Prelude.{◌≡◌, false};
+ghost use Rattle.std.specs.Prelude.{◌≡◌, ◌<◌, ◌^◌, false};
 ghost use Rattle.pd_host.specs.Arrivals.{arrived};
 ghost use Rattle.pd_host.specs.Calls.{called};
 ghost use Rattle.pd_host.specs.Outcome.{Goes, Answers};
@@ -19,6 +19,7 @@ use pd_seg::Answer;
 /// Why the host has ended, here or before.
 pub fn arrive(host: &mut Host, packet: &Packet, moment: u64) -> Result<(), Ending>
     requires fits { is_packet_over packet.now ≡ false }
+    requires early { moment < 2 ^ 62 }
     ensures { Goes host.old (λ s. then_on (arrived (segment_in packet.now) moment) (advanced moment s)) result host.new }
 {
     host.advance(moment)?;
@@ -34,7 +35,8 @@ pub fn arrive(host: &mut Host, packet: &Packet, moment: u64) -> Result<(), Endin
 ///
 /// Why the host has ended, here or before.
 pub fn answer(host: &mut Host, call: &Call, moment: u64) -> Result<Answer, Ending>
-    ensures { Answers host.old (λ s. then_on (called call.now) (advanced moment s)) result host.new }
+    requires early { moment < 2 ^ 62 }
+    ensures { Answers host.old (λ s. then_on (called call.now moment) (advanced moment s)) result host.new }
 {
     host.advance(moment)?;
     host.call(call, moment)

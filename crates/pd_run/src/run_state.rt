@@ -5,7 +5,7 @@ ghost use Rattle.pd_host.specs.declared.halts.Ending.TheVariants.{OutOfMemory};
 ghost use Rattle.pd_run.specs.Limits.{is_long, written_times, is_packet_over};
 ghost use Rattle.pd_run.specs.Times.{moment_of};
 ghost use Rattle.pd_run.specs.Run.{start_of};
-ghost use Rattle.pd_run.specs.Step.{acts_at, acted, arrives, on_arrival, answers, on_answer, awaited, taken, leaves, Tells, Steps};
+ghost use Rattle.pd_run.specs.Step.{acts_at, arrives, on_arrival, answers, on_answer, awaited, taken, leaves, Tells, Steps};
 
 use crate::acting::{answer, arrive};
 use crate::limits::is_over_limit;
@@ -13,7 +13,7 @@ use crate::shapes::is_run;
 use crate::stepping::{StepEnd, end_by};
 use crate::times::{base_after, is_backwards, is_in_reach, moment_of, moments_of};
 use crate::verdicts::Verdict;
-use pd_host::Host;
+use pd_host::{Host, moments_are_lawful};
 use pd_match::{Expect, Kind, check_call, check_packet};
 use pd_script::{Action, Call, Event, Header, HeaderKind, Packet, Time};
 use pd_settings::Settings;
@@ -33,11 +33,13 @@ pub struct RunState {
 }
 
 impl Model for RunState {
-    ghost use Rattle.pd_run.specs.Step.{Running};
+    ghost use Rattle.pd_run.specs.Step.{Running, IsUpToDate};
 
     ghost Value = { Running };
 
     ghost view = { λ r. record { host = r.host; clock = r.clock; base = r.base; tolerance = r.tolerance } };
+
+    ghost invariant = { λ r. IsUpToDate r.host r.clock };
 }
 
 impl RunState {
@@ -66,6 +68,7 @@ impl RunState {
     /// One event, its checks in order: limits, shapes that aren't run, absolute times that go back, then the event
     /// itself.
     pub(crate) fn step(&mut self, event: &Event) -> Result<StepEnd, AllocError>
+        requires clock { self.old.clock < 2 ^ 61 }
         requires base { self.old.base < 2 ^ 61 }
         ensures ends { IfOk result (λ end. Steps self.old event.now end self.new) }
         ensures memory { OnErr result (self.new.host.ended ≡ Some OutOfMemory) }
@@ -101,54 +104,60 @@ impl RunState {
         moment_of(self.base, event.time).max(self.clock)
     }
 
-    /// Moves the clock and the base after an event that acted.
-    fn pass(&mut self, event: &Event)
+    /// The base becomes the time of an event that acted.
+    fn rebase(&mut self, event: &Event)
         requires base { self.old.base < 2 ^ 61 }
         requires short { list_any is_long (written_times event.now.time) ≡ false }
-        ensures { self.new ≡ acted self.old event.now self.old.host.state }
+        ensures { self.new ≡ record self.old { base = moment_of self.old.base event.now.time } }
     {
-        self.clock = self.acts_at(event);
         self.base = moment_of(self.base, event.time);
     }
 
     fn arrive(&mut self, event: &Event, packet: &Packet) -> Result<StepEnd, AllocError>
         requires live { self.old.host.ended ≡ None }
+        requires clock { self.old.clock < 2 ^ 61 }
         requires base { self.old.base < 2 ^ 61 }
         requires short { list_any is_long (written_times event.now.time) ≡ false }
         requires fits { is_packet_over packet.now ≡ false }
         ensures ends { IfOk result (λ end. Tells (on_arrival self.old event.now (arrives self.old event.now packet.now)) end self.new) }
         ensures memory { OnErr result (self.new.host.ended ≡ Some OutOfMemory) }
     {
+        moments_are_lawful();
         let moment = self.acts_at(event);
         match arrive(&mut self.host, packet, moment) {
             Ok(()) => {}
             Err(ending) => return end_by(ending, event.line),
         }
-        self.pass(event);
+        self.clock = moment;
+        self.rebase(event);
         Ok(StepEnd::Go)
     }
 
     fn call(&mut self, event: &Event, call: &Call) -> Result<StepEnd, AllocError>
         requires live { self.old.host.ended ≡ None }
+        requires clock { self.old.clock < 2 ^ 61 }
         requires base { self.old.base < 2 ^ 61 }
         requires short { list_any is_long (written_times event.now.time) ≡ false }
         ensures ends { IfOk result (λ end. Tells (on_answer self.old event.now call.now (answers self.old event.now call.now)) end self.new) }
         ensures memory { OnErr result (self.new.host.ended ≡ Some OutOfMemory) }
     {
+        moments_are_lawful();
         let moment = self.acts_at(event);
         let answer = match answer(&mut self.host, call, moment) {
             Ok(answer) => answer,
             Err(ending) => return end_by(ending, event.line),
         };
+        self.clock = moment;
         if let Some(kind) = check_call(call, &answer) {
             return Ok(StepEnd::Stop(Verdict::Fail(event.line, kind)));
         }
-        self.pass(event);
+        self.rebase(event);
         Ok(StepEnd::Go)
     }
 
     fn expect(&mut self, event: &Event, packet: &Packet) -> Result<StepEnd, AllocError>
         requires live { self.old.host.ended ≡ None }
+        requires clock { self.old.clock < 2 ^ 61 }
         requires base { self.old.base < 2 ^ 61 }
         requires short { list_any is_long (written_times event.now.time) ≡ false }
         ensures ends { IfOk result (λ end. Tells (leaves self.old event.now packet.now) end self.new) }
@@ -163,12 +172,14 @@ impl RunState {
     /// Where no packet stands untaken, performs the next expiry that may send the expected one.
     fn wait(&mut self, event: &Event) -> Result<StepEnd, AllocError>
         requires live { self.old.host.ended ≡ None }
+        requires clock { self.old.clock < 2 ^ 61 }
         requires base { self.old.base < 2 ^ 61 }
         requires short { list_any is_long (written_times event.now.time) ≡ false }
         ensures ends { IfOk result (λ end. Tells (awaited self.old event.now) end self.new) }
         ensures memory { OnErr result (self.new.host.ended ≡ Some OutOfMemory) }
         ensures base { self.new.base ≡ self.old.base }
     {
+        moments_are_lawful();
         if !self.host.outbox().is_empty() {
             return Ok(StepEnd::Go);
         }
@@ -188,10 +199,12 @@ impl RunState {
 
     /// Takes the oldest packet and compares it.
     fn take(&mut self, event: &Event, packet: &Packet) -> StepEnd
+        requires clock { self.old.clock < 2 ^ 61 }
         requires base { self.old.base < 2 ^ 61 }
         requires short { list_any is_long (written_times event.now.time) ≡ false }
         ensures { Tells (taken event.now packet.now self.old (slice_get self.old.host.state.endpoint.outbox 0)) result self.new }
     {
+        moments_are_lawful();
         let Some(sent) = self.host.take() else {
             return StepEnd::Stop(Verdict::Fail(event.line, Kind::Missing));
         };

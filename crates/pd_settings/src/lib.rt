@@ -5,10 +5,12 @@ mod domains;
 mod faults;
 mod fields;
 mod keys;
+mod use_set;
 mod values;
 
 pub use domains::Domain;
 pub use faults::SettingsFault;
 pub use fields::Settings;
 pub use keys::Key;
+pub use use_set::UseSet;
 pub use values::Value;

@@ -44,9 +44,9 @@ impl Connection {
         if self.is_in_window(segment) {
             None
         } else if segment.flags.rst {
-            Some(Ruling::Dropped)
+            Some(Ruling::StrayRst)
         } else {
-            Some(Ruling::Answered)
+            Some(Ruling::OutsideWindow)
         }
     }
 
@@ -56,21 +56,21 @@ impl Connection {
         if !segment.flags.rst {
             None
         } else if segment.start == self.rcv_nxt {
-            Some(Ruling::Reset)
+            Some(Ruling::ExactRst)
         } else {
-            Some(Ruling::Answered)
+            Some(Ruling::ChallengedRst)
         }
     }
 
     fn check_handshake(&self, segment: &Segment) -> Option<Ruling>
         ensures { result ≡ check_handshake self.now segment.now }
     {
-        if self.established {
+        if self.established.is_some() {
             None
         } else if self.una < segment.ack && segment.ack <= self.top {
-            Some(Ruling::Established)
+            Some(Ruling::FirstAck)
         } else {
-            Some(Ruling::Refused)
+            Some(Ruling::RefusedAck)
         }
     }
 
@@ -78,9 +78,9 @@ impl Connection {
         ensures { result ≡ check_ack self.now segment.now }
     {
         if self.top < segment.ack {
-            Some(Ruling::Answered)
+            Some(Ruling::EarlyAck)
         } else if segment.ack < self.una {
-            Some(Ruling::Dropped)
+            Some(Ruling::OldAck)
         } else {
             None
         }
@@ -93,6 +93,6 @@ fn check_ack_flag(segment: &Segment) -> Option<Ruling>
     if segment.flags.ack {
         None
     } else {
-        Some(Ruling::Dropped)
+        Some(Ruling::WithoutAck)
     }
 }

@@ -1,14 +1,14 @@
 -- The laws hold.
 use Rattle.pd_host.proofs.ExactRst.{only_an_exact_rst_resets}
 use Rattle.pd_host.proofs.Harmless.{outside_is_harmless}
-use Rattle.pd_host.proofs.OneMore.{puts_out_at_most_one}
-use Rattle.pd_host.proofs.Uses.{only_uses_matter}
+use Rattle.pd_host.proofs.OneMore.{puts_out_behind}
+use Rattle.pd_host.proofs.Consulted.{only_uses_matter}
 use Rattle.pd_host.proofs.laws.arrivals_are_lawful.Goals as goal
 
 pub returns : goal.returns
 returns c = record {
   outside = outside_is_harmless;
   resets = only_an_exact_rst_resets;
-  packets = puts_out_at_most_one;
+  packets = puts_out_behind;
   settings = only_uses_matter;
 }

@@ -5,12 +5,18 @@ use Rattle.pd_script.specs.declared.script_events.Event.{Event}
 use Rattle.pd_run.specs.Run.{stepped_from}
 use Rattle.pd_run.specs.Step.{step, Steps}
 use Rattle.pd_run.specs.declared.stepping.StepEnd.TheVariants.{Go}
-use Rattle.pd_run.proofs.Bounds.{IsWithin, step_within}
+use Rattle.pd_run.proofs.Bounds.{IsWithin, Moments, step_within}
 use Rattle.pd_run.proofs.Steps.{tells, verdict_after, stepped_after}
 use Rattle.pd_run.proofs.running.run_events.Goals as goal
 
 pub loop-event-preserved : goal.loop-event-preserved
 loop-event-preserved g c =
+    let laws : Moments = record {
+      advances = c.moments_are_lawful.ensures.advances;
+      arrivals = c.moments_are_lawful.ensures.arrivals;
+      calls = c.moments_are_lawful.ensures.calls;
+      taking = c.moments_are_lawful.ensures.taking;
+    } in
     let within : IsWithin (3600000000 * c.loop-event.event-index) c.loop-event.state = c.loop-event.invariant.within in
     let told : step c.loop-event.state c.event-item.result ≡ Ok c.step.new.state =
     tells c.loop-event.state c.step.new.state c.event-item.result Go within.live (subst (λ end. Steps c.loop-event.state c.event-item.result end c.step.new.state) c.in-Go.is c.in_ok-step.ensures.ends) in
@@ -19,7 +25,7 @@ loop-event-preserved g c =
     drop_more c.args.events.now c.loop-event.event-index c.event-item.result c.loop-event-test.true
     ∙ ap (λ (e : Event). e ∷ rest) (sym c.event-item.is) in
     let next : IsWithin (3600000000 * c.loop-event.event-index + 3600000000) c.step.new.state =
-    step_within c.arrivals_are_lawful.ensures.packets c.calls_are_lawful.ensures.outbox (3600000000 * c.loop-event.event-index) c.loop-event.state c.step.new.state c.event-item.result within told in
+    step_within laws (3600000000 * c.loop-event.event-index) c.loop-event.state c.step.new.state c.event-item.result within told in
     let longer : 3600000000 * c.loop-event.event-index + 3600000000 ≡ 3600000000 * (c.loop-event.event-index + 1) = omega arith in
     let steps : stepped_from (drop c.loop-event.event-index c.args.events.now) c.loop-event.state ≡ 1 + stepped_from rest c.step.new.state =
     stepped_after (drop c.loop-event.event-index c.args.events.now) rest c.loop-event.state c.step.new.state c.event-item.result split told in

@@ -1,22 +1,24 @@
 -- Other settings that agree on all that was consulted give the same arrival.
-use Rattle.std.proofs.Common.{◌≡◌, ℕ, ◌&&◌, min, Bool, true, false, if◌then◌else◌, nat_lt, length, List, Option, None, Some, Result, Ok, Err, refl, sym, ap, ◌∙◌}
+use Rattle.std.proofs.Common.{◌≡◌, ℕ, ◌&&◌, min, max, Bool, true, false, if◌then◌else◌, nat_lt, length, List, Option, None, Some, Result, Ok, Err, refl, sym, ap, ◌∙◌}
 use Rattle.std.specs.Option.{option_map, unwrap_or}
+use Rattle.pd_settings.specs.Uses.{Agree}
 use Rattle.pd_settings.specs.declared.fields.Settings.{Settings}
+use Rattle.pd_settings.specs.declared.use_set.UseSet.{UseSet}
 use Rattle.pd_seg.specs.declared.segments.Segment.{Segment}
 use Rattle.pd_seg.specs.declared.segments.Sent.{Sent}
 use Rattle.pd_host.specs.Arrivals.{ruled, arrived_on, ruling_of}
 use Rattle.pd_host.specs.ControlBlock.{ControlBlock}
-use Rattle.pd_host.specs.Handshake.{is_opening, begun, answered_syn, with_window, syn_uses, establishment_uses, offered_mss, offered_count, offers_sack}
-use Rattle.pd_host.specs.Laws.{OnlyUsesMatter, Agree, rebound}
+use Rattle.pd_host.specs.Handshake.{is_opening, begun, answered_syn, window_in, syn_uses, establishment_uses, offered_mss, offered_count, offers_sack}
+use Rattle.pd_host.specs.Laws.{OnlyUsesMatter, rebound}
 use Rattle.pd_host.specs.Packets.{syn_ack_of}
 use Rattle.pd_host.specs.Sender.{beside, with_outbox, put_out}
 use Rattle.pd_host.specs.declared.endpoint.Endpoint.{Endpoint}
 use Rattle.pd_host.specs.declared.halts.Halt.{Halt}
 use Rattle.pd_host.specs.declared.halts.Halt.TheVariants.{Limit, Unsupported}
 use Rattle.pd_host.specs.declared.rulings.Ruling.{Ruling}
-use Rattle.pd_host.specs.declared.rulings.Ruling.TheVariants.{NotRun, Dropped, Answered, Reset, Established, Refused}
+use Rattle.pd_host.specs.declared.rulings.Ruling.TheVariants.{NotRun, StrayRst, OutsideWindow, ExactRst, ChallengedRst, WithoutAck, FirstAck, RefusedAck, EarlyAck, OldAck}
 use Rattle.pd_host.specs.declared.sender_state.State.{State}
-use Rattle.pd_host.specs.declared.use_set.UseSet.{UseSet}
+use Rattle.pd_host.specs.declared.streams.Stream.TheVariants.{Waiting}
 
 -- what came, with other settings held
 abbrev again : Settings → Result State Halt → Result State Halt
@@ -41,13 +43,9 @@ begun_with mss sack wscale rcv_wnd syn = record {
   next = 1;
   top = 1;
   end = 1;
-  rwnd = syn.win;
-  wl1 = 0;
-  wl2 = 0;
   widest = syn.win;
-  nagle = true;
-  established = false;
-  accepted = false;
+  resent = false;
+  established = None;
   reset = false;
 }
 
@@ -80,23 +78,35 @@ opening true segment now s t b h agree =
     ∙ beside_again b (record s { uses = syn_uses s.uses }) (put_out now (syn_ack_of c) (record s.endpoint { connection = Some c }))
 opening false segment now s t b h agree = refl
 
+-- the establishment depends on one setting alone
+abbrev established_so : Bool → Segment → ControlBlock → ControlBlock
+established_so nagle segment c = record c {
+  una = 1;
+  widest = max c.widest (window_in c segment);
+  established = Some (record { rwnd = window_in c segment; wl1 = segment.start; wl2 = segment.ack; nagle = nagle; stream = Waiting });
+}
+
 by_ruling : (r : Option Ruling) (segment : Segment) (now : ℕ) (s t : State) (c : ControlBlock) (b : Settings)
     → ruled now segment c s r ≡ Ok t
     → Agree t.uses s.settings b
     → ruled now segment c (rebound b s) r ≡ again b (ruled now segment c s r)
 by_ruling (Some NotRun) segment now s t c b h agree = refl
-by_ruling (Some Dropped) segment now s t c b h agree = refl
-by_ruling (Some Answered) segment now s t c b h agree = beside_again b s _
-by_ruling (Some Reset) segment now s t c b h agree = refl
-by_ruling (Some Established) segment now s t c b h agree =
+by_ruling (Some StrayRst) segment now s t c b h agree = refl
+by_ruling (Some OutsideWindow) segment now s t c b h agree = beside_again b s _
+by_ruling (Some ExactRst) segment now s t c b h agree = refl
+by_ruling (Some ChallengedRst) segment now s t c b h agree = beside_again b s _
+by_ruling (Some WithoutAck) segment now s t c b h agree = refl
+by_ruling (Some FirstAck) segment now s t c b h agree =
     let uses : t.uses ≡ establishment_uses s.uses = cc in
     let same : b.nagle ≡ s.settings.nagle = sym (agree.nagle (ap (λ (u : UseSet). u.nagle) uses)) in
     ap (λ (x : Bool). Ok (record s {
       settings = b;
       uses = establishment_uses s.uses;
-      endpoint = record s.endpoint { connection = Some (record (with_window segment c) { una = 1; nagle = x; established = true }) };
+      endpoint = record s.endpoint { connection = Some (established_so x segment c) };
     })) same
-by_ruling (Some Refused) segment now s t c b h agree = beside_again b s _
+by_ruling (Some RefusedAck) segment now s t c b h agree = beside_again b s _
+by_ruling (Some EarlyAck) segment now s t c b h agree = beside_again b s _
+by_ruling (Some OldAck) segment now s t c b h agree = refl
 by_ruling None segment now s t c b h agree = refl
 
 on_connection : (o : Option ControlBlock) (segment : Segment) (now : ℕ) (s t : State) (b : Settings)

@@ -1,7 +1,6 @@
 //! Which settings were consulted.
 ghost use Rattle.std.specs.Prelude.{◌≡◌};
-ghost use Rattle.pd_host.specs.Sender.{no_uses};
-ghost use Rattle.pd_host.specs.Handshake.{syn_uses, establishment_uses};
+ghost use Rattle.pd_settings.specs.Uses.{no_uses};
 
 /// Whether each of the settings was consulted so far.
 #[derive(Clone, Copy, PartialEq, Eq)]
@@ -36,29 +35,6 @@ impl UseSet {
             granularity_us: false,
             nagle: false,
             tolerance_us: false,
-        }
-    }
-
-    /// With those that an answered SYN consults.
-    pub fn with_syn(self) -> UseSet
-        ensures { result ≡ syn_uses self }
-    {
-        UseSet {
-            mss: true,
-            sack: true,
-            wscale: true,
-            rcv_wnd: true,
-            ..self
-        }
-    }
-
-    /// With those that the establishment consults.
-    pub fn with_establishment(self) -> UseSet
-        ensures { result ≡ establishment_uses self }
-    {
-        UseSet {
-            nagle: true,
-            ..self
         }
     }
 }

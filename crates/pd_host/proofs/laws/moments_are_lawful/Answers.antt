@@ -1,0 +1,12 @@
+-- The laws hold.
+use Rattle.pd_host.proofs.Moments.{starts_up_to_date, advances_keep_up, arrivals_keep_up, calls_keep_up, taking_keeps_up}
+use Rattle.pd_host.proofs.laws.moments_are_lawful.Goals as goal
+
+pub returns : goal.returns
+returns c = record {
+  start = starts_up_to_date;
+  advances = advances_keep_up;
+  arrivals = arrivals_keep_up;
+  calls = calls_keep_up;
+  taking = taking_keeps_up;
+}

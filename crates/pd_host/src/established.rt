@@ -1,0 +1,40 @@
+//! What a connection has from the end of its handshake on.
+ghost use Rattle.std.specs.Prelude.{◌≡◌};
+ghost use Rattle.pd_host.specs.Arrivals.{is_current};
+ghost use Rattle.pd_host.specs.Handshake.{with_window};
+
+use crate::streams::Stream;
+use pd_seg::Segment;
+
+/// What a connection has from the end of its handshake on.
+#[derive(Clone, Copy, Debug, PartialEq, Eq)]
+pub struct Established {
+    /// SND.WND: the peer's window, in octets (RFC 9293, section 3.3.1).
+    pub rwnd: u32,
+    /// SND.WL1: the sequence number of the segment that it was taken from.
+    pub wl1: u32,
+    /// SND.WL2: the ack number of that segment.
+    pub wl2: u32,
+    /// Whether Nagle's algorithm is on (RFC 9293, section 3.7.4).
+    pub nagle: bool,
+    /// Descriptor 4.
+    pub stream: Stream,
+}
+
+impl Established {
+    /// Whether a segment is no older than the one that the window was taken from.
+    pub fn is_current(&self, segment: &Segment) -> bool
+        ensures { result ≡ is_current self.now segment.now }
+    {
+        self.wl1 < segment.start || (self.wl1 == segment.start && self.wl2 <= segment.ack)
+    }
+
+    /// This window, in octets, is taken from a segment.
+    pub fn take_window(&mut self, segment: &Segment, window: u32)
+        ensures { self.new ≡ with_window window segment.now self.old }
+    {
+        self.rwnd = window;
+        self.wl1 = segment.start;
+        self.wl2 = segment.ack;
+    }
+}
