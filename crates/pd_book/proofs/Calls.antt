@@ -7,6 +7,7 @@ use Rattle.std.specs.Str.{bytes_eq}
 use Rattle.std.proofs.lemmas.Bool.{leb-true}
 use Rattle.std.specs.Prelude.{nat_le}
 use Rattle.pd_text.specs.Edit.{edited, edit_refusal}
+use Rattle.pd_text.specs.Text.{AreLines}
 use Rattle.pd_text.specs.declared.line_edit.LineEdit.{LineEdit}
 use Rattle.pd_settings.specs.declared.fields.Settings.{Settings}
 use Rattle.pd_book.specs.declared.act.Act.{Act}
@@ -54,17 +55,17 @@ recorded opening past past' current current' kept kept' tasks count cap cap' a r
       numbered = omega (arith, r.numbered, ns);
     }
 
-no_fault : {A B : Type 0} (f : A → B) (o : Option A) → option_map f o ≡ None → o ≡ None
+pub no_fault : {A B : Type 0} (f : A → B) (o : Option A) → option_map f o ≡ None → o ≡ None
 no_fault f None h = refl
 no_fault f (Some x) h = absurd cc
 
 -- the book after an edit
 pub edit_kept : (opening : Settings) (past past' : List Act) (current : Settings) (kept kept' : List Entry) (tasks : List Task) (count cap cap' : ℕ) (n : List ℕ) (d : LineEdit) (t : List (List ℕ))
-    → IsReplay opening past current kept tasks count cap → text_refusal (lookup (bytes_eq n) (texts past)) d ≡ None → t ≡ edited (text_of past n) d
+    → IsReplay opening past current kept tasks count cap → text_refusal (lookup (bytes_eq n) (texts past)) d ≡ None → AreLines d.insert → t ≡ edited (text_of past n) d
     → kept' ≡ option_map_or (λ (s : Script). set_value (bytes_eq n) kept (record { text = t; state = Pending })) (lookup (bytes_eq n) kept) kept → IsDistinct bytes_eq (keys_of kept)
     → past' ≡ Edit n d ∷ past → length past + length tasks + 1 ≤ 65536 → length past + length tasks + 1 ≤ cap'
     → IsReplay opening past' current kept' tasks count cap'
-edit_kept opening past past' current kept kept' tasks count cap cap' n d t r allowed te w distinct p few big = go (lookup (bytes_eq n) kept) refl
+edit_kept opening past past' current kept kept' tasks count cap cap' n d t r allowed lines te w distinct p few big = go (lookup (bytes_eq n) kept) refl
   where
     found : lookup (bytes_eq n) (texts past) ≡ option_map (λ (s : Script). s.text) (lookup (bytes_eq n) kept)
     found = lookup-kept (bytes_eq n) opening past ∙ ap (λ (es : List Entry). option_map (λ (s : Script). s.text) (lookup (bytes_eq n) es)) (sym r.scripts)
@@ -83,7 +84,7 @@ edit_kept opening past past' current kept kept' tasks count cap cap' n d t r all
         w ∙ ap (λ (o : Option Script). option_map_or (λ (x : Script). set_value (bytes_eq n) kept (record { text = t; state = Pending })) o kept) q in
         let two : set_value (bytes_eq n) kept (record { text = t; state = Pending }) ≡ set_value (bytes_eq n) kept (f s) = ap (λ (x : List (List ℕ)). set_value (bytes_eq n) kept (record { text = x; state = Pending })) text in
         recorded opening past past' current current kept kept' tasks count cap cap' (Edit n d) r
-        (ap is_some here, ap (λ (x : List (List ℕ)). edit_refusal x d) is ∙ no_fault of_text (edit_refusal s.text d) may)
+        (ap is_some here, ap (λ (x : List (List ℕ)). edit_refusal x d) is ∙ no_fault of_text (edit_refusal s.text d) may, lines)
         refl refl r.settings
         (one ∙ (two ∙ (set_named n f s kept distinct q ∙ ap (with_edit n d) r.scripts)))
         p few big

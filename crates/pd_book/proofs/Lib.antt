@@ -13,3 +13,5 @@ pub mod Rows
 pub mod Calls
 pub mod Splits
 pub mod Turns
+pub mod Legality
+pub mod Settlement

@@ -103,7 +103,7 @@ by_recursion P [] h = tt
 by_recursion P (x ∷ xs) h = (All-head P x xs h, by_recursion P xs (All-tail P x xs h))
 
 -- none is owed exactly when each row has a verdict
-pub none_pending : (opening : Settings) (past : List Act) → NoneOwedWhenAllAnswered opening past
+pub none_pending : (opening : Settings) (past : List Act) → NoneOwedWhenAllAnswered opening past (shown opening past)
 none_pending opening past =
     let rows : List Row = (shown opening past).rows in
     let is : owed opening past ≡ tally pending_row rows = tallied pending_row rows in (

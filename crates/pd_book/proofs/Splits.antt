@@ -1,5 +1,5 @@
 -- The headline: what is answered and taken, said by positions in the acts.
-use Rattle.std.proofs.Common.{◌≡◌, ◌↔◌, ℕ, ◌==◌, List, [], ◌∷◌, ◌++◌, append_assoc, map, Option, Some, None, is_some, Bool, true, false, ◌&&◌, ◌||◌, cond, refl, ap, sym, subst, ◌∙◌, arith}
+use Rattle.std.proofs.Common.{◌≡◌, ◌↔◌, ◌⊎◌, inl, inr, ℕ, ◌==◌, List, [], ◌∷◌, ◌++◌, append_assoc, map, Option, Some, None, is_some, Bool, true, false, ◌&&◌, ◌||◌, cond, refl, ap, sym, subst, ◌∙◌, arith}
 use Rattle.std.specs.Prelude.{IsSome}
 use Rattle.std.specs.List.{AllByRecursion, All, list_any}
 use Rattle.std.specs.Map.{lookup}
@@ -17,9 +17,9 @@ use Rattle.pd_book.specs.declared.act.Ruling.{Ruling}
 use Rattle.pd_book.specs.declared.act.Ruling.TheVariants.{Taken, Stale}
 use Rattle.pd_book.specs.declared.row.Row.{Row}
 use Rattle.pd_book.specs.Acts.{Named, texts, text_of, stands, now, changes, since, starts, finishes, finished, ended, answered, fresh, waits, ruling}
-use Rattle.pd_book.specs.Report.{row, scratch_row}
+use Rattle.pd_book.specs.Report.{row, shown, scratch_row}
 use Rattle.pd_book.specs.Legal.{Legal}
-use Rattle.pd_book.specs.Headline.{AnsweredSinceChange, UnchangedSinceStart, CurrentWhenAnswered, RowsAreScripts, ScratchWhenAllAnswered, TakenWhenUnchanged}
+use Rattle.pd_book.specs.Headline.{AnsweredSinceChange, UnchangedSinceStart, CurrentWhenAnswered, RowsAreScripts, ScratchWhenAllAnswered, pending, AreOrPending, RowsAreOfScratch, TakenWhenUnchanged}
 use Rattle.pd_book.proofs.Searches.{all_imp, lookup_push, not_true}
 use Rattle.pd_book.proofs.Faithful.{bytes_refl, bytes_flip, lookup-edited_other, lookup-removed_other}
 use Rattle.pd_book.proofs.Numbers.{ended_small, finished_ended}
@@ -214,7 +214,7 @@ some_when : {A : Type 0} (b : Bool) (x : A) → is_some (cond b (Some x) None) �
 some_when true x = refl
 some_when false x = refl
 
-pub current : (opening : Settings) (past : List Act) → Legal opening past → CurrentWhenAnswered opening past
+pub current : (opening : Settings) (past : List Act) → Legal opening past → CurrentWhenAnswered past (shown opening past)
 current opening past l =
     All-map (λ (r : Row). IsSome r.verdict ↔ AnsweredSinceChange r.name past) (row opening past) (texts past)
     (All-from_recursion (λ (p : Named). IsSome (row opening past p).verdict ↔ AnsweredSinceChange p.0 past) (texts past)
@@ -227,14 +227,27 @@ current opening past l =
           λ a. is ∙ and_both (stands past p.0) (reached past p.0) here (split_answered past p.0 a),
         )
 
-pub rows_are_scripts : (opening : Settings) (past : List Act) → RowsAreScripts opening past
+pub rows_are_scripts : (opening : Settings) (past : List Act) → RowsAreScripts past (shown opening past)
 rows_are_scripts opening past = each (texts past)
   where
     each : (xs : List Named) → map (λ (r : Row). (r.name, r.text)) (map (row opening past) xs) ≡ xs
     each [] = refl
     each (x ∷ xs) = ap (λ (ys : List Named). x ∷ ys) (each xs)
 
-pub from_scratch : (opening : Settings) (past : List Act) → ScratchWhenAllAnswered opening past
+-- a row that is answered is the one from scratch
+pub rows_of_scratch : (opening : Settings) (past : List Act) → RowsAreOfScratch opening past (shown opening past)
+rows_of_scratch opening past = each (texts past)
+  where
+    one : (p : Named) (b : Bool) → (◌≡◌ {A = Row} (record { name = p.0; text = p.1; verdict = cond b (Some (verdict_of p.1 (now opening past))) None }) (scratch_row (now opening past) p))
+        ⊎ (◌≡◌ {A = Row} (record { name = p.0; text = p.1; verdict = cond b (Some (verdict_of p.1 (now opening past))) None }) (pending (scratch_row (now opening past) p)))
+    one p true = inl refl
+    one p false = inr refl
+
+    each : (xs : List Named) → AreOrPending (map (row opening past) xs) (map (scratch_row (now opening past)) xs)
+    each [] = tt
+    each (x ∷ xs) = (one x (answered past x.0), each xs)
+
+pub from_scratch : (opening : Settings) (past : List Act) → ScratchWhenAllAnswered opening past (shown opening past)
 from_scratch opening past h = ap (λ (rows : List Row). record { settings = now opening past; rows = rows }) (each (texts past) (by_recursion _ _ h))
   where
     one : (p : Named) (b : Bool) → is_some (cond b (Some (verdict_of p.1 (now opening past))) None) ≡ true → cond b (Some (verdict_of p.1 (now opening past))) None ≡ Some (verdict_of p.1 (now opening past))

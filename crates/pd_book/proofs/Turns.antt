@@ -231,7 +231,7 @@ turns_settle opening past l task empty h = (fewer, alone)
     alone : jobs opening acts ≡ []
     alone = rw (empty, (Decides-eqb task.number task.number).1 refl) refl
 
-none_map : {A B : Type 0} (f : A → B) (o : Option A) → option_map f o ≡ None → o ≡ None
+pub none_map : {A B : Type 0} (f : A → B) (o : Option A) → option_map f o ≡ None → o ≡ None
 none_map f None h = refl
 none_map f (Some x) h = absurd cc
 

@@ -1,5 +1,5 @@
 -- The headline, said by positions in the list of acts. The newest act stands first.
-use Rattle.std.specs.Prelude.{◌≡◌, ◌↔◌, ℕ, false, List, ◌∷◌, ◌++◌, map, All, Some, IsSome}
+use Rattle.std.specs.Prelude.{◌≡◌, ◌↔◌, ◌⊎◌, ℕ, false, List, [], ◌∷◌, ◌++◌, map, All, Some, None, IsSome}
 use Rattle.pd_settings.specs.declared.fields.Settings.{Settings}
 use Rattle.pd_book.specs.declared.act.Act.{Act}
 use Rattle.pd_book.specs.declared.act.Act.TheVariants.{Start, Finish}
@@ -8,7 +8,7 @@ use Rattle.pd_book.specs.declared.act.Ruling.TheVariants.{Taken}
 use Rattle.pd_book.specs.declared.row.Row.{Row}
 use Rattle.pd_book.specs.declared.task.Task.{Task}
 use Rattle.pd_book.specs.Acts.{changes, texts, now, job, ruling}
-use Rattle.pd_book.specs.Report.{IsRunUnder, shown, scratch, owed}
+use Rattle.pd_book.specs.Report.{Shown, IsRunUnder, scratch, owed}
 
 -- none of these acts changes the script of this name
 abbrev pub Unchanged : List ℕ → List Act → Type 0
@@ -35,25 +35,40 @@ pub record UnchangedSinceStart (task : Task) (past : List Act) : Type 0 where
   pub later_unchanged : Unchanged task.name later
 
 -- a row has a verdict exactly when a job started since the last change of its script was answered
-abbrev pub CurrentWhenAnswered : Settings → List Act → Type 0
-CurrentWhenAnswered opening past = All (λ (row : Row). IsSome row.verdict ↔ AnsweredSinceChange row.name past) (shown opening past).rows
+abbrev pub CurrentWhenAnswered : List Act → Shown → Type 0
+CurrentWhenAnswered past report = All (λ (row : Row). IsSome row.verdict ↔ AnsweredSinceChange row.name past) report.rows
 
 -- the rows are the scripts that stand, with their present texts, in order of adding
-abbrev pub RowsAreScripts : Settings → List Act → Type 0
-RowsAreScripts opening past = map (λ (row : Row). (row.name, row.text)) (shown opening past).rows ≡ texts past
+abbrev pub RowsAreScripts : List Act → Shown → Type 0
+RowsAreScripts past report = map (λ (row : Row). (row.name, row.text)) report.rows ≡ texts past
 
 -- each verdict is the run of the row's text, from its first event on a fresh host, under the present settings
-abbrev pub VerdictsAreRuns : Settings → List Act → Type 0
-VerdictsAreRuns opening past = All (IsRunUnder (now opening past)) (shown opening past).rows
+abbrev pub VerdictsAreRuns : Settings → List Act → Shown → Type 0
+VerdictsAreRuns opening past report = All (IsRunUnder (now opening past)) report.rows
 
 -- where each row has a verdict, the report is the one from scratch
-abbrev pub ScratchWhenAllAnswered : Settings → List Act → Type 0
-ScratchWhenAllAnswered opening past =
-    All (λ (row : Row). IsSome row.verdict) (shown opening past).rows → shown opening past ≡ scratch (texts past) (now opening past)
+abbrev pub ScratchWhenAllAnswered : Settings → List Act → Shown → Type 0
+ScratchWhenAllAnswered opening past report =
+    All (λ (row : Row). IsSome row.verdict) report.rows → report ≡ scratch (texts past) (now opening past)
+
+-- the row, pending
+abbrev pub pending : Row → Row
+pending row = record { name = row.name; text = row.text; verdict = None }
+
+-- each row is the other list's, or that one pending
+abbrev pub AreOrPending : List Row → List Row → Type 0
+AreOrPending [] [] = Unit {0}
+AreOrPending [] (whole ∷ wholes) = ⊥
+AreOrPending (row ∷ rows) [] = ⊥
+AreOrPending (row ∷ rows) (whole ∷ wholes) = ((row ≡ whole) ⊎ (row ≡ pending whole)) × AreOrPending rows wholes
+
+-- each row is pending or the one from scratch
+abbrev pub RowsAreOfScratch : Settings → List Act → Shown → Type 0
+RowsAreOfScratch opening past report = AreOrPending report.rows (scratch (texts past) (now opening past)).rows
 
 -- no row is owed exactly when each row has a verdict
-abbrev pub NoneOwedWhenAllAnswered : Settings → List Act → Type 0
-NoneOwedWhenAllAnswered opening past = (owed opening past ≡ 0) ↔ All (λ (row : Row). IsSome row.verdict) (shown opening past).rows
+abbrev pub NoneOwedWhenAllAnswered : Settings → List Act → Shown → Type 0
+NoneOwedWhenAllAnswered opening past report = (owed opening past ≡ 0) ↔ All (λ (row : Row). IsSome row.verdict) report.rows
 
 -- a finish of an outstanding job is taken exactly when its script hasn't changed since the job's start
 abbrev pub TakenWhenUnchanged : Settings → List Act → Type 0

@@ -1,6 +1,7 @@
 -- Which lists of acts a book may have recorded.
-use Rattle.std.specs.Prelude.{◌≡◌, ◌+◌, ◌<◌, ◌≤◌, true, false, List, [], ◌∷◌, length, Some, None, IsSome}
+use Rattle.std.specs.Prelude.{◌≡◌, ◌+◌, ◌<◌, ◌≤◌, ℕ, true, false, List, [], ◌∷◌, length, Some, None, IsSome}
 use Rattle.pd_text.specs.Name.{is_valid_name}
+use Rattle.pd_text.specs.Text.{FitsText, AreLines}
 use Rattle.pd_text.specs.Edit.{edit_refusal}
 use Rattle.pd_settings.specs.Settings.{replaced}
 use Rattle.pd_settings.specs.declared.fields.Settings.{Settings}
@@ -9,15 +10,19 @@ use Rattle.pd_book.specs.declared.act.Act.TheVariants.{Add, Edit, Remove, Set, S
 use Rattle.pd_book.specs.declared.task.Task.{Task}
 use Rattle.pd_book.specs.Acts.{texts, stands, text_of, now, next, started, jobs, job, ruling}
 
+-- lines, none of which holds a newline, within the limits of a text
+abbrev pub IsText : List (List ℕ) → Type 0
+IsText lines = FitsText lines × AreLines lines
+
 -- the act meets its call's conditions after these acts:
--- an add gives a valid name that doesn't stand, where fewer than 1,024 scripts stand;
--- an edit and a remove name a script that stands, and the edit fits its text;
+-- an add gives a valid name that doesn't stand, where fewer than 1,024 scripts stand, and a text;
+-- an edit and a remove name a script that stands; the edit inserts lines, fits the text and leaves one within the limits;
 -- a set gives a setting a value of its range;
 -- a start has the next number and names the first script that waits;
 -- a finish and an abandonment name an outstanding job, and the finish has its ruling
 abbrev pub May : Settings → List Act → Act → Type 0
-May opening past (Add n t) = (is_valid_name n ≡ true) × (stands past n ≡ false) × (length (texts past) < 1024)
-May opening past (Edit n e) = (stands past n ≡ true) × (edit_refusal (text_of past n) e ≡ None)
+May opening past (Add n t) = (is_valid_name n ≡ true) × (stands past n ≡ false) × (length (texts past) < 1024) × IsText t
+May opening past (Edit n e) = (stands past n ≡ true) × (edit_refusal (text_of past n) e ≡ None) × AreLines e.insert
 May opening past (Remove n) = stands past n ≡ true
 May opening past (Set k v) = IsSome (replaced (now opening past) k v)
 May opening past (Start j n) = (j ≡ started past + 1) × (next past ≡ Some (n, text_of past n))

@@ -11,6 +11,7 @@ pub mod Story
 pub mod Faults
 pub mod Refusals
 pub mod Headline
+pub mod Accepted
 pub mod Turns
 pub mod Kept
 pub mod Replay

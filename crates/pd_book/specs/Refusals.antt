@@ -9,6 +9,7 @@ use Rattle.pd_settings.specs.Settings.{replaced}
 use Rattle.pd_settings.specs.declared.fields.Settings.{Settings}
 use Rattle.pd_settings.specs.declared.keys.Key.{Key}
 use Rattle.pd_settings.specs.declared.values.Value.{Value}
+use Rattle.pd_book.specs.declared.act.Act.{Act}
 use Rattle.pd_book.specs.declared.faults.BookFault.{BookFault}
 use Rattle.pd_book.specs.declared.faults.BookFault.TheVariants.{UnknownKey, BadValue, BadName, NameTaken, NoSuchScript, TooManyScripts, HistoryFull, OutOfMemory}
 use Rattle.pd_book.specs.declared.faults.FinishFault.{FinishFault}
@@ -31,33 +32,40 @@ abbrev pub or_else : Option BookFault → Option BookFault → Option BookFault
 or_else (Some fault) second = Some fault
 or_else None second = second
 
--- an add: the name has 1 to 64 letters, digits, `_`, `-` and `.`, doesn't stand, and isn't the 1,025th
-abbrev pub add_refusal : Story → List ℕ → Option BookFault
-add_refusal story name =
+-- why no script of this name is added: it has 1 to 64 letters, digits, `_`, `-` and `.`, doesn't stand, and isn't the 1,025th
+abbrev pub name_refusal : List Act → List ℕ → Option BookFault
+name_refusal past name =
     if not (is_valid_name name) then Some BadName else (
-    if stands story.past name then Some NameTaken else (
-    if nat_le 1024 (length (texts story.past)) then Some TooManyScripts else
-    full 1 story))
+    if stands past name then Some NameTaken else (
+    if nat_le 1024 (length (texts past)) then Some TooManyScripts else None))
+
+-- an add: the name may be added, and there is room
+abbrev pub add_refusal : Story → List ℕ → Option BookFault
+add_refusal story name = or_else (name_refusal story.past name) (full 1 story)
 
 -- why an edit of this text, if there is one, is refused
 abbrev pub text_refusal : Option (List (List ℕ)) → LineEdit → Option BookFault
 text_refusal None edit = Some NoSuchScript
 text_refusal (Some text) edit = option_map of_text (fault_of_edit text edit)
 
--- an edit: the script stands, and the edit lies within its text and leaves a text within the limits
+-- an edit: the script stands, the edit lies within its text and leaves a text within the limits, and there is room
 abbrev pub edit_refusal : Story → List ℕ → LineEdit → Option BookFault
 edit_refusal story name edit = or_else (text_refusal (present story.past name) edit) (full 1 story)
 
--- a remove: the script stands
+-- why a script that doesn't stand isn't removed
+abbrev pub absence : List Act → List ℕ → Option BookFault
+absence past name = if stands past name then None else Some NoSuchScript
+
+-- a remove: the script stands, and there is room
 abbrev pub remove_refusal : Story → List ℕ → Option BookFault
-remove_refusal story name = if stands story.past name then full 1 story else Some NoSuchScript
+remove_refusal story name = or_else (absence story.past name) (full 1 story)
 
 -- why a value for this key, if there is one, is refused
 abbrev pub value_refusal : Settings → Option Key → Value → Option BookFault
 value_refusal settings None value = Some UnknownKey
 value_refusal settings (Some key) value = if is_none (replaced settings key value) then Some BadValue else None
 
--- a set: the key names a setting, and the value lies in its range
+-- a set: the key names a setting, the value lies in its range, and there is room
 abbrev pub set_refusal : Story → List ℕ → Value → Option BookFault
 set_refusal story name value = or_else (value_refusal (now story.opening story.past) (key_named name) value) (full 1 story)
 

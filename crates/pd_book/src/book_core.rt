@@ -4,10 +4,12 @@ ghost use Rattle.std.specs.Map.{lookup};
 ghost use Rattle.std.specs.Map.Iter.{deref_pair};
 ghost use Rattle.std.specs.Str.{bytes_eq};
 ghost use Rattle.pd_text.specs.Edit.{edited};
+ghost use Rattle.pd_text.specs.Text.{AreLines};
 ghost use Rattle.pd_settings.specs.Keys.{key_named};
 ghost use Rattle.pd_book.specs.Acts.{texts, present, text_of, stands, next, job, ruling};
 ghost use Rattle.pd_book.specs.Legal.{Legal};
 ghost use Rattle.pd_book.specs.Report.{shown, owed};
+ghost use Rattle.pd_book.specs.Headline.{CurrentWhenAnswered, RowsAreScripts, VerdictsAreRuns, ScratchWhenAllAnswered, RowsAreOfScratch};
 ghost use Rattle.pd_book.specs.Story.{told, told_start};
 ghost use Rattle.pd_book.specs.Replay.{IsReady};
 ghost use Rattle.pd_book.specs.Refusals.{full, add_refusal, text_refusal, edit_refusal, remove_refusal, set_refusal, start_refusal, next_job, fault_of, finish_fault};
@@ -16,7 +18,7 @@ use crate::act::{Act, Ruling};
 use crate::done::Done;
 use crate::faults::{BookFault, FinishFault};
 use crate::job::Job;
-use crate::recording::{Prepared, keep_abandon, keep_finish, keep_start, record, task_of};
+use crate::recording::{Prepared, keep_abandon, keep_finish, keep_start, record, shared, task_of};
 use crate::report::Report;
 use crate::scripts::Scripts;
 use crate::task::Task;
@@ -128,7 +130,7 @@ impl Book {
             return Err(fault);
         }
         self.acts.reserve(self.tasks.len() + 1)?;
-        let text = Text::new(*self.acts.allocator(), lines)?;
+        let text = shared(*self.acts.allocator(), lines)?;
         let act = Act::Add(name.copy()?, text.share()?);
         self.scripts.add(name, text)?;
         record(&mut self.acts, act);
@@ -166,7 +168,9 @@ impl Book {
         ensures ok { IfOk result (λ lines. IfSome lines (λ lines. lines ≡ edited (text_of self.now.past name.now) edit.now)) }
         ensures allowed { OnOk result (text_refusal (present self.now.past name.now) edit.now ≡ None) }
         ensures err { IfErr result (λ e. text_refusal (present self.now.past name.now) edit.now ≡ Some e) }
+        ensures lines { AreLines edit.now.insert }
     {
+        let _lines = edit.insert.as_slice();
         let Some(text) = self.text(name) else {
             return Err(BookFault::NoSuchScript);
         };
@@ -361,12 +365,25 @@ impl Book {
         Ok(())
     }
 
-    /// The report as it stands.
-    pub fn show(&self) -> Result<Report, AllocError>
+    /// What the scripts that are kept show.
+    fn report(&self) -> Result<Report, AllocError>
         ensures { IfOk result (λ report. report ≡ shown self.now.opening self.now.past) }
     {
         let rows = self.scripts.rows(*self.acts.allocator())?;
         Ok(Report::new(self.settings, rows))
+    }
+
+    /// The report as it stands.
+    pub fn show(&self) -> Result<Report, AllocError>
+        ensures shown { IfOk result (λ report. report ≡ shown self.now.opening self.now.past) }
+        ensures current { IfOk result (λ report. CurrentWhenAnswered self.now.past report) }
+        ensures scripts { IfOk result (λ report. RowsAreScripts self.now.past report) }
+        ensures verdicts { IfOk result (λ report. VerdictsAreRuns self.now.opening self.now.past report) }
+        ensures scratch { IfOk result (λ report. ScratchWhenAllAnswered self.now.opening self.now.past report) }
+        ensures rows { IfOk result (λ report. RowsAreOfScratch self.now.opening self.now.past report) }
+    {
+        let _acts = self.history();
+        self.report()
     }
 
     /// How many rows of the report are pending.

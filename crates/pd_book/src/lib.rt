@@ -23,7 +23,7 @@ pub use book_core::Book;
 pub use done::{Done, Unfinished, run_job};
 pub use faults::{BookFault, FinishFault};
 pub use job::Job;
-pub use laws::{headline, settling};
+pub use laws::{accepting, headline, settling};
 pub use report::Report;
 pub use row::Row;
 pub use task::Task;

@@ -1,7 +1,8 @@
 //! What a call leaves in the lists of a book, for which there is room.
-ghost use Rattle.std.specs.Prelude.{◌≡◌, ◌≤◌, ◌<◌, ◌==◌, ◌++◌, ◌∷◌, [], reverse, find, filter, not, Some, option_copied, vec_len, vec_capacity};
+ghost use Rattle.std.specs.Prelude.{◌≡◌, ◌≤◌, ◌<◌, ◌==◌, ◌++◌, ◌∷◌, [], reverse, find, filter, not, Some, IfOk, option_copied, vec_len, vec_capacity};
 ghost use Rattle.std.specs.Str.{bytes_eq};
 ghost use Rattle.pd_book.specs.Acts.{without};
+ghost use Rattle.pd_book.specs.Legal.{IsText};
 ghost use Rattle.pd_book.specs.Kept.{with_state};
 ghost use Rattle.pd_book.specs.Replay.{settle, give_up};
 
@@ -11,6 +12,17 @@ use crate::job::Job;
 use crate::script::State;
 use crate::scripts::Scripts;
 use crate::task::Task;
+use pd_text::{Lines, Text};
+use std::alloc::{AllocError, Global};
+
+/// A text that owners share.
+pub fn shared(alloc: Global, lines: Lines) -> Result<Text, AllocError>
+    ensures text { IfOk result (λ text. text ≡ lines) }
+    ensures fits { IsText lines }
+{
+    let _first = lines.line(1);
+    Text::new(alloc, lines)
+}
 
 /// A job to hand out, its task to keep and its act to record.
 #[derive(Drop)]

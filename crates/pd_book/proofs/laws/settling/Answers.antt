@@ -1,4 +1,6 @@
 -- Settling by turns comes to an end.
+use Rattle.pd_book.proofs.Legality.{turns_legal}
+use Rattle.pd_book.proofs.Settlement.{turns_suffice, settles_all}
 use Rattle.pd_book.proofs.Turns.{turns_settle, none_owed}
 use Rattle.pd_book.proofs.laws.settling.Goals as goal
 
@@ -7,3 +9,12 @@ returns-clause-turns c = turns_settle
 
 pub returns-clause-end : goal.returns-clause-end
 returns-clause-end c = none_owed
+
+pub returns-clause-legal : goal.returns-clause-legal
+returns-clause-legal c = turns_legal
+
+pub returns-clause-enough : goal.returns-clause-enough
+returns-clause-enough c = turns_suffice
+
+pub returns-clause-settles : goal.returns-clause-settles
+returns-clause-settles c = settles_all

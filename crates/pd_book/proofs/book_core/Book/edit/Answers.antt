@@ -22,6 +22,7 @@ invariant_of-self-2 c =
     edit_kept c.self.inside.opening (reverse acts) _ c.self.inside.settings c.self.inside.scripts _ c.self.inside.tasks.items c.self.inside.numbers _ _ n d c.in_ok-text.text
     c.self.invariant
     (ap (λ (x : Story). text_refusal (lookup (bytes_eq n) (texts x.past)) d) c.self.view_is ∙ c.in_ok-edited.ensures.allowed)
+    c.in_ok-edited.ensures.lines
     (c.in_ok-text.ensures ∙ (ok ∙ ap (λ (x : Story). edited (text_of x.past n) d) (sym c.self.view_is)))
     c.rewrite.ensures.written
     c.rewrite.ensures.distinct

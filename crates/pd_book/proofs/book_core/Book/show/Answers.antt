@@ -1,30 +1,26 @@
--- The kept rows are those that are shown, and their verdicts are runs.
-use Rattle.std.proofs.Common.{◌≡◌, ◌∙◌, List, map, subst, ap, sym, reverse}
-use Rattle.std.specs.List.{All}
-use Rattle.pd_settings.specs.declared.fields.Settings.{Settings}
-use Rattle.pd_book.specs.declared.row.Row.{Row}
-use Rattle.pd_book.specs.Acts.{now}
-use Rattle.pd_book.specs.Report.{Shown, IsRunUnder, shown}
-use Rattle.pd_book.specs.Kept.{Entry, kept_row}
-use Rattle.pd_book.specs.Story.{Story}
-use Rattle.pd_book.proofs.Rows.{rows_kept, rows_run}
+-- What holds of what a legal history shows.
+use Rattle.std.proofs.Common.{◌≡◌, Result, Ok, Err, IfOk, sym, subst}
+use Rattle.pd_book.specs.Report.{Shown, shown}
+use Rattle.pd_book.proofs.Rows.{rows_run}
+use Rattle.pd_book.proofs.Splits.{current, rows_are_scripts, rows_of_scratch, from_scratch}
 use Rattle.pd_book.proofs.book_core.Book.show.Goals as goal
 
-pub new-requires : goal.new-requires
-new-requires c =
-    let past = reverse c.self.inside.acts.items in
-    let opening = c.self.inside.opening in
-    let rows : c.in_ok-rows.rows.items ≡ (shown opening past).rows =
-    c.in_ok-rows.ensures ∙ (ap (λ (es : List Entry). map kept_row es) c.self.invariant.scripts ∙ sym (rows_kept opening past c.self.invariant.legal)) in
-    subst (λ (s : Settings). All (IsRunUnder s) c.in_ok-rows.rows.items) (sym c.self.invariant.settings)
-    (subst (λ (rs : List Row). All (IsRunUnder (now opening past)) rs) (sym rows) (rows_run opening past))
+-- a fact of the value that a result has
+fact_of : {E : Type 0} (P : Shown → Type 0) (value : Shown) (r : Result Shown E) → IfOk r (λ x. x ≡ value) → P value → IfOk r P
+fact_of P value (Ok x) e h = subst P (sym e) h
+fact_of P value (Err x) e h = tt
 
-pub returns : goal.returns
-returns c =
-    let past = reverse c.self.inside.acts.items in
-    let opening = c.self.inside.opening in
-    let rows : c.in_ok-rows.rows.items ≡ (shown opening past).rows =
-    c.in_ok-rows.ensures ∙ (ap (λ (es : List Entry). map kept_row es) c.self.invariant.scripts ∙ sym (rows_kept opening past c.self.invariant.legal)) in
-    let under : Settings → List Row → Shown = λ s rs. record { settings = s; rows = rs } in
-    c.new.ensures ∙ (ap (under c.self.inside.settings) rows ∙ (ap (λ (s : Settings). under s (shown opening past).rows) c.self.invariant.settings
-    ∙ ap (λ (x : Story). shown x.opening x.past) c.self.view_is))
+pub returns-clause-current : goal.returns-clause-current
+returns-clause-current c = fact_of _ _ c.report.result c.report.ensures (current c.args.self.now.opening c.args.self.now.past c.history-acts.ensures.legal)
+
+pub returns-clause-scripts : goal.returns-clause-scripts
+returns-clause-scripts c = fact_of _ _ c.report.result c.report.ensures (rows_are_scripts c.args.self.now.opening c.args.self.now.past)
+
+pub returns-clause-verdicts : goal.returns-clause-verdicts
+returns-clause-verdicts c = fact_of _ _ c.report.result c.report.ensures (rows_run c.args.self.now.opening c.args.self.now.past)
+
+pub returns-clause-scratch : goal.returns-clause-scratch
+returns-clause-scratch c = fact_of _ _ c.report.result c.report.ensures (from_scratch c.args.self.now.opening c.args.self.now.past)
+
+pub returns-clause-rows : goal.returns-clause-rows
+returns-clause-rows c = fact_of _ _ c.report.result c.report.ensures (rows_of_scratch c.args.self.now.opening c.args.self.now.past)
