@@ -16,7 +16,7 @@ use Rattle.pd_book.specs.Acts.{Named, texts, text_of, now, stands, answered, bus
 use Rattle.pd_book.specs.Report.{row, owed}
 use Rattle.pd_book.specs.Story.{Story}
 use Rattle.pd_book.specs.Refusals.{next_job}
-use Rattle.pd_cli.specs.Output.{after_turn}
+use Rattle.pd_book.specs.Turns.{after_turn}
 use Rattle.pd_cli.specs.Steps.{IsQuiet}
 
 pub some_same : {A : Type 0} (a b : A) → Some a ≡ Some b → a ≡ b

@@ -11,3 +11,4 @@ pub mod Gather
 pub mod Known
 pub mod Written
 pub mod Settled
+pub mod Passage

@@ -1,7 +1,10 @@
 -- The settings text among the program's words.
-use Rattle.std.proofs.Common.{◌≡◌, ℕ, List, [], Option, Some, None, option_map, unwrap_or, true, codes, Bor, refl, ap, ◌∙◌}
-use Rattle.clap.specs.Words.{Text, first_of, first_value, found_of, is_simple, matches_of, HasMatchesOf}
+use Rattle.std.proofs.Common.{◌≡◌, ◌≢◌, ◌⊎◌, inl, inr, ℕ, List, [], ◌∷◌, Result, Ok, Err, IfErr, IsErrAnd, sym, subst, Option, Some, None, option_map, unwrap_or, true, codes, Bor, refl, ap, ◌∙◌}
+use Rattle.clap.specs.Words.{HasKind, IsAmong, Kinds, is_simple_and_free, kind_of, Text, first_of, first_value, found_of, is_simple, matches_of, HasMatchesOf}
 use Rattle.clap.specs.declared.parser.matches.ArgMatches.{ArgMatches}
+use Rattle.clap.specs.declared.error.Error.{Error}
+use Rattle.clap.specs.declared.error.kind.ErrorKind.{ErrorKind}
+use Rattle.clap.specs.declared.error.kind.ErrorKind.TheVariants.{OutOfMemory}
 use Rattle.clap.proofs.OnLiterals.{clap_on_literals}
 use Rattle.clap.proofs.WalkLemmas.{first_value-rows}
 use Rattle.pd_cli.specs.ProgramWords.{pdregress, settings_text}
@@ -19,3 +22,20 @@ pub chosen_text : (m : ArgMatches) (words : List Text) (r : Option (Bor (List �
 chosen_text m words r d e h n =
     let found : option_map (λ (s : Bor (List ℕ)). s.now) r ≡ first_of (codes "settings") (matches_of pdregress words) = e ∙ (first_value-rows (found_of m) (codes "settings") ∙ ap (first_of (codes "settings")) (h simple).0) in
     now_or r d ∙ (ap (λ (o : Option (List ℕ)). unwrap_or o d.now) found ∙ ap (λ (t : List ℕ). unwrap_or (first_of (codes "settings") (matches_of pdregress words)) t) n)
+
+pub free : is_simple_and_free pdregress ≡ true
+unfolding clap_on_literals
+free = refl
+
+among : (kinds : Kinds) (k : ErrorKind) → IsAmong k kinds → kinds ≢ []
+among [] k h e = absurd h
+among (x ∷ xs) k h e = absurd cc
+
+pub has_kind : (kinds : Kinds) (error : Error) → HasKind kinds error → (kind_of error ≡ OutOfMemory) ⊎ (kinds ≢ [])
+has_kind kinds error (inl e) = inl e
+has_kind kinds error (inr h) = inr (among kinds (kind_of error) h)
+
+-- a fact of an error that was passed on
+pub passed_on : {T : Type 0} (P : Error → Type 0) (r : Result T Error) (error : Error) → IsErrAnd r (λ x. x ≡ error) → P error → IfErr r P
+passed_on P (Ok x) error i h = tt
+passed_on P (Err x) error i h = subst P (sym i) h

@@ -13,7 +13,8 @@ use Rattle.pd_book.specs.Acts.{job, ruling, next, Named}
 use Rattle.pd_book.specs.Story.{Story, told, told_start}
 use Rattle.pd_book.specs.Report.{owed}
 use Rattle.pd_book.specs.Refusals.{next_job, start_refusal, full, fault_of}
-use Rattle.pd_cli.specs.Output.{after_turn, settled, settled_in, acted}
+use Rattle.pd_book.specs.Turns.{after_turn, settled, settled_in}
+use Rattle.pd_cli.specs.Output.{acted}
 use Rattle.pd_cli.specs.Steps.{RepliesTo, IsQuiet, Turns, SettlesTo}
 use Rattle.pd_cli.specs.declared.faults.ServeFault.{ServeFault}
 use Rattle.pd_cli.specs.declared.faults.ServeFault.TheVariants.{HistoryFull, BadCommand, Truncated, Read, Write, OutOfMemory}
@@ -59,7 +60,7 @@ goes_stop first story next BadCommand g t = absurd t
 goes_stop first story next Truncated g t = absurd t
 goes_stop first story next HistoryFull g t = go g.0 g.1 g.2 (turn_less story t.0 t.1)
   where
-    go : (turns : ℕ) → owed story.opening story.past ≤ turns → settled first ≡ settled_in turns story → owed story.opening (after_turn story t.0).past < owed story.opening story.past → settled first ≡ Err HistoryFull
+    go : (turns : ℕ) → owed story.opening story.past ≤ turns → settled first ≡ settled_in turns story → owed story.opening (after_turn story t.0).past < owed story.opening story.past → settled first ≡ Err book.HistoryFull
     go zero le e lt = absurd (omega arith)
     go (suc turns) le e lt = e ∙ rw (t.1, t.2) refl
 

@@ -12,12 +12,13 @@ use Rattle.pd_book.specs.declared.faults.BookFault.TheVariants as book
 use Rattle.pd_book.specs.declared.task.Task.{Task}
 use Rattle.pd_book.specs.Story.{Story, told}
 use Rattle.pd_book.specs.Report.{owed}
+use Rattle.pd_book.specs.Turns.{turn, after_turn, settled, settled_in}
 use Rattle.pd_book.specs.Refusals.{add_refusal, edit_refusal, remove_refusal, set_refusal, start_refusal, next_job}
 use Rattle.pd_cli.specs.Input.{IfKnown, to_come}
 use Rattle.pd_cli.specs.Report.{rendered}
 use Rattle.pd_cli.specs.Commands.{Item, does, stops, commands}
 use Rattle.pd_cli.specs.Taking.{Gives, FaultIn}
-use Rattle.pd_cli.specs.Output.{Session, output, outcome, ahead, follow, acted, effect, reported, report, all_pass, turn, after_turn, settled, settled_in, Answers}
+use Rattle.pd_cli.specs.Output.{Session, output, outcome, ahead, follow, acted, effect, reported, report, all_pass, Answers}
 use Rattle.pd_cli.specs.Steps.{IsQuiet, Does, Ends}
 use Rattle.pd_cli.specs.declared.command.Command.{Command}
 use Rattle.pd_cli.specs.declared.command.Command.TheVariants.{Add, Edit, Remove, Set, Show, Settle}
@@ -32,10 +33,10 @@ abbrev got : {A E : Type 0} → A → Result A E → A
 got d (Ok x) = x
 got d (Err e) = d
 
-ok_same : {A E : Type 0} (a b : A) → ◌≡◌ {A = Result A E} (Ok a) (Ok b) → a ≡ b
+pub ok_same : {A E : Type 0} (a b : A) → ◌≡◌ {A = Result A E} (Ok a) (Ok b) → a ≡ b
 ok_same {A = A} {E = E} a b e = ap (λ (r : Result A E). got a r) e
 
-quiet_turn : (story new : Story) (o : Option Task) (refusal : Option BookFault) (rest : Story → Result Story ServeFault) → next_job story ≡ o → IsQuiet story
+quiet_turn : (story new : Story) (o : Option Task) (refusal : Option BookFault) (rest : Story → Result Story BookFault) → next_job story ≡ o → IsQuiet story
     → ((task : Task) → IsQuiet (after_turn story task) → rest (after_turn story task) ≡ Ok new → IsQuiet new) → turn story o refusal rest ≡ Ok new → IsQuiet new
 quiet_turn story new None refusal rest n q f e = subst IsQuiet (ok_same story new e) q
 quiet_turn story new (Some task) (Some fault) rest n q f e = absurd cc
@@ -54,7 +55,7 @@ quiet_set : (story : Story) (value : _) (o : Option Key) → IsQuiet story → I
 quiet_set story value None q = tt
 quiet_set story value (Some k) q = q
 
-quiet_reported : (r : Result Story ServeFault) (octets : List ℕ) (new : Story) → reported r ≡ Ok (octets, new) → r ≡ Ok new
+pub quiet_reported : (r : Result Story BookFault) (octets : List ℕ) (new : Story) → reported r ≡ Ok (octets, new) → r ≡ Ok new
 quiet_reported (Ok story) octets new e = ap (λ (s : Story). Ok s) (ap (λ (p : List ℕ × Story). p.1) (ok_same (rendered (report story), story) (octets, new) e))
 quiet_reported (Err fault) octets new e = absurd cc
 
@@ -95,7 +96,7 @@ Served settings story before now all left = (octets : List ℕ) × Appends befor
 abbrev pub Final : Settings → Result Bool ServeFault → Option (List ℕ) → Option (List ℕ) → Option (List ℕ) → Type 0
 Final settings r before now all = (octets : List ℕ) × Appends before now octets × IfSome all (λ input. Answers r octets (output settings input))
 
-ahead_ahead : (a b : List ℕ) (o : Session) → ahead a (ahead b o) ≡ ahead (a ++ b) o
+pub ahead_ahead : (a b : List ℕ) (o : Session) → ahead a (ahead b o) ≡ ahead (a ++ b) o
 ahead_ahead a b o = ap (λ (w : List ℕ). record { written = w; end = o.end }) (sym (append_assoc a b o.written))
 
 -- after a command

@@ -1,6 +1,7 @@
 -- The definitions of the input, the commands, the report and the output.
 pub mod Commands
 pub mod Input
+pub mod Laws
 pub mod Output
 pub mod Pieces
 pub mod Program

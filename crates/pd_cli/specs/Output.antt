@@ -1,5 +1,5 @@
 -- What serving writes, and how it ends.
-use Rattle.std.specs.Prelude.{◌≡◌, ℕ, Bool, List, [], ◌∷◌, ◌++◌, codes, Option, Some, None, option_map, Result, Ok, Err, IfSome, suc, zero}
+use Rattle.std.specs.Prelude.{◌≡◌, ℕ, Bool, List, [], ◌∷◌, ◌++◌, codes, Option, Some, None, option_map, Result, Ok, Err, IfSome}
 use Rattle.std.specs.List.{list_all}
 use Rattle.std.specs.Io.KnownBytes.{Appends}
 use Rattle.pd_settings.specs.declared.fields.Settings.{Settings}
@@ -9,11 +9,10 @@ use Rattle.pd_book.specs.declared.act.Act.TheVariants as act
 use Rattle.pd_book.specs.declared.faults.BookFault.{BookFault}
 use Rattle.pd_book.specs.declared.faults.BookFault.TheVariants as book
 use Rattle.pd_book.specs.declared.row.Row.{Row}
-use Rattle.pd_book.specs.declared.task.Task.{Task}
 use Rattle.pd_book.specs.Story.{Story, told}
-use Rattle.pd_book.specs.Turns.{turned}
-use Rattle.pd_book.specs.Report.{Shown, shown, owed}
-use Rattle.pd_book.specs.Refusals.{add_refusal, edit_refusal, remove_refusal, set_refusal, start_refusal, next_job}
+use Rattle.pd_book.specs.Turns.{settled}
+use Rattle.pd_book.specs.Report.{Shown, shown}
+use Rattle.pd_book.specs.Refusals.{add_refusal, edit_refusal, remove_refusal, set_refusal}
 use Rattle.pd_cli.specs.Report.{is_of, rendered}
 use Rattle.pd_cli.specs.Commands.{Item, does, stops, commands}
 use Rattle.pd_cli.specs.declared.command.Command.{Command}
@@ -47,35 +46,16 @@ report story = shown story.opening story.past
 abbrev pub all_pass : Shown → Bool
 all_pass printed = list_all (λ (row : Row). is_of class.Pass row.verdict) printed.rows
 
--- the story after a start of this job and its finish
-abbrev pub after_turn : Story → Task → Story
-after_turn story task = record { opening = story.opening; past = turned story.past task }
-
--- one turn of settling: nothing is owed, or the start is refused, or the job is started and finished
-abbrev pub turn : Story → Option Task → Option BookFault → (Story → Result Story ServeFault) → Result Story ServeFault
-turn story None refusal rest = Ok story
-turn story (Some task) (Some fault) rest = Err HistoryFull
-turn story (Some task) None rest = rest (after_turn story task)
-
--- at most so many turns
-abbrev pub settled_in : ℕ → Story → Result Story ServeFault
-settled_in zero story = Ok story
-settled_in (suc turns) story = turn story (next_job story) (start_refusal story) (λ next. settled_in turns next)
-
--- a start and its finish by turns until nothing is owed; a start without room ends the run
-abbrev pub settled : Story → Result Story ServeFault
-settled story = settled_in (owed story.opening story.past) story
-
 -- what an act prints, and the story after it: nothing is printed for an accepted one, which is told
 abbrev pub acted : Story → Option BookFault → Option Act → List ℕ × Story
 acted story (Some fault) act = (refused fault, story)
 acted story None (Some act) = ([], told story act)
 acted story None None = ([], story)
 
--- the report of a story that was settled, with the story
-abbrev pub reported : Result Story ServeFault → Result (List ℕ × Story) ServeFault
+-- the report of a story that was settled, with the story; a start without room ends the run
+abbrev pub reported : Result Story BookFault → Result (List ℕ × Story) ServeFault
 reported (Ok story) = Ok (rendered (report story), story)
-reported (Err fault) = Err fault
+reported (Err fault) = Err HistoryFull
 
 -- what a command prints, and the story after it, or the fault that ends the run;
 -- lines that alone are over the limits of a text are refused before all else

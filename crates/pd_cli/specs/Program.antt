@@ -9,6 +9,7 @@ use Rattle.pd_settings.specs.Table.{from_table_of}
 use Rattle.pd_cli.specs.Output.{output, Answers}
 use Rattle.pd_cli.specs.ProgramFaults.{of_settings, fault_line}
 use Rattle.pd_cli.specs.declared.faults.ServeFault.TheVariants.{OutOfMemory}
+use Rattle.pd_cli.specs.declared.exits.Exit.{Exit}
 use Rattle.pd_cli.specs.declared.program_faults.ProgramFault.{ProgramFault}
 use Rattle.pd_cli.specs.declared.program_faults.ProgramFault.TheVariants.{NotToml, Serving}
 
@@ -44,17 +45,21 @@ abbrev pub said_of : Result Bool ProgramFault → List ℕ
 said_of (Ok passed) = []
 said_of (Err fault) = fault_line fault
 
--- a run with this settings text wrote these octets, said some first octets of what it has to say,
--- and gave this status
-abbrev pub Ran : ℕ → List ℕ → List ℕ → List ℕ → List ℕ → Type 0
-Ran status octets said text input =
-    (end : Result Bool ProgramFault) × (status ≡ status_of end) × ((n : ℕ) × (said ≡ take n (said_of end))) × Runs (settings_in text) end octets input
+-- what was said of a line: all of it, or some of its first octets where the writer failed
+abbrev pub Tells : Bool → List ℕ → List ℕ → Type 0
+Tells true said line = said ≡ line
+Tells false said line = (n : ℕ) × (said ≡ take n line)
 
--- a run with this settings text wrote and said so on the two writers, and gave this status
-abbrev pub Finishes : ℕ → List ℕ → Option (List ℕ) → Option (List ℕ) → Option (List ℕ) → Option (List ℕ) → Option (List ℕ) → Type 0
-Finishes status text input out_before out_after err_before err_after =
-    (octets : List ℕ) × (said : List ℕ) × Appends out_before out_after octets × Appends err_before err_after said × IfSome input (Ran status octets said text)
+-- a line was said on a writer
+abbrev pub Says : Bool → Option (List ℕ) → Option (List ℕ) → List ℕ → Type 0
+Says told before after line = (said : List ℕ) × Appends before after said × Tells told said line
+
+-- a run with this settings text came to an end with its status, said what that has to say, and wrote what belongs to it
+abbrev pub Finishes : Exit → List ℕ → Option (List ℕ) → Option (List ℕ) → Option (List ℕ) → Option (List ℕ) → Option (List ℕ) → Type 0
+Finishes exit text input out_before out_after err_before err_after =
+    (end : Result Bool ProgramFault) × (exit.status ≡ status_of end) × Says exit.told err_before err_after (said_of end)
+    × ((octets : List ℕ) × Appends out_before out_after octets × IfSome input (Runs (settings_in text) end octets))
 
 -- words that are refused: status 2, and nothing is written but on standard error
-abbrev pub Refuses : ℕ → Option (List ℕ) → Option (List ℕ) → Type 0
-Refuses status before after = (status ≡ 2) × Appends before after []
+abbrev pub Refuses : Exit → Option (List ℕ) → Option (List ℕ) → Type 0
+Refuses exit before after = (exit.status ≡ 2) × Appends before after []

@@ -6,7 +6,8 @@ use Rattle.pd_book.specs.declared.task.Task.{Task}
 use Rattle.pd_book.specs.Acts.{jobs}
 use Rattle.pd_book.specs.Story.{Story}
 use Rattle.pd_book.specs.Refusals.{next_job, start_refusal}
-use Rattle.pd_cli.specs.Output.{refused, after_turn, settled, effect, report, all_pass}
+use Rattle.pd_book.specs.Turns.{after_turn, settled}
+use Rattle.pd_cli.specs.Output.{refused, effect, report, all_pass}
 use Rattle.pd_cli.specs.declared.command.Command.{Command}
 use Rattle.pd_cli.specs.declared.command.Command.TheVariants.{Settle}
 use Rattle.pd_cli.specs.declared.faults.ServeFault.{ServeFault}
@@ -35,7 +36,7 @@ Turns (Err Truncated) old new = ⊥
 -- how settling ended
 abbrev pub SettlesTo : Result (Unit {0}) ServeFault → Story → Story → Type 0
 SettlesTo (Ok u) old new = settled old ≡ Ok new
-SettlesTo (Err HistoryFull) old new = settled old ≡ Err HistoryFull
+SettlesTo (Err HistoryFull) old new = settled old ≡ Err book.HistoryFull
 SettlesTo (Err OutOfMemory) old new = Unit {0}
 SettlesTo (Err Read) old new = ⊥
 SettlesTo (Err Write) old new = ⊥

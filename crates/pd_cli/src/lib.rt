@@ -4,9 +4,11 @@
 mod acts;
 mod chosen;
 mod command;
+mod exits;
 mod faults;
 mod gathered;
 mod intake;
+mod laws;
 mod numbers;
 mod program_faults;
 mod rendering;
@@ -18,9 +20,11 @@ mod word_options;
 mod writing;
 
 pub use chosen::Options;
+pub use exits::Exit;
 pub use faults::ServeFault;
+pub use laws::reports;
 pub use program_faults::ProgramFault;
 pub use rendering::render;
 pub use serving::serve_alone;
-pub use whole_program::{program, run};
+pub use whole_program::{fail, program, run};
 pub use word_options::options;

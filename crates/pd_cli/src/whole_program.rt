@@ -1,16 +1,19 @@
 //! The whole program, over words, a reader and two writers.
-ghost use Rattle.std.specs.Prelude.{◌≡◌, ◌⊎◌, ℕ, List, [], take, Ok, Err, IfOk, IfErr, IfSome, map};
+ghost use Rattle.std.specs.Prelude.{◌≡◌, ◌≢◌, ◌⊎◌, ℕ, Bool, true, List, [], Ok, Err, IfOk, IfErr, IfSome, map};
 ghost use Rattle.std.specs.Io.KnownBytes.{Appends};
+ghost use Rattle.clap.specs.Words.{kind_of};
 ghost use Rattle.pd_cli.specs.ProgramFaults.{fault_line};
-ghost use Rattle.pd_cli.specs.ProgramWords.{settings_text};
-ghost use Rattle.pd_cli.specs.Program.{settings_in, Runs, status_of, Refuses, Finishes};
+ghost use Rattle.pd_cli.specs.ProgramWords.{settings_text, word_faults};
+ghost use Rattle.pd_cli.specs.Program.{settings_in, Runs, status_of, Says, Refuses, Finishes};
 
-use crate::chosen::Options;
+use crate::exits::Exit;
 use crate::faults::ServeFault;
 use crate::program_faults::ProgramFault;
 use crate::serving::serve_alone;
 use crate::word_options::options;
 use crate::writing::put_all;
+use clap::Error;
+use clap::error::ErrorKind;
 use pd_settings::Settings;
 use std::alloc::Global;
 use std::convert::AsStr;
@@ -22,8 +25,27 @@ const TRACKS: usize = 64;
 /// The status at a fault.
 const FAULT: u8 = 2;
 
-/// Runs the program on its words, of which the first is its own name, and gives its status. Words that
-/// `clap` refuses, and `--help`, print its own text on `err`, with the status 2.
+/// Runs the program on its words, of which the first is its own name. Words that `clap` refuses, and `--help`, print
+/// its own text on `err`, with the status 2.
+pub fn run<S: AsStr, R: Read, W: Write, E: Write>(
+    alloc: Global,
+    words: &[S],
+    reader: &mut R,
+    out: &mut W,
+    err: &mut E,
+) -> Exit
+    ensures taken { let words = map S.text words.now in
+        let input = R.remaining reader.old in
+        word_faults words ≡ [] → Finishes result (settings_text words) input (W.contents out.old) (W.contents out.new) (E.contents err.old) (E.contents err.new) }
+    ensures refused { word_faults (map S.text words.now) ≢ [] → Refuses result (W.contents out.old) (W.contents out.new) }
+{
+    match options(alloc, words) {
+        Ok(options) => finish(alloc, options.settings, reader, out, err),
+        Err(error) => refuse(alloc, &error, err),
+    }
+}
+
+/// The status of `run`.
 pub fn program<S: AsStr, R: Read, W: Write, E: Write>(
     alloc: Global,
     words: &[S],
@@ -31,41 +53,61 @@ pub fn program<S: AsStr, R: Read, W: Write, E: Write>(
     out: &mut W,
     err: &mut E,
 ) -> u8
-    ensures { let text = settings_text (map S.text words.now) in
+    ensures taken { let words = map S.text words.now in
         let input = R.remaining reader.old in
-        Refuses result (W.contents out.old) (W.contents out.new)
-        ⊎ Finishes result text input (W.contents out.old) (W.contents out.new) (E.contents err.old) (E.contents err.new) }
+        word_faults words ≡ [] → (told : Bool) × Finishes (record { status = result; told = told }) (settings_text words) input (W.contents out.old) (W.contents out.new) (E.contents err.old) (E.contents err.new) }
+    ensures refused { word_faults (map S.text words.now) ≢ [] → Refuses (record { status = result; told = true }) (W.contents out.old) (W.contents out.new) }
 {
-    match options(alloc, words) {
-        Ok(options) => run(alloc, &options, reader, out, err),
-        Err(error) => {
-            if let Ok(text) = format!(in alloc; "{error}") {
-                let _ = put_all(err, text.as_bytes());
-            }
-            FAULT
-        }
-    }
+    run(alloc, words, reader, out, err).status
 }
 
-/// Runs the program as its words chose, and gives its status: 0 where each row of the last report
-/// passes, 1 where one doesn't, 2 at a fault, which `err` is told.
-pub fn run<R: Read, W: Write, E: Write>(
+/// Runs the program with the settings of a TOML text: it serves the input, or says why it doesn't.
+fn finish<R: Read, W: Write, E: Write>(
     alloc: Global,
-    options: &Options,
+    text: &str,
     reader: &mut R,
     out: &mut W,
     err: &mut E,
-) -> u8
-    ensures { let text = options.now.settings.now in
-        let input = R.remaining reader.old in
-        Finishes result text input (W.contents out.old) (W.contents out.new) (E.contents err.old) (E.contents err.new) }
+) -> Exit
+    ensures { let input = R.remaining reader.old in
+        Finishes result text.now input (W.contents out.old) (W.contents out.new) (E.contents err.old) (E.contents err.new) }
 {
-    match serve(alloc, options.settings, reader, out) {
-        Ok(passed) => status(passed),
-        Err(fault) => {
-            tell(err, fault);
-            FAULT
+    match serve(alloc, text, reader, out) {
+        Ok(passed) => Exit {
+            status: status(passed),
+            told: true,
+        },
+        Err(fault) => fail(err, fault),
+    }
+}
+
+/// Says what `clap` says of words that it refuses.
+fn refuse<E: Write>(alloc: Global, error: &Error, err: &mut E) -> Exit
+    ensures status { result.status ≡ 2 }
+    ensures memory { let line = fault_line (ProgramFault.Serving ServeFault.OutOfMemory) in
+        kind_of error.now ≡ ErrorKind.OutOfMemory → Says result.told (E.contents err.old) (E.contents err.new) line }
+{
+    if error.kind() != ErrorKind::OutOfMemory {
+        if let Ok(text) = format!(in alloc; "{error}") {
+            let told = put_all(err, text.as_bytes()).is_ok();
+            return Exit {
+                status: FAULT,
+                told,
+            };
         }
+    }
+    fail(err, ProgramFault::Serving(ServeFault::OutOfMemory))
+}
+
+/// Ends a run at a fault: says its line.
+pub fn fail<E: Write>(err: &mut E, fault: ProgramFault) -> Exit
+    ensures status { result.status ≡ 2 }
+    ensures said { Says result.told (E.contents err.old) (E.contents err.new) (fault_line fault) }
+{
+    let told = put_all(err, fault_line(fault)).is_ok();
+    Exit {
+        status: FAULT,
+        told,
     }
 }
 
@@ -104,13 +146,6 @@ fn settings_of(alloc: Global, text: &str) -> Result<Settings, ProgramFault>
             ProgramFault::NotToml
         }),
     }
-}
-
-/// Writes the line of a fault, as far as the writer takes it.
-fn tell<E: Write>(err: &mut E, fault: ProgramFault)
-    ensures { (n : ℕ) × Appends (E.contents err.old) (E.contents err.new) (take n (fault_line fault)) }
-{
-    let _ = put_all(err, fault_line(fault));
 }
 
 /// The line of a fault.

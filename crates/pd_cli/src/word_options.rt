@@ -1,8 +1,10 @@
 //! The program's words, read by `clap`.
-ghost use Rattle.std.specs.Prelude.{◌≡◌, IfOk, map};
-ghost use Rattle.pd_cli.specs.ProgramWords.{settings_text};
+ghost use Rattle.std.specs.Prelude.{◌≡◌, ◌≢◌, ◌⊎◌, [], IfOk, IfErr, map};
+ghost use Rattle.clap.specs.Words.{kind_of};
+ghost use Rattle.pd_cli.specs.ProgramWords.{settings_text, word_faults};
 
 use crate::chosen::Options;
+use clap::error::ErrorKind;
 use clap::{Arg, ArgAction, Command, Error};
 use std::alloc::Global;
 use std::convert::AsStr;
@@ -35,7 +37,9 @@ prints
 /// # Errors
 /// What `clap` says of the words, the text of `--help` among it.
 pub fn options<'a, S: AsStr>(alloc: Global, words: &'a [S]) -> Result<Options<'a>, Error>
-    ensures { IfOk result (λ options. options.settings.now ≡ settings_text (map S.text words.entry.now)) }
+    ensures chosen { IfOk result (λ options. options.settings.now ≡ settings_text (map S.text words.entry.now)) }
+    ensures taken { IfOk result (λ _. word_faults (map S.text words.entry.now) ≡ []) }
+    ensures refused { IfErr result (λ error. (kind_of error ≡ ErrorKind.OutOfMemory) ⊎ (word_faults (map S.text words.entry.now) ≢ [])) }
 {
     let settings = Arg::new(alloc, "settings")
         .long("settings")

@@ -1,16 +1,23 @@
-use Rattle.std.proofs.Common.{[], Err, take, refl}
-use Rattle.pd_cli.specs.Program.{said_of}
-use Rattle.pd_cli.proofs.Ending.{ran_from, ran_well}
+use Rattle.std.proofs.Common.{List, ℕ, map, subst}
+use Rattle.pd_cli.specs.Program.{Finishes}
+use Rattle.pd_cli.specs.ProgramWords.{settings_text, word_faults}
+use Rattle.pd_cli.proofs.Ending.{memory_ends, wanted}
 use Rattle.pd_cli.proofs.Written.{appends_none}
 use Rattle.pd_cli.proofs.whole_program.run.Goals as goal
 
-pub returns-in-Ok : goal.returns-in-Ok
-returns-in-Ok g c =
-    let d = c.in-Ok.ensures in
-    (d.0, [], d.1, appends_none (g.E.Write.contents c.args.err.now), ran_well c.in-Ok.passed c.status.result d.0 c.args.options.now.settings.now (g.R.Read.remaining c.args.reader.now) c.status.ensures d.2)
+pub returns-in-Ok-clause-taken : goal.returns-in-Ok-clause-taken
+returns-in-Ok-clause-taken g c = λ e.
+    subst (λ (t : List ℕ). Finishes c.finish.result t (g.R.Read.remaining c.args.reader.now) (g.W.Write.contents c.args.out.now) (g.W.Write.contents c.finish.new.out) (g.E.Write.contents c.args.err.now) (g.E.Write.contents c.finish.new.err))
+    c.in-Ok.ensures.chosen c.finish.ensures
 
-pub returns-in-Err : goal.returns-in-Err
-returns-in-Err g c =
-    let d = c.in-Err.ensures in
-    let t = c.tell.ensures in
-    (d.0, take t.0 (said_of (Err c.in-Err.fault)), d.1, t.1, ran_from (Err c.in-Err.fault) 2 t.0 d.0 c.args.options.now.settings.now (g.R.Read.remaining c.args.reader.now) refl d.2)
+pub returns-in-Ok-clause-refused : goal.returns-in-Ok-clause-refused
+returns-in-Ok-clause-refused g c = λ n. absurd (n c.in-Ok.ensures.taken)
+
+pub returns-in-Err-clause-taken : goal.returns-in-Err-clause-taken
+returns-in-Err-clause-taken g c = λ e.
+    let words = map g.S.AsStr.text c.args.words.now in
+    memory_ends c.refuse.result (settings_text words) (g.R.Read.remaining c.args.reader.now) (g.W.Write.contents c.args.out.now) (g.E.Write.contents c.args.err.now) (g.E.Write.contents c.refuse.new.err)
+    c.refuse.ensures.status (c.refuse.ensures.memory (wanted (word_faults words) _ c.in-Err.ensures.refused e))
+
+pub returns-in-Err-clause-refused : goal.returns-in-Err-clause-refused
+returns-in-Err-clause-refused g c = λ n. (c.refuse.ensures.status, appends_none (g.W.Write.contents c.args.out.now))

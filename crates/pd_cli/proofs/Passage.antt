@@ -1,0 +1,282 @@
+-- The stories that serving goes through.
+use Rattle.std.proofs.Common.{◌≡◌, ℕ, ◌+◌, ◌-◌, ◌≤◌, ◌==◌, nat_le, Bool, true, false, not, ◌&&◌, List, [], ◌∷◌, ◌++◌, length, take, Option, Some, None, option_map, Result, Ok, Err, IsTrue, All, cond, refl, sym, ap, subst, ◌∙◌, arith, suc, zero, slice_index}
+use Rattle.std.specs.List.{list_all, slice_split, onto_first}
+use Rattle.std.specs.Str.Lines.{lines, lines_of_parts, strip_carriage_return}
+use Rattle.std.proofs.lemmas.Bool.{leb-true}
+use Rattle.std.proofs.lemmas.List.Splits.{slice_split_at, slice_split-cons_no}
+use Rattle.pd_text.specs.Text.{is_line, AreLines, FitsText, fits_text, octets_of}
+use Rattle.pd_text.specs.declared.line_edit.LineEdit.{LineEdit}
+use Rattle.pd_settings.specs.Keys.{key_named}
+use Rattle.pd_settings.specs.declared.fields.Settings.{Settings}
+use Rattle.pd_settings.specs.declared.keys.Key.{Key}
+use Rattle.pd_settings.specs.declared.values.Value.{Value}
+use Rattle.pd_book.specs.declared.act.Act.{Act}
+use Rattle.pd_book.specs.declared.act.Act.TheVariants as act
+use Rattle.pd_book.specs.declared.faults.BookFault.{BookFault}
+use Rattle.pd_book.specs.declared.faults.BookFault.TheVariants as book
+use Rattle.pd_book.specs.Acts.{texts, now}
+use Rattle.pd_book.specs.Legal.{IsText, Legal}
+use Rattle.pd_book.specs.Accepted.{AddsAreLegal, EditsAreLegal, RemovesAreLegal, SetsAreLegal}
+use Rattle.pd_book.specs.Story.{Story, told}
+use Rattle.pd_book.specs.Report.{Shown, scratch}
+use Rattle.pd_book.specs.Turns.{settled, IsAtRest, IsSettled, SettlesAll}
+use Rattle.pd_book.specs.Refusals.{add_refusal, edit_refusal, remove_refusal, set_refusal}
+use Rattle.pd_cli.specs.Report.{rendered}
+use Rattle.pd_cli.specs.Requests.{request_of}
+use Rattle.pd_cli.specs.Commands.{Item, does, stops, fitted, edit_of, with_lines, items_at, items, commands}
+use Rattle.pd_cli.specs.Output.{report, acted, reported, effect, ahead, follow, outcome, output}
+use Rattle.pd_cli.specs.Laws.{behind, then_done, done_by, Reaches, OutputGoesOn, StoriesAreLegal, SettlesPrintScratch}
+use Rattle.pd_cli.specs.declared.requests.Request.{Request}
+use Rattle.pd_cli.specs.declared.requests.Request.TheVariants as asks
+use Rattle.pd_cli.specs.declared.command.Command.{Command}
+use Rattle.pd_cli.specs.declared.command.Command.TheVariants.{Add, Edit, Remove, Set, Show, Settle}
+use Rattle.pd_cli.specs.declared.faults.ServeFault.{ServeFault}
+use Rattle.pd_cli.specs.declared.faults.ServeFault.TheVariants.{Truncated}
+use Rattle.pd_cli.proofs.Written.{ok_same, ahead_ahead, quiet_reported}
+
+-- ---- the lines of an input hold no newline
+
+line_take : (n : ℕ) (line : List ℕ) → is_line line ≡ true → is_line (take n line) ≡ true
+line_take zero line h = refl
+line_take (suc n) [] h = refl
+line_take (suc n) (x ∷ line) h = go (not (x == 10)) h (line_take n line)
+  where
+    go : (b : Bool) → (b && is_line line) ≡ true → (is_line line ≡ true → is_line (take n line) ≡ true) → (b && is_line (take n line)) ≡ true
+    go true k f = f k
+    go false k f = absurd cc
+
+line_strip : (line : List ℕ) → is_line line ≡ true → is_line (strip_carriage_return line) ≡ true
+line_strip line h = go (slice_index line (length line - 1) == 13)
+  where
+    go : (b : Bool) → is_line (cond b (take (length line - 1) line) line) ≡ true
+    go true = line_take (length line - 1) line h
+    go false = h
+
+abbrev newline : ℕ → Bool
+newline octet = octet == 10
+
+onto_line : (x : ℕ) (parts : List (List ℕ)) → newline x ≡ false → list_all is_line parts ≡ true → list_all is_line (onto_first x parts) ≡ true
+onto_line x [] e h = rw e refl
+onto_line x (part ∷ parts) e h = rw e h
+
+parts_are_lines : (octets : List ℕ) → list_all is_line (slice_split newline octets) ≡ true
+parts_are_lines [] = refl
+parts_are_lines (x ∷ octets) = go (newline x) refl (parts_are_lines octets)
+  where
+    go : (b : Bool) → newline x ≡ b → list_all is_line (slice_split newline octets) ≡ true → list_all is_line (slice_split newline (x ∷ octets)) ≡ true
+    go true e h = ap (list_all is_line) (slice_split_at newline [] x octets (λ k d lt. absurd (omega (arith, lt))) e) ∙ h
+    go false e h = ap (list_all is_line) (slice_split-cons_no newline x octets e) ∙ onto_line x (slice_split newline octets) e h
+
+and_parts : (a b : Bool) → (a && b) ≡ true → (a ≡ true) × (b ≡ true)
+and_parts true b h = (refl, h)
+and_parts false b h = absurd cc
+
+and_join : (a b : Bool) → a ≡ true → b ≡ true → (a && b) ≡ true
+and_join a b e f = rw (e, f) refl
+
+lines_of_lines : (parts : List (List ℕ)) → list_all is_line parts ≡ true → list_all is_line (lines_of_parts parts) ≡ true
+lines_of_lines [] h = refl
+lines_of_lines (x ∷ []) h = go (length x == 0)
+  where
+    go : (b : Bool) → list_all is_line (cond b [] (x ∷ [])) ≡ true
+    go true = refl
+    go false = h
+lines_of_lines (x ∷ y ∷ parts) h =
+    let both = and_parts (is_line x) (list_all is_line (y ∷ parts)) h in
+    and_join (is_line (strip_carriage_return x)) (list_all is_line (lines_of_parts (y ∷ parts))) (line_strip x both.0) (lines_of_lines (y ∷ parts) both.1)
+
+lines_are_lines : (input : List ℕ) → AreLines (lines input)
+lines_are_lines input = lines_of_lines (slice_split newline input) (parts_are_lines input)
+
+lines_take : (n : ℕ) (ls : List (List ℕ)) → AreLines ls → AreLines (take n ls)
+lines_take zero ls h = refl
+lines_take (suc n) [] h = refl
+lines_take (suc n) (x ∷ ls) h =
+    let both = and_parts (is_line x) (list_all is_line ls) h in
+    and_join (is_line x) (list_all is_line (take n ls)) both.0 (lines_take n ls both.1)
+
+-- ---- the texts and edits of the commands of an input
+
+abbrev FitsLines : Option (List (List ℕ)) → Type 0
+FitsLines None = Unit {0}
+FitsLines (Some text) = IsText text
+
+abbrev FitsEdit : Option LineEdit → Type 0
+FitsEdit None = Unit {0}
+FitsEdit (Some edit) = AreLines edit.insert
+
+abbrev FitsCommand : Command → Type 0
+FitsCommand (Add name text) = FitsLines text
+FitsCommand (Edit name edit) = FitsEdit edit
+FitsCommand (Remove name) = Unit {0}
+FitsCommand (Set key value) = Unit {0}
+FitsCommand Show = Unit {0}
+FitsCommand Settle = Unit {0}
+
+abbrev FitsItem : Item → Type 0
+FitsItem (does command) = FitsCommand command
+FitsItem (stops fault) = Unit {0}
+
+abbrev AllFit : List Item → Type 0
+AllFit [] = Unit {0}
+AllFit (item ∷ rest) = FitsItem item × AllFit rest
+
+fit_front : (first rest : List Item) → AllFit (first ++ rest) → AllFit first
+fit_front [] rest h = tt
+fit_front (item ∷ first) rest h = (h.0, fit_front first rest h.1)
+
+fits_of : (ls : List (List ℕ)) → fits_text ls ≡ true → FitsText ls
+fits_of ls h =
+    let both = and_parts (nat_le (length ls) 4096) (nat_le (octets_of ls) 65536) h in
+    (leb-true (length ls) 4096 both.0, leb-true (octets_of ls) 65536 both.1)
+
+fitted_fits : (ls : List (List ℕ)) → AreLines ls → FitsLines (fitted ls)
+fitted_fits ls h = go (fits_text ls) refl
+  where
+    go : (b : Bool) → fits_text ls ≡ b → FitsLines (cond b (Some ls) None)
+    go true e = (fits_of ls e, h)
+    go false e = tt
+
+edit_fits : (from remove : ℕ) (insert : Option (List (List ℕ))) → FitsLines insert → FitsEdit (edit_of from remove insert)
+edit_fits from remove None h = tt
+edit_fits from remove (Some ls) h = h.1
+
+with_fit : (count : ℕ) (after : List (List ℕ)) (command : Option (List (List ℕ)) → Command) (rest : ℕ → List Item) → AreLines after
+    → ((text : Option (List (List ℕ))) → FitsLines text → FitsCommand (command text)) → ((n : ℕ) → AllFit (rest n)) → AllFit (with_lines count after command rest)
+with_fit count after command rest h f k = go (nat_le count (length after))
+  where
+    go : (b : Bool) → AllFit (cond b (does (command (fitted (take count after))) ∷ rest count) (stops Truncated ∷ []))
+    go true = (f (fitted (take count after)) (fitted_fits (take count after) (lines_take count after h)), k count)
+    go false = (tt, tt)
+
+at_fit : (request : Request) (after : List (List ℕ)) (rest : ℕ → List Item) → AreLines after → ((n : ℕ) → AllFit (rest n)) → AllFit (items_at request after rest)
+at_fit asks.Nothing after rest h k = k 0
+at_fit asks.Bad after rest h k = (tt, tt)
+at_fit (asks.Add name count) after rest h k = with_fit count after (λ text. Add name text) rest h (λ text f. f) k
+at_fit (asks.Edit name from remove count) after rest h k = with_fit count after (λ insert. Edit name (edit_of from remove insert)) rest h (λ insert f. edit_fits from remove insert f) k
+at_fit (asks.Remove name) after rest h k = (tt, k 0)
+at_fit (asks.Set key value) after rest h k = (tt, k 0)
+at_fit asks.Show after rest h k = (tt, k 0)
+at_fit asks.Settle after rest h k = (tt, k 0)
+
+items_fit : (ls : List (List ℕ)) (n : ℕ) → AreLines ls → AllFit (items n ls)
+items_fit [] n h = (tt, tt)
+items_fit (line ∷ ls) zero h =
+    let both = and_parts (is_line line) (list_all is_line ls) h in
+    at_fit (request_of line) ls (λ n. items n ls) both.1 (λ n. items_fit ls n both.1)
+items_fit (line ∷ ls) (suc n) h = items_fit ls n (and_parts (is_line line) (list_all is_line ls) h).1
+
+-- ---- the stories
+
+-- an accepted act keeps a story at rest, a refused one leaves it
+acted_rest : (story next : Story) (refusal : Option BookFault) (a : Option Act) (octets : List ℕ) → IsAtRest story
+    → (refusal ≡ None → (x : Act) → a ≡ Some x → IsAtRest (told story x)) → acted story refusal a ≡ (octets, next) → IsAtRest next
+acted_rest story next (Some fault) a octets q f e = subst IsAtRest (ap (λ (p : List ℕ × Story). p.1) e) q
+acted_rest story next None None octets q f e = subst IsAtRest (ap (λ (p : List ℕ × Story). p.1) e) q
+acted_rest story next None (Some x) octets q f e = subst IsAtRest (ap (λ (p : List ℕ × Story). p.1) e) (f refl x refl)
+
+-- the laws of the book that the stories rest on
+pub record BookLaws : Type 0 where
+  pub adds : (story : Story) → Legal story.opening story.past → AddsAreLegal story
+  pub edits : (story : Story) → Legal story.opening story.past → EditsAreLegal story
+  pub removes : (story : Story) → Legal story.opening story.past → RemovesAreLegal story
+  pub sets : (story : Story) → Legal story.opening story.past → SetsAreLegal story
+  pub settles : (story : Story) → IsAtRest story → SettlesAll story
+
+same_act : (a b : Act) → Some a ≡ Some b → a ≡ b
+same_act a b e = ap (λ (o : Option Act). act_or o) e
+  where
+    act_or : Option Act → Act
+    act_or None = a
+    act_or (Some x) = x
+
+set_rest : (laws : BookLaws) (story : Story) (name : List ℕ) (value : Value) (o : Option Key) (x : Act) → IsAtRest story → key_named name ≡ o → set_refusal story name value ≡ None
+    → option_map (λ k. act.Set k value) o ≡ Some x → IsAtRest (told story x)
+set_rest laws story name value None x q n r e = absurd cc
+set_rest laws story name value (Some key) x q n r e =
+    subst (λ (a : Act). IsAtRest (told story a)) (same_act (act.Set key value) x e) (record { legal = laws.sets story q.legal name key value n r; none = q.none })
+
+settled_rest : (laws : BookLaws) (story after : Story) → IsAtRest story → settled story ≡ Ok after → IsSettled story after
+settled_rest laws story after q e = laws.settles story q after e
+
+rest_after : (laws : BookLaws) (story next : Story) (command : Command) (octets : List ℕ) → IsAtRest story → FitsCommand command → effect story command ≡ Ok (octets, next) → IsAtRest next
+rest_after laws story next (Add name None) octets q f e = acted_rest story next (Some book.TooLarge) None octets q (λ r x n. absurd cc) (ok_same _ _ e)
+rest_after laws story next (Add name (Some text)) octets q f e =
+    acted_rest story next (add_refusal story name) (Some (act.Add name text)) octets q
+    (λ r x n. subst (λ (a : Act). IsAtRest (told story a)) (same_act (act.Add name text) x n) (record { legal = laws.adds story q.legal name text f r; none = q.none })) (ok_same _ _ e)
+rest_after laws story next (Edit name None) octets q f e = acted_rest story next (Some book.TooLarge) None octets q (λ r x n. absurd cc) (ok_same _ _ e)
+rest_after laws story next (Edit name (Some edit)) octets q f e =
+    acted_rest story next (edit_refusal story name edit) (Some (act.Edit name edit)) octets q
+    (λ r x n. subst (λ (a : Act). IsAtRest (told story a)) (same_act (act.Edit name edit) x n) (record { legal = laws.edits story q.legal name edit f r; none = q.none })) (ok_same _ _ e)
+rest_after laws story next (Remove name) octets q f e =
+    acted_rest story next (remove_refusal story name) (Some (act.Remove name)) octets q
+    (λ r x n. subst (λ (a : Act). IsAtRest (told story a)) (same_act (act.Remove name) x n) (record { legal = laws.removes story q.legal name r; none = q.none })) (ok_same _ _ e)
+rest_after laws story next (Set key value) octets q f e =
+    acted_rest story next (set_refusal story key value) (option_map (λ k. act.Set k value) (key_named key)) octets q
+    (λ r x n. set_rest laws story key value (key_named key) x q refl r n) (ok_same _ _ e)
+rest_after laws story next Show octets q f e = subst IsAtRest (ap (λ (p : List ℕ × Story). p.1) (ok_same (rendered (report story), story) (octets, next) e)) q
+rest_after laws story next Settle octets q f e = (settled_rest laws story next q (quiet_reported (settled story) octets next e)).rest
+
+-- ---- items one after another
+
+behind_ok : (octets all : List ℕ) (r : Result (List ℕ × Story) ServeFault) (next : Story) → behind octets r ≡ Ok (all, next) → (more : List ℕ) × (r ≡ Ok (more, next)) × (octets ++ more ≡ all)
+behind_ok octets all (Err fault) next e = absurd cc
+behind_ok octets all (Ok done) next e =
+    let pair = ok_same (octets ++ done.0, done.1) (all, next) e in
+    (done.0, ap (λ (s : Story). Ok (done.0, s)) (ap (λ (p : List ℕ × Story). p.1) pair), ap (λ (p : List ℕ × Story). p.0) pair)
+
+rest_by : (laws : BookLaws) (first : List Item) (story next : Story) (octets : List ℕ) → AllFit first → IsAtRest story → done_by story first ≡ Ok (octets, next) → IsAtRest next
+rest_by laws [] story next octets f q e = subst IsAtRest (ap (λ (p : List ℕ × Story). p.1) (ok_same ([], story) (octets, next) e)) q
+rest_by laws (stops fault ∷ first) story next octets f q e = absurd cc
+rest_by laws (does command ∷ first) story next octets f q e = go (effect story command) refl e (λ after more r k. rest_by laws first after next more f.1 r k)
+  where
+    go : (r : Result (List ℕ × Story) ServeFault) → effect story command ≡ r → then_done r (λ after. done_by after first) ≡ Ok (octets, next)
+        → ((after : Story) (more : List ℕ) → IsAtRest after → done_by after first ≡ Ok (more, next) → IsAtRest next) → IsAtRest next
+    go (Err fault) d k then = absurd cc
+    go (Ok done) d k then =
+        let b = behind_ok done.0 octets (done_by done.1 first) next k in
+        then done.1 b.0 (rest_after laws story done.1 command done.0 q f.0 d) b.1
+
+outcome_by : (first rest : List Item) (story next : Story) (octets : List ℕ) → done_by story first ≡ Ok (octets, next) → outcome story (first ++ rest) ≡ ahead octets (outcome next rest)
+outcome_by [] rest story next octets e =
+    let pair = ok_same ([], story) (octets, next) e in
+    rw (sym (ap (λ (p : List ℕ × Story). p.0) pair), sym (ap (λ (p : List ℕ × Story). p.1) pair)) refl
+outcome_by (stops fault ∷ first) rest story next octets e = absurd cc
+outcome_by (does command ∷ first) rest story next octets e = go (effect story command) e (λ after more k. outcome_by first rest after next more k)
+  where
+    go : (r : Result (List ℕ × Story) ServeFault) → then_done r (λ after. done_by after first) ≡ Ok (octets, next)
+        → ((after : Story) (more : List ℕ) → done_by after first ≡ Ok (more, next) → outcome after (first ++ rest) ≡ ahead more (outcome next rest))
+        → follow r (λ after. outcome after (first ++ rest)) ≡ ahead octets (outcome next rest)
+    go (Err fault) k then = absurd cc
+    go (Ok done) k then =
+        let b = behind_ok done.0 octets (done_by done.1 first) next k in
+        ap (ahead done.0) (then done.1 b.0 b.1) ∙ (ahead_ahead done.0 b.0 (outcome next rest) ∙ ap (λ (o : List ℕ). ahead o (outcome next rest)) b.2)
+
+-- ---- the laws
+
+pub output_goes_on : OutputGoesOn
+output_goes_on settings input octets story rest reaches =
+    let opened : Story = record { opening = settings; past = [] } in
+    ap (outcome opened) reaches.split ∙ outcome_by reaches.first rest opened story octets reaches.done
+
+pub stories_legal : BookLaws → StoriesAreLegal
+stories_legal laws settings input octets story rest reaches =
+    let fit : AllFit (reaches.first ++ rest) = subst AllFit reaches.split (items_fit (lines input) 0 (lines_are_lines input)) in
+    rest_by laws reaches.first (record { opening = settings; past = [] }) story octets (fit_front reaches.first rest fit) (record { legal = tt; none = refl }) reaches.done
+
+reported_ok : (r : Result Story BookFault) (printed : List ℕ) (after : Story) → reported r ≡ Ok (printed, after) → (r ≡ Ok after) × (printed ≡ rendered (report after))
+reported_ok (Err fault) printed after e = absurd cc
+reported_ok (Ok story) printed after e =
+    let pair = ok_same (rendered (report story), story) (printed, after) e in
+    let same : story ≡ after = ap (λ (p : List ℕ × Story). p.1) pair in
+    (ap (λ (s : Story). Ok s) same, sym (ap (λ (p : List ℕ × Story). p.0) pair) ∙ ap (λ (s : Story). rendered (report s)) same)
+
+pub settles_scratch : BookLaws → SettlesPrintScratch
+settles_scratch laws settings input octets story rest reaches printed after e =
+    let at_rest = stories_legal laws settings input octets story rest' reaches in
+    let r = reported_ok (settled story) printed after e in
+    let s = settled_rest laws story after at_rest r.0 in
+    (s, r.1 ∙ ap rendered s.report)
+  where
+    rest' : List Item
+    rest' = does Settle ∷ rest

@@ -1,0 +1,16 @@
+-- The reports of serving are those of the book's laws.
+use Rattle.std.proofs.Common.{refl}
+use Rattle.pd_cli.proofs.Passage.{BookLaws, output_goes_on, stories_legal, settles_scratch}
+use Rattle.pd_cli.proofs.laws.reports.Goals as goal
+
+pub returns-clause-output : goal.returns-clause-output
+returns-clause-output c = output_goes_on
+
+pub returns-clause-legal : goal.returns-clause-legal
+returns-clause-legal c = stories_legal (record { adds = c.accepting.ensures.adds; edits = c.accepting.ensures.edits; removes = c.accepting.ensures.removes; sets = c.accepting.ensures.sets; settles = c.settling.ensures.settles })
+
+pub returns-clause-settles : goal.returns-clause-settles
+returns-clause-settles c = settles_scratch (record { adds = c.accepting.ensures.adds; edits = c.accepting.ensures.edits; removes = c.accepting.ensures.removes; sets = c.accepting.ensures.sets; settles = c.settling.ensures.settles })
+
+pub returns-clause-shows : goal.returns-clause-shows
+returns-clause-shows c = λ story. (refl, c.headline.ensures.rows story.opening story.past)

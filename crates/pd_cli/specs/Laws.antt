@@ -1,0 +1,60 @@
+-- What holds of each story that serving goes through, and of each report that it prints.
+use Rattle.std.specs.Prelude.{◌≡◌, ℕ, List, [], ◌∷◌, ◌++◌, Result, Ok, Err}
+use Rattle.pd_settings.specs.declared.fields.Settings.{Settings}
+use Rattle.pd_book.specs.Acts.{texts, now}
+use Rattle.pd_book.specs.Story.{Story}
+use Rattle.pd_book.specs.Report.{scratch}
+use Rattle.pd_book.specs.Turns.{IsAtRest, IsSettled}
+use Rattle.pd_book.specs.Headline.{RowsAreOfScratch}
+use Rattle.pd_cli.specs.Report.{rendered}
+use Rattle.pd_cli.specs.Commands.{Item, does, stops, commands}
+use Rattle.pd_cli.specs.Output.{report, effect, ahead, outcome, output}
+use Rattle.pd_cli.specs.declared.command.Command.TheVariants.{Show, Settle}
+use Rattle.pd_cli.specs.declared.faults.ServeFault.{ServeFault}
+
+-- octets that were written, with those of an effect behind them
+abbrev pub behind : List ℕ → Result (List ℕ × Story) ServeFault → Result (List ℕ × Story) ServeFault
+behind octets (Ok done) = Ok (octets ++ done.0, done.1)
+behind octets (Err fault) = Err fault
+
+-- an effect, then another on the story after it
+abbrev pub then_done : Result (List ℕ × Story) ServeFault → (Story → Result (List ℕ × Story) ServeFault) → Result (List ℕ × Story) ServeFault
+then_done (Ok done) rest = behind done.0 (rest done.1)
+then_done (Err fault) rest = Err fault
+
+-- what all of these items print, and the story after them, or the fault that ends the run
+abbrev pub done_by : Story → List Item → Result (List ℕ × Story) ServeFault
+done_by story [] = Ok ([], story)
+done_by story (stops fault ∷ items) = Err fault
+done_by story (does command ∷ items) = then_done (effect story command) (λ next. done_by next items)
+
+-- serving this input comes to a story, with these octets written and these items still to come
+pub record Reaches (settings : Settings) (input octets : List ℕ) (story : Story) (rest : List Item) : Type 0 where
+  pub first : List Item
+  pub split : commands input ≡ first ++ rest
+  pub done : done_by (record { opening = settings; past = [] }) first ≡ Ok (octets, story)
+
+-- the output is what was written up to a story, then the outcome of what is still to come
+abbrev pub OutputGoesOn : Type 0
+OutputGoesOn =
+    (settings : Settings) → (input octets : List ℕ) → (story : Story) → (rest : List Item) → Reaches settings input octets story rest
+    → output settings input ≡ ahead octets (outcome story rest)
+
+-- each story that serving comes to is legal, with no job outstanding
+abbrev pub StoriesAreLegal : Type 0
+StoriesAreLegal =
+    (settings : Settings) → (input octets : List ℕ) → (story : Story) → (rest : List Item) → Reaches settings input octets story rest
+    → IsAtRest story
+
+-- a settle that comes to its end leaves nothing pending and the scripts and the settings as they were, and prints
+-- their report from scratch
+abbrev pub SettlesPrintScratch : Type 0
+SettlesPrintScratch =
+    (settings : Settings) → (input octets : List ℕ) → (story : Story) → (rest : List Item) → Reaches settings input octets story (does Settle ∷ rest)
+    → (printed : List ℕ) → (after : Story) → effect story Settle ≡ Ok (printed, after)
+    → IsSettled story after × (printed ≡ rendered (scratch (texts story.past) (now story.opening story.past)))
+
+-- a show prints the report as it stands, in which each row is pending or the one from scratch
+abbrev pub ShowsPrintPart : Type 0
+ShowsPrintPart =
+    (story : Story) → (effect story Show ≡ Ok (rendered (report story), story)) × RowsAreOfScratch story.opening story.past (report story)
