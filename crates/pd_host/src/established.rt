@@ -7,7 +7,7 @@ use crate::streams::Stream;
 use pd_seg::Segment;
 
 /// What a connection has from the end of its handshake on.
-#[derive(Clone, Copy, Debug, PartialEq, Eq)]
+#[derive(Clone, Copy, PartialEq, Eq)]
 pub struct Established {
     /// SND.WND: the peer's window, in octets (RFC 9293, section 3.3.1).
     pub rwnd: u32,

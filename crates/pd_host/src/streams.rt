@@ -3,7 +3,7 @@ ghost use Rattle.std.specs.Prelude.{◌≡◌};
 ghost use Rattle.pd_host.specs.Calls.{is_waiting, is_open};
 
 /// How far descriptor 4 has come, once the connection is established.
-#[derive(Clone, Copy, Debug, PartialEq, Eq)]
+#[derive(Clone, Copy, PartialEq, Eq)]
 pub enum Stream {
     /// `accept` hasn't handed it out.
     Waiting,
