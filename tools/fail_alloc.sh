@@ -2,8 +2,8 @@
 # Refuses each allocation in turn, one a run, the numbers going up until a run meets no refusal:
 #   - of the built program, for each input of examples/ and for those named on the command line. It says so by status 2
 #     and a fault, and what it wrote is a prefix of what it writes with memory; or the refusal made no difference.
-#   - of the built programs pd_memory_* and of the check `memory` of pd_streams (`rt run` leaves them in out/), which let
-#     a first want of memory pass and make the call again.
+#   - of the program pd_book_trials and of the check `memory` of pd_streams (`rt run` leaves them in out/), which let a
+#     first want of memory pass and make the call again.
 # Outside the gate: needs a C compiler.
 #
 #   tools/fail_alloc.sh [INPUT..]
@@ -78,8 +78,10 @@ if [ -x "$streams" ]; then
 else
     complain "pd_streams memory: not built, so not tried"
 fi
-for made in "$top"/crates/pd_memory_*/out/pd_memory_*; do
-    [ -f "$made" ] && [ -x "$made" ] || continue
-    try_test "$(basename "$made")" "$made"
-done
+trials=$top/crates/pd_book_trials/out/pd_book_trials
+if [ -x "$trials" ]; then
+    try_test "pd_book_trials memory" "$trials" memory
+else
+    complain "pd_book_trials memory: not built, so not tried"
+fi
 exit $bad

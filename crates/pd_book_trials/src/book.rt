@@ -1,0 +1,5 @@
+//! Stories of a book and of the parts below it.
+mod answers;
+mod shelf;
+pub mod story;
+mod tasks;

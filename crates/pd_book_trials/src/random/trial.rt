@@ -1,0 +1,181 @@
+//! A book and the replay of what it accepted.
+use crate::random::answers::Answer;
+use crate::random::calls::{Call, Change, Foreign, random_call};
+use crate::random::counts::Counts;
+use crate::random::deeds::Deeds;
+use crate::random::dice::Dice;
+use crate::random::histories::is_history;
+use crate::random::making::{edit_of, foreign, has_lines, ran, script_name, text_of, tolerated};
+use crate::random::replay::deed;
+use crate::random::reports::is_report;
+use pd_book::{Book, BookFault, Done, Job};
+use pd_settings::{Settings, Value};
+use std::alloc::{AllocError, Global};
+
+/// A book, the deeds that it accepted, and a result of each job that it gave.
+#[derive(Drop)]
+pub struct Trial {
+    alloc: Global,
+    book: Book,
+    deeds: Deeds,
+    results: Vec<Done>,
+    /// Whether each job that it gave had the text and the settings of the replay.
+    are_jobs_current: bool,
+}
+
+impl Trial {
+    pub fn new(alloc: Global) -> Trial {
+        Trial {
+            alloc,
+            book: Book::new(alloc, 4, Settings::new()),
+            deeds: Deeds::new(alloc),
+            results: Vec::new(alloc),
+            are_jobs_current: true,
+        }
+    }
+
+    /// Makes a random call, and tells what differed: the answer, the job or the report.
+    pub fn make(
+        &mut self,
+        dice: &mut Dice,
+        counts: &mut Counts,
+    ) -> Result<Option<&'static str>, AllocError> {
+        let call = random_call(self.alloc, dice, self.results.len() as u64)?;
+        let wanted = self.deeds.answer(self.alloc, &call)?;
+        let answer = self.answer(&call)?;
+        counts.add(&call, answer)?;
+        if answer != wanted {
+            return Ok(Some("an answer"));
+        }
+        self.keep(call, answer)?;
+        self.compare()
+    }
+
+    fn keep(&mut self, call: Call, answer: Answer) -> Result<(), AllocError> {
+        if let Some(deed) = deed(call, answer) {
+            self.deeds.list.push(deed)?;
+        }
+        Ok(())
+    }
+
+    fn compare(&self) -> Result<Option<&'static str>, AllocError> {
+        if !self.are_jobs_current {
+            return Ok(Some("a job"));
+        }
+        let report = self.book.show()?;
+        if is_report(self.alloc, &report, self.book.owed(), &self.deeds)? {
+            Ok(None)
+        } else {
+            Ok(Some("a report"))
+        }
+    }
+
+    /// Tells whether the history differs.
+    pub fn compare_histories(&self) -> Result<Option<&'static str>, AllocError> {
+        if is_history(self.alloc, self.book.history(), self.deeds.list.as_slice())? {
+            Ok(None)
+        } else {
+            Ok(Some("a history"))
+        }
+    }
+
+    /// The book's answer of a call.
+    fn answer(&mut self, call: &Call) -> Result<Answer, AllocError> {
+        match call {
+            Call::Add(script, kinds) => self.add(*script, kinds.as_slice()),
+            Call::Edit(script, change) => self.edit(*script, *change),
+            Call::Remove(script) => self.remove(*script),
+            Call::Set(key, value) => Ok(self.set(key, *value)),
+            Call::Start => self.start(),
+            Call::Finish(job) => Ok(self.finish(*job)),
+            Call::Foreign(job, script, form) => self.finish_foreign(*job, *script, *form),
+            Call::Abandon(job) => Ok(self.abandon(*job)),
+        }
+    }
+
+    fn add(&mut self, script: u8, kinds: &[u8]) -> Result<Answer, AllocError> {
+        let name = script_name(self.alloc, script)?;
+        let text = text_of(self.alloc, kinds)?;
+        Ok(Answer::of_change(self.book.add(name, text)))
+    }
+
+    fn edit(&mut self, script: u8, change: Change) -> Result<Answer, AllocError> {
+        let name = script_name(self.alloc, script)?;
+        let edit = edit_of(self.alloc, change)?;
+        Ok(Answer::of_change(self.book.edit(&name, &edit)))
+    }
+
+    fn remove(&mut self, script: u8) -> Result<Answer, AllocError> {
+        let name = script_name(self.alloc, script)?;
+        Ok(Answer::of_change(self.book.remove(&name)))
+    }
+
+    fn set(&mut self, key: &[u8], value: u64) -> Answer {
+        Answer::of_change(self.book.set(key, Value::Number(value)))
+    }
+
+    fn start(&mut self) -> Result<Answer, AllocError> {
+        match self.started() {
+            Ok(Some(job)) => self.take(job),
+            Ok(None) => Ok(Answer::NoJob),
+            Err(fault) => Ok(Answer::Refused(fault)),
+        }
+    }
+
+    fn started(&mut self) -> Result<Option<Job>, BookFault> {
+        self.book.start()
+    }
+
+    /// Runs a job and keeps its result.
+    fn take(&mut self, job: Job) -> Result<Answer, AllocError> {
+        let number = job.number();
+        let script = self.script_of(&job);
+        if !self.is_current(&job, script)? {
+            self.are_jobs_current = false;
+        }
+        let done = ran(self.alloc, job)?;
+        self.results.push(done)?;
+        Ok(Answer::Job(number, script))
+    }
+
+    /// The number that names a job's script.
+    fn script_of(&self, job: &Job) -> u8 {
+        match job.name().as_slice() {
+            [b's', digit] => digit.wrapping_sub(b'0'),
+            _ => 255,
+        }
+    }
+
+    /// Whether a job has the script's present text and the present settings.
+    fn is_current(&self, job: &Job, script: u8) -> Result<bool, AllocError> {
+        if !job.settings().is_same(&tolerated(self.deeds.tolerance())) {
+            return Ok(false);
+        }
+        match self.deeds.text(self.alloc, script)? {
+            Some(kinds) => has_lines(self.alloc, job.text(), kinds.as_slice()),
+            None => Ok(false),
+        }
+    }
+
+    /// Finishes a job with its result: one that is outstanding, stale or ended.
+    fn finish(&mut self, job: u64) -> Answer {
+        match self.results.get((job as usize).wrapping_sub(1)) {
+            Some(done) => Answer::of_finish(self.book.finish(done)),
+            None => Answer::NoResult,
+        }
+    }
+
+    fn finish_foreign(
+        &mut self,
+        job: u64,
+        script: u8,
+        form: Foreign,
+    ) -> Result<Answer, AllocError> {
+        let done = foreign(self.alloc, job, script, form, self.deeds.tolerance())?;
+        Ok(Answer::of_finish(self.book.finish(&done)))
+    }
+
+    fn abandon(&mut self, job: u64) -> Answer {
+        Answer::of_abandon(self.book.abandon(job))
+    }
+}
