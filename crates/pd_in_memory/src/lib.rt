@@ -5,6 +5,6 @@ mod said;
 mod streams;
 mod tally;
 
-pub use said::{Said, Wanted, report, run};
+pub use said::{Said, Wanted, report, run, run_on};
 pub use streams::{Newlines, Sink, Source};
 pub use tally::Tally;

@@ -2,6 +2,7 @@
 use crate::streams::{Sink, Source};
 use pd_cli::program;
 use std::alloc::{AllocError, Global};
+use std::io::Read;
 
 /// What a run wrote, its exit status, and how many reads it made.
 #[derive(Drop)]
@@ -28,6 +29,17 @@ impl Said {
     }
 }
 
+/// Runs the program on these streams and gives its status. Its promises stay in here: callers compare what was written.
+pub fn run_on<R: Read>(
+    alloc: Global,
+    words: &[&str],
+    source: &mut R,
+    output: &mut Sink,
+    errors: &mut Sink,
+) -> u8 {
+    program(alloc, words, source, output, errors)
+}
+
 /// Runs the program with these words behind its own name, on this input.
 pub fn run(alloc: Global, words: &[&str], input: &[u8]) -> Result<Said, AllocError> {
     let mut all: Vec<&str> = Vec::new(alloc);
@@ -36,7 +48,7 @@ pub fn run(alloc: Global, words: &[&str], input: &[u8]) -> Result<Said, AllocErr
     let mut source = Source::new(input, 4096, None);
     let mut output = Sink::new(alloc, 1_048_576, None);
     let mut errors = Sink::new(alloc, 1_048_576, None);
-    let status = program(alloc, all.as_slice(), &mut source, &mut output, &mut errors);
+    let status = run_on(alloc, all.as_slice(), &mut source, &mut output, &mut errors);
     Ok(Said {
         output: output.taken,
         errors: errors.taken,

@@ -1,7 +1,6 @@
 //! Want of memory in a run of the program: it is told, what was written is a prefix, and the next run says all. In
 //! the gate there is memory; outside it this check is run with each allocation refused in turn.
-use pd_cli::program;
-use pd_in_memory::{Sink, Source, Tally};
+use pd_in_memory::{Sink, Source, Tally, run_on};
 use std::alloc::{AllocError, Global};
 
 const INPUT: &[u8] = b"add a 9
@@ -48,7 +47,7 @@ fn attempt(alloc: Global, output: &mut Sink, errors: &mut Sink) -> Ending {
     errors.taken.clear();
     let mut source = Source::new(INPUT, 4096, None);
     let words = ["pdregress", "--settings", "tolerance_us = 5000"];
-    let status = program(alloc, &words, &mut source, output, errors);
+    let status = run_on(alloc, &words, &mut source, output, errors);
     if status == 0 && output.taken.as_slice() == OUTPUT && errors.taken.is_empty() {
         Ending::Whole
     } else if status == 2 && OUTPUT.starts_with(output.taken.as_slice()) {

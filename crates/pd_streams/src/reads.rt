@@ -1,7 +1,6 @@
 //! Readers that give little or fail: a fault stops the run, and what was written before it is a prefix.
 use crate::stored::{INPUT, OUTPUT, WORDS};
-use pd_cli::program;
-use pd_in_memory::{Newlines, Sink, Source, Tally};
+use pd_in_memory::{Newlines, Sink, Source, Tally, run_on};
 use std::alloc::{AllocError, Global};
 
 const READ: &[u8] = b"pdregress: 17 Read\n";
@@ -28,7 +27,7 @@ fn check_failure(
     let mut source = Source::new(INPUT, most, Some(call));
     let mut output = Sink::new(alloc, 4096, None);
     let mut errors = Sink::new(alloc, 4096, None);
-    let status = program(alloc, &WORDS, &mut source, &mut output, &mut errors);
+    let status = run_on(alloc, &WORDS, &mut source, &mut output, &mut errors);
     let is_told = status == 2 && errors.taken.as_slice() == READ;
     let is_prefix = OUTPUT.starts_with(output.taken.as_slice());
     let place = format!(in alloc; "read {call} of {most} octets each fails")?;
@@ -45,7 +44,7 @@ fn check_whole(
     let mut source = Source::new(INPUT, most, Some(calls.saturating_add(1)));
     let mut output = Sink::new(alloc, 4096, None);
     let mut errors = Sink::new(alloc, 4096, None);
-    let status = program(alloc, &WORDS, &mut source, &mut output, &mut errors);
+    let status = run_on(alloc, &WORDS, &mut source, &mut output, &mut errors);
     let is_whole = output.taken.as_slice() == OUTPUT && errors.taken.is_empty() && status == 0;
     let place = format!(in alloc; "reads of {most} octets each")?;
     tally.check(
@@ -62,7 +61,7 @@ pub fn check_most(alloc: Global, tally: &mut Tally) -> Result<(), AllocError> {
     let mut source = Newlines { calls: 0 };
     let mut output = Sink::new(alloc, 4096, None);
     let mut errors = Sink::new(alloc, 4096, None);
-    let status = program(alloc, &WORDS, &mut source, &mut output, &mut errors);
+    let status = run_on(alloc, &WORDS, &mut source, &mut output, &mut errors);
     let is_told = status == 2 && output.taken.is_empty() && errors.taken.as_slice() == READ;
     tally.check(is_told && source.calls == READS, "newlines for ever")?;
 
@@ -70,7 +69,7 @@ pub fn check_most(alloc: Global, tally: &mut Tally) -> Result<(), AllocError> {
     input.resize(1_048_575usize, b'\n')?;
     let mut source = Source::new(input.as_slice(), 1, None);
     let mut output = Sink::new(alloc, 4096, None);
-    let status = program(alloc, &WORDS, &mut source, &mut output, &mut errors);
+    let status = run_on(alloc, &WORDS, &mut source, &mut output, &mut errors);
     tally.check(
         status == 0 && source.calls == READS,
         "newlines up to the limit",

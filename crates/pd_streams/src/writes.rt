@@ -1,7 +1,6 @@
 //! Writers that take little or nothing, or fail: a fault stops the run, and what was written before it is a prefix.
 use crate::stored::{INPUT, OUTPUT, WORDS};
-use pd_cli::program;
-use pd_in_memory::{Sink, Source, Tally};
+use pd_in_memory::{Sink, Source, Tally, run_on};
 use std::alloc::{AllocError, Global};
 
 /// Fails each write in turn, of writers that take so many octets a call.
@@ -21,7 +20,7 @@ fn check_whole(alloc: Global, tally: &mut Tally, most: usize) -> Result<u64, All
     let mut source = Source::new(INPUT, 4096, None);
     let mut output = Sink::new(alloc, most, None);
     let mut errors = Sink::new(alloc, 4096, None);
-    let status = program(alloc, &WORDS, &mut source, &mut output, &mut errors);
+    let status = run_on(alloc, &WORDS, &mut source, &mut output, &mut errors);
     let is_whole = output.taken.as_slice() == OUTPUT && errors.taken.is_empty() && status == 0;
     let place = format!(in alloc; "writes of {most} octets each")?;
     tally.check(is_whole, place.as_str())?;
@@ -37,7 +36,7 @@ fn check_failure(
     let mut source = Source::new(INPUT, 4096, None);
     let mut output = Sink::new(alloc, most, fails_at);
     let mut errors = Sink::new(alloc, 4096, None);
-    let status = program(alloc, &WORDS, &mut source, &mut output, &mut errors);
+    let status = run_on(alloc, &WORDS, &mut source, &mut output, &mut errors);
     let is_told = status == 2 && errors.taken.as_slice() == b"pdregress: 18 Write\n".as_slice();
     let is_prefix = OUTPUT.starts_with(output.taken.as_slice())
         && output.taken.len() < OUTPUT.len();
@@ -50,7 +49,7 @@ fn check_unheard(alloc: Global, tally: &mut Tally) -> Result<(), AllocError> {
     let mut source = Source::new(b"bye\n", 4096, None);
     let mut output = Sink::new(alloc, 4096, None);
     let mut errors = Sink::new(alloc, 0, None);
-    let status = program(alloc, &WORDS, &mut source, &mut output, &mut errors);
+    let status = run_on(alloc, &WORDS, &mut source, &mut output, &mut errors);
     let is_silent = output.taken.is_empty() && errors.taken.is_empty();
     tally.check(status == 2 && is_silent, "an error text that nobody takes")
 }
