@@ -36,7 +36,7 @@ pub enum Test {
 }
 
 /// What is written by none, one or more tokens.
-#[derive(Clone, Copy, PartialEq, Eq)]
+#[derive(Clone, Copy)]
 pub enum Name {
     Script,
     Header,
@@ -64,6 +64,12 @@ pub enum Name {
     Inside,
     Outcome,
     Note,
+}
+
+impl Name {
+    pub fn is(self, name: Name) -> bool {
+        self as u8 == name as u8
+    }
 }
 
 /// A part of a script.

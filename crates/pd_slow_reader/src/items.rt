@@ -38,7 +38,7 @@ fn front(text: &[u8]) -> Option<(Kind, &[u8], &[u8])> {
 
 /// How many octets the longest piece of this kind has at the front of a text; 0 where there is none.
 fn longest_of(kind: Kind, text: &[u8]) -> usize {
-    if kind == Kind::Symbol && is_opened(text) {
+    if kind.is(Kind::Symbol) && is_opened(text) {
         return 0;
     }
     for octets in (1..=kind.most_octets(text)).rev() {
@@ -69,12 +69,21 @@ pub fn items<'a>(alloc: Global, text: &'a [u8], lines: usize) -> Result<Vec<Item
                 line,
             }))?;
         }
-        let newlines = piece.iter().filter(|octet| **octet == b'\n').count();
-        line = line.saturating_add(newlines);
+        line = line.saturating_add(newlines_of(piece));
         rest = behind;
     }
     items.push(Item::End(lines.max(1)))?;
     Ok(items)
+}
+
+fn newlines_of(piece: &[u8]) -> usize {
+    let mut newlines = 0usize;
+    for octet in piece {
+        if *octet == b'\n' {
+            newlines = newlines.saturating_add(1);
+        }
+    }
+    newlines
 }
 
 /// The kinds of a text's tokens, by their names.

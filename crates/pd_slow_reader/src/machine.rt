@@ -83,7 +83,9 @@ impl State {
     fn with(&self, way: &[Part]) -> Result<State, AllocError> {
         let parts = self.pending.len().saturating_add(way.len());
         let mut pending = Vec::with_capacity(*self.pending.allocator(), parts)?;
-        pending.extend_from_slice(self.pending.as_slice())?;
+        for part in self.pending.as_slice() {
+            pending.push(*part)?;
+        }
         for part in way.iter().rev() {
             pending.push(*part)?;
         }
@@ -110,7 +112,7 @@ impl State {
 
     /// Counts an event that begins, if it may begin.
     fn count(&mut self, name: Name) -> bool {
-        if name != Name::Event {
+        if !name.is(Name::Event) {
             return true;
         }
         self.measures.events = self.measures.events.saturating_add(1);
@@ -155,7 +157,7 @@ fn write_out_next(
 
 fn push_ways(states: &mut Vec<State>, state: &State, name: Name) -> Result<(), AllocError> {
     for rule in RULES {
-        if rule.0 == name {
+        if rule.0.is(name) {
             states.push(state.with(rule.1)?)?;
         }
     }
@@ -184,7 +186,12 @@ fn begun(states: &[State]) -> usize {
 
 /// Whether some way has nothing more to come.
 fn is_whole(ready: &[State]) -> bool {
-    ready.iter().any(|state| state.pending.is_empty())
+    for state in ready {
+        if state.pending.is_empty() {
+            return true;
+        }
+    }
+    false
 }
 
 /// Reads a text. Each part can be written where it is asked for, so items begin a script as long as a way is left.

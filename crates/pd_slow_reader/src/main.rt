@@ -35,9 +35,13 @@ fn compare_all(rt: &(impl Input + Print + Files + AllocGlobal)) -> Result<u64, S
     let mut comparison = Comparison::new(rt.alloc());
     for line in rt.lines(rt.alloc()) {
         let line = line?;
+        let wrong = comparison.wrong;
         carry_out(rt, line.as_str(), &mut comparison)?;
         rt.print(comparison.said.as_str())?;
         comparison.said.clear();
+        if comparison.wrong > wrong {
+            println!(rt; "DIFFERS IN THE CASE {line}")?;
+        }
     }
     let texts = comparison.texts;
     let wrong = comparison.wrong;

@@ -42,10 +42,10 @@ impl Measures {
     /// What is known behind a token that is written as the test asks.
     pub fn behind(self, test: Test, token: Token) -> Option<Measures> {
         match test {
-            Test::Token(kind) => self.if_true(token.kind == kind),
+            Test::Token(kind) => self.if_true(token.kind.is(kind)),
             Test::Symbol(octet) => self.if_true(token.is_symbol(octet)),
-            Test::Named(name) => self.if_true(token.kind == Kind::Word && token.text == name),
-            Test::Letters => self.if_true(token.kind == Kind::Word && are_flags(token.text)),
+            Test::Named(name) => self.if_true(token.kind.is(Kind::Word) && token.text == name),
+            Test::Letters => self.if_true(token.kind.is(Kind::Word) && are_flags(token.text)),
             Test::Plain => self.if_true(!token.is_symbol_of(BRACKETS)),
             Test::Argued => {
                 self.if_true(!token.is_symbol_of(BRACKETS) && !token.is_symbol(b','))
@@ -110,7 +110,7 @@ impl<'a> Token<'a> {
 
     fn is_symbol_of(self, octets: &[u8]) -> bool {
         match self.text {
-            [octet] => self.kind == Kind::Symbol && octets.contains(octet),
+            [octet] => self.kind.is(Kind::Symbol) && octets.contains(octet),
             _ => false,
         }
     }
@@ -118,7 +118,7 @@ impl<'a> Token<'a> {
     /// The value of an Int, if it isn't too large.
     fn number(self) -> Option<u64> {
         let number = decimal_value(self.text);
-        if self.kind == Kind::Int && number <= MAX_NUMBER {
+        if self.kind.is(Kind::Int) && number <= MAX_NUMBER {
             Some(number)
         } else {
             None
@@ -128,7 +128,7 @@ impl<'a> Token<'a> {
     /// The value of a Hex.
     fn hexadecimal(self) -> Option<u64> {
         let digits = self.text.get(2..)?;
-        if self.kind != Kind::Hex {
+        if !self.kind.is(Kind::Hex) {
             return None;
         }
         let mut value = 0u64;
@@ -140,7 +140,7 @@ impl<'a> Token<'a> {
 
     /// The microseconds of an Int or a Decimal of seconds, if their whole part isn't too large.
     fn microseconds(self) -> Option<u64> {
-        if self.kind != Kind::Int && self.kind != Kind::Decimal {
+        if !self.kind.is(Kind::Int) && !self.kind.is(Kind::Decimal) {
             return None;
         }
         let mut parts = self.text.split(|octet| *octet == b'.');
@@ -159,7 +159,12 @@ impl<'a> Token<'a> {
 }
 
 fn are_flags(word: &[u8]) -> bool {
-    word.iter().all(|letter| b"FSRPUEWC".contains(letter))
+    for letter in word {
+        if !b"FSRPUEWC".contains(letter) {
+            return false;
+        }
+    }
+    true
 }
 
 fn digit_value(digit: u8) -> u64 {

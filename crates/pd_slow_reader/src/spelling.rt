@@ -1,7 +1,7 @@
 //! How each kind of piece is spelled, asked of a whole piece.
 
 /// A kind of piece of a text: a blank, a comment or a token.
-#[derive(Clone, Copy, PartialEq, Eq)]
+#[derive(Clone, Copy)]
 pub enum Kind {
     Blank,
     LineComment,
@@ -35,15 +35,19 @@ pub const KINDS: [Kind; 13] = [
 ];
 
 impl Kind {
+    pub fn is(self, kind: Kind) -> bool {
+        self as u8 == kind as u8
+    }
+
     /// Whether a piece of this kind is written so.
     pub fn is_spelled(self, piece: &[u8]) -> bool {
         match self {
             Kind::Blank => matches!(piece, [b' ' | b'\t' | b'\r' | b'\n']),
             Kind::LineComment => is_line_comment(piece),
             Kind::BlockComment => is_enclosed(piece, b"/*", b"*/"),
-            Kind::Int => is_run(piece) && are_digits(piece),
+            Kind::Int => is_run(piece) && Class::Digit.has_all(piece),
             Kind::Hex => is_hex(piece),
-            Kind::Word => is_run(piece) && !are_digits(piece) && !is_hex(piece),
+            Kind::Word => is_run(piece) && !Class::Digit.has_all(piece) && !is_hex(piece),
             Kind::Decimal => is_decimal(piece),
             Kind::Dots => matches!(piece, [b'.', b'.', b'.']),
             Kind::Opt => is_option(piece),
@@ -57,18 +61,18 @@ impl Kind {
     /// Whether a piece of this kind can begin with this octet.
     pub fn may_begin(self, octet: u8) -> bool {
         match self {
-            Kind::Blank => !is_solid(octet),
+            Kind::Blank => !Class::Solid.has(octet),
             Kind::LineComment | Kind::BlockComment => octet == b'/',
-            Kind::Int => octet.is_ascii_digit(),
+            Kind::Int => Class::Digit.has(octet),
             Kind::Hex => octet == b'0',
-            Kind::Word => is_word_octet(octet),
-            Kind::Decimal => octet == b'.' || octet.is_ascii_digit(),
+            Kind::Word => Class::Run.has(octet),
+            Kind::Decimal => octet == b'.' || Class::Digit.has(octet),
             Kind::Dots => octet == b'.',
             Kind::Opt => octet == b'-',
             Kind::Str => octet == b'"',
             Kind::Cmd => octet == b'`',
             Kind::Code => octet == b'%',
-            Kind::Symbol => !is_word_octet(octet),
+            Kind::Symbol => !Class::Run.has(octet),
         }
     }
 
@@ -117,34 +121,61 @@ pub fn is_opened(text: &[u8]) -> bool {
         || text.starts_with(b"%{")
 }
 
-fn is_word_octet(octet: u8) -> bool {
-    matches!(octet, b'a'..=b'z' | b'A'..=b'Z' | b'0'..=b'9' | b'_')
+/// A class of octets.
+#[derive(Clone, Copy)]
+enum Class {
+    Digit,
+    HexDigit,
+    /// Letters, digits and `_`.
+    Run,
+    /// Any but a blank.
+    Solid,
+    /// Any but a newline.
+    InLine,
 }
 
-fn is_solid(octet: u8) -> bool {
-    !matches!(octet, b' ' | b'\t' | b'\r' | b'\n')
-}
+impl Class {
+    fn has(self, octet: u8) -> bool {
+        match self {
+            Class::Digit => octet.is_ascii_digit(),
+            Class::HexDigit => octet.is_ascii_hexdigit(),
+            Class::Run => matches!(octet, b'a'..=b'z' | b'A'..=b'Z' | b'0'..=b'9' | b'_'),
+            Class::Solid => !matches!(octet, b' ' | b'\t' | b'\r' | b'\n'),
+            Class::InLine => octet != b'\n',
+        }
+    }
 
-fn are_digits(octets: &[u8]) -> bool {
-    octets.iter().all(|octet| octet.is_ascii_digit())
+    /// How many octets of this class stand at the front.
+    fn front_len(self, octets: &[u8]) -> usize {
+        let mut count = 0usize;
+        for octet in octets {
+            if !self.has(*octet) {
+                return count;
+            }
+            count = count.saturating_add(1);
+        }
+        count
+    }
+
+    fn has_all(self, octets: &[u8]) -> bool {
+        self.front_len(octets) == octets.len()
+    }
 }
 
 /// Whether it is one or more letters, digits or `_`.
 fn is_run(octets: &[u8]) -> bool {
-    !octets.is_empty() && octets.iter().all(|octet| is_word_octet(*octet))
+    !octets.is_empty() && Class::Run.has_all(octets)
 }
 
 fn is_hex(piece: &[u8]) -> bool {
     match piece {
-        [b'0', b'x', digits @ ..] => {
-            !digits.is_empty() && digits.iter().all(|octet| octet.is_ascii_hexdigit())
-        }
+        [b'0', b'x', digits @ ..] => !digits.is_empty() && Class::HexDigit.has_all(digits),
         _ => false,
     }
 }
 
 fn is_line_comment(piece: &[u8]) -> bool {
-    piece.starts_with(b"//") && piece.iter().all(|octet| *octet != b'\n')
+    piece.starts_with(b"//") && Class::InLine.has_all(piece)
 }
 
 /// Whether it goes from this opening just to the first closing behind it.
@@ -164,14 +195,11 @@ fn is_enclosed(piece: &[u8], opening: &[u8], closing: &[u8]) -> bool {
 
 /// Whether it is zero or more digits, a point and one or more digits.
 fn is_decimal(piece: &[u8]) -> bool {
-    if !piece
-        .iter()
-        .all(|octet| octet.is_ascii_digit() || *octet == b'.')
-    {
-        return false;
+    let whole = Class::Digit.front_len(piece);
+    match piece.get(whole..) {
+        Some([b'.', digits @ ..]) => !digits.is_empty() && Class::Digit.has_all(digits),
+        _ => false,
     }
-    let points = piece.iter().filter(|octet| **octet == b'.').count();
-    points == 1 && !piece.ends_with(b".")
 }
 
 /// Whether it is `--`, a name, and with `=` a value without blanks.
@@ -179,14 +207,11 @@ fn is_option(piece: &[u8]) -> bool {
     let [b'-', b'-', rest @ ..] = piece else {
         return false;
     };
-    let name = rest
-        .iter()
-        .take_while(|octet| is_word_octet(**octet))
-        .count();
-    let value = rest.get(name..).unwrap_or(&[]);
-    let is_value = match value {
-        [] => true,
-        [first, solid @ ..] => *first == b'=' && solid.iter().all(|octet| is_solid(*octet)),
+    let name = Class::Run.front_len(rest);
+    let is_value = match rest.get(name..) {
+        Some([b'=', value @ ..]) => Class::Solid.has_all(value),
+        Some([]) => true,
+        _ => false,
     };
     name > 0 && is_value
 }
