@@ -1,8 +1,7 @@
 -- Which octets to send again (RFC 6675, section 4, NextSeg).
 use Rattle.std.specs.Prelude.{ℕ, ◌+◌, ◌-◌, min, max, Bool, ◌&&◌, nat_lt, nat_le, Option, Some, None, unwrap_or}
-use Rattle.std.specs.FinSet.{contains}
 use Rattle.pd_seg.specs.declared.sack_blocks.Span.{Span}
-use Rattle.pd_board.specs.Octets.{least_where, greatest_where}
+use Rattle.pd_board.specs.Octets.{contains, least_where, greatest_where}
 use Rattle.pd_board.specs.Loss.{sacked_above, is_lost, is_free}
 use Rattle.pd_board.specs.Scoreboard.{Scoreboard}
 

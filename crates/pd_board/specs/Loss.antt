@@ -1,7 +1,6 @@
 -- Which octets count as lost, and how many are on the way (RFC 6675, section 4).
 use Rattle.std.specs.Prelude.{ℕ, ◌+◌, ◌*◌, Bool, ◌&&◌, ◌||◌, not, nat_lt, nat_le}
-use Rattle.std.specs.FinSet.{contains}
-use Rattle.pd_board.specs.Octets.{size_where, begins_run}
+use Rattle.pd_board.specs.Octets.{contains, size_where, begins_run}
 use Rattle.pd_board.specs.Scoreboard.{Scoreboard}
 
 -- how many SACKed octets lie above x

@@ -1,10 +1,8 @@
 -- What a scoreboard holds, and how its calls change it.
-use Rattle.std.specs.Prelude.{◌≡◌, ℕ, ◌+◌, ◌^◌, ◌≤◌, ◌<◌, max, Bool, true, false, ◌&&◌, ◌||◌, not, nat_le, nat_lt, refl, unwrap_or}
+use Rattle.std.specs.Prelude.{◌≡◌, ℕ, ◌+◌, ◌^◌, ◌≤◌, ◌<◌, max, Bool, true, false, ◌&&◌, ◌||◌, not, nat_le, nat_lt, [], unwrap_or}
 use Rattle.std.specs.List.{list_any}
-use Rattle.std.specs.Coded.{Coded, code_by, coded×, coded_ℕ, coded_bool}
-use Rattle.std.specs.FinSet.{contains, code, empty}
 use Rattle.pd_seg.specs.declared.sack_blocks.Span.{Span}
-use Rattle.pd_board.specs.Octets.{Octets, interval, octets_where, least_where}
+use Rattle.pd_board.specs.Octets.{Octets, contains, interval, octets_where, least_where}
 
 -- the numbers that a sender sends by, and what of it the peer has (RFC 9293, section 3.3.1; RFC 6675, section 3)
 pub record Scoreboard : Type 0 where
@@ -23,15 +21,6 @@ pub record Scoreboard : Type 0 where
   -- whether a call has found no memory
   pub exhausted : Bool
 
--- a scoreboard is stored as the tuple of its fields
-abbrev pub scoreboard_code : Coded Scoreboard
-scoreboard_code =
-    code_by (ℕ × (ℕ × (ℕ × (ℕ × (ℕ × (Octets × Bool))))))
-    (coded× coded_ℕ (coded× coded_ℕ (coded× coded_ℕ (coded× coded_ℕ (coded× coded_ℕ (coded× (code coded_ℕ) coded_bool))))))
-    (λ s. (s.smss, (s.una, (s.next, (s.top, (s.end, (s.sacked, s.exhausted)))))))
-    (λ t. record { smss = t.0; una = t.1.0; next = t.1.1.0; top = t.1.1.1.0; end = t.1.1.1.1.0; sacked = t.1.1.1.1.1.0; exhausted = t.1.1.1.1.1.1 })
-    (λ _. refl)
-
 -- what holds of every scoreboard: the order of its numbers, their ranges, and where SACKed octets lie
 pub record IsScoreboard (s : Scoreboard) : Type 0 where
   pub smss_low : 64 ≤ s.smss
@@ -40,6 +29,7 @@ pub record IsScoreboard (s : Scoreboard) : Type 0 where
   pub next_top : s.next ≤ s.top
   pub top_end : s.top ≤ s.end
   pub end_low : s.end < 2 ^ 31
+  pub sacked_ascending : s.sacked ≡ octets_where (contains s.sacked) s.una s.top
   pub sacked_sent : (x : ℕ) → contains s.sacked x ≡ true → (s.una ≤ x) × (x < s.top)
 
 -- what is kept of a board's fields: the same, where its marks begin, and that none lies above top
@@ -55,7 +45,7 @@ pub record IsBoard (segment una next top end first after : ℕ) : Type 0 where
 
 -- once the SYN/ACK is sent, which has number 0: nothing else is queued
 abbrev pub opened : ℕ → Scoreboard
-opened smss = record { smss = smss; una = 0; next = 1; top = 1; end = 1; sacked = empty; exhausted = false }
+opened smss = record { smss = smss; una = 0; next = 1; top = 1; end = 1; sacked = []; exhausted = false }
 
 -- n octets more are queued
 abbrev pub written : ℕ → Scoreboard → Scoreboard
@@ -83,7 +73,7 @@ has_new block s = list_any (λ x. covers block x && not (contains s.sacked x)) (
 
 -- no octet is SACKed (RFC 2018, section 8: after a timeout)
 abbrev pub unmarked : Scoreboard → Scoreboard
-unmarked s = record s { sacked = empty }
+unmarked s = record s { sacked = [] }
 
 -- sending goes on behind the SACKed octets that it stands at, at top at most
 abbrev pub skipped : Scoreboard → Scoreboard

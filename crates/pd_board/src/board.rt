@@ -26,13 +26,11 @@ pub struct Board {
 }
 
 impl Model for Board {
-    ghost use Rattle.pd_board.specs.Scoreboard.{Scoreboard, scoreboard_code, IsBoard};
+    ghost use Rattle.pd_board.specs.Scoreboard.{Scoreboard, IsBoard};
     ghost use Rattle.pd_board.specs.Octets.{octets_where};
     ghost use Rattle.pd_board.specs.Tests.{held, marks_end};
 
     ghost Value = { Scoreboard };
-
-    ghost coded = { scoreboard_code };
 
     ghost view = { λ b. record { smss = b.smss; una = b.una; next = b.next; top = b.top; end = b.end; sacked = octets_where (held b.marks) b.una b.top; exhausted = b.exhausted } };
 

@@ -1,0 +1,7 @@
+-- No octet so far is marked.
+use Rattle.std.proofs.Common.{◌≡◌, ℕ, ◌<◌, ◌≤◌, false}
+use Rattle.pd_board.specs.Tests.{held}
+use Rattle.pd_board.proofs.counts.first_marked.Given as goal
+
+abbrev pub invariant-loop-x : goal.invariant-loop-x
+invariant-loop-x l = (x : ℕ) → l.from ≤ x → x < l.x → held l.marks x ≡ false
