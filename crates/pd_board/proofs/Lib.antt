@@ -1,2 +1,8 @@
 -- The lemmas of this crate.
 pub mod Sets
+pub mod Find
+pub mod Lost
+pub mod Shown
+pub mod Chosen
+pub mod Marked
+pub mod Counted

@@ -67,18 +67,16 @@ unfolding octets_where
 octets_where-none p a b h = filter_none p a (b - a) (λ x l u. h x l (omega arith))
 
 -- what passes nowhere behind a place is the set up to there
-filter_longer : (p : ℕ → Bool) (a n m : ℕ) → ((x : ℕ) → a + n ≤ x → x < a + (n + m) → p x ≡ false) → filter p (range_with_len a n) ≡ filter p (range_with_len a (n + m))
-filter_longer p a zero m h = sym (filter_none p a m (λ x l u. h x (omega arith) (omega arith)))
-filter_longer p a (suc n) m h =
-    let rest : filter p (range_with_len (a + 1) n) ≡ filter p (range_with_len (a + 1) (n + m)) = filter_longer p (a + 1) n m (λ x l u. h x (omega arith) (omega arith)) in
+filter_longer : (p : ℕ → Bool) (a n k : ℕ) → n ≤ k → ((x : ℕ) → a + n ≤ x → x < a + k → p x ≡ false) → filter p (range_with_len a n) ≡ filter p (range_with_len a k)
+filter_longer p a zero k l h = sym (filter_none p a k (λ x m u. h x (omega arith) u))
+filter_longer p a (suc n) zero l h = absurd (omega arith)
+filter_longer p a (suc n) (suc k) l h =
+    let rest : filter p (range_with_len (a + 1) n) ≡ filter p (range_with_len (a + 1) k) = filter_longer p (a + 1) n k (omega arith) (λ x m u. h x (omega arith) (omega arith)) in
     ap (λ xs. cond (p a) (a ∷ xs) xs) rest
 
 pub octets_where-longer : (p : ℕ → Bool) (a b c : ℕ) → b ≤ c → ((x : ℕ) → a ≤ x → b ≤ x → x < c → p x ≡ false) → octets_where p a b ≡ octets_where p a c
 unfolding octets_where
-octets_where-longer p a b c l h =
-    let e : (b - a) + ((c - a) - (b - a)) ≡ c - a = omega arith in
-    filter_longer p a (b - a) ((c - a) - (b - a)) (λ x m u. h x (omega arith) (omega arith) (omega arith))
-    ∙ ap (λ n. filter p (range_with_len a n)) e
+octets_where-longer p a b c l h = filter_longer p a (b - a) (c - a) (omega arith) (λ x m u. h x (omega arith) (omega arith) (omega arith))
 
 -- what is acknowledged leaves the set
 pub cut : (p : ℕ → Bool) (a x b : ℕ) → a ≤ x → octets_where (contains (octets_where p a b)) x b ≡ octets_where p x b
@@ -197,9 +195,10 @@ any_false p a (suc n) h =
 pub any-false : (p : ℕ → Bool) (a b : ℕ) → ((x : ℕ) → a ≤ x → x < b → p x ≡ false) → list_any p (interval a b) ≡ false
 any-false p a b h = any_false p a (b - a) (λ x l u. h x l (omega arith))
 
-any_longer : (p : ℕ → Bool) (a n m : ℕ) → ((x : ℕ) → a + n ≤ x → x < a + (n + m) → p x ≡ false) → list_any p (range_with_len a (n + m)) ≡ list_any p (range_with_len a n)
-any_longer p a zero m h = any_false p a m (λ x l u. h x (omega arith) (omega arith))
-any_longer p a (suc n) m h = ap (λ b. p a || b) (any_longer p (a + 1) n m (λ x l u. h x (omega arith) (omega arith)))
+any_longer : (p : ℕ → Bool) (a n k : ℕ) → n ≤ k → ((x : ℕ) → a + n ≤ x → x < a + k → p x ≡ false) → list_any p (range_with_len a k) ≡ list_any p (range_with_len a n)
+any_longer p a zero k l h = any_false p a k (λ x m u. h x (omega arith) u)
+any_longer p a (suc n) zero l h = absurd (omega arith)
+any_longer p a (suc n) (suc k) l h = ap (λ b. p a || b) (any_longer p (a + 1) n k (omega arith) (λ x m u. h x (omega arith) (omega arith)))
 
 any_later : (p : ℕ → Bool) (a c b n : ℕ) → a + n ≡ c → c ≤ b → ((x : ℕ) → a ≤ x → x < c → p x ≡ false) → list_any p (interval a b) ≡ list_any p (interval c b)
 any_later p a c b zero e l h = let e' : a ≡ c = omega arith in ap (λ k. list_any p (interval k b)) e'
@@ -210,9 +209,7 @@ any_later p a c b (suc n) e l h =
 -- what passes nowhere outside a part passes somewhere as it does in the part
 pub any-part : (p : ℕ → Bool) (a c d b : ℕ) → a ≤ c → c ≤ d → d ≤ b → ((x : ℕ) → a ≤ x → x < c → p x ≡ false) → ((x : ℕ) → d ≤ x → x < b → p x ≡ false) → list_any p (interval a b) ≡ list_any p (interval c d)
 any-part p a c d b l m u below above =
-    let e : b - c ≡ (d - c) + (b - d) = omega arith in
     any_later p a c b (c - a) (omega arith) (omega arith) below
-    ∙ ap (λ n. list_any p (range_with_len c n)) e
-    ∙ any_longer p c (d - c) (b - d) (λ x i j. above x (omega arith) (omega arith))
+    ∙ any_longer p c (d - c) (b - c) (omega arith) (λ x i j. above x (omega arith) (omega arith))
 
 pub ruleset sizes = (size_where-first, size_where-none, size_where-le)

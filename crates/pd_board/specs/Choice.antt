@@ -1,16 +1,18 @@
 -- Which octets to send again (RFC 6675, section 4, NextSeg).
 use Rattle.std.specs.Prelude.{ℕ, ◌+◌, ◌-◌, min, max, Bool, ◌&&◌, nat_lt, nat_le, Option, Some, None, unwrap_or}
+use Rattle.std.specs.Option.{option_map}
 use Rattle.pd_seg.specs.declared.sack_blocks.Span.{Span}
 use Rattle.pd_board.specs.Octets.{contains, least_where, greatest_where}
 use Rattle.pd_board.specs.Loss.{sacked_above, is_lost, is_free}
 use Rattle.pd_board.specs.Scoreboard.{Scoreboard}
 
--- the segment that is sent again from x: up to the next SACKed octet, SMSS octets at most, and up to top at most
+-- the most that a segment from x reaches to: SMSS octets, and up to top
+abbrev pub most_from : ℕ → Scoreboard → ℕ
+most_from x s = min (x + s.smss) s.top
+
+-- the segment that is sent again from x: up to the next SACKed octet, or to the most
 abbrev pub run_at : ℕ → Scoreboard → Span
-run_at x s = record { start = x; end = unwrap_or (least_where (contains s.sacked) x (limit x s)) (limit x s) }
-  where
-    limit : ℕ → Scoreboard → ℕ
-    limit x s = min (x + s.smss) s.top
+run_at x s = record { start = x; end = unwrap_or (least_where (contains s.sacked) x (most_from x s)) (most_from x s) }
 
 -- x isn't SACKed, lies at or above HighRxt, and below a SACKed octet
 abbrev pub is_hole : ℕ → ℕ → Scoreboard → Bool
@@ -29,14 +31,13 @@ abbrev pub after : Option ℕ → ℕ
 after None = 0
 after (Some x) = x + 1
 
+-- the segment that ends with e: from una on, SMSS octets at most, and behind the SACKed octets below e
+abbrev pub segment_to : Scoreboard → ℕ → Span
+segment_to s e = record {
+  start = max (max s.una (e + 1 - s.smss)) (after (greatest_where (contains s.sacked) s.una e));
+  end = e + 1;
+}
+
 -- rule 4: the segment that ends with the greatest octet that isn't SACKed
 abbrev pub rescue : Scoreboard → Option Span
-rescue s = rescue_to (greatest_where (λ x. is_free x s) s.una s.top)
-  where
-    rescue_to : Option ℕ → Option Span
-    rescue_to None = None
-    rescue_to (Some e) =
-        Some record {
-          start = max (max s.una (e + 1 - s.smss)) (after (greatest_where (contains s.sacked) s.una e));
-          end = e + 1;
-        }
+rescue s = option_map (segment_to s) (greatest_where (λ x. is_free x s) s.una s.top)
