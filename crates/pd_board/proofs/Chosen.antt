@@ -65,17 +65,17 @@ module _ (p : ℕ → Bool) (s : Scoreboard) (shown : s.sacked ≡ octets_where 
       let less = apart p x y m free marked in
       let some : 0 < sacked_above x s = omega (arith, octets_from p s shown (x + 1) (omega arith), size_where-some p (x + 1) y s.top (omega arith) u marked) in
       least-is (λ k. is_hole high k s) s.una s.top x (x - s.una) (omega arith) (omega arith)
-        (λ k i j. below_hole high x held (omega arith) k i j)
-        (hole_on (contains s.sacked x) high x (sacked_above x s) (within p s shown x (omega arith) (omega arith) ∙ free) (omega arith) some)
+      (λ k i j. below_hole high x held (omega arith) k i j)
+      (hole_on (contains s.sacked x) high x (sacked_above x s) (within p s shown x (omega arith) (omega arith) ∙ free) (omega arith) some)
 
   pub hole_none : (high x : ℕ) → x ≤ s.top → ((k : ℕ) → max s.una high ≤ k → k < x → p k ≡ true)
       → ((k : ℕ) → x ≤ k → k < s.top → p k ≡ false) → next_hole high s ≡ None
   hole_none high x u held free =
       least-none (λ k. is_hole high k s) s.una s.top s.top (omega arith) (λ y l m.
-        elim (nat_lt y x) as (λ t. nat_lt y x ≡ t → is_hole high y s ≡ false) [
-          | true ↦ λ t. below_hole high x held u y l (lt y x t)
-          | false ↦ λ t. last_off (is_free y s) (nat_le high y) (sacked_above y s) (none y l m (ge y x t))
-        ] refl)
+      elim (nat_lt y x) as (λ t. nat_lt y x ≡ t → is_hole high y s ≡ false) [
+        | true ↦ λ t. below_hole high x held u y l (lt y x t)
+        | false ↦ λ t. last_off (is_free y s) (nat_le high y) (sacked_above y s) (none y l m (ge y x t))
+      ] refl)
     where
       none : (y : ℕ) → s.una ≤ y → y < s.top → x ≤ y → sacked_above y s ≡ 0
       none y l m k =
@@ -88,17 +88,6 @@ module _ (p : ℕ → Bool) (s : Scoreboard) (shown : s.sacked ≡ octets_where 
   run_is x most end l e m u free marked =
       (λ i. record { start = x; end = there i }) ∙ ap (λ (n : ℕ). record { start = x; end = unwrap_or (least_where (contains s.sacked) x n) n }) e
     where
-      there : end ≡ unwrap_or (least_where (contains s.sacked) x most) most
-      there =
-          elim (nat_lt end most) as (λ t. nat_lt end most ≡ t → end ≡ unwrap_or (least_where (contains s.sacked) x most) most) [
-            | true ↦ λ t. sym (ap (λ o. unwrap_or o most)
-                (least-is (contains s.sacked) x most end (end - x) (omega arith) (lt end most t)
-                  (λ y i j. within p s shown y (omega arith) (omega arith) ∙ free y i j)
-                  (within p s shown end (omega arith) (low t) ∙ marked (lt end most t))))
-            | false ↦ λ t. same t ∙ sym (ap (λ o. unwrap_or o most)
-                (least-none (contains s.sacked) x most most (omega arith) (λ y i j. within p s shown y (omega arith) (omega arith) ∙ free y i (up t y j))))
-          ] refl
-
       low : nat_lt end most ≡ true → end < s.top
       low t = let k = lt end most t in omega arith
 
@@ -108,6 +97,17 @@ module _ (p : ℕ → Bool) (s : Scoreboard) (shown : s.sacked ≡ octets_where 
       up : nat_lt end most ≡ false → (y : ℕ) → y < most → y < end
       up t y j = let k = ge end most t in omega arith
 
+      there : end ≡ unwrap_or (least_where (contains s.sacked) x most) most
+      there =
+          elim (nat_lt end most) as (λ t. nat_lt end most ≡ t → end ≡ unwrap_or (least_where (contains s.sacked) x most) most) [
+            | true ↦ λ t. sym (ap (λ o. unwrap_or o most)
+                (least-is (contains s.sacked) x most end (end - x) (omega arith) (lt end most t)
+                (λ y i j. within p s shown y (omega arith) (omega arith) ∙ free y i j)
+                (within p s shown end (omega arith) (low t) ∙ marked (lt end most t))))
+            | false ↦ λ t. same t ∙ sym (ap (λ o. unwrap_or o most)
+                (least-none (contains s.sacked) x most most (omega arith) (λ y i j. within p s shown y (omega arith) (omega arith) ∙ free y i (up t y j))))
+          ] refl
+
   free_at : (k : ℕ) → s.una ≤ k → k < s.top → p k ≡ true → is_free k s ≡ false
   free_at k l u h = ap not (within p s shown k l u ∙ h)
 
@@ -115,22 +115,22 @@ module _ (p : ℕ → Bool) (s : Scoreboard) (shown : s.sacked ≡ octets_where 
       → record s { next = x } ≡ skipped s
   skipped_is x a l u held free = ap (λ n. record s { next = n }) there
     where
-      there : x ≡ unwrap_or (least_where (λ k. not (contains s.sacked k)) s.next s.top) s.top
-      there =
-          elim (nat_lt x s.top) as (λ t. nat_lt x s.top ≡ t → x ≡ unwrap_or (least_where (λ k. not (contains s.sacked k)) s.next s.top) s.top) [
-            | true ↦ λ t. sym (ap (λ o. unwrap_or o s.top)
-                (least-is (λ k. not (contains s.sacked k)) s.next s.top x (x - s.next) (omega arith) (lt x s.top t)
-                  (λ y i j. free_at y (omega arith) (omega arith) (held y i j))
-                  (ap not (within p s shown x (omega arith) (lt x s.top t) ∙ free (lt x s.top t)))))
-            | false ↦ λ t. same t ∙ sym (ap (λ o. unwrap_or o s.top)
-                (least-none (λ k. not (contains s.sacked k)) s.next s.top s.top (omega arith) (λ y i j. free_at y (omega arith) j (held y i (up t y j)))))
-          ] refl
-
       same : nat_lt x s.top ≡ false → x ≡ s.top
       same t = let k = ge x s.top t in omega arith
 
       up : nat_lt x s.top ≡ false → (y : ℕ) → y < s.top → y < x
       up t y j = let k = ge x s.top t in omega arith
+
+      there : x ≡ unwrap_or (least_where (λ k. not (contains s.sacked k)) s.next s.top) s.top
+      there =
+          elim (nat_lt x s.top) as (λ t. nat_lt x s.top ≡ t → x ≡ unwrap_or (least_where (λ k. not (contains s.sacked k)) s.next s.top) s.top) [
+            | true ↦ λ t. sym (ap (λ o. unwrap_or o s.top)
+                (least-is (λ k. not (contains s.sacked k)) s.next s.top x (x - s.next) (omega arith) (lt x s.top t)
+                (λ y i j. free_at y (omega arith) (omega arith) (held y i j))
+                (ap not (within p s shown x (omega arith) (lt x s.top t) ∙ free (lt x s.top t)))))
+            | false ↦ λ t. same t ∙ sym (ap (λ o. unwrap_or o s.top)
+                (least-none (λ k. not (contains s.sacked k)) s.next s.top s.top (omega arith) (λ y i j. free_at y (omega arith) j (held y i (up t y j)))))
+          ] refl
 
   pub no_rescue : s.una ≤ s.top → ((k : ℕ) → s.una ≤ k → k < s.top → p k ≡ true) → rescue s ≡ None
   no_rescue l held = ap (option_map (segment_to s)) (greatest-none (λ k. is_free k s) s.una s.top l (λ k i j. free_at k i j (held k i j)))
@@ -152,7 +152,7 @@ module _ (p : ℕ → Bool) (s : Scoreboard) (shown : s.sacked ≡ octets_where 
       past k =
           let one : start - 1 + 1 ≡ start = omega arith in
           let found : behind ≡ start - 1 + 1 =
-            ap after (greatest-is (contains s.sacked) s.una (start - 1) e (omega arith) (omega arith) (λ y i j. clear y (omega arith) j) (within p s shown (start - 1) (omega arith) (omega arith) ∙ edge k)) in
+          ap after (greatest-is (contains s.sacked) s.una (start - 1) e (omega arith) (omega arith) (λ y i j. clear y (omega arith) j) (within p s shown (start - 1) (omega arith) (omega arith) ∙ edge k)) in
           omega arith
 
       least : start ≤ low → max low behind ≡ start
@@ -160,7 +160,7 @@ module _ (p : ℕ → Bool) (s : Scoreboard) (shown : s.sacked ≡ octets_where 
           let to : e ≡ low + (e - low) = omega arith in
           let from : low ≡ s.una + (low - s.una) = omega arith in
           let cut : behind ≡ after (greatest_where (contains s.sacked) s.una low) =
-            ap (λ n. after (greatest_where (contains s.sacked) s.una n)) to ∙ ap after (greatest-below (contains s.sacked) s.una low (e - low) (omega arith) (λ y i j. clear y (omega arith) (omega arith))) in
+          ap (λ n. after (greatest_where (contains s.sacked) s.una n)) to ∙ ap after (greatest-below (contains s.sacked) s.una low (e - low) (omega arith) (λ y i j. clear y (omega arith) (omega arith))) in
           let same = ap (λ n. after (greatest_where (contains s.sacked) s.una n)) from in
           let most = greatest-under (contains s.sacked) s.una (low - s.una) in
           omega arith

@@ -34,5 +34,5 @@ down p una top smss high i j octets runs way octets' runs' way' e u o r q o' r' 
     let f1 = size_where-first (λ x. not (p x) && not (lost_from p una top smss (x + 1))) j top u in
     let f2 = size_where-first (λ x. not (p x) && nat_lt x high) j top u in
     let lost : cond {A = ℕ} (not (p j) && not (lost_from p una top smss (j + 1))) 1 0 ≡ cond {A = ℕ} (not (p j) && not (nat_le 3 runs || nat_lt (2 * smss) octets)) 1 0 =
-      sym (λ k. cond (not (p j) && not (nat_le 3 (er k) || nat_lt (2 * smss) (eo k))) 1 0) in
+    sym (λ k. cond (not (p j) && not (nat_le 3 (er k) || nat_lt (2 * smss) (eo k))) 1 0) in
     (omega (arith, fo), omega (arith, fr), omega (arith, f1, f2, lost))

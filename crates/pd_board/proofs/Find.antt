@@ -48,7 +48,7 @@ true_and a b e = rw e refl
 not_up : (x y : Bool) → (y ≡ true → x ≡ true) → x ≡ false → y ≡ false
 not_up true true h e = e
 not_up true false h e = refl
-not_up false true h e = h refl
+not_up false true h e = sym (h refl)
 not_up false false h e = refl
 
 module _ (p q : ℕ → Bool) (down : (x y : ℕ) → x ≤ y → q y ≡ true → q x ≡ true) where
@@ -76,7 +76,7 @@ module _ (p q : ℕ → Bool) (down : (x y : ℕ) → x ≤ y → q y ≡ true �
       here t = elim (q a) as (λ u. q a ≡ u → cond u (Some a) rest ≡ cond u (Some a) None) [ true ↦ λ u. refl | false ↦ λ u. later u ] refl
 
 snoc : (a n : ℕ) → range_with_len a (suc n) ≡ range_with_len a n ++ (a + n) ∷ []
-snoc a zero = refl
+snoc a zero = ap (λ k. k ∷ []) (omega arith)
 snoc a (suc n) = let e : a + 1 + n ≡ a + suc n = omega arith in ap (λ xs. a ∷ xs) (snoc (a + 1) n ∙ ap (λ k. range_with_len (a + 1) n ++ k ∷ []) e)
 
 pub greatest_step : (p : ℕ → Bool) (a b : ℕ) → a ≤ b → greatest_where p a (b + 1) ≡ cond (p b) (Some b) (greatest_where p a b)
@@ -93,7 +93,7 @@ greatest_empty p a b h = let e : b - a ≡ 0 = omega arith in rw e refl
 
 -- places behind which nothing passes may be left out
 pub greatest-below : (p : ℕ → Bool) (a r n : ℕ) → a ≤ r → ((x : ℕ) → r ≤ x → x < r + n → p x ≡ false) → greatest_where p a (r + n) ≡ greatest_where p a r
-greatest-below p a r zero l h = refl
+greatest-below p a r zero l h = ap (greatest_where p a) (omega arith)
 greatest-below p a r (suc n) l h =
     let e : r + suc n ≡ r + n + 1 = omega arith in
     ap (greatest_where p a) e ∙ greatest_step p a (r + n) (omega arith)
@@ -113,7 +113,7 @@ greatest-none p a b l h =
 
 -- the greatest lies below the bound
 pub greatest-under : (p : ℕ → Bool) (a n : ℕ) → after (greatest_where p a (a + n)) ≤ a + n
-greatest-under p a zero = let e = ap after (greatest_empty p a a (omega arith)) in omega (arith, e)
+greatest-under p a zero = let e = ap after (greatest_empty p a (a + 0) (omega arith)) in omega (arith, e)
 greatest-under p a (suc n) =
     let e : a + suc n ≡ a + n + 1 = omega arith in
     let step = ap after (ap (greatest_where p a) e ∙ greatest_step p a (a + n) (omega arith)) in

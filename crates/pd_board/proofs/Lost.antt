@@ -13,9 +13,9 @@ more r q n m most l k h = grind (arith, nat_tests)
 pub lost_below : LostIsDownwardClosed
 lost_below s x y l h =
     more _ _ _ _ (2 * s.smss)
-      (size_where-later (begins_run s.sacked) (x + 1) (y + 1) s.top (y - x) (omega arith))
-      (size_where-later (contains s.sacked) (x + 1) (y + 1) s.top (y - x) (omega arith))
-      h
+    (size_where-later (begins_run s.sacked) (x + 1) (y + 1) s.top (y - x) (omega arith))
+    (size_where-later (contains s.sacked) (x + 1) (y + 1) s.top (y - x) (omega arith))
+    h
 
 first_holds : (a b : Bool) → (a && b) ≡ true → a ≡ true
 first_holds true b h = refl
@@ -26,5 +26,5 @@ pipe_at_most s high_rxt =
     omega (
       arith,
       size_where-fewer (λ x. is_free x s && not (is_lost x s)) (λ x. is_free x s) s.una s.top (λ x h. first_holds _ _ h),
-      size_where-fewer (λ x. is_free x s && nat_lt x high_rxt) (λ x. is_free x s) s.una s.top (λ x h. first_holds _ _ h)
+      size_where-fewer (λ x. is_free x s && nat_lt x high_rxt) (λ x. is_free x s) s.una s.top (λ x h. first_holds _ _ h),
     )

@@ -13,9 +13,9 @@ here a n q pa pq ih same h = grind (arith, nat_tests)
 
 any_filter : (p : ℕ → Bool) (q a : ℕ) (xs : List ℕ) → list_any (λ y. nat_eq y q) (filter p (a ∷ xs)) ≡ (nat_eq a q && p a || list_any (λ y. nat_eq y q) (filter p xs))
 any_filter p q a xs = elim (p a) as (λ b. list_any (λ y. nat_eq y q) (cond b (a ∷ filter p xs) (filter p xs)) ≡ (nat_eq a q && b || list_any (λ y. nat_eq y q) (filter p xs))) [
-    | true ↦ elim (nat_eq a q) as (λ b. (b || list_any (λ y. nat_eq y q) (filter p xs)) ≡ (b && true || list_any (λ y. nat_eq y q) (filter p xs))) [ true ↦ refl | false ↦ refl ]
-    | false ↦ elim (nat_eq a q) as (λ b. list_any (λ y. nat_eq y q) (filter p xs) ≡ (b && false || list_any (λ y. nat_eq y q) (filter p xs))) [ true ↦ refl | false ↦ refl ]
-  ]
+  | true ↦ elim (nat_eq a q) as (λ b. (b || list_any (λ y. nat_eq y q) (filter p xs)) ≡ (b && true || list_any (λ y. nat_eq y q) (filter p xs))) [ true ↦ refl | false ↦ refl ]
+  | false ↦ elim (nat_eq a q) as (λ b. list_any (λ y. nat_eq y q) (filter p xs) ≡ (b && false || list_any (λ y. nat_eq y q) (filter p xs))) [ true ↦ refl | false ↦ refl ]
+]
 
 never : (a q : ℕ) (pq : Bool) → false ≡ (nat_le a q && (nat_lt q (a + 0) && pq))
 never a q pq = grind (arith, nat_tests)

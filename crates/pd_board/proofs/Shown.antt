@@ -100,7 +100,7 @@ module _ (p : ℕ → Bool) (s : Scoreboard) (shown : s.sacked ≡ octets_where 
       → ((x : ℕ) → q x ≡ (p x || (nat_le first x && nat_lt x block.end))) → record s { sacked = octets_where q s.una s.top } ≡ marked block s
   marked_is q block first e h =
       ap (λ k. record s { sacked = k }) (octets_where-same _ _ s.una s.top (λ x l u.
-        h x ∙ cover x (p x) l ∙ ap (λ was. was || covers block x) (sym (within x l u))))
+      h x ∙ cover x (p x) l ∙ ap (λ was. was || covers block x) (sym (within x l u))))
     where
       cover : (x : ℕ) (was : Bool) → s.una ≤ x → (was || (nat_le first x && nat_lt x block.end)) ≡ (was || covers block x)
       cover x was l = covering s.una block.start block.end first x was e l
@@ -109,10 +109,10 @@ module _ (p : ℕ → Bool) (s : Scoreboard) (shown : s.sacked ≡ octets_where 
       → has_new block s ≡ list_any (λ x. not (p x)) (interval first block.end)
   has_new_is block first e l u =
       any-part _ s.una first block.end s.top (omega arith) l u
-        (λ x m v. before block.start block.end first s.una x (not (contains s.sacked x)) e m v)
-        (λ x m v. behind block.start block.end x (not (contains s.sacked x)) m)
+      (λ x m v. before block.start block.end first s.una x (not (contains s.sacked x)) e m v)
+      (λ x m v. behind block.start block.end x (not (contains s.sacked x)) m)
       ∙ any-same _ _ first block.end (λ x m v.
-        inner block.start block.end first s.una x (not (contains s.sacked x)) e m v ∙ ap not (within x (omega arith) (omega arith)))
+      inner block.start block.end first s.una x (not (contains s.sacked x)) e m v ∙ ap not (within x (omega arith) (omega arith)))
 
   pub has_none_new : (block : Span) (first : ℕ) → first ≡ max s.una block.start → block.end ≤ first → has_new block s ≡ false
   has_none_new block first e l =
@@ -122,7 +122,7 @@ module _ (p : ℕ → Bool) (s : Scoreboard) (shown : s.sacked ≡ octets_where 
   sent_is x t e none =
       ap (λ n. record s { next = x; top = n; sacked = octets_where p s.una n }) e
       ∙ ap (λ k. record s { next = x; top = max s.top x; sacked = k })
-        (sym (octets_where-longer p s.una s.top (max s.top x) (omega arith) (λ y l u v. none y u)) ∙ sym shown)
+      (sym (octets_where-longer p s.una s.top (max s.top x) (omega arith) (λ y l u v. none y u)) ∙ sym shown)
 
   pub acknowledged_is : (q : ℕ → Bool) (x n : ℕ) → s.una ≤ x → n ≡ max s.next x → ((y : ℕ) → x ≤ y → q y ≡ p y)
       → record s { una = x; next = n; sacked = octets_where q x s.top } ≡ acknowledged x s

@@ -13,15 +13,15 @@ loop-x-preserved c =
     let x = c.loop-x.x in
     let begun = begins (held m) c.args.una x c.holds-now.result c.loop-x.before (omega arith) c.holds-now.ensures c.loop-x.invariant.before in
     let octets : c.if-now.octets ≡ c.loop-x.octets + cond c.holds-now.result 1 0 = elim c.if-now.branch [
-        | then-now+then-not-before w ↦ grind (arith, nat_tests)
-        | then-now+else-not-before w ↦ grind (arith, nat_tests)
-        | else-now w ↦ grind (arith, nat_tests)
-      ] in
+      | then-now+then-not-before w ↦ grind (arith, nat_tests)
+      | then-now+else-not-before w ↦ grind (arith, nat_tests)
+      | else-now w ↦ grind (arith, nat_tests)
+    ] in
     let runs : c.if-now.runs ≡ c.loop-x.runs + cond (c.holds-now.result && not c.loop-x.before) 1 0 = elim c.if-now.branch [
-        | then-now+then-not-before w ↦ grind (arith, nat_tests)
-        | then-now+else-not-before w ↦ grind (arith, nat_tests)
-        | else-now w ↦ grind (arith, nat_tests)
-      ] in
+      | then-now+then-not-before w ↦ grind (arith, nat_tests)
+      | then-now+else-not-before w ↦ grind (arith, nat_tests)
+      | else-now w ↦ grind (arith, nat_tests)
+    ] in
     let last : x ≡ x + 1 - 1 = omega arith in
     let low : c.args.una ≤ x = omega arith in
     let inside : nat_lt c.args.una (x + 1) ≡ true = grind (arith, nat_tests) in

@@ -12,5 +12,5 @@ returns c =
     let i = c.self.inside in
     let m = c.clear.new.self in
     ap (λ k. record (the_view i) { sacked = k })
-      (octets_where-none (held m) i.una i.top (λ x l u. held_none m x (c.clear.ensures.none ∙ sym c.clear.ensures.start)))
+    (octets_where-none (held m) i.una i.top (λ x l u. held_none m x (c.clear.ensures.none ∙ sym c.clear.ensures.start)))
     ∙ ap unmarked c.self.view_is

@@ -19,7 +19,7 @@ returns c =
     let some : i.una < end = omega arith in
     let last : end ≡ end - 1 + 1 = omega arith in
     sym (rescue_is (held i.marks) (the_view i) refl (end - 1) c.max-low.result c.after_last-start.result (omega arith) (omega arith)
-      (λ k l u. c.after_last-end.ensures.behind k (omega arith) u) (c.after_last-end.ensures.found some)
-      (omega arith) c.after_last-start.ensures.low c.after_last-start.ensures.high c.after_last-start.ensures.behind c.after_last-start.ensures.found
-      ∙ ap (λ (n : ℕ). Some record { start = c.after_last-start.result; end = n }) (sym last))
+    (λ k l u. c.after_last-end.ensures.behind k (omega arith) u) (c.after_last-end.ensures.found some)
+    (omega arith) c.after_last-start.ensures.low c.after_last-start.ensures.high c.after_last-start.ensures.behind c.after_last-start.ensures.found
+    ∙ ap (λ (n : ℕ). Some record { start = c.after_last-start.result; end = n }) (sym last))
     ∙ ap rescue c.self.view_is

@@ -1,5 +1,16 @@
--- Holes.
+-- The first mark ends the run.
+use Rattle.std.proofs.Common.{◌≡◌, ◌+◌, ◌≤◌, min, refl, ap, ◌∙◌, arith}
+use Rattle.pd_board.specs.contracts.board.Board.{the_view}
+use Rattle.pd_board.specs.Choice.{run_at}
+use Rattle.pd_board.specs.Tests.{held}
+use Rattle.pd_board.proofs.Chosen.{run_is}
 use Rattle.pd_board.proofs.board.Board.run_at.Goals as goal
 
 pub returns : goal.returns
-returns c = ?
+returns c =
+    let i = c.self.inside in
+    let una : i.una ≡ c.args.self.now.una = ap (λ s. s.una) c.self.view_is in
+    let most : c.min-most.result ≡ min (c.args.x + i.smss) i.top = omega arith in
+    run_is (held i.marks) (the_view i) refl c.args.x c.min-most.result c.first_marked.result (omega arith) most
+    c.first_marked.ensures.low c.first_marked.ensures.high c.first_marked.ensures.before c.first_marked.ensures.found
+    ∙ ap (run_at c.args.x) c.self.view_is
