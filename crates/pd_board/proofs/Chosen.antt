@@ -1,10 +1,9 @@
 -- What is found over a test is what the rules of NextSeg choose.
-use Rattle.std.proofs.Common.{◌≡◌, ℕ, ◌+◌, ◌-◌, ◌<◌, ◌≤◌, min, max, Bool, true, false, not, ◌&&◌, Option, None, Some, refl, sym, ap, ◌∙◌, arith}
+use Rattle.std.proofs.Common.{◌≡◌, ℕ, ◌+◌, ◌-◌, ◌<◌, ◌≤◌, max, Bool, true, false, not, ◌&&◌, None, Some, refl, sym, ap, ◌∙◌, arith}
 use Rattle.std.specs.Prelude.{nat_le, nat_lt, unwrap_or}
 use Rattle.std.specs.Option.{option_map}
 use Rattle.std.proofs.lemmas.Bool.Decides.{nat_tests}
-use Rattle.pd_seg.specs.declared.sack_blocks.Span.{Span}
-use Rattle.pd_board.specs.Octets.{contains, octets_where, size_where, least_where, greatest_where}
+use Rattle.pd_board.specs.Octets.{contains, octets_where, least_where, greatest_where}
 use Rattle.pd_board.specs.Scoreboard.{Scoreboard, skipped}
 use Rattle.pd_board.specs.Loss.{is_lost, is_free, sacked_above}
 use Rattle.pd_board.specs.Choice.{run_at, most_from, is_hole, next_hole, next_lost, rescue, segment_to, after}

@@ -1,11 +1,10 @@
 -- The least and the greatest octet that passes a test.
-use Rattle.std.proofs.Common.{◌≡◌, ℕ, zero, suc, ◌+◌, ◌-◌, ◌<◌, ◌≤◌, List, [], ◌∷◌, ◌++◌, Option, None, Some, Bool, true, false, cond, not, ◌&&◌, refl, sym, ap, ◌∙◌, reverse, arith}
+use Rattle.std.proofs.Common.{◌≡◌, ℕ, zero, suc, ◌+◌, ◌-◌, ◌<◌, ◌≤◌, [], ◌∷◌, ◌++◌, Option, None, Some, Bool, true, false, cond, ◌&&◌, refl, sym, ap, ◌∙◌, reverse, arith}
 use Rattle.std.specs.Prelude.{nat_lt}
 use Rattle.std.specs.List.{range_with_len, find}
 use Rattle.std.proofs.lemmas.List.{reverse-append}
-use Rattle.std.proofs.lemmas.Bool.Decides.{nat_tests}
 use Rattle.pd_board.specs.Choice.{after}
-use Rattle.pd_board.specs.Octets.{interval, least_where, greatest_where}
+use Rattle.pd_board.specs.Octets.{least_where, greatest_where}
 use Rattle.pd_board.proofs.Sets.{lt, ge}
 
 pub least_step : (p : ℕ → Bool) (a b : ℕ) → a < b → least_where p a b ≡ cond (p a) (Some a) (least_where p (a + 1) b)

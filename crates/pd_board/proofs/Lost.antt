@@ -1,9 +1,9 @@
 -- Losses are downward closed, and the pipe counts each octet twice at most.
-use Rattle.std.proofs.Common.{◌≡◌, ℕ, ◌+◌, ◌-◌, ◌*◌, ◌<◌, ◌≤◌, Bool, true, false, not, ◌&&◌, ◌||◌, refl, arith}
+use Rattle.std.proofs.Common.{◌≡◌, ℕ, ◌+◌, ◌-◌, ◌*◌, ◌≤◌, Bool, true, false, not, ◌&&◌, ◌||◌, refl, arith}
 use Rattle.std.specs.Prelude.{nat_le, nat_lt}
 use Rattle.std.proofs.lemmas.Bool.Decides.{nat_tests}
 use Rattle.pd_board.specs.Laws.{LostIsDownwardClosed, PipeCountsTwiceAtMost}
-use Rattle.pd_board.specs.Loss.{is_lost, is_free, pipe}
+use Rattle.pd_board.specs.Loss.{is_lost, is_free}
 use Rattle.pd_board.specs.Octets.{contains, begins_run}
 use Rattle.pd_board.proofs.Sets.{size_where-later, size_where-fewer}
 

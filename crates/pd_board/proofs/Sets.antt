@@ -1,11 +1,11 @@
 -- Members and sizes of sets of octets that pass a test.
 use Rattle.std.proofs.Common.{◌≡◌, ℕ, zero, suc, ◌+◌, ◌-◌, ◌<◌, ◌≤◌, List, [], ◌∷◌, Bool, true, false, cond, not, ◌&&◌, ◌||◌, refl, sym, ap, ◌∙◌, zero-add, arith}
 use Rattle.std.specs.Prelude.{nat_le, nat_lt, nat_eq}
-use Rattle.std.specs.List.{range_with_len, count_by, filter, list_any, sum_by}
+use Rattle.std.specs.List.{range_with_len, count_by, filter, list_any}
 use Rattle.std.proofs.lemmas.List.Sums.{sum_by-cons, count_by-le-length}
 use Rattle.std.proofs.lemmas.List.FromFn.{length-range_with_len}
 use Rattle.std.proofs.lemmas.Bool.Decides.{nat_tests}
-use Rattle.pd_board.specs.Octets.{Octets, contains, interval, octets_where, size_where, begins_run}
+use Rattle.pd_board.specs.Octets.{contains, interval, octets_where, size_where, begins_run}
 use Rattle.pd_board.specs.Tests.{first_of}
 
 here : (a n q : ℕ) (pa pq ih : Bool) → (a ≡ q → pa ≡ pq) → ih ≡ (nat_le (a + 1) q && (nat_lt q (a + 1 + n) && pq)) → (nat_eq a q && pa || ih) ≡ (nat_le a q && (nat_lt q (a + suc n) && pq))

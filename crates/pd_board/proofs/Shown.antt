@@ -1,10 +1,10 @@
 -- A scoreboard whose SACKed octets are those that pass a test: what the definitions say, said of the test.
-use Rattle.std.proofs.Common.{◌≡◌, ◌≢◌, ℕ, ◌+◌, ◌-◌, ◌*◌, ◌<◌, ◌≤◌, min, max, Bool, true, false, not, ◌&&◌, ◌||◌, Option, None, Some, refl, sym, ap, ◌∙◌, arith}
-use Rattle.std.specs.Prelude.{nat_le, nat_lt, nat_eq, unwrap_or}
+use Rattle.std.proofs.Common.{◌≡◌, ℕ, ◌+◌, ◌-◌, ◌*◌, ◌<◌, ◌≤◌, max, Bool, true, false, not, ◌&&◌, ◌||◌, refl, sym, ap, ◌∙◌, arith}
+use Rattle.std.specs.Prelude.{nat_le, nat_lt, nat_eq}
 use Rattle.std.specs.List.{list_any}
 use Rattle.std.proofs.lemmas.Bool.Decides.{nat_tests}
 use Rattle.pd_seg.specs.declared.sack_blocks.Span.{Span}
-use Rattle.pd_board.specs.Octets.{contains, interval, octets_where, size_where, least_where, begins_run}
+use Rattle.pd_board.specs.Octets.{contains, interval, octets_where, size_where, begins_run}
 use Rattle.pd_board.specs.Scoreboard.{Scoreboard, IsScoreboard, IsBoard, covers, marked, has_new, sent_to, acknowledged}
 use Rattle.pd_board.specs.Loss.{is_lost, is_free, pipe}
 use Rattle.pd_board.specs.Tests.{first_of, lost_from, pipe_from}

@@ -1,5 +1,5 @@
 -- What holds of every scoreboard, whatever its octets.
-use Rattle.std.specs.Prelude.{◌≡◌, ℕ, ◌*◌, ◌<◌, ◌≤◌, true}
+use Rattle.std.specs.Prelude.{◌≡◌, ℕ, ◌*◌, ◌≤◌, true}
 use Rattle.pd_board.specs.Octets.{size_where}
 use Rattle.pd_board.specs.Loss.{is_lost, is_free, pipe}
 use Rattle.pd_board.specs.Scoreboard.{Scoreboard}

@@ -1,6 +1,5 @@
 -- The last octet that isn't marked, and the marks before it.
-use Rattle.std.proofs.Common.{◌≡◌, ◌+◌, ◌-◌, ◌≤◌, ◌<◌, max, ℕ, Some, refl, sym, ap, ◌∙◌, arith}
-use Rattle.pd_seg.specs.declared.sack_blocks.Span.{Span}
+use Rattle.std.proofs.Common.{◌≡◌, ◌+◌, ◌-◌, ◌<◌, ℕ, Some, refl, sym, ap, ◌∙◌, arith}
 use Rattle.pd_board.specs.contracts.board.Board.{the_view}
 use Rattle.pd_board.specs.Choice.{rescue}
 use Rattle.pd_board.specs.Tests.{held}

@@ -1,5 +1,5 @@
 -- The first mark ends the run.
-use Rattle.std.proofs.Common.{◌≡◌, ◌+◌, ◌≤◌, min, refl, ap, ◌∙◌, arith}
+use Rattle.std.proofs.Common.{◌≡◌, ◌+◌, min, refl, ap, ◌∙◌, arith}
 use Rattle.pd_board.specs.contracts.board.Board.{the_view}
 use Rattle.pd_board.specs.Choice.{run_at}
 use Rattle.pd_board.specs.Tests.{held}

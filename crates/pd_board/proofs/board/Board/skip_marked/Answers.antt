@@ -1,5 +1,5 @@
 -- The first octet that isn't marked.
-use Rattle.std.proofs.Common.{refl, ap, ◌∙◌, arith}
+use Rattle.std.proofs.Common.{refl, ap, ◌∙◌}
 use Rattle.pd_board.specs.contracts.board.Board.{the_view}
 use Rattle.pd_board.specs.Scoreboard.{skipped}
 use Rattle.pd_board.specs.Tests.{held}

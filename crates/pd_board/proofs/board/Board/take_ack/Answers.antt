@@ -1,5 +1,5 @@
 -- The marks from x on stay.
-use Rattle.std.proofs.Common.{◌≡◌, ◌≤◌, refl, sym, ap, ◌∙◌, arith}
+use Rattle.std.proofs.Common.{◌≡◌, refl, ap, ◌∙◌, arith}
 use Rattle.pd_board.specs.contracts.board.Board.{the_view}
 use Rattle.pd_board.specs.Scoreboard.{acknowledged}
 use Rattle.pd_board.specs.Tests.{held}

@@ -1,9 +1,8 @@
 -- What is set by place is set by number.
-use Rattle.std.proofs.Common.{◌≡◌, ℕ, ◌+◌, ◌-◌, ◌≤◌, ◌<◌, length, get_or, false, not, ◌||◌, ◌&&◌, refl, sym, ap, ◌∙◌, arith}
+use Rattle.std.proofs.Common.{◌≡◌, ℕ, ◌+◌, ◌-◌, get_or, false, not, ◌||◌, ◌&&◌, ap, ◌∙◌, arith}
 use Rattle.std.specs.Prelude.{nat_le, nat_lt}
 use Rattle.std.specs.List.{list_any}
 use Rattle.pd_board.specs.Octets.{interval}
-use Rattle.pd_board.specs.Tests.{held}
 use Rattle.pd_board.proofs.Marked.{grown, set_is, new_is}
 use Rattle.pd_board.proofs.Sets.{any-same}
 use Rattle.pd_board.proofs.marks.Marks.insert.Goals as goal
