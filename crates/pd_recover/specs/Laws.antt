@@ -1,0 +1,56 @@
+-- What holds of every state that the rules reach.
+use Rattle.std.specs.Prelude.{◌≡◌, ◌↔◌, ℕ, ◌+◌, ◌-◌, ◌*◌, ◌^◌, ◌<◌, ◌≤◌, min, Bool, true, false, None, IsSome}
+use Rattle.pd_recover.specs.declared.feedback.Ack.{Ack}
+use Rattle.pd_recover.specs.Acks.{acked}
+use Rattle.pd_recover.specs.Congestion.{Congestion, begun, timed_out}
+
+-- the window lies between one segment and 2^30, the threshold at or above 2 segments, or at or above its initial value
+-- where that is lower
+pub record IsWithin (smss initial_ssthresh : ℕ) (w : Congestion) : Type 0 where
+  pub cwnd_from : smss ≤ w.cwnd
+  pub cwnd_to : w.cwnd ≤ 2 ^ 30
+  pub ssthresh_from : min (2 * smss) initial_ssthresh ≤ w.ssthresh
+  pub ssthresh_to : w.ssthresh ≤ 2 ^ 30
+  pub recovering : w.recovering ≡ true → 2 * smss ≤ w.ssthresh
+
+-- the window and the threshold stay there where at most 2^20 octets are queued, beside the FIN (RFC 5681, section 3.1)
+pub record StaysWithin : Type 0 where
+  pub first :
+      (initial_ssthresh smss : ℕ) (resent : Bool)
+      → smss ≤ 65495 → initial_ssthresh ≤ 2 ^ 30
+      → IsWithin smss initial_ssthresh (begun initial_ssthresh smss resent)
+  pub ack :
+      (initial_ssthresh : ℕ) (ack : Ack) (w : Congestion)
+      → ack.smss ≤ 65495 → ack.top - ack.una ≤ 2 ^ 20 + 1
+      → IsWithin ack.smss initial_ssthresh w
+      → IsWithin ack.smss initial_ssthresh (acked ack w).0
+  pub expiry :
+      (initial_ssthresh smss una top : ℕ) (w : Congestion)
+      → smss ≤ 65495 → top - una ≤ 2 ^ 20 + 1
+      → IsWithin smss initial_ssthresh w
+      → IsWithin smss initial_ssthresh (timed_out smss una top w)
+
+-- an ACK ends recovery exactly where una reaches RecoveryPoint, if SACK was agreed, and else exactly where it acknowledges
+-- new octets; an expiry always ends it (RFC 6675, section 5; RFC 5681, section 3.2)
+pub record EndsInTime : Type 0 where
+  pub with_sack :
+      (ack : Ack) (w : Congestion) → IsSome ack.sack → w.recovering ≡ true
+      → ((acked ack w).0.recovering ≡ false) ↔ (w.recovery_point ≤ ack.una)
+  pub without_sack :
+      (ack : Ack) (w : Congestion) → ack.sack ≡ None → w.recovering ≡ true
+      → ((acked ack w).0.recovering ≡ false) ↔ (0 < ack.acked)
+  pub expiry : (smss una top : ℕ) (w : Congestion) → (timed_out smss una top w).recovering ≡ false
+
+-- within recovery with SACK an ACK leaves the window, RecoveryPoint, HighRxt and RescueRxt (RFC 6675, section 5, step 4)
+pub record IsUnmoved (v w : Congestion) : Type 0 where
+  pub cwnd : w.cwnd ≡ v.cwnd
+  pub ssthresh : w.ssthresh ≡ v.ssthresh
+  pub recovery_point : w.recovery_point ≡ v.recovery_point
+  pub high_rxt : w.high_rxt ≡ v.high_rxt
+  pub rescue_rxt : w.rescue_rxt ≡ v.rescue_rxt
+
+abbrev pub RestsInRecovery : Type 0
+RestsInRecovery =
+    (ack : Ack) (w : Congestion) → IsSome ack.sack → w.recovering ≡ true
+    → (acked ack w).0.recovering ≡ true
+    → IsUnmoved w (acked ack w).0

@@ -1,0 +1,4 @@
+-- The definitions that the contracts cite.
+pub mod Acks
+pub mod Congestion
+pub mod Laws
