@@ -1,2 +1,4 @@
 -- The lemmas.
+pub mod Found
+pub mod Spared
 pub mod Windows

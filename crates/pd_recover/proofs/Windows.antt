@@ -1,11 +1,11 @@
 -- The window and the threshold stay within their bounds.
-use Rattle.std.proofs.Common.{◌≡◌, ℕ, ◌+◌, ◌-◌, ◌*◌, ◌/◌, ◌^◌, ◌<◌, ◌≤◌, ◌==◌, ◌&&◌, ◌||◌, min, max, nat_lt, nat_le, not, Bool, true, false, if◌then◌else◌, Option, Some, None, refl, subst, ◌∙◌, arith}
+use Rattle.std.proofs.Common.{◌≡◌, ℕ, ◌+◌, ◌-◌, ◌*◌, ◌/◌, ◌^◌, ◌≤◌, ◌==◌, ◌&&◌, ◌||◌, min, max, nat_lt, nat_le, Bool, true, false, if◌then◌else◌, Option, Some, None, refl, subst, ◌∙◌, arith}
 use Rattle.pd_recover.specs.declared.feedback.Ack.{Ack}
 use Rattle.pd_recover.specs.declared.feedback.News.{News}
 use Rattle.pd_recover.specs.declared.responses.Then.{Then}
 use Rattle.pd_seg.specs.declared.sack_blocks.Span.{Span}
-use Rattle.pd_recover.specs.Acks.{acked, renewed, told, told_by_sack, told_by_number, selective_duplicate, plain_duplicate, limited_transmit, sent_limited, counted, grown_by, advanced, entered, recovered, retransmitted, deflated, new_segment, is_duplicate}
-use Rattle.pd_recover.specs.Congestion.{Congestion, begun, first_segments, widened, growth, timed_out}
+use Rattle.pd_recover.specs.Acks.{acked, renewed, told, told_by_sack, told_by_number, selective_duplicate, plain_duplicate, sent_limited, counted, grown_by, advanced, entered, recovered, retransmitted, new_segment, is_duplicate}
+use Rattle.pd_recover.specs.Congestion.{Congestion, first_segments, widened, growth}
 use Rattle.pd_recover.specs.Laws.{IsWithin, StaysWithin}
 
 -- what holds of both branches holds of the choice

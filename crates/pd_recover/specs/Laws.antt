@@ -1,7 +1,14 @@
 -- What holds of every state that the rules reach.
-use Rattle.std.specs.Prelude.{◌≡◌, ◌↔◌, ℕ, ◌+◌, ◌-◌, ◌*◌, ◌^◌, ◌<◌, ◌≤◌, min, Bool, true, false, None, IsSome}
+use Rattle.std.specs.Prelude.{◌≡◌, ◌≢◌, ◌↔◌, Some, ℕ, ◌+◌, ◌-◌, ◌*◌, ◌^◌, ◌<◌, ◌≤◌, min, Bool, true, false, None, IsSome}
+use Rattle.pd_seg.specs.declared.sack_blocks.Span.{Span}
+use Rattle.pd_board.specs.Choice.{run_at}
+use Rattle.pd_board.specs.Octets.{contains}
+use Rattle.pd_board.specs.Scoreboard.{Scoreboard, IsScoreboard}
+use Rattle.pd_recover.specs.declared.segments.NextSegment.{NextSegment}
+use Rattle.pd_recover.specs.declared.segments.NextSegment.TheVariants.{Rescue}
 use Rattle.pd_recover.specs.declared.feedback.Ack.{Ack}
 use Rattle.pd_recover.specs.Acks.{acked}
+use Rattle.pd_recover.specs.Choice.{segment_of, next_segment, step_c_segment, noted}
 use Rattle.pd_recover.specs.Congestion.{Congestion, begun, timed_out}
 
 -- the window lies between one segment and 2^30, the threshold at or above 2 segments, or at or above its initial value
@@ -54,3 +61,33 @@ RestsInRecovery =
     (ack : Ack) (w : Congestion) → IsSome ack.sack → w.recovering ≡ true
     → (acked ack w).0.recovering ≡ true
     → IsUnmoved w (acked ack w).0
+
+-- one rescue a recovery: it moves RescueRxt to RecoveryPoint, what is sent then leaves both there (as ACKs do, above), and
+-- while una is at or below RecoveryPoint no other is given (RFC 6675, section 4, NextSeg, rule 4)
+pub record RescuesOnce : Type 0 where
+  pub moved : (segment : Span) (w : Congestion) → (noted (Rescue segment) w).rescue_rxt ≡ w.recovery_point
+  pub kept :
+      (sent : NextSegment) (w : Congestion) → w.rescue_rxt ≡ w.recovery_point
+      → (noted sent w).rescue_rxt ≡ (noted sent w).recovery_point
+  pub last :
+      (rwnd : ℕ) (s : Scoreboard) (w : Congestion) (segment : Span)
+      → w.rescue_rxt ≡ w.recovery_point → s.una ≤ w.recovery_point
+      → next_segment rwnd s w ≢ Some (Rescue segment)
+
+-- step C sends where a full segment has room between what is on the way and the window (RFC 6675, section 5, step C)
+abbrev pub KeepsWindow : Type 0
+KeepsWindow =
+    (rwnd pipe : ℕ) (s : Scoreboard) (w : Congestion) (sent : NextSegment)
+    → step_c_segment rwnd pipe s w ≡ Some sent
+    → s.smss ≤ w.cwnd - pipe
+
+-- no octet of a segment is SACKed
+abbrev pub IsSpared : Scoreboard → Span → Type 0
+IsSpared s segment = (x : ℕ) → segment.start ≤ x → x < segment.end → contains s.sacked x ≡ false
+
+-- what is SACKed isn't sent again, neither by an entry nor by NextSeg (RFC 2018, section 8; RFC 6675, section 4)
+pub record SparesSacked : Type 0 where
+  pub again : (s : Scoreboard) (start : ℕ) → IsSpared s (run_at start s)
+  pub chosen :
+      (rwnd : ℕ) (s : Scoreboard) (w : Congestion) → IsScoreboard s
+      → (sent : NextSegment) → next_segment rwnd s w ≡ Some sent → IsSpared s (segment_of sent)

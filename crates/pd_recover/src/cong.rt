@@ -3,6 +3,7 @@ ghost use Rattle.std.specs.Prelude.{◌≡◌, ◌<◌, ◌≤◌, ◌^◌};
 ghost use Rattle.pd_recover.specs.Congestion.{IsCongestion, first_segments, begun, timed_out, entered_to, with_limited};
 
 mod acks;
+mod choice;
 
 use pd_settings::Settings;
 use std::alloc::AllocError;

@@ -2,7 +2,7 @@
 
 /// An ACK that was taken, and where the sender stands since. Numbers are those of octets, relative to the initial
 /// sequence number.
-#[derive(Clone, Copy, Debug)]
+#[derive(Clone, Copy)]
 pub struct Ack {
     /// SMSS, the sender's maximum segment size, in octets: 64 to 65,495.
     pub smss: u16,
@@ -23,7 +23,7 @@ pub struct Ack {
 }
 
 /// What the SACK blocks of an ACK tell.
-#[derive(Clone, Copy, Debug)]
+#[derive(Clone, Copy)]
 pub struct News {
     /// Whether one has an octet that wasn't SACKed.
     pub fresh: bool,

@@ -5,8 +5,10 @@ mod cong;
 mod feedback;
 mod laws;
 mod responses;
+mod segments;
 
 pub use cong::Cong;
 pub use feedback::{Ack, News};
 pub use laws::recovery_is_lawful;
 pub use responses::Then;
+pub use segments::NextSegment;

@@ -2,7 +2,7 @@
 use pd_seg::Span;
 
 /// What is sent after an ACK.
-#[derive(Clone, Copy, Debug)]
+#[derive(Clone, Copy)]
 pub enum Then {
     /// What the windows and Nagle's algorithm allow.
     Ordinary,
