@@ -1,7 +1,6 @@
 -- What is SACKed isn't sent again.
-use Rattle.std.proofs.Common.{◌≡◌, ℕ, ◌+◌, ◌-◌, ◌<◌, ◌≤◌, max, Option, Some, None, Bool, true, false, not, if◌then◌else◌, refl, subst, ap, arith}
+use Rattle.std.proofs.Common.{◌≡◌, ℕ, ◌+◌, ◌-◌, ◌<◌, ◌≤◌, max, Option, Some, None, Bool, true, false, not, refl, arith}
 use Rattle.std.specs.Prelude.{unwrap_or, option_map}
-use Rattle.std.specs.Option.{option_or}
 use Rattle.pd_board.specs.Choice.{run_at, next_lost, next_hole, rescue, segment_to, after, most_from}
 use Rattle.pd_board.specs.Loss.{is_free}
 use Rattle.pd_board.specs.Octets.{contains, least_where, greatest_where}
@@ -10,35 +9,8 @@ use Rattle.pd_recover.specs.declared.segments.NextSegment.{NextSegment}
 use Rattle.pd_recover.specs.declared.segments.NextSegment.TheVariants.{Lost, New, Hole, Rescue}
 use Rattle.pd_recover.specs.Choice.{segment_of, lost_run, new_data, hole_run, rescue_run}
 use Rattle.pd_recover.specs.Laws.{IsSpared, SparesSacked}
+use Rattle.pd_recover.proofs.Chosen.{AllOf, one_of, either_of, map_of, allowed_of}
 use Rattle.pd_recover.proofs.Found.{least, no_least, greatest, no_greatest, split}
-
-the_value : {X : Type 0} (x y : X) → Some x ≡ Some y → x ≡ y
-the_value x y e = ap (λ o. unwrap_or o x) e
-
-nothing : {X : Type 0} (x : X) → None ≡ Some x → ⊥
-nothing x e = cc
-
--- what holds of each value that an option has holds of what is made of it
-abbrev AllOf : {X : Type 0} → (X → Type 0) → Option X → Type 0
-AllOf {X} P o = (v : X) → o ≡ Some v → P v
-
-none_of : {X : Type 0} (P : X → Type 0) → AllOf P None
-none_of P v e = absurd (nothing v e)
-
-one_of : {X : Type 0} (P : X → Type 0) (x : X) → P x → AllOf P (Some x)
-one_of P x h v e = subst P (the_value x v e) h
-
-either_of : {X : Type 0} (P : X → Type 0) (a b : Option X) → AllOf P a → AllOf P b → AllOf P (option_or a b)
-either_of P None b first second = second
-either_of P (Some x) b first second = one_of P x (first x refl)
-
-map_of : {X Y : Type 0} (P : Y → Type 0) (f : X → Y) (o : Option X) → ((x : X) → o ≡ Some x → P (f x)) → AllOf P (option_map f o)
-map_of P f None h = none_of P
-map_of P f (Some x) h = one_of P (f x) (h x refl)
-
-allowed_of : {X : Type 0} (P : X → Type 0) (b : Bool) (o : Option X) → AllOf P o → AllOf P (if b then o else None)
-allowed_of P true o h = h
-allowed_of P false o h = none_of P
 
 sure : (b : Bool) → (b ≡ true → ⊥) → b ≡ false
 sure true h = absurd (h refl)
@@ -55,7 +27,7 @@ run_spared s start x l u = by_first (least_where (contains s.sacked) start (most
 -- new data lies above all that was sent
 new_spared : (rwnd : ℕ) (s : Scoreboard) → IsScoreboard s → AllOf (IsSpared s) (new_data rwnd s)
 new_spared rwnd s known =
-    allowed_of (IsSpared s) _ _ (one_of (IsSpared s) _ (λ x l u. sure (contains s.sacked x) (λ t. above x l (known.sacked_sent x t).1)))
+    allowed_of (IsSpared s) _ _ (λ _. one_of (IsSpared s) _ (λ x l u. sure (contains s.sacked x) (λ t. above x l (known.sacked_sent x t).1)))
   where
     above : (x : ℕ) → s.top ≤ x → x < s.top → ⊥
     above x l u = omega (arith, l, u)
@@ -85,5 +57,5 @@ spares_sacked = record {
       either_of P (lost_run s w) _ (map_of P (λ x. Lost (run_at x s)) (next_lost w.high_rxt s) (λ x e. run_spared s x))
       (either_of P (option_map (λ segment. New segment) (new_data rwnd s)) _ (map_of P (λ segment. New segment) (new_data rwnd s) (new_spared rwnd s known))
       (either_of P (hole_run s w) (rescue_run s w) (map_of P (λ x. Hole (run_at x s)) (next_hole w.high_rxt s) (λ x e. run_spared s x))
-      (allowed_of P _ _ (map_of P (λ segment. Rescue segment) (rescue s) (rescue_spared s)))));
+      (allowed_of P _ _ (λ _. map_of P (λ segment. Rescue segment) (rescue s) (rescue_spared s)))));
 }

@@ -1,5 +1,5 @@
 -- What an ACK makes of the congestion window and of loss recovery, and what it leads to.
-use Rattle.std.specs.Prelude.{ℕ, ◌+◌, ◌-◌, ◌*◌, ◌^◌, ◌<◌, ◌≤◌, ◌==◌, nat_lt, nat_le, min, Bool, true, false, ◌&&◌, ◌||◌, Option, Some, None, if◌then◌else◌}
+use Rattle.std.specs.Prelude.{⊤, ◌≡◌, ℕ, ◌+◌, ◌-◌, ◌*◌, ◌^◌, ◌<◌, ◌≤◌, ◌==◌, nat_lt, nat_le, min, Bool, true, false, ◌&&◌, ◌||◌, Option, Some, None, if◌then◌else◌}
 use Rattle.pd_seg.specs.declared.sack_blocks.Span.{Span}
 use Rattle.pd_recover.specs.declared.feedback.Ack.{Ack}
 use Rattle.pd_recover.specs.declared.feedback.News.{News}
@@ -131,3 +131,9 @@ told ack None w = told_by_number ack w
 -- the state after an ACK, and what the ACK leads to
 abbrev pub acked : Ack → Congestion → Congestion × Then
 acked ack w = told ack ack.sack (renewed ack w)
+
+-- a segment that an ACK names has octets: new ones at top, or outstanding ones at una
+abbrev pub IsNamed : Ack → Then → Type 0
+IsNamed ack (NewSegment segment) = (segment.start ≡ ack.top) × (segment.start < segment.end) × (segment.end ≤ ack.end)
+IsNamed ack (FastRetransmit segment) = (segment.start ≡ ack.una) × (segment.start < segment.end) × (segment.end ≤ ack.top)
+IsNamed ack _ = ⊤

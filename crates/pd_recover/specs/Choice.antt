@@ -1,5 +1,5 @@
 -- What loss recovery sends next (RFC 6675, section 4, NextSeg), and when (section 5, step C).
-use Rattle.std.specs.Prelude.{ℕ, ◌-◌, nat_le, nat_lt, Bool, Option, None, option_map, if◌then◌else◌}
+use Rattle.std.specs.Prelude.{ℕ, ◌+◌, ◌-◌, ◌<◌, ◌≤◌, nat_le, nat_lt, Bool, Option, None, option_map, if◌then◌else◌}
 use Rattle.std.specs.Option.{option_or}
 use Rattle.pd_seg.specs.declared.sack_blocks.Span.{Span}
 use Rattle.pd_board.specs.Choice.{run_at, next_lost, next_hole, rescue}
@@ -15,6 +15,13 @@ segment_of (Lost segment) = segment
 segment_of (New segment) = segment
 segment_of (Hole segment) = segment
 segment_of (Rescue segment) = segment
+
+-- a segment that can be sent: some octets that aren't acknowledged and are queued, SMSS at most
+pub record IsSendable (s : Scoreboard) (segment : Span) : Type 0 where
+  pub from : s.una ≤ segment.start
+  pub some : segment.start < segment.end
+  pub short : segment.end ≤ segment.start + s.smss
+  pub queued : segment.end ≤ s.end
 
 -- rule 1: from the first lost octet that wasn't sent again
 abbrev pub lost_run : Scoreboard → Congestion → Option NextSegment
@@ -32,13 +39,17 @@ hole_run s w = option_map (λ x. Hole (run_at x s)) (next_hole w.high_rxt s)
 abbrev pub rescue_run : Scoreboard → Congestion → Option NextSegment
 rescue_run s w = if nat_lt w.rescue_rxt s.una then option_map (λ segment. Rescue segment) (rescue s) else None
 
--- NextSeg: the first rule that gives a segment; none does by rule 5
-abbrev pub next_segment : ℕ → Scoreboard → Congestion → Option NextSegment
-next_segment rwnd s w =
+-- the first rule that gives a segment, by what the second one gives
+abbrev pub first_given : Option Span → Scoreboard → Congestion → Option NextSegment
+first_given unsent s w =
     option_or (lost_run s w)
-    (option_or (option_map (λ segment. New segment) (new_data rwnd s))
+    (option_or (option_map (λ segment. New segment) unsent)
     (option_or (hole_run s w)
     (rescue_run s w)))
+
+-- NextSeg: the first rule that gives a segment; by rule 5 there is none
+abbrev pub next_segment : ℕ → Scoreboard → Congestion → Option NextSegment
+next_segment rwnd s w = first_given (new_data rwnd s) s w
 
 -- a full segment has room between what is on the way and the window
 abbrev pub has_room : ℕ → Scoreboard → Congestion → Bool

@@ -66,8 +66,8 @@ growth smss n w = if nat_lt w.cwnd w.ssthresh then min n smss else max (smss * s
 abbrev pub grown : ℕ → ℕ → Congestion → Congestion
 grown smss n w = widened (growth smss n w) w
 
--- half of what is outstanding, without what limited transmit has sent, 2 segments at least (RFC 5681, section 3.2, step 2;
--- equation 4)
+-- half of what is outstanding, without what limited transmit has sent, 2 segments at least (RFC 5681, section 3.2,
+-- step 2; equation 4)
 abbrev pub halved : ℕ → ℕ → ℕ → Congestion → ℕ
 halved smss una top w = max ((top - una - w.limited) / 2) (2 * smss)
 

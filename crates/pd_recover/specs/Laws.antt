@@ -8,7 +8,7 @@ use Rattle.pd_recover.specs.declared.segments.NextSegment.{NextSegment}
 use Rattle.pd_recover.specs.declared.segments.NextSegment.TheVariants.{Rescue}
 use Rattle.pd_recover.specs.declared.feedback.Ack.{Ack}
 use Rattle.pd_recover.specs.Acks.{acked}
-use Rattle.pd_recover.specs.Choice.{segment_of, next_segment, step_c_segment, noted}
+use Rattle.pd_recover.specs.Choice.{IsSendable, segment_of, new_data, next_segment, step_c_segment, noted}
 use Rattle.pd_recover.specs.Congestion.{Congestion, begun, timed_out}
 
 -- the window lies between one segment and 2^30, the threshold at or above 2 segments, or at or above its initial value
@@ -37,8 +37,8 @@ pub record StaysWithin : Type 0 where
       → IsWithin smss initial_ssthresh w
       → IsWithin smss initial_ssthresh (timed_out smss una top w)
 
--- an ACK ends recovery exactly where una reaches RecoveryPoint, if SACK was agreed, and else exactly where it acknowledges
--- new octets; an expiry always ends it (RFC 6675, section 5; RFC 5681, section 3.2)
+-- an ACK ends recovery exactly where una reaches RecoveryPoint, if SACK was agreed, and else exactly where it
+-- acknowledges new octets; an expiry always ends it (RFC 6675, section 5; RFC 5681, section 3.2)
 pub record EndsInTime : Type 0 where
   pub with_sack :
       (ack : Ack) (w : Congestion) → IsSome ack.sack → w.recovering ≡ true
@@ -48,7 +48,7 @@ pub record EndsInTime : Type 0 where
       → ((acked ack w).0.recovering ≡ false) ↔ (0 < ack.acked)
   pub expiry : (smss una top : ℕ) (w : Congestion) → (timed_out smss una top w).recovering ≡ false
 
--- within recovery with SACK an ACK leaves the window, RecoveryPoint, HighRxt and RescueRxt (RFC 6675, section 5, step 4)
+-- within recovery with SACK an ACK leaves the window, RecoveryPoint, HighRxt and RescueRxt (RFC 6675, section 5)
 pub record IsUnmoved (v w : Congestion) : Type 0 where
   pub cwnd : w.cwnd ≡ v.cwnd
   pub ssthresh : w.ssthresh ≡ v.ssthresh
@@ -62,8 +62,8 @@ RestsInRecovery =
     → (acked ack w).0.recovering ≡ true
     → IsUnmoved w (acked ack w).0
 
--- one rescue a recovery: it moves RescueRxt to RecoveryPoint, what is sent then leaves both there (as ACKs do, above), and
--- while una is at or below RecoveryPoint no other is given (RFC 6675, section 4, NextSeg, rule 4)
+-- one rescue a recovery: it moves RescueRxt to RecoveryPoint, what is sent then leaves both there (as ACKs do, above),
+-- and while una is at or below RecoveryPoint no other is given (RFC 6675, section 4, NextSeg, rule 4)
 pub record RescuesOnce : Type 0 where
   pub moved : (segment : Span) (w : Congestion) → (noted (Rescue segment) w).rescue_rxt ≡ w.recovery_point
   pub kept :
@@ -91,3 +91,12 @@ pub record SparesSacked : Type 0 where
   pub chosen :
       (rwnd : ℕ) (s : Scoreboard) (w : Congestion) → IsScoreboard s
       → (sent : NextSegment) → next_segment rwnd s w ≡ Some sent → IsSpared s (segment_of sent)
+
+-- what NextSeg and limited transmit choose can be sent
+pub record ChoosesSendable : Type 0 where
+  pub chosen :
+      (rwnd : ℕ) (s : Scoreboard) (w : Congestion) → IsScoreboard s
+      → (sent : NextSegment) → next_segment rwnd s w ≡ Some sent → IsSendable s (segment_of sent)
+  pub limited :
+      (rwnd : ℕ) (s : Scoreboard) → IsScoreboard s
+      → (segment : Span) → new_data rwnd s ≡ Some segment → IsSendable s segment

@@ -1,5 +1,5 @@
 //! Laws of congestion control and loss recovery: a function without code, whose contract is the laws.
-ghost use Rattle.pd_recover.specs.Laws.{StaysWithin, EndsInTime, RestsInRecovery, RescuesOnce, KeepsWindow, SparesSacked};
+ghost use Rattle.pd_recover.specs.Laws.{StaysWithin, EndsInTime, RestsInRecovery, RescuesOnce, KeepsWindow, SparesSacked, ChoosesSendable};
 
 /// What holds of congestion control and loss recovery, whatever happens.
 pub fn recovery_is_lawful()
@@ -9,4 +9,5 @@ pub fn recovery_is_lawful()
     ensures rescues { RescuesOnce }
     ensures step_c { KeepsWindow }
     ensures sacked { SparesSacked }
+    ensures sendable { ChoosesSendable }
 {}

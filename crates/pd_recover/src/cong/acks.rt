@@ -1,6 +1,7 @@
 //! What an ACK does to the congestion window and to loss recovery, and what it leads to.
-ghost use Rattle.std.specs.Prelude.{◌≡◌, ◌<◌, ◌≤◌, ◌^◌};
-ghost use Rattle.pd_recover.specs.Acks.{IsAck, acked, is_duplicate, grown_by, half_of, counted, new_segment, first_outstanding, told_by_sack, told_by_number, selective_duplicate, plain_duplicate, limited_transmit, advanced};
+ghost use Rattle.std.specs.Prelude.{◌≡◌, ◌+◌, ◌<◌, ◌≤◌, ◌^◌, IfSome};
+ghost use Rattle.std.specs.Bool.{OnTrue};
+ghost use Rattle.pd_recover.specs.Acks.{IsAck, IsNamed, acked, is_duplicate, grown_by, half_of, counted, new_segment, first_outstanding, told_by_sack, told_by_number, selective_duplicate, plain_duplicate, limited_transmit, advanced};
 ghost use Rattle.pd_recover.specs.Congestion.{growth, widened};
 
 use super::Cong;
@@ -15,7 +16,8 @@ const MOST_WINDOW: u32 = 0x4000_0000;
 pub fn new_segment(smss: u16, una: u32, top: u32, end: u32, rwnd: u32) -> Option<Span>
     requires queued { top ≤ end }
     requires small { end < 2 ^ 31 }
-    ensures { result ≡ new_segment smss una top end rwnd }
+    ensures value { result ≡ new_segment smss una top end rwnd }
+    ensures within { IfSome result (λ s. (s.start ≡ top) × (s.start < s.end) × (s.end ≤ top + smss) × (s.end ≤ end)) }
 {
     let to = top + u32::from(smss).min(end - top);
     if top < to && u64::from(to) <= u64::from(una) + u64::from(rwnd) {
@@ -31,7 +33,8 @@ impl Ack {
     /// The segment at SND.UNA, SMSS octets at most.
     fn first_outstanding(self) -> Span
         requires { IsAck self }
-        ensures { result ≡ first_outstanding self }
+        ensures value { result ≡ first_outstanding self }
+        ensures within { self.una < self.top → (result.start < result.end) × (result.end ≤ self.top) }
     {
         Span {
             start: self.una,
@@ -41,7 +44,8 @@ impl Ack {
 
     /// Whether it acknowledges nothing new while octets are outstanding, and its window is the one before.
     fn is_duplicate(self) -> bool
-        ensures { result ≡ is_duplicate self }
+        ensures value { result ≡ is_duplicate self }
+        ensures outstanding { OnTrue result (self.una < self.top) }
     {
         self.acked == 0 && self.una < self.top && self.same_window
     }
@@ -54,6 +58,7 @@ impl Cong {
         requires { IsAck ack }
         ensures state { self.new ≡ (acked ack self.old).0 }
         ensures then { result ≡ (acked ack self.old).1 }
+        ensures named { IsNamed ack result }
     {
         if ack.acked > 0 {
             self.dup_acks = 0;
@@ -71,6 +76,7 @@ impl Cong {
         requires { IsAck ack }
         ensures state { self.new ≡ (told_by_sack ack news self.old).0 }
         ensures then { result ≡ (told_by_sack ack news self.old).1 }
+        ensures named { IsNamed ack result }
     {
         if self.recovering && self.recovery_point <= ack.una {
             self.dup_acks = 0;
@@ -94,6 +100,7 @@ impl Cong {
         requires { IsAck ack }
         ensures state { self.new ≡ (selective_duplicate ack lost self.old).0 }
         ensures then { result ≡ (selective_duplicate ack lost self.old).1 }
+        ensures named { IsNamed ack result }
     {
         if ack.una < self.recovery_point {
             return Then::Ordinary;
@@ -115,6 +122,7 @@ impl Cong {
         requires { IsAck ack }
         ensures state { self.new ≡ (told_by_number ack self.old).0 }
         ensures then { result ≡ (told_by_number ack self.old).1 }
+        ensures named { IsNamed ack result }
     {
         if ack.acked > 0 {
             self.advance(ack);
@@ -142,9 +150,11 @@ impl Cong {
 
     /// A duplicate without SACK, which is counted already (RFC 5681, section 3.2, steps 1 to 4).
     fn take_plain_duplicate(&mut self, ack: Ack) -> Then
-        requires { IsAck ack }
+        requires ack { IsAck ack }
+        requires outstanding { ack.una < ack.top }
         ensures state { self.new ≡ (plain_duplicate ack self.old).0 }
         ensures then { result ≡ (plain_duplicate ack self.old).1 }
+        ensures named { IsNamed ack result }
     {
         if self.dup_acks < 3 {
             return self.transmit_limited(ack);
@@ -165,6 +175,7 @@ impl Cong {
         requires { IsAck ack }
         ensures state { self.new ≡ (limited_transmit ack self.old).0 }
         ensures then { result ≡ (limited_transmit ack self.old).1 }
+        ensures named { IsNamed ack result }
     {
         let Some(segment) = new_segment(ack.smss, ack.una, ack.top, ack.end, ack.rwnd) else {
             return Then::Nothing;

@@ -1,6 +1,8 @@
 //! What loss recovery sends, and when.
-ghost use Rattle.std.specs.Prelude.{◌≡◌};
-ghost use Rattle.pd_recover.specs.Choice.{next_segment, step_c_segment, limited_segment, new_data, has_room, noted};
+ghost use Rattle.std.specs.Prelude.{◌≡◌, ◌+◌, ◌≤◌, IfSome};
+ghost use Rattle.std.specs.Bool.{OnTrue};
+ghost use Rattle.pd_board.specs.Scoreboard.{IsScoreboard};
+ghost use Rattle.pd_recover.specs.Choice.{IsSendable, segment_of, first_given, next_segment, step_c_segment, limited_segment, new_data, has_room, noted};
 
 use super::Cong;
 use super::acks::new_segment;
@@ -10,7 +12,9 @@ use pd_seg::Span;
 
 /// The new segment at `top`, where data is queued and the peer's window in octets takes it.
 fn new_data(board: &Board, rwnd: u32) -> Option<Span>
-    ensures { result ≡ new_data rwnd board.now }
+    ensures value { result ≡ new_data rwnd board.now }
+    ensures sendable { IfSome result (IsSendable board.now) }
+    ensures known { IsScoreboard board.now }
 {
     new_segment(board.smss(), board.una(), board.top(), board.end(), rwnd)
 }
@@ -19,12 +23,21 @@ impl Cong {
     /// NextSeg: the segment to send next in loss recovery, by the first rule that gives one (RFC 6675, section 4). The
     /// peer's window is in octets.
     pub fn next_send(&self, board: &Board, rwnd: u32) -> Option<NextSegment>
-        ensures { result ≡ next_segment rwnd board.now self.now }
+        ensures value { result ≡ next_segment rwnd board.now self.now }
+        ensures sendable { IfSome result (λ sent. IsSendable board.now (segment_of sent)) }
+    {
+        let unsent = new_data(board, rwnd);
+        self.first_given(board, unsent)
+    }
+
+    /// The first rule that gives a segment, by what the second one gives.
+    fn first_given(&self, board: &Board, unsent: Option<Span>) -> Option<NextSegment>
+        ensures { result ≡ first_given unsent board.now self.now }
     {
         if let Some(start) = board.next_lost(self.high_rxt) {
             return Some(NextSegment::Lost(board.run_at(start)));
         }
-        if let Some(segment) = new_data(board, rwnd) {
+        if let Some(segment) = unsent {
             return Some(NextSegment::New(segment));
         }
         if let Some(start) = board.next_hole(self.high_rxt) {
@@ -38,7 +51,9 @@ impl Cong {
 
     /// The segment to send next in loss recovery, where cwnd - pipe holds a full one (RFC 6675, section 5, step C).
     pub fn step_c(&self, board: &Board, rwnd: u32, pipe: u32) -> Option<NextSegment>
-        ensures { result ≡ step_c_segment rwnd pipe board.now self.now }
+        ensures value { result ≡ step_c_segment rwnd pipe board.now self.now }
+        ensures sendable { IfSome result (λ sent. IsSendable board.now (segment_of sent)) }
+        ensures fits { IfSome result (λ _. pipe + board.now.smss ≤ self.now.cwnd) }
     {
         if self.has_room(board, pipe) {
             return self.next_send(board, rwnd);
@@ -49,7 +64,9 @@ impl Cong {
     /// The segment that limited transmit sends next with SACK, where cwnd - pipe holds a full one (RFC 6675, section 5,
     /// step 3).
     pub fn limited_segment(&self, board: &Board, rwnd: u32, pipe: u32) -> Option<Span>
-        ensures { result ≡ limited_segment rwnd pipe board.now self.now }
+        ensures value { result ≡ limited_segment rwnd pipe board.now self.now }
+        ensures sendable { IfSome result (IsSendable board.now) }
+        ensures fits { IfSome result (λ _. pipe + board.now.smss ≤ self.now.cwnd) }
     {
         if self.has_room(board, pipe) {
             return new_data(board, rwnd);
@@ -58,7 +75,8 @@ impl Cong {
     }
 
     fn has_room(&self, board: &Board, pipe: u32) -> bool
-        ensures { result ≡ has_room pipe board.now self.now }
+        ensures value { result ≡ has_room pipe board.now self.now }
+        ensures fits { OnTrue result (pipe + board.now.smss ≤ self.now.cwnd) }
     {
         self.cwnd.saturating_sub(pipe) >= u32::from(board.smss())
     }

@@ -1,30 +1,16 @@
--- What is sent again lies among what was sent.
-use Rattle.std.proofs.Common.{◌≡◌, ℕ, ◌≤◌, sym, Some, arith}
-use Rattle.pd_board.specs.Choice.{next_lost, next_hole}
-use Rattle.pd_board.specs.Scoreboard.{Scoreboard}
-use Rattle.pd_recover.proofs.Found.{least}
+-- What is chosen can be sent.
+use Rattle.std.proofs.Common.{◌≡◌, Option, sym, subst, ap, ◌∙◌}
+use Rattle.std.specs.Prelude.{IfSome}
+use Rattle.pd_recover.specs.declared.segments.NextSegment.{NextSegment}
+use Rattle.pd_recover.specs.Choice.{IsSendable, segment_of, first_given, next_segment}
+use Rattle.pd_recover.proofs.Chosen.{if_some}
+use Rattle.pd_recover.proofs.Sendable.{next_sendable}
 use Rattle.pd_recover.proofs.cong.Cong.next_send.Goals as goal
 
-lost_within : (high_rxt x : ℕ) (s : Scoreboard) → next_lost high_rxt s ≡ Some x → (s.una ≤ x) × (x ≤ s.top)
-lost_within high_rxt x s e = let h = least _ s.una s.top x e in (h.from, omega (arith, h.to))
-
-hole_within : (high_rxt x : ℕ) (s : Scoreboard) → next_hole high_rxt s ≡ Some x → (s.una ≤ x) × (x ≤ s.top)
-hole_within high_rxt x s e = let h = least _ s.una s.top x e in (h.from, omega (arith, h.to))
-
--- src/cong/choice.rt:25:43
-pub run_at-requires-clause-low : goal.run_at-requires-clause-low
-run_at-requires-clause-low c = (lost_within _ _ c.args.board.now (sym c.in-Some.ensures)).0
-
--- src/cong/choice.rt:25:43
-pub run_at-requires-clause-high : goal.run_at-requires-clause-high
-run_at-requires-clause-high c = (lost_within _ _ c.args.board.now (sym c.in-Some.ensures)).1
-
--- src/cong/choice.rt:31:43
-pub run_at-requires-in-Some-next_hole-clause-low :
-    goal.run_at-requires-in-Some-next_hole-clause-low
-run_at-requires-in-Some-next_hole-clause-low c = (hole_within _ _ c.args.board.now (sym c.in-Some-next_hole.ensures)).0
-
--- src/cong/choice.rt:31:43
-pub run_at-requires-in-Some-next_hole-clause-high :
-    goal.run_at-requires-in-Some-next_hole-clause-high
-run_at-requires-in-Some-next_hole-clause-high c = (hole_within _ _ c.args.board.now (sym c.in-Some-next_hole.ensures)).1
+pub returns-clause-sendable : goal.returns-clause-sendable
+returns-clause-sendable c =
+    let P : NextSegment → Type 0 = λ sent. IsSendable c.args.board.now (segment_of sent) in
+    let Q : Option NextSegment → Type 0 = λ o. IfSome o P in
+    let e : c.first_given.result ≡ next_segment c.args.rwnd c.args.board.now c.args.self.now =
+    c.first_given.ensures ∙ ap (λ o. first_given o c.args.board.now c.args.self.now) c.new_data-unsent.ensures.value in
+    subst Q (sym e) (if_some P (next_segment c.args.rwnd c.args.board.now c.args.self.now) (next_sendable c.args.rwnd c.args.board.now c.args.self.now c.new_data-unsent.ensures.known))
