@@ -30,7 +30,7 @@ grown_by ack w = if nat_lt 0 ack.acked then grown ack.smss ack.acked w else w
 abbrev pub counted : Congestion → Congestion
 counted w = record w { dup_acks = min (w.dup_acks + 1) 4 }
 
--- "halved" at an ACK
+-- half of what is outstanding at an ACK
 abbrev pub half_of : Ack → Congestion → ℕ
 half_of ack w = halved ack.smss ack.una ack.top w
 
@@ -55,8 +55,8 @@ entered ack w = record w {
   recovery_point = ack.top;
 }
 
--- a duplicate that told a new octet: nothing below RecoveryPoint; the third, or one that shows una to be lost, begins
--- recovery; else limited transmit (steps 1 to 3)
+-- a duplicate that told a new octet: below RecoveryPoint it begins nothing; the third, or one that shows una to be lost,
+-- begins recovery; another leads to limited transmit (steps 1 to 3)
 abbrev pub selective_duplicate : Ack → Bool → Congestion → Congestion × Then
 selective_duplicate ack lost w =
     if nat_lt ack.una w.recovery_point then (w, Ordinary)
