@@ -14,7 +14,7 @@ use std::marker::Model;
 ///
 /// Octet numbers are relative to the initial sequence number and stay below 2^31. SMSS is 64 to 65,495 octets.
 /// A scoreboard that has found no memory answers that to each later call that can.
-#[derive(Debug, Drop)]
+#[derive(Drop)]
 pub struct Board {
     smss: u16,
     una: u32,

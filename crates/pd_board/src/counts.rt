@@ -6,7 +6,7 @@ ghost use Rattle.pd_board.specs.Tests.{held, first_of, marks_end, pipe_from};
 use crate::marks::Marks;
 
 /// How many runs and how many octets are marked from a place on.
-#[derive(Clone, Copy, Debug)]
+#[derive(Clone, Copy)]
 pub struct Above {
     pub runs: u32,
     pub octets: u32,

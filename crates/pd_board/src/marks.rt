@@ -8,7 +8,7 @@ use std::alloc::{AllocError, Global};
 use std::collections::VecDeque;
 
 /// Marks of the octets from `start` on: one each, up to the last octet that ever got one.
-#[derive(Debug, Drop)]
+#[derive(Drop)]
 pub struct Marks {
     pub start: u32,
     pub marks: VecDeque<bool>,

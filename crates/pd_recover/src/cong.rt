@@ -15,7 +15,6 @@ const MOST_NUMBERS: u32 = 0x8000_0000;
 /// The congestion window, the slow start threshold, and the variables of loss recovery of one connection.
 ///
 /// No call takes memory.
-#[derive(Debug)]
 pub struct Cong {
     cwnd: u32,
     ssthresh: u32,

@@ -3,7 +3,7 @@ ghost use Rattle.std.specs.Prelude.{◌≡◌, ◌<◌, ◌^◌};
 ghost use Rattle.pd_timer.specs.Timer.{IsEstimate, first_estimate, next_estimate, timeout_of};
 
 /// SRTT and RTTVAR, the smoothed round-trip time and its variation, in microseconds (RFC 6298, section 2).
-#[derive(Clone, Copy, Debug)]
+#[derive(Clone, Copy)]
 pub struct Estimate {
     pub srtt: u64,
     pub rttvar: u64,

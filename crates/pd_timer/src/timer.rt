@@ -16,7 +16,6 @@ const TIMEOUT_AFTER_HANDSHAKE_US: u64 = 3_000_000;
 /// The retransmission timer of one connection. Moments are microseconds since the start of the run.
 ///
 /// No call takes memory.
-#[derive(Debug)]
 pub struct Rto {
     estimate: Option<Estimate>,
     rto: u64,
