@@ -1,5 +1,5 @@
 //! The scoreboard of a sender.
-ghost use Rattle.std.specs.Prelude.{◌≡◌, ◌+◌, ◌≤◌, ◌<◌, ◌^◌, true, false, IfOk, OnOk, OnErr, IsErr, IsTrue, ◌↔◌};
+ghost use Rattle.std.specs.Prelude.{◌≡◌, ◌+◌, ◌≤◌, ◌<◌, ◌^◌, true, false, IfOk, OnOk, OnErr, IsErr, ◌↔◌};
 ghost use Rattle.pd_board.specs.Scoreboard.{IsScoreboard, opened, written, sent_to, acknowledged, marked, has_new, unmarked, skipped, without_memory};
 ghost use Rattle.pd_board.specs.Loss.{is_lost, pipe};
 ghost use Rattle.pd_board.specs.Choice.{run_at, next_lost, next_hole, rescue};
