@@ -10,7 +10,8 @@ use Rattle.pd_seg.specs.declared.segments.Sent.{Sent}
 use Rattle.pd_host.specs.Arrivals.{is_in_window, arrived}
 use Rattle.pd_host.specs.Calls.{called}
 use Rattle.pd_host.specs.ControlBlock.{ControlBlock}
-use Rattle.pd_host.specs.Sender.{Sender, fresh, advanced, deadline_of, without_oldest}
+use Rattle.pd_host.specs.Expiries.{advanced, deadline_of}
+use Rattle.pd_host.specs.Sender.{Sender, fresh, without_oldest}
 use Rattle.pd_host.specs.declared.sender_state.State.{State}
 
 -- a segment with a number outside the receive window leaves the connection as it is (RFC 5961: blind attacks)

@@ -68,11 +68,3 @@ end_of sender = unwrap_or sender.ended OutOfMemory
 -- a sender for which no memory was found has ended
 abbrev pub exhausted : Sender → Sender
 exhausted sender = record sender { ended = Some (end_of sender) }
-
--- the moment of the next expiry: there is no timer yet
-abbrev pub deadline_of : State → Option ℕ
-deadline_of s = None
-
--- all expiries up to a moment: there are none yet
-abbrev pub advanced : ℕ → State → Result State Halt
-advanced until s = Ok s

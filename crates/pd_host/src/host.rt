@@ -3,7 +3,8 @@ ghost use Rattle.std.specs.Prelude.{◌≡◌, ◌<◌, ◌^◌, slice_get};
 ghost use Rattle.pd_host.specs.Arrivals.{arrived};
 ghost use Rattle.pd_host.specs.Calls.{called};
 ghost use Rattle.pd_host.specs.Outcome.{Goes, Answers};
-ghost use Rattle.pd_host.specs.Sender.{fresh, advanced, deadline_of, without_oldest, exhausted, end_of};
+ghost use Rattle.pd_host.specs.Expiries.{advanced, deadline_of};
+ghost use Rattle.pd_host.specs.Sender.{fresh, without_oldest, exhausted, end_of};
 
 use crate::endpoint::Endpoint;
 use crate::halts::{Ending, Halt};
@@ -92,9 +93,12 @@ impl Host {
         requires early { until < 2 ^ 62 }
         ensures { Goes self.old (advanced until) result self.new }
     {
-        match self.ended {
-            Some(ending) => Err(ending),
-            None => Ok(()),
+        if let Some(ending) = self.ended {
+            return Err(ending);
+        }
+        match self.state.advance(until) {
+            Ok(()) => Ok(()),
+            Err(ending) => Err(self.end(ending)),
         }
     }
 
@@ -102,7 +106,7 @@ impl Host {
     pub fn deadline(&self) -> Option<u64>
         ensures { result ≡ deadline_of self.now.state }
     {
-        None
+        self.state.deadline()
     }
 
     /// The packets that were put out and not yet taken.

@@ -1,12 +1,14 @@
 //! The TCP sender: what it answers to calls and to segments that arrive, and which packets it puts out when.
 #![tactic(auto)]
 
+mod acknowledgments;
 mod arrivals;
 mod calls;
 mod connection;
 mod descriptors;
 mod endpoint;
 mod established;
+mod expiries;
 mod halts;
 mod host;
 mod laws;
@@ -17,7 +19,9 @@ mod requests;
 mod rulings;
 mod scaling;
 mod sender_state;
+mod sending;
 mod streams;
+mod timings;
 mod uses;
 
 pub use halts::{Ending, Halt};

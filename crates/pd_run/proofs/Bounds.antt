@@ -17,7 +17,8 @@ use Rattle.pd_host.specs.Arrivals.{arrived}
 use Rattle.pd_host.specs.Calls.{called}
 use Rattle.pd_host.specs.Laws.{AreInOrder, IsUpTo, AdvancesKeepUp, ArrivalsKeepUp, CallsKeepUp, TakingKeepsUp}
 use Rattle.pd_host.specs.Outcome.{Goes, GoesFrom, Answers, AnswersFrom}
-use Rattle.pd_host.specs.Sender.{Sender, then_on, advanced, deadline_of, without_oldest}
+use Rattle.pd_host.specs.Expiries.{advanced, deadline_of}
+use Rattle.pd_host.specs.Sender.{Sender, then_on, without_oldest}
 use Rattle.pd_host.specs.declared.halts.Halt.{Halt}
 use Rattle.pd_host.specs.declared.sender_state.State.{State}
 use Rattle.pd_match.specs.Calls.{result_mismatch}

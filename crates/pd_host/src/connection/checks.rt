@@ -10,8 +10,8 @@ impl Connection {
     /// The ruling of the first check that rules; `None` for a segment that passes them all.
     pub fn ruling(&self, segment: &Segment) -> Option<Ruling>
         ensures ruling { result ≡ ruling_of self.now segment.now }
-        ensures known { IfNone result (self.now.una ≤ segment.now.ack) }
-        ensures sent { IfNone result (segment.now.ack ≤ self.now.top) }
+        ensures known { IfNone result (self.now.board.una ≤ segment.now.ack) }
+        ensures sent { IfNone result (segment.now.ack ≤ self.now.board.top) }
     {
         self.check_contents(segment)
             .or(self.check_window(segment))
@@ -67,7 +67,7 @@ impl Connection {
     {
         if self.established.is_some() {
             None
-        } else if self.una < segment.ack && segment.ack <= self.top {
+        } else if self.board.una() < segment.ack && segment.ack <= self.board.top() {
             Some(Ruling::FirstAck)
         } else {
             Some(Ruling::RefusedAck)
@@ -77,9 +77,9 @@ impl Connection {
     fn check_ack(&self, segment: &Segment) -> Option<Ruling>
         ensures { result ≡ check_ack self.now segment.now }
     {
-        if self.top < segment.ack {
+        if self.board.top() < segment.ack {
             Some(Ruling::EarlyAck)
-        } else if segment.ack < self.una {
+        } else if segment.ack < self.board.una() {
             Some(Ruling::OldAck)
         } else {
             None

@@ -1,0 +1,45 @@
+//! What an expiry of its timer does to a connection.
+ghost use Rattle.std.specs.Prelude.{◌≡◌, ◌<◌, ◌^◌};
+ghost use Rattle.pd_host.specs.Expiries.{due_by};
+
+use super::Connection;
+use pd_seg::Segment;
+use std::alloc::{AllocError, Global};
+
+impl Connection {
+    /// The moment of the next expiry, where the timer runs.
+    pub fn deadline(&self) -> Option<u64>
+        ensures { result ≡ self.now.timer.deadline }
+    {
+        self.timer.deadline()
+    }
+
+    /// The same, where it lies at or before a moment.
+    pub fn due(&self, until: u64) -> Option<u64>
+        ensures { result ≡ due_by until self.now.timer.deadline }
+    {
+        match self.timer.deadline() {
+            Some(at) if at <= until => Some(at),
+            _ => None,
+        }
+    }
+
+    /// The timer expires at a moment: what is sent again.
+    pub fn expire(&mut self, at: u64, alloc: Global) -> Result<Segment, AllocError>
+        requires early { at < 2 ^ 62 }
+    {
+        self.timed = None;
+        self.timer.expire(at);
+        let Some(established) = &mut self.established else {
+            self.resent = true;
+            return self.syn_ack(alloc);
+        };
+        let (smss, una, top) = (self.board.smss(), self.board.una(), self.board.top());
+        established.congestion.on_timeout(smss, una, top);
+        self.board.clear_marks();
+        let segment = self.board.run_at(una);
+        let packet = self.data(segment, alloc);
+        self.board.sent(segment.end)?;
+        Ok(packet)
+    }
+}
