@@ -93,12 +93,12 @@ impl Host {
         requires early { until < 2 ^ 62 }
         ensures { Goes self.old (advanced until) result self.new }
     {
-        if let Some(ending) = self.ended {
-            return Err(ending);
-        }
-        match self.state.advance(until) {
-            Ok(()) => Ok(()),
-            Err(ending) => Err(self.end(ending)),
+        match self.ended {
+            Some(ending) => Err(ending),
+            None => match self.state.advance(until) {
+                Ok(()) => Ok(()),
+                Err(halted) => Err(self.end(halted)),
+            },
         }
     }
 
