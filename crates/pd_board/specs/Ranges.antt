@@ -1,0 +1,72 @@
+-- What a board keeps of ranges, and what private contracts say of them.
+use Rattle.std.specs.Prelude.{◌≡◌, ℕ, ◌+◌, ◌-◌, ◌*◌, ◌^◌, ◌<◌, ◌≤◌, min, max, cond, Bool, ◌&&◌, ◌||◌, nat_le, nat_lt, true, List, [], ◌∷◌, length}
+use Rattle.std.specs.List.{sum_by}
+use Rattle.pd_seg.specs.declared.sack_blocks.Span.{Span}
+use Rattle.pd_board.specs.declared.ranges.Ranges.{Ranges}
+use Rattle.pd_board.specs.Runs.{among, Between}
+
+-- x is an octet of the ranges
+abbrev pub in_ranges : Ranges → ℕ → Bool
+in_ranges r x = among r.spans.items x
+
+-- how many octets ranges have
+abbrev pub octets_in : List Span → ℕ
+octets_in rs = sum_by (λ r. r.end - r.start) rs
+
+-- the ranges lie from a on and end below b, and their octets are counted
+pub record AreRanges (a b : ℕ) (r : Ranges) : Type 0 where
+  pub apart : Between a r.spans.items b
+  pub total : r.octets ≡ octets_in r.spans.items
+
+-- what is kept of a board's fields: what holds of every scoreboard, and where its ranges lie
+pub record IsBoard (segment una next top end : ℕ) (r : Ranges) : Type 0 where
+  pub smss_low : 64 ≤ segment
+  pub smss_high : segment ≤ 65495
+  pub una_next : una ≤ next
+  pub next_top : next ≤ top
+  pub top_end : top ≤ end
+  pub end_low : end < 2 ^ 31
+  pub ranges : AreRanges una (top + 1) r
+
+-- while ranges are merged: out is done, start to end is in hand, rest is to come
+pub record Merging (una top from to : ℕ) (all out rest : List Span) (start end : ℕ) : Type 0 where
+  pub edge : ℕ
+  pub done : Between una out edge
+  pub below : edge ≤ start
+  pub above : Between edge rest top
+  pub order : start < end
+  pub high : end < top
+  pub octets : (x : ℕ) → (among out x || ((nat_le start x && nat_lt x end) || among rest x)) ≡ (among all x || (nat_le from x && nat_lt x to))
+
+-- while ranges are searched from a place on: those left out end below it, and an octet before edge isn't in the rest
+pub record Ahead (place b : ℕ) (all rest : List Span) : Type 0 where
+  pub edge : ℕ
+  pub near : edge ≤ place
+  pub apart : Between edge rest b
+  pub same : (x : ℕ) → edge ≤ x + 1 → among all x ≡ among rest x
+
+-- while the last octet is searched: end is behind the last one so far
+pub record Last (from to end : ℕ) (all rest : List Span) : Type 0 where
+  pub low : from ≤ end
+  pub high : end ≤ to
+  pub behind : (x : ℕ) → end ≤ x → x < to → among all x ≡ among rest x
+  pub found : from < end → among all (end - 1) ≡ true
+
+-- what a gap from i to s adds to the pipe, below so many runs and octets
+abbrev pub gap : ℕ → ℕ → ℕ → ℕ → ℕ → ℕ → ℕ
+gap smss high runs octets i s = cond (nat_le 3 runs || nat_lt (2 * smss) octets) 0 (s - i) + (min high s - i)
+
+-- what is on the way from i on, over the ranges there
+abbrev pub way : ℕ → ℕ → ℕ → ℕ → List Span → ℕ
+way smss high top i [] = gap smss high 0 0 i top
+way smss high top i (r ∷ rs) = gap smss high (length rs + 1) (r.end - r.start + octets_in rs) i r.start + way smss high top r.end rs
+
+-- the ranges without those that end at start or below it
+abbrev pub behind : ℕ → List Span → List Span
+behind start [] = []
+behind start (r ∷ rs) = cond (nat_lt start r.end) (r ∷ rs) (behind start rs)
+
+-- the first range begins at start at least
+abbrev pub raised : ℕ → List Span → List Span
+raised start [] = []
+raised start (r ∷ rs) = record { start = max r.start start; end = r.end } ∷ rs

@@ -1,0 +1,18 @@
+-- The same over a test of octet numbers in place of a set: what private contracts say of ranges.
+use Rattle.std.specs.Prelude.{ℕ, ◌+◌, ◌-◌, ◌*◌, Bool, ◌==◌, ◌&&◌, ◌||◌, not, nat_le, nat_lt}
+use Rattle.pd_board.specs.Octets.{size_where}
+
+-- x is the first of a run of those from a on that pass
+abbrev pub first_of : (ℕ → Bool) → ℕ → ℕ → Bool
+first_of p a x = p x && (x == a || not (p (x - 1)))
+
+-- what makes lost, counted from the octet first on
+abbrev pub lost_from : (ℕ → Bool) → ℕ → ℕ → ℕ → ℕ → Bool
+lost_from p una top smss first =
+    nat_le 3 (size_where (first_of p una) first top) || nat_lt (2 * smss) (size_where p first top)
+
+-- what is on the way of the octets from first on
+abbrev pub pipe_from : (ℕ → Bool) → ℕ → ℕ → ℕ → ℕ → ℕ → ℕ
+pipe_from p una top smss high first =
+    size_where (λ x. not (p x) && not (lost_from p una top smss (x + 1))) first top
+    + size_where (λ x. not (p x) && nat_lt x high) first top

@@ -1,0 +1,282 @@
+//! The scoreboard of a sender.
+ghost use Rattle.std.specs.Prelude.{◌≡◌, ◌+◌, ◌≤◌, ◌<◌, ◌^◌, true, false, IfOk, OnOk, OnErr, IsErr, ◌↔◌};
+ghost use Rattle.pd_board.specs.Scoreboard.{IsScoreboard, opened, written, sent_to, acknowledged, marked, has_new, unmarked, skipped, without_memory};
+ghost use Rattle.pd_board.specs.Loss.{is_lost, pipe};
+ghost use Rattle.pd_board.specs.Choice.{run_at, next_lost, next_hole, rescue};
+ghost use Rattle.pd_board.specs.Runs.{AreRuns};
+
+use crate::counts::{
+    after_last_free, after_last_marked, count_above, count_pipe, first_free, first_marked,
+};
+use crate::ranges::Ranges;
+use pd_seg::Span;
+use std::alloc::{AllocError, Global};
+use std::marker::Model;
+
+/// The numbers that a sender sends by, and the octets that SACK blocks told (RFC 6675, section 3).
+///
+/// Octet numbers are relative to the initial sequence number and stay below 2^31. SMSS is 64 to 65,495 octets.
+/// A scoreboard that has found no memory answers that to each later call that can.
+#[derive(Drop)]
+pub struct Board {
+    smss: u16,
+    una: u32,
+    next: u32,
+    top: u32,
+    end: u32,
+    ranges: Ranges,
+    exhausted: bool,
+}
+
+impl Model for Board {
+    ghost use Rattle.pd_board.specs.Scoreboard.{Scoreboard};
+    ghost use Rattle.pd_board.specs.Octets.{octets_where};
+    ghost use Rattle.pd_board.specs.Ranges.{in_ranges, IsBoard};
+
+    ghost Value = { Scoreboard };
+
+    ghost view = { λ b. record { smss = b.smss; una = b.una; next = b.next; top = b.top; end = b.end; sacked = octets_where (in_ranges b.ranges) b.una b.top; exhausted = b.exhausted } };
+
+    ghost invariant = { λ b. IsBoard b.smss b.una b.next b.top b.end b.ranges };
+}
+
+impl Board {
+    /// Once the SYN/ACK is sent: `una` is 0, the other numbers are 1.
+    pub fn new(alloc: Global, smss: u16) -> Board
+        requires low { 64 ≤ smss }
+        requires high { smss ≤ 65495 }
+        ensures { result ≡ opened smss }
+    {
+        Board {
+            smss,
+            una: 0,
+            next: 1,
+            top: 1,
+            end: 1,
+            ranges: Ranges::new(alloc),
+            exhausted: false,
+        }
+    }
+
+    /// SMSS, in octets.
+    pub fn smss(&self) -> u16
+        ensures value { result ≡ self.now.smss }
+        ensures known { IsScoreboard self.now }
+    {
+        self.smss
+    }
+
+    /// The oldest octet that isn't acknowledged.
+    pub fn una(&self) -> u32
+        ensures value { result ≡ self.now.una }
+        ensures known { IsScoreboard self.now }
+    {
+        self.una
+    }
+
+    /// Where sending goes on.
+    pub fn next(&self) -> u32
+        ensures value { result ≡ self.now.next }
+        ensures known { IsScoreboard self.now }
+    {
+        self.next
+    }
+
+    /// The number after the highest octet sent.
+    pub fn top(&self) -> u32
+        ensures value { result ≡ self.now.top }
+        ensures known { IsScoreboard self.now }
+    {
+        self.top
+    }
+
+    /// The number after the last octet queued.
+    pub fn end(&self) -> u32
+        ensures value { result ≡ self.now.end }
+        ensures known { IsScoreboard self.now }
+    {
+        self.end
+    }
+
+    /// Queues octets.
+    pub fn write(&mut self, count: u32)
+        requires { self.old.end + count < 2 ^ 31 }
+        ensures { self.new ≡ written count self.old }
+    {
+        self.end += count;
+    }
+
+    /// A segment was sent that ends at `x`.
+    ///
+    /// # Errors
+    ///
+    /// Want of memory, where a call before has found none.
+    pub fn sent(&mut self, x: u32) -> Result<(), AllocError>
+        requires low { self.old.una ≤ x }
+        requires high { x ≤ self.old.end }
+        ensures ok { OnOk result (self.new ≡ sent_to x self.old) }
+        ensures err { OnErr result (self.new ≡ self.old) }
+        ensures again { IsErr result ↔ (self.old.exhausted ≡ true) }
+    {
+        if self.exhausted {
+            return Err(AllocError);
+        }
+        self.next = x;
+        self.top = self.top.max(x);
+        Ok(())
+    }
+
+    /// The octets below `x` are acknowledged.
+    pub fn take_ack(&mut self, x: u32)
+        requires low { self.old.una ≤ x }
+        requires high { x ≤ self.old.top }
+        ensures { self.new ≡ acknowledged x self.old }
+    {
+        self.una = x;
+        self.next = self.next.max(x);
+        self.ranges.drop_below(x);
+    }
+
+    /// The octets of a block are SACKed, and whether one of them is new (RFC 2018, section 3). Those below `una` don't
+    /// count, and where the block's start isn't below its end nothing is.
+    ///
+    /// # Errors
+    ///
+    /// Want of memory: nothing more is SACKed then, and later calls answer it too.
+    pub fn mark(&mut self, block: Span) -> Result<bool, AllocError>
+        requires { block.end ≤ self.old.top }
+        ensures ok { OnOk result (self.new ≡ marked block self.old) }
+        ensures new { IfOk result (λ new. new ≡ has_new block self.old) }
+        ensures err { OnErr result (self.new ≡ without_memory self.old) }
+        ensures again { self.old.exhausted ≡ true → IsErr result }
+    {
+        if self.exhausted {
+            return Err(AllocError);
+        }
+        let first = self.una.max(block.start);
+        if block.end <= first {
+            return Ok(false);
+        }
+        let inserted = self.ranges.insert(first, block.end);
+        if inserted.is_err() {
+            self.exhausted = true;
+        }
+        inserted
+    }
+
+    /// Nothing is SACKed any more (RFC 2018, section 8).
+    pub fn clear_marks(&mut self)
+        ensures { self.new ≡ unmarked self.old }
+    {
+        self.ranges.clear();
+    }
+
+    /// The maximal runs of SACKed octets, in ascending order.
+    pub fn runs(&self) -> &[Span]
+        ensures { AreRuns self.now result.now }
+    {
+        self.ranges.as_slice()
+    }
+
+    /// Moves `next` up past octets that are SACKed.
+    pub fn skip_marked(&mut self)
+        ensures { self.new ≡ skipped self.old }
+    {
+        self.next = first_free(&self.ranges, self.next, self.top);
+    }
+
+    /// The octets to send again from `x`: up to the next SACKed one, SMSS octets at most, up to `top` at most. There
+    /// are none where `x` is SACKed or `top`.
+    pub fn run_at(&self, x: u32) -> Span
+        requires low { self.now.una ≤ x }
+        requires high { x ≤ self.now.top }
+        ensures { result ≡ run_at x self.now }
+    {
+        let most = (x + u32::from(self.smss)).min(self.top);
+        Span {
+            start: x,
+            end: first_marked(&self.ranges, x, most),
+        }
+    }
+
+    /// IsLost (RFC 6675, section 4): at least 3 runs of SACKed octets lie above `x`, or more than 2 SMSS of them.
+    pub fn is_lost(&self, x: u32) -> bool
+        ensures { result ≡ is_lost x self.now }
+    {
+        if x >= self.top {
+            return false;
+        }
+        let first = self.una.max(x + 1);
+        count_above(&self.ranges, self.una, first, self.top).makes_lost(self.smss)
+    }
+
+    /// Pipe (RFC 6675, section 4): of the octets sent that aren't SACKed, one for each that isn't lost and one for each
+    /// below `high_rxt`, the number after the octet HighRxt.
+    pub fn pipe(&self, high_rxt: u32) -> u32
+        ensures { result ≡ pipe high_rxt self.now }
+    {
+        count_pipe(&self.ranges, self.una, self.top, self.smss, high_rxt)
+    }
+
+    /// NextSeg's rule 3 (RFC 6675, section 4): the first octet from `high_rxt` on, the number after the octet HighRxt,
+    /// that isn't SACKed and lies below one that is.
+    pub fn next_hole(&self, high_rxt: u32) -> Option<u32>
+        ensures { result ≡ next_hole high_rxt self.now }
+    {
+        let from = self.una.max(high_rxt);
+        if from >= self.top {
+            return None;
+        }
+        let x = first_free(&self.ranges, from, self.top);
+        if first_marked(&self.ranges, x, self.top) < self.top {
+            Some(x)
+        } else {
+            None
+        }
+    }
+
+    /// NextSeg's rule 1 (RFC 6675, section 4): the first octet of rule 3 that is lost.
+    pub fn next_lost(&self, high_rxt: u32) -> Option<u32>
+        ensures { result ≡ next_lost high_rxt self.now }
+    {
+        let x = self.next_hole(high_rxt)?;
+        if self.is_lost(x) { Some(x) } else { None }
+    }
+
+    /// NextSeg's rule 4 (RFC 6675, section 4): the segment that ends with the last octet that isn't SACKed, of SMSS
+    /// octets at most, from `una` on and behind the SACKed octets before it; none where all are SACKed.
+    pub fn rescue(&self) -> Option<Span>
+        ensures { result ≡ rescue self.now }
+    {
+        let end = after_last_free(&self.ranges, self.una, self.top);
+        if end == self.una {
+            return None;
+        }
+        let low = self.una.max(end.saturating_sub(u32::from(self.smss)));
+        let start = after_last_marked(&self.ranges, low, end - 1);
+        Some(Span { start, end })
+    }
+
+    /// The same scoreboard once more.
+    ///
+    /// # Errors
+    ///
+    /// Want of memory, also where a call before has found none.
+    pub fn copy(&self) -> Result<Board, AllocError>
+        ensures ok { IfOk result (λ copy. copy ≡ self.now) }
+        ensures again { self.now.exhausted ≡ true → IsErr result }
+    {
+        if self.exhausted {
+            return Err(AllocError);
+        }
+        Ok(Board {
+            smss: self.smss,
+            una: self.una,
+            next: self.next,
+            top: self.top,
+            end: self.end,
+            ranges: self.ranges.copy()?,
+            exhausted: false,
+        })
+    }
+}

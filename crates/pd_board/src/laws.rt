@@ -1,0 +1,8 @@
+//! Laws of the rules: functions without code, whose contracts are the laws.
+ghost use Rattle.pd_board.specs.Laws.{LostIsDownwardClosed, PipeCountsTwiceAtMost};
+
+/// What holds of losses and of the pipe, whatever was SACKed.
+pub fn losses_are_lawful()
+    ensures lost { LostIsDownwardClosed }
+    ensures pipe { PipeCountsTwiceAtMost }
+{}

@@ -1,0 +1,71 @@
+-- What loss recovery sends next (RFC 6675, section 4, NextSeg), and when (section 5, step C).
+use Rattle.std.specs.Prelude.{ℕ, ◌+◌, ◌-◌, ◌<◌, ◌≤◌, nat_le, nat_lt, Bool, Option, None, option_map, if◌then◌else◌}
+use Rattle.std.specs.Option.{option_or}
+use Rattle.pd_seg.specs.declared.sack_blocks.Span.{Span}
+use Rattle.pd_board.specs.Choice.{run_at, next_lost, next_hole, rescue}
+use Rattle.pd_board.specs.Scoreboard.{Scoreboard}
+use Rattle.pd_recover.specs.declared.segments.NextSegment.{NextSegment}
+use Rattle.pd_recover.specs.declared.segments.NextSegment.TheVariants.{Lost, New, Hole, Rescue}
+use Rattle.pd_recover.specs.Acks.{new_segment}
+use Rattle.pd_recover.specs.Congestion.{Congestion}
+
+-- the octets of a segment
+abbrev pub segment_of : NextSegment → Span
+segment_of (Lost segment) = segment
+segment_of (New segment) = segment
+segment_of (Hole segment) = segment
+segment_of (Rescue segment) = segment
+
+-- a segment that can be sent: some octets that aren't acknowledged and are queued, SMSS at most
+pub record IsSendable (s : Scoreboard) (segment : Span) : Type 0 where
+  pub from : s.una ≤ segment.start
+  pub some : segment.start < segment.end
+  pub short : segment.end ≤ segment.start + s.smss
+  pub queued : segment.end ≤ s.end
+
+-- rule 1: from the first lost octet that wasn't sent again
+abbrev pub lost_run : Scoreboard → Congestion → Option NextSegment
+lost_run s w = option_map (λ x. Lost (run_at x s)) (next_lost w.high_rxt s)
+
+-- rule 2: new data, where the peer's window takes it
+abbrev pub new_data : ℕ → Scoreboard → Option Span
+new_data rwnd s = new_segment s.smss s.una s.top s.end rwnd
+
+-- rule 3: from the first octet that wasn't sent again and lies below a SACKed one
+abbrev pub hole_run : Scoreboard → Congestion → Option NextSegment
+hole_run s w = option_map (λ x. Hole (run_at x s)) (next_hole w.high_rxt s)
+
+-- rule 4: the last octets that aren't SACKed, where all up to RescueRxt is acknowledged
+abbrev pub rescue_run : Scoreboard → Congestion → Option NextSegment
+rescue_run s w = if nat_lt w.rescue_rxt s.una then option_map (λ segment. Rescue segment) (rescue s) else None
+
+-- the first rule that gives a segment, by what the second one gives
+abbrev pub first_given : Option Span → Scoreboard → Congestion → Option NextSegment
+first_given unsent s w =
+    option_or (lost_run s w)
+    (option_or (option_map (λ segment. New segment) unsent)
+    (option_or (hole_run s w)
+    (rescue_run s w)))
+
+-- NextSeg: the first rule that gives a segment; by rule 5 there is none
+abbrev pub next_segment : ℕ → Scoreboard → Congestion → Option NextSegment
+next_segment rwnd s w = first_given (new_data rwnd s) s w
+
+-- a full segment has room between what is on the way and the window
+abbrev pub has_room : ℕ → Scoreboard → Congestion → Bool
+has_room pipe s w = nat_le s.smss (w.cwnd - pipe)
+
+-- step C: the next segment while there is room
+abbrev pub step_c_segment : ℕ → ℕ → Scoreboard → Congestion → Option NextSegment
+step_c_segment rwnd pipe s w = if has_room pipe s w then next_segment rwnd s w else None
+
+-- limited transmit: new data while there is room (section 5, step 3)
+abbrev pub limited_segment : ℕ → ℕ → Scoreboard → Congestion → Option Span
+limited_segment rwnd pipe s w = if has_room pipe s w then new_data rwnd s else None
+
+-- what a segment sent by these rules moves: rules 1 and 3 HighRxt, rule 4 RescueRxt
+abbrev pub noted : NextSegment → Congestion → Congestion
+noted (Lost segment) w = record w { high_rxt = segment.end }
+noted (New segment) w = w
+noted (Hole segment) w = record w { high_rxt = segment.end }
+noted (Rescue segment) w = record w { rescue_rxt = w.recovery_point }

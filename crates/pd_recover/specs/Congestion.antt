@@ -1,0 +1,97 @@
+-- The congestion window (RFC 5681), and what loss recovery keeps (RFC 6675). All sizes are in octets.
+use Rattle.std.specs.Prelude.{ℕ, ◌+◌, ◌-◌, ◌*◌, ◌/◌, ◌^◌, ◌≤◌, nat_lt, min, max, Bool, true, false, if◌then◌else◌}
+
+pub record Congestion : Type 0 where
+  -- the congestion window and the slow start threshold
+  pub cwnd : ℕ
+  pub ssthresh : ℕ
+  -- DupAcks: how many duplicates came since the last ACK of new octets; no rule tells more than 4 apart
+  pub dup_acks : ℕ
+  -- LT: how many octets limited transmit has sent since then
+  pub limited : ℕ
+  -- whether loss recovery goes on
+  pub recovering : Bool
+  -- RecoveryPoint, HighRxt and RescueRxt, each as the number after its octet
+  pub recovery_point : ℕ
+  pub high_rxt : ℕ
+  pub rescue_rxt : ℕ
+  -- whether the timer has expired since the establishment and the last ACK of new octets
+  pub expired : Bool
+
+-- the ranges of the window, the threshold and the counts
+pub record IsRanged (cwnd ssthresh dup_acks limited : ℕ) : Type 0 where
+  pub cwnd_from : 1 ≤ cwnd
+  pub cwnd_to : cwnd ≤ 2 ^ 31
+  pub ssthresh_from : 1 ≤ ssthresh
+  pub ssthresh_to : ssthresh ≤ 2 ^ 30
+  pub dup_acks_to : dup_acks ≤ 4
+  pub limited_to : limited ≤ 2 ^ 31
+
+-- the facts of every state
+abbrev pub IsCongestion : Congestion → Type 0
+IsCongestion w = IsRanged w.cwnd w.ssthresh w.dup_acks w.limited
+
+-- how many segments the initial window holds (RFC 5681, section 3.1)
+abbrev pub first_segments : ℕ → Bool → ℕ
+first_segments smss resent =
+    if resent then 1
+    else if nat_lt 2190 smss then 2
+    else if nat_lt 1095 smss then 3
+    else 4
+
+-- the state at establishment; whether the SYN/ACK was sent again counts (RFC 5681, section 3.1)
+abbrev pub begun : ℕ → ℕ → Bool → Congestion
+begun initial_ssthresh smss resent = record {
+  cwnd = first_segments smss resent * smss;
+  ssthresh = initial_ssthresh;
+  dup_acks = 0;
+  limited = 0;
+  recovering = false;
+  recovery_point = 0;
+  high_rxt = 0;
+  rescue_rxt = 0;
+  expired = false;
+}
+
+-- a window that grows stays at or below 2^30
+abbrev pub widened : ℕ → Congestion → Congestion
+widened octets w = record w { cwnd = min (w.cwnd + octets) (2 ^ 30) }
+
+-- by how much an ACK of n new octets widens the window: slow start below ssthresh, else congestion avoidance (RFC 5681,
+-- section 3.1, equations 2 and 3)
+abbrev pub growth : ℕ → ℕ → Congestion → ℕ
+growth smss n w = if nat_lt w.cwnd w.ssthresh then min n smss else max (smss * smss / w.cwnd) 1
+
+-- the window after an ACK of n new octets (RFC 5681, section 3.1)
+abbrev pub grown : ℕ → ℕ → Congestion → Congestion
+grown smss n w = widened (growth smss n w) w
+
+-- half of what is outstanding, without what limited transmit has sent, 2 segments at least (RFC 5681, section 3.2,
+-- step 2; equation 4)
+abbrev pub halved : ℕ → ℕ → ℕ → Congestion → ℕ
+halved smss una top w = max ((top - una - w.limited) / 2) (2 * smss)
+
+-- ssthresh after an expiry: half of what is outstanding, but it stays where the octets had expired already (RFC 5681,
+-- section 3.1, equation 4)
+abbrev pub ssthresh_after_expiry : ℕ → ℕ → ℕ → Congestion → ℕ
+ssthresh_after_expiry smss una top w = if w.expired then w.ssthresh else max ((top - una) / 2) (2 * smss)
+
+-- the timer expires: one segment is the window, and recovery ends (RFC 5681, section 3.1; RFC 6675, section 5.1)
+abbrev pub timed_out : ℕ → ℕ → ℕ → Congestion → Congestion
+timed_out smss una top w = record w {
+  cwnd = smss;
+  ssthresh = ssthresh_after_expiry smss una top w;
+  dup_acks = 0;
+  limited = 0;
+  recovering = false;
+  recovery_point = top;
+  expired = true;
+}
+
+-- an entry has sent the segment at una again, up to this number (RFC 6675, section 5, step 4.3)
+abbrev pub entered_to : ℕ → Congestion → Congestion
+entered_to end w = record w { high_rxt = end; rescue_rxt = end }
+
+-- limited transmit has sent this many octets; no connection has more than 2^31
+abbrev pub with_limited : ℕ → Congestion → Congestion
+with_limited octets w = record w { limited = min (w.limited + octets) (2 ^ 31) }

@@ -1,0 +1,146 @@
+//! The congestion window and what loss recovery keeps.
+ghost use Rattle.std.specs.Prelude.{◌≡◌, ◌<◌, ◌≤◌, ◌^◌};
+ghost use Rattle.pd_recover.specs.Congestion.{IsCongestion, first_segments, begun, timed_out, entered_to, with_limited};
+
+mod acks;
+mod choice;
+
+use pd_settings::Settings;
+use std::alloc::AllocError;
+use std::marker::Model;
+
+/// No connection has more octets than this.
+const MOST_NUMBERS: u32 = 0x8000_0000;
+
+/// The congestion window, the slow start threshold, and the variables of loss recovery of one connection.
+///
+/// No call takes memory.
+pub struct Cong {
+    cwnd: u32,
+    ssthresh: u32,
+    dup_acks: u32,
+    limited: u32,
+    recovering: bool,
+    recovery_point: u32,
+    high_rxt: u32,
+    rescue_rxt: u32,
+    expired: bool,
+}
+
+impl Model for Cong {
+    ghost use Rattle.pd_recover.specs.Congestion.{Congestion, IsRanged};
+
+    ghost Value = { Congestion };
+
+    ghost view = { λ c. record { cwnd = c.cwnd; ssthresh = c.ssthresh; dup_acks = c.dup_acks; limited = c.limited; recovering = c.recovering; recovery_point = c.recovery_point; high_rxt = c.high_rxt; rescue_rxt = c.rescue_rxt; expired = c.expired } };
+
+    ghost invariant = { λ c. IsRanged c.cwnd c.ssthresh c.dup_acks c.limited };
+
+    ghost inverse = { λ c. record { cwnd = c.cwnd; ssthresh = c.ssthresh; dup_acks = c.dup_acks; limited = c.limited; recovering = c.recovering; recovery_point = c.recovery_point; high_rxt = c.high_rxt; rescue_rxt = c.rescue_rxt; expired = c.expired } };
+}
+
+impl Clone for Cong {
+    fn clone(&self) -> Result<Self, AllocError> {
+        Ok(*self)
+    }
+}
+
+impl Copy for Cong {}
+
+/// How many segments the initial window holds, at this SMSS in octets (RFC 5681, section 3.1).
+fn first_segments(smss: u16, resent: bool) -> u32
+    ensures { result ≡ first_segments smss resent }
+{
+    if resent {
+        1
+    } else if smss > 2_190 {
+        2
+    } else if smss > 1_095 {
+        3
+    } else {
+        4
+    }
+}
+
+impl Cong {
+    /// The state at establishment: the initial window (RFC 5681, section 3.1), one segment where the SYN/ACK was
+    /// sent again. SMSS is in octets. Of the settings it looks at `initial_ssthresh` alone.
+    pub fn new(settings: &Settings, smss: u16, resent: bool) -> Cong
+        requires from { 64 ≤ smss }
+        requires to { smss ≤ 65495 }
+        ensures value { result ≡ begun settings.now.initial_ssthresh smss resent }
+        ensures known { IsCongestion result }
+    {
+        let _ranges = *settings;
+        Cong {
+            cwnd: first_segments(smss, resent) * u32::from(smss),
+            ssthresh: settings.initial_ssthresh,
+            dup_acks: 0,
+            limited: 0,
+            recovering: false,
+            recovery_point: 0,
+            high_rxt: 0,
+            rescue_rxt: 0,
+            expired: false,
+        }
+    }
+
+    /// The congestion window, in octets.
+    pub fn cwnd(&self) -> u32
+        ensures value { result ≡ self.now.cwnd }
+        ensures known { IsCongestion self.now }
+    {
+        self.cwnd
+    }
+
+    /// Whether loss recovery goes on.
+    pub fn is_recovering(&self) -> bool
+        ensures { result ≡ self.now.recovering }
+    {
+        self.recovering
+    }
+
+    /// HighRxt, as the number after the highest octet that this recovery has sent again (RFC 6675, section 2).
+    pub fn high_rxt(&self) -> u32
+        ensures { result ≡ self.now.high_rxt }
+    {
+        self.high_rxt
+    }
+
+    /// The timer has expired, with this SMSS in octets and the octets from `una` up to `top` outstanding (RFC 5681,
+    /// section 3.1; RFC 6675, section 5.1).
+    pub fn on_timeout(&mut self, smss: u16, una: u32, top: u32)
+        requires from { 64 ≤ smss }
+        requires to { smss ≤ 65495 }
+        requires sent { una ≤ top }
+        requires small { top < 2 ^ 31 }
+        ensures { self.new ≡ timed_out smss una top self.old }
+    {
+        let smss = u32::from(smss);
+        if !self.expired {
+            self.ssthresh = ((top - una) / 2).max(2 * smss);
+        }
+        self.cwnd = smss;
+        self.dup_acks = 0;
+        self.limited = 0;
+        self.recovering = false;
+        self.recovery_point = top;
+        self.expired = true;
+    }
+
+    /// An entry has sent the segment at SND.UNA again, up to this number (RFC 6675, section 5, step 4.3).
+    pub fn enter(&mut self, end: u32)
+        ensures { self.new ≡ entered_to end self.old }
+    {
+        self.high_rxt = end;
+        self.rescue_rxt = end;
+    }
+
+    /// Limited transmit with SACK has sent this many octets.
+    pub fn count_limited(&mut self, octets: u32)
+        requires { octets ≤ 65495 }
+        ensures { self.new ≡ with_limited octets self.old }
+    {
+        self.limited = (self.limited + octets).min(MOST_NUMBERS);
+    }
+}

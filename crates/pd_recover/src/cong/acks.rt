@@ -1,0 +1,236 @@
+//! What an ACK does to the congestion window and to loss recovery, and what it leads to.
+ghost use Rattle.std.specs.Prelude.{◌≡◌, ◌+◌, ◌<◌, ◌≤◌, ◌^◌, IfSome};
+ghost use Rattle.std.specs.Bool.{OnTrue};
+ghost use Rattle.pd_recover.specs.Acks.{IsAck, IsNamed, acked, is_duplicate, grown_by, half_of, counted, new_segment, first_outstanding, told_by_sack, told_by_number, selective_duplicate, plain_duplicate, limited_transmit, advanced};
+ghost use Rattle.pd_recover.specs.Congestion.{growth, widened};
+
+use super::Cong;
+use crate::feedback::{Ack, News};
+use crate::responses::Then;
+use pd_seg::Span;
+
+/// The greatest window that growth leads to, in octets.
+const MOST_WINDOW: u32 = 0x4000_0000;
+
+/// The new segment at `top`, where data is queued and the peer's window takes it.
+pub fn new_segment(smss: u16, una: u32, top: u32, end: u32, rwnd: u32) -> Option<Span>
+    requires queued { top ≤ end }
+    requires small { end < 2 ^ 31 }
+    ensures value { result ≡ new_segment smss una top end rwnd }
+    ensures within { IfSome result (λ s. (s.start ≡ top) × (s.start < s.end) × (s.end ≤ top + smss) × (s.end ≤ end)) }
+{
+    let to = top + u32::from(smss).min(end - top);
+    if top < to && u64::from(to) <= u64::from(una) + u64::from(rwnd) {
+        return Some(Span {
+            start: top,
+            end: to,
+        });
+    }
+    None
+}
+
+impl Ack {
+    /// The segment at SND.UNA, SMSS octets at most.
+    fn first_outstanding(self) -> Span
+        requires { IsAck self }
+        ensures value { result ≡ first_outstanding self }
+        ensures within { self.una < self.top → (result.start < result.end) × (result.end ≤ self.top) }
+    {
+        Span {
+            start: self.una,
+            end: (self.una + u32::from(self.smss)).min(self.top),
+        }
+    }
+
+    /// Whether it acknowledges nothing new while octets are outstanding, and its window is the one before.
+    fn is_duplicate(self) -> bool
+        ensures value { result ≡ is_duplicate self }
+        ensures outstanding { OnTrue result (self.una < self.top) }
+    {
+        self.acked == 0 && self.una < self.top && self.same_window
+    }
+}
+
+impl Cong {
+    /// Takes an ACK, with the peer's window and the SACKed octets as they are since, and answers what to send
+    /// (RFC 5681, section 3; RFC 6675, section 5).
+    pub fn on_ack(&mut self, ack: Ack) -> Then
+        requires { IsAck ack }
+        ensures state { self.new ≡ (acked ack self.old).0 }
+        ensures then { result ≡ (acked ack self.old).1 }
+        ensures named { IsNamed ack result }
+    {
+        if ack.acked > 0 {
+            self.dup_acks = 0;
+            self.limited = 0;
+            self.expired = false;
+        }
+        match ack.sack {
+            Some(news) => self.take_sack(ack, news),
+            None => self.take_number(ack),
+        }
+    }
+
+    /// An ACK where SACK was agreed (RFC 6675, section 5).
+    fn take_sack(&mut self, ack: Ack, news: News) -> Then
+        requires { IsAck ack }
+        ensures state { self.new ≡ (told_by_sack ack news self.old).0 }
+        ensures then { result ≡ (told_by_sack ack news self.old).1 }
+        ensures named { IsNamed ack result }
+    {
+        if self.recovering && self.recovery_point <= ack.una {
+            self.dup_acks = 0;
+            self.limited = 0;
+            self.recovering = false;
+            return Then::Ordinary;
+        }
+        if self.recovering {
+            return Then::StepC;
+        }
+        self.grow(ack);
+        if !news.fresh {
+            return Then::Ordinary;
+        }
+        self.count();
+        self.take_selective_duplicate(ack, news.lost)
+    }
+
+    /// A duplicate with SACK, which is counted already (RFC 6675, section 5, steps 1 to 4).
+    fn take_selective_duplicate(&mut self, ack: Ack, lost: bool) -> Then
+        requires { IsAck ack }
+        ensures state { self.new ≡ (selective_duplicate ack lost self.old).0 }
+        ensures then { result ≡ (selective_duplicate ack lost self.old).1 }
+        ensures named { IsNamed ack result }
+    {
+        if ack.una < self.recovery_point {
+            return Then::Ordinary;
+        }
+        if self.dup_acks < 3 && !lost {
+            self.high_rxt = ack.una;
+            return Then::LimitedTransmit;
+        }
+        let half = self.half(ack);
+        self.cwnd = half;
+        self.ssthresh = half;
+        self.recovering = true;
+        self.recovery_point = ack.top;
+        Then::Entry
+    }
+
+    /// An ACK where SACK wasn't agreed (RFC 5681, section 3.2).
+    fn take_number(&mut self, ack: Ack) -> Then
+        requires { IsAck ack }
+        ensures state { self.new ≡ (told_by_number ack self.old).0 }
+        ensures then { result ≡ (told_by_number ack self.old).1 }
+        ensures named { IsNamed ack result }
+    {
+        if ack.acked > 0 {
+            self.advance(ack);
+            return Then::Ordinary;
+        }
+        if ack.is_duplicate() && self.recovery_point <= ack.una {
+            self.count();
+            return self.take_plain_duplicate(ack);
+        }
+        Then::Ordinary
+    }
+
+    /// New octets end recovery without SACK, and outside it widen the window.
+    fn advance(&mut self, ack: Ack)
+        requires { IsAck ack }
+        ensures { self.new ≡ advanced ack self.old }
+    {
+        if self.recovering {
+            self.cwnd = self.ssthresh;
+            self.recovering = false;
+        } else {
+            self.grow(ack);
+        }
+    }
+
+    /// A duplicate without SACK, which is counted already (RFC 5681, section 3.2, steps 1 to 4).
+    fn take_plain_duplicate(&mut self, ack: Ack) -> Then
+        requires ack { IsAck ack }
+        requires outstanding { ack.una < ack.top }
+        ensures state { self.new ≡ (plain_duplicate ack self.old).0 }
+        ensures then { result ≡ (plain_duplicate ack self.old).1 }
+        ensures named { IsNamed ack result }
+    {
+        if self.dup_acks < 3 {
+            return self.transmit_limited(ack);
+        }
+        if self.dup_acks == 3 {
+            let half = self.half(ack);
+            self.cwnd = half + 3 * u32::from(ack.smss);
+            self.ssthresh = half;
+            self.recovering = true;
+            return Then::FastRetransmit(ack.first_outstanding());
+        }
+        self.widen(u32::from(ack.smss));
+        Then::Ordinary
+    }
+
+    /// Limited transmit without SACK (RFC 3042).
+    fn transmit_limited(&mut self, ack: Ack) -> Then
+        requires { IsAck ack }
+        ensures state { self.new ≡ (limited_transmit ack self.old).0 }
+        ensures then { result ≡ (limited_transmit ack self.old).1 }
+        ensures named { IsNamed ack result }
+    {
+        let Some(segment) = new_segment(ack.smss, ack.una, ack.top, ack.end, ack.rwnd) else {
+            return Then::Nothing;
+        };
+        if segment.end - ack.una > self.cwnd + 2 * u32::from(ack.smss) {
+            return Then::Nothing;
+        }
+        self.count_limited(segment.end - segment.start);
+        Then::NewSegment(segment)
+    }
+
+    /// Outside recovery new octets widen the window (RFC 5681, section 3.1, equations 2 and 3).
+    fn grow(&mut self, ack: Ack)
+        requires { IsAck ack }
+        ensures { self.new ≡ grown_by ack self.old }
+    {
+        if ack.acked > 0 {
+            let more = self.growth(ack.smss, ack.acked);
+            self.widen(more);
+        }
+    }
+
+    fn growth(&self, smss: u16, acked: u32) -> u32
+        requires { smss ≤ 65495 }
+        ensures { result ≡ growth smss acked self.now }
+    {
+        let smss = u32::from(smss);
+        if self.cwnd < self.ssthresh {
+            acked.min(smss)
+        } else {
+            (smss * smss / self.cwnd).max(1)
+        }
+    }
+
+    /// The window grows by this many octets.
+    fn widen(&mut self, octets: u32)
+        ensures { self.new ≡ widened octets self.old }
+    {
+        self.cwnd = self.cwnd.saturating_add(octets).min(MOST_WINDOW);
+    }
+
+    /// One more duplicate.
+    fn count(&mut self)
+        ensures { self.new ≡ counted self.old }
+    {
+        self.dup_acks = (self.dup_acks + 1).min(4);
+    }
+
+    /// Half of what is outstanding, without what limited transmit has sent (RFC 5681, section 3.1, equation 4).
+    fn half(&self, ack: Ack) -> u32
+        requires { IsAck ack }
+        ensures value { result ≡ half_of ack self.now }
+        ensures small { result ≤ 2 ^ 30 }
+    {
+        let flight = ack.top - ack.una;
+        (flight.saturating_sub(self.limited) / 2).max(2 * u32::from(ack.smss))
+    }
+}

@@ -1,0 +1,39 @@
+-- What holds of every timer that the rules reach.
+use Rattle.std.specs.Prelude.{◌≡◌, ℕ, ◌+◌, ◌≤◌, None, IsSomeAnd}
+use Rattle.pd_settings.specs.declared.fields.Settings.{Settings}
+use Rattle.pd_timer.specs.Timer.{Timer, initial, sampled, started, restarted, stopped, backed_off, reinitialized}
+
+-- a timer that goes by these settings, with its timeout within their bounds
+pub record GoesBy (settings : Settings) (t : Timer) : Type 0 where
+  pub least : t.min_rto_us ≡ settings.min_rto_us
+  pub greatest : t.max_rto_us ≡ settings.max_rto_us
+  pub not_below : settings.min_rto_us ≤ t.rto
+  pub not_above : t.rto ≤ settings.max_rto_us
+
+-- a rule keeps the timer's timeout within the bounds of the settings
+abbrev pub KeepsWithin : (Timer → Timer) → Type 0
+KeepsWithin rule = (settings : Settings) (t : Timer) → GoesBy settings t → GoesBy settings (rule t)
+
+-- the timeout lies within its bounds from the first on (RFC 6298, sections 2.4 and 2.5)
+pub record StaysWithin : Type 0 where
+  pub first : (settings : Settings) → GoesBy settings (initial settings.min_rto_us settings.max_rto_us)
+  pub measured : (r granularity : ℕ) → KeepsWithin (sampled r granularity)
+  pub start : (now : ℕ) → KeepsWithin (started now)
+  pub restart : (now : ℕ) → KeepsWithin (restarted now)
+  pub stop : KeepsWithin stopped
+  pub expiry : (now : ℕ) → KeepsWithin (backed_off now)
+  pub establishment : KeepsWithin reinitialized
+
+-- the timer runs, and expires at the moment or up to the greatest timeout behind it
+abbrev pub RunsFrom : ℕ → Timer → Type 0
+RunsFrom now t = IsSomeAnd t.deadline (λ moment. (now ≤ moment) × (moment ≤ now + t.max_rto_us))
+
+-- a deadline that is set lies at most the greatest timeout behind that moment (RFC 6298, section 2.5)
+pub record ExpiresInTime : Type 0 where
+  pub start : (now : ℕ) (t : Timer) → t.rto ≤ t.max_rto_us → t.deadline ≡ None → RunsFrom now (started now t)
+  pub restart : (now : ℕ) (t : Timer) → t.rto ≤ t.max_rto_us → RunsFrom now (restarted now t)
+  pub expiry : (now : ℕ) (t : Timer) → RunsFrom now (backed_off now t)
+
+-- a second expiry never comes sooner than the first did (RFC 6298, section 5.5: back off the timer)
+abbrev pub BacksOff : Type 0
+BacksOff = (now : ℕ) (t : Timer) → t.rto ≤ t.max_rto_us → t.rto ≤ (backed_off now t).rto

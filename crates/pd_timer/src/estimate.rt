@@ -1,0 +1,48 @@
+//! What was measured of the round trip.
+ghost use Rattle.std.specs.Prelude.{◌≡◌, ◌<◌, ◌^◌};
+ghost use Rattle.pd_timer.specs.Timer.{IsEstimate, first_estimate, next_estimate, timeout_of};
+
+/// SRTT and RTTVAR, the smoothed round-trip time and its variation, in microseconds (RFC 6298, section 2).
+#[derive(Clone, Copy)]
+pub struct Estimate {
+    pub srtt: u64,
+    pub rttvar: u64,
+}
+
+impl Estimate {
+    /// The estimate after the first measurement, in microseconds (RFC 6298, section 2.2).
+    pub fn first(time: u64) -> Estimate
+        requires { time < 2 ^ 62 }
+        ensures value { result ≡ first_estimate time }
+        ensures small { IsEstimate result }
+    {
+        Estimate {
+            srtt: time,
+            rttvar: time / 2,
+        }
+    }
+
+    /// The estimate after one more measurement, in microseconds (RFC 6298, section 2.3).
+    pub fn next(self, time: u64) -> Estimate
+        requires small { IsEstimate self }
+        requires time { time < 2 ^ 62 }
+        ensures value { result ≡ next_estimate time self }
+        ensures small { IsEstimate result }
+    {
+        let rttvar = (3 * self.rttvar + self.srtt.abs_diff(time)) / 4;
+        let srtt = (7 * u128::from(self.srtt) + u128::from(time)) / 8;
+        Estimate {
+            srtt: srtt as u64,
+            rttvar,
+        }
+    }
+
+    /// The timeout that the estimate gives with a clock of this granularity, in microseconds, before it is held
+    /// within its bounds (RFC 6298, sections 2.2 and 2.3).
+    pub fn timeout(self, granularity_us: u64) -> u128
+        requires { IsEstimate self }
+        ensures { result ≡ timeout_of granularity_us self }
+    {
+        u128::from(self.srtt) + u128::from(granularity_us.max(4 * self.rttvar))
+    }
+}

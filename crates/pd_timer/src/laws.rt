@@ -1,0 +1,9 @@
+//! Laws of the timer's rules: a function without code, whose contract is the laws.
+ghost use Rattle.pd_timer.specs.Laws.{StaysWithin, ExpiresInTime, BacksOff};
+
+/// What holds of the timer, whatever happens.
+pub fn timers_are_lawful()
+    ensures bounds { StaysWithin }
+    ensures deadlines { ExpiresInTime }
+    ensures expiries { BacksOff }
+{}

@@ -1,0 +1,156 @@
+//! The timer: its timeout, and the moment of the next expiry while it runs.
+ghost use Rattle.std.specs.Prelude.{◌≡◌, ◌<◌, ◌^◌};
+ghost use Rattle.pd_timer.specs.Timer.{IsTimer, initial, clamped, sampled, started, restarted, stopped, backed_off, reinitialized};
+
+use crate::estimate::Estimate;
+use pd_settings::Settings;
+use std::alloc::AllocError;
+use std::marker::Model;
+
+/// The timeout before any measurement, in microseconds (RFC 6298, section 2.1).
+const FIRST_TIMEOUT_US: u64 = 1_000_000;
+
+/// The timeout at establishment where the timer expired in the handshake, in microseconds (RFC 6298, section 5.7).
+const TIMEOUT_AFTER_HANDSHAKE_US: u64 = 3_000_000;
+
+/// The retransmission timer of one connection. Moments are microseconds since the start of the run.
+///
+/// No call takes memory.
+pub struct Rto {
+    estimate: Option<Estimate>,
+    rto: u64,
+    min_rto_us: u64,
+    max_rto_us: u64,
+    deadline: Option<u64>,
+}
+
+impl Model for Rto {
+    ghost use Rattle.pd_timer.specs.Timer.{Timer, IsBounded};
+
+    ghost Value = { Timer };
+
+    ghost view = { λ t. record { estimate = t.estimate; rto = t.rto; min_rto_us = t.min_rto_us; max_rto_us = t.max_rto_us; deadline = t.deadline } };
+
+    ghost invariant = { λ t. IsBounded t.estimate t.rto t.min_rto_us t.max_rto_us };
+
+    ghost inverse = { λ t. record { estimate = t.estimate; rto = t.rto; min_rto_us = t.min_rto_us; max_rto_us = t.max_rto_us; deadline = t.deadline } };
+}
+
+impl Clone for Rto {
+    fn clone(&self) -> Result<Self, AllocError> {
+        Ok(*self)
+    }
+}
+
+impl Copy for Rto {}
+
+/// A timeout within its bounds, in microseconds (RFC 6298, sections 2.4 and 2.5).
+fn clamp(timeout_us: u128, min_rto_us: u64, max_rto_us: u64) -> u64
+    ensures { result ≡ clamped min_rto_us max_rto_us timeout_us }
+{
+    timeout_us
+        .max(u128::from(min_rto_us))
+        .min(u128::from(max_rto_us)) as u64
+}
+
+impl Rto {
+    /// A timer that doesn't run, with the timeout that stands before any measurement. Of the settings it looks at
+    /// `min_rto_us` and `max_rto_us` alone.
+    pub fn new(settings: &Settings) -> Rto
+        ensures value { result ≡ initial settings.now.min_rto_us settings.now.max_rto_us }
+        ensures known { IsTimer result }
+    {
+        let _ranges = *settings;
+        Rto {
+            estimate: None,
+            rto: clamp(
+                u128::from(FIRST_TIMEOUT_US),
+                settings.min_rto_us,
+                settings.max_rto_us,
+            ),
+            min_rto_us: settings.min_rto_us,
+            max_rto_us: settings.max_rto_us,
+            deadline: None,
+        }
+    }
+
+    /// RTO, the retransmission timeout, in microseconds.
+    pub fn rto(&self) -> u64
+        ensures value { result ≡ self.now.rto }
+        ensures known { IsTimer self.now }
+    {
+        self.rto
+    }
+
+    /// The moment of the next expiry, while the timer runs.
+    pub fn deadline(&self) -> Option<u64>
+        ensures value { result ≡ self.now.deadline }
+        ensures known { IsTimer self.now }
+    {
+        self.deadline
+    }
+
+    /// Takes a measured round-trip time and the clock's granularity, both in microseconds (RFC 6298, sections 2.2
+    /// and 2.3).
+    pub fn sample(&mut self, time: u64, granularity_us: u64)
+        requires { time < 2 ^ 62 }
+        ensures { self.new ≡ sampled time granularity_us self.old }
+    {
+        let estimate = match self.estimate {
+            None => Estimate::first(time),
+            Some(estimate) => estimate.next(time),
+        };
+        self.estimate = Some(estimate);
+        self.rto = clamp(
+            estimate.timeout(granularity_us),
+            self.min_rto_us,
+            self.max_rto_us,
+        );
+    }
+
+    /// Octets were sent: the timer starts, unless it runs (RFC 6298, section 5.1).
+    pub fn start(&mut self, now: u64)
+        requires { now < 2 ^ 62 }
+        ensures { self.new ≡ started now self.old }
+    {
+        if self.deadline.is_none() {
+            self.restart(now);
+        }
+    }
+
+    /// New octets were acknowledged and others are outstanding: the timer starts anew (RFC 6298, section 5.3).
+    pub fn restart(&mut self, now: u64)
+        requires { now < 2 ^ 62 }
+        ensures { self.new ≡ restarted now self.old }
+    {
+        self.deadline = Some(now + self.rto);
+    }
+
+    /// The timer stops (RFC 6298, section 5.2).
+    pub fn stop(&mut self)
+        ensures { self.new ≡ stopped self.old }
+    {
+        self.deadline = None;
+    }
+
+    /// The timer expires: the timeout is doubled up to the greatest one, and the timer starts anew (RFC 6298,
+    /// sections 5.5 and 5.6).
+    pub fn expire(&mut self, now: u64)
+        requires { now < 2 ^ 62 }
+        ensures { self.new ≡ backed_off now self.old }
+    {
+        self.rto = (2 * self.rto).min(self.max_rto_us);
+        self.restart(now);
+    }
+
+    /// The timeout at establishment where the timer expired in the handshake (RFC 6298, section 5.7).
+    pub fn reinitialize(&mut self)
+        ensures { self.new ≡ reinitialized self.old }
+    {
+        self.rto = clamp(
+            u128::from(TIMEOUT_AFTER_HANDSHAKE_US),
+            self.min_rto_us,
+            self.max_rto_us,
+        );
+    }
+}
