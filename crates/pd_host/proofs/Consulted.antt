@@ -1,17 +1,21 @@
 -- Other settings that agree on all that was consulted give the same arrival.
 use Rattle.std.proofs.Common.{◌≡◌, ℕ, ◌&&◌, min, max, Bool, true, false, if◌then◌else◌, nat_lt, length, List, Option, None, Some, Result, Ok, Err, refl, sym, ap, ◌∙◌}
 use Rattle.std.specs.Option.{option_map, unwrap_or}
+use Rattle.pd_board.specs.Scoreboard.{opened}
+use Rattle.pd_recover.specs.Congestion as congestion
 use Rattle.pd_settings.specs.Uses.{Agree}
 use Rattle.pd_settings.specs.declared.fields.Settings.{Settings}
 use Rattle.pd_settings.specs.declared.use_set.UseSet.{UseSet}
 use Rattle.pd_seg.specs.declared.segments.Segment.{Segment}
 use Rattle.pd_seg.specs.declared.segments.Sent.{Sent}
-use Rattle.pd_host.specs.Arrivals.{ruled, arrived_on, ruling_of}
+use Rattle.pd_timer.specs.Timer.{initial, started}
+use Rattle.pd_host.specs.Arrivals.{ruled, arrived_on, ruling_of, with_connection}
 use Rattle.pd_host.specs.ControlBlock.{ControlBlock}
-use Rattle.pd_host.specs.Handshake.{is_opening, begun, answered_syn, window_in, syn_uses, establishment_uses, offered_mss, offered_count, offers_sack}
-use Rattle.pd_host.specs.Laws.{OnlyUsesMatter, rebound}
+use Rattle.pd_host.specs.Handshake.{is_opening, begun, answered_syn, established_by, window_in, syn_acked, syn_octet, syn_uses, establishment_uses, offered_mss, offered_count, offers_sack}
+use Rattle.pd_host.specs.InputLaws.{OnlyUsesMatter, rebound}
 use Rattle.pd_host.specs.Packets.{syn_ack_of}
 use Rattle.pd_host.specs.Sender.{beside, with_outbox, put_out}
+use Rattle.pd_host.specs.Timing.{with_sample, with_timer_settled}
 use Rattle.pd_host.specs.declared.endpoint.Endpoint.{Endpoint}
 use Rattle.pd_host.specs.declared.halts.Halt.{Halt}
 use Rattle.pd_host.specs.declared.halts.Halt.TheVariants.{Limit, Unsupported}
@@ -19,43 +23,41 @@ use Rattle.pd_host.specs.declared.rulings.Ruling.{Ruling}
 use Rattle.pd_host.specs.declared.rulings.Ruling.TheVariants.{NotRun, StrayRst, OutsideWindow, ExactRst, ChallengedRst, WithoutAck, FirstAck, RefusedAck, EarlyAck, OldAck}
 use Rattle.pd_host.specs.declared.sender_state.State.{State}
 use Rattle.pd_host.specs.declared.streams.Stream.TheVariants.{Waiting}
-
--- what came, with other settings held
-abbrev again : Settings → Result State Halt → Result State Halt
-again b (Ok t) = Ok (rebound b t)
-again b (Err halt) = Err halt
+use Rattle.pd_host.proofs.Rebound.{again, taken_again}
 
 -- the endpoint's rules know no settings
 beside_again : (b : Settings) (s : State) (r : Result Endpoint Halt) → beside (rebound b s) r ≡ again b (beside s r)
 beside_again b s (Ok e) = refl
 beside_again b s (Err halt) = refl
 
--- the connection that a SYN begins depends on four settings alone
-abbrev begun_with : ℕ → Bool → ℕ → ℕ → Segment → ControlBlock
-begun_with mss sack wscale rcv_wnd syn = record {
+-- the connection that a SYN begins depends on six settings alone
+abbrev begun_with : ℕ → Bool → ℕ → ℕ → ℕ → ℕ → ℕ → Segment → ControlBlock
+begun_with mss sack wscale rcv_wnd least greatest now syn = record {
   announced = mss;
-  smss = min mss (unwrap_or (offered_mss syn.options) 536);
   sack = sack && offers_sack syn.options;
   scaling = option_map (λ count. record { own = wscale; peer = min count 14 }) (offered_count syn.options);
   rcv_nxt = 1;
   rcv_wnd = rcv_wnd;
-  una = 0;
-  next = 1;
-  top = 1;
-  end = 1;
+  board = opened (min mss (unwrap_or (offered_mss syn.options) 536));
+  fin = false;
+  timer = started now (initial least greatest);
+  timed = Some (record { segment = syn_octet; sent_at = now });
   widest = syn.win;
   resent = false;
   established = None;
   reset = false;
 }
 
-begun_same : (a b : Settings) (syn : Segment) → a.mss ≡ b.mss → a.sack ≡ b.sack → a.wscale ≡ b.wscale → a.rcv_wnd ≡ b.rcv_wnd
-    → begun b syn ≡ begun a syn
-begun_same a b syn m k w r =
-    ap (λ (x : ℕ). begun_with x b.sack b.wscale b.rcv_wnd syn) (sym m)
-    ∙ ap (λ (x : Bool). begun_with a.mss x b.wscale b.rcv_wnd syn) (sym k)
-    ∙ ap (λ (x : ℕ). begun_with a.mss a.sack x b.rcv_wnd syn) (sym w)
-    ∙ ap (λ (x : ℕ). begun_with a.mss a.sack a.wscale x syn) (sym r)
+begun_same : (a b : Settings) (now : ℕ) (syn : Segment)
+    → a.mss ≡ b.mss → a.sack ≡ b.sack → a.wscale ≡ b.wscale → a.rcv_wnd ≡ b.rcv_wnd → a.min_rto_us ≡ b.min_rto_us → a.max_rto_us ≡ b.max_rto_us
+    → begun now b syn ≡ begun now a syn
+begun_same a b now syn m k w r least greatest =
+    ap (λ (x : ℕ). begun_with x b.sack b.wscale b.rcv_wnd b.min_rto_us b.max_rto_us now syn) (sym m)
+    ∙ ap (λ (x : Bool). begun_with a.mss x b.wscale b.rcv_wnd b.min_rto_us b.max_rto_us now syn) (sym k)
+    ∙ ap (λ (x : ℕ). begun_with a.mss a.sack x b.rcv_wnd b.min_rto_us b.max_rto_us now syn) (sym w)
+    ∙ ap (λ (x : ℕ). begun_with a.mss a.sack a.wscale x b.min_rto_us b.max_rto_us now syn) (sym r)
+    ∙ ap (λ (x : ℕ). begun_with a.mss a.sack a.wscale a.rcv_wnd x b.max_rto_us now syn) (sym least)
+    ∙ ap (λ (x : ℕ). begun_with a.mss a.sack a.wscale a.rcv_wnd a.min_rto_us x now syn) (sym greatest)
 
 -- what an answered SYN consulted
 syn_consults : (b : Bool) (packets : List Sent) (e : Endpoint) (s t : State)
@@ -65,26 +67,41 @@ syn_consults true packets e s t h = cc
 syn_consults false packets e s t h = absurd cc
 
 opening : (o : Bool) (segment : Segment) (now : ℕ) (s t : State) (b : Settings)
-    → (if o then answered_syn now (begun s.settings segment) s else Err Unsupported) ≡ Ok t
+    → (if o then answered_syn now (begun now s.settings segment) s else Err Unsupported) ≡ Ok t
     → Agree t.uses s.settings b
-    → (if o then answered_syn now (begun b segment) (rebound b s) else Err Unsupported)
-    ≡ again b (if o then answered_syn now (begun s.settings segment) s else Err Unsupported)
+    → (if o then answered_syn now (begun now b segment) (rebound b s) else Err Unsupported)
+    ≡ again b (if o then answered_syn now (begun now s.settings segment) s else Err Unsupported)
 opening true segment now s t b h agree =
-    let c : ControlBlock = begun s.settings segment in
+    let c : ControlBlock = begun now s.settings segment in
     let uses : t.uses ≡ syn_uses s.uses = syn_consults (nat_lt (length s.endpoint.outbox) 1024) _ (record s.endpoint { connection = Some c }) s t h in
-    let same : begun b segment ≡ c =
-    begun_same s.settings b segment (agree.mss (ap (λ (u : UseSet). u.mss) uses)) (agree.sack (ap (λ (u : UseSet). u.sack) uses)) (agree.wscale (ap (λ (u : UseSet). u.wscale) uses)) (agree.rcv_wnd (ap (λ (u : UseSet). u.rcv_wnd) uses)) in
+    let same : begun now b segment ≡ c =
+    begun_same s.settings b now segment (agree.mss (ap (λ (u : UseSet). u.mss) uses)) (agree.sack (ap (λ (u : UseSet). u.sack) uses)) (agree.wscale (ap (λ (u : UseSet). u.wscale) uses)) (agree.rcv_wnd (ap (λ (u : UseSet). u.rcv_wnd) uses)) (agree.min_rto_us (ap (λ (u : UseSet). u.min_rto_us) uses)) (agree.max_rto_us (ap (λ (u : UseSet). u.max_rto_us) uses)) in
     ap (λ (x : ControlBlock). answered_syn now x (rebound b s)) same
     ∙ beside_again b (record s { uses = syn_uses s.uses }) (put_out now (syn_ack_of c) (record s.endpoint { connection = Some c }))
 opening false segment now s t b h agree = refl
 
--- the establishment depends on one setting alone
-abbrev established_so : Bool → Segment → ControlBlock → ControlBlock
-established_so nagle segment c = record c {
-  una = 1;
+-- the establishment depends on three settings alone
+abbrev established_so : Bool → ℕ → ℕ → ℕ → Segment → ControlBlock → ControlBlock
+established_so nagle granularity threshold now segment c = record (with_timer_settled (with_sample now granularity 1 (syn_acked c))) {
   widest = max c.widest (window_in c segment);
-  established = Some (record { rwnd = window_in c segment; wl1 = segment.start; wl2 = segment.ack; nagle = nagle; stream = Waiting });
+  established = Some (record {
+    rwnd = window_in c segment;
+    wl1 = segment.start;
+    wl2 = segment.ack;
+    nagle = nagle;
+    granularity_us = granularity;
+    congestion = congestion.begun threshold c.board.smss c.resent;
+    stream = Waiting;
+  });
 }
+
+established_same : (a b : Settings) (now : ℕ) (segment : Segment) (c : ControlBlock)
+    → a.nagle ≡ b.nagle → a.granularity_us ≡ b.granularity_us → a.initial_ssthresh ≡ b.initial_ssthresh
+    → established_by now b segment c ≡ established_by now a segment c
+established_same a b now segment c n g i =
+    ap (λ (x : Bool). established_so x b.granularity_us b.initial_ssthresh now segment c) (sym n)
+    ∙ ap (λ (x : ℕ). established_so a.nagle x b.initial_ssthresh now segment c) (sym g)
+    ∙ ap (λ (x : ℕ). established_so a.nagle a.granularity_us x now segment c) (sym i)
 
 by_ruling : (r : Option Ruling) (segment : Segment) (now : ℕ) (s t : State) (c : ControlBlock) (b : Settings)
     → ruled now segment c s r ≡ Ok t
@@ -98,16 +115,17 @@ by_ruling (Some ChallengedRst) segment now s t c b h agree = beside_again b s _
 by_ruling (Some WithoutAck) segment now s t c b h agree = refl
 by_ruling (Some FirstAck) segment now s t c b h agree =
     let uses : t.uses ≡ establishment_uses s.uses = cc in
-    let same : b.nagle ≡ s.settings.nagle = sym (agree.nagle (ap (λ (u : UseSet). u.nagle) uses)) in
-    ap (λ (x : Bool). Ok (record s {
+    let same : established_by now b segment c ≡ established_by now s.settings segment c =
+    established_same s.settings b now segment c (agree.nagle (ap (λ (u : UseSet). u.nagle) uses)) (agree.granularity_us (ap (λ (u : UseSet). u.granularity_us) uses)) (agree.initial_ssthresh (ap (λ (u : UseSet). u.initial_ssthresh) uses)) in
+    ap (λ (x : ControlBlock). Ok (record s {
       settings = b;
       uses = establishment_uses s.uses;
-      endpoint = record s.endpoint { connection = Some (established_so x segment c) };
+      endpoint = with_connection x s.endpoint;
     })) same
 by_ruling (Some RefusedAck) segment now s t c b h agree = beside_again b s _
 by_ruling (Some EarlyAck) segment now s t c b h agree = beside_again b s _
 by_ruling (Some OldAck) segment now s t c b h agree = refl
-by_ruling None segment now s t c b h agree = refl
+by_ruling None segment now s t c b h agree = taken_again b now segment c s c.established
 
 on_connection : (o : Option ControlBlock) (segment : Segment) (now : ℕ) (s t : State) (b : Settings)
     → arrived_on now segment s o ≡ Ok t

@@ -1,66 +1,83 @@
 -- Nothing but an RST at RCV.NXT resets a connection.
-use Rattle.std.proofs.Common.{◌≡◌, ℕ, ◌==◌, Bool, true, false, if◌then◌else◌, nat_lt, max, length, List, ◌∷◌, [], Option, None, Some, Ok, Err, refl, sym, ap, ◌∙◌, arith}
+use Rattle.std.proofs.Common.{◌≡◌, ◌⊎◌, inl, inr, ℕ, ◌==◌, Bool, true, false, true≢false, if◌then◌else◌, nat_lt, length, List, ◌∷◌, [], Option, None, Some, Result, Ok, Err, refl, sym, ap, ◌∙◌, arith}
 use Rattle.std.proofs.lemmas.Bool.Decides.{nat_tests}
+use Rattle.pd_settings.specs.declared.fields.Settings.{Settings}
 use Rattle.pd_seg.specs.declared.segments.Segment.{Segment}
 use Rattle.pd_seg.specs.declared.segments.Sent.{Sent}
-use Rattle.pd_host.specs.Arrivals.{first_ruling, ruled, arrived_on, is_current, acknowledged, window_renewed, taken_by, ruling_of}
+use Rattle.pd_host.specs.Acknowledgments.{taking, taken}
+use Rattle.pd_host.specs.Arrivals.{first_ruling, ruled, arrived_on, ruling_of}
 use Rattle.pd_host.specs.ControlBlock.{ControlBlock}
-use Rattle.pd_host.specs.Handshake.{window_in, with_window, established_by}
-use Rattle.pd_host.specs.Laws.{OnlyAnExactRstResets}
+use Rattle.pd_host.specs.Handshake.{established_by, syn_acked}
+use Rattle.pd_host.specs.InputLaws.{OnlyAnExactRstResets}
 use Rattle.pd_host.specs.Sender.{beside, with_outbox}
+use Rattle.pd_host.specs.Sending.{with_block}
 use Rattle.pd_host.specs.declared.established.Established.{Established}
+use Rattle.pd_host.specs.declared.halts.Halt.{Halt}
 use Rattle.pd_host.specs.declared.halts.Halt.TheVariants.{Limit}
 use Rattle.pd_host.specs.declared.rulings.Ruling.{Ruling}
 use Rattle.pd_host.specs.declared.rulings.Ruling.TheVariants.{NotRun, StrayRst, OutsideWindow, ExactRst, ChallengedRst, WithoutAck, FirstAck, RefusedAck, EarlyAck, OldAck}
 use Rattle.pd_host.specs.declared.sender_state.State.{State}
-use Rattle.pd_host.proofs.Harmless.{given, outbox_keeps}
+use Rattle.pd_host.proofs.Outcomes.{Leaves, came, leaves_too}
+use Rattle.pd_host.proofs.SentOn.{IsSentOn, stills}
+use Rattle.pd_host.proofs.Taken.{taking_keeps, taken_sends, measured_keeps}
 
--- two connections of which one was reset aren't one
-not_same : (c d : ControlBlock) (x y : Option ControlBlock) → x ≡ Some c → y ≡ Some d → y ≡ x → c.reset ≡ false → d.reset ≡ true → ⊥
-not_same c d x y hx hy same still was = cc
+-- an RST has ended a connection
+abbrev was_reset : Option ControlBlock → Bool
+was_reset None = false
+was_reset (Some c) = c.reset
 
--- taking a segment resets nothing
-window_keeps : (b : Bool) (c d : ControlBlock) → c.reset ≡ d.reset → (if b then c else d).reset ≡ d.reset
-window_keeps true c d same = same
-window_keeps false c d same = refl
+abbrev IsLive : State → Type 0
+IsLive s = was_reset s.endpoint.connection ≡ false
 
-renewed_keeps : (segment : Segment) (c : ControlBlock) (o : Option Established) → (window_renewed segment c o).reset ≡ c.reset
-renewed_keeps segment c None = refl
-renewed_keeps segment c (Some e) =
-    window_keeps (is_current e segment)
-    (record c { widest = max c.widest (window_in c segment); established = Some (with_window (window_in c segment) segment e) }) c refl
+still_reset : (o : Option ControlBlock) → was_reset (stills o) ≡ was_reset o
+still_reset None = refl
+still_reset (Some c) = refl
 
-taken_keeps : (segment : Segment) (c : ControlBlock) → (taken_by segment c).reset ≡ c.reset
-taken_keeps segment c = renewed_keeps segment (acknowledged segment c) c.established
+-- sending resets nothing
+sent_live : (now : ℕ) (s t : State) → IsSentOn now s t → IsLive s → IsLive t
+sent_live now s t h live =
+    sym (still_reset t.endpoint.connection) ∙ ap was_reset h.connection ∙ still_reset s.endpoint.connection ∙ live
 
--- what leaves the connection resets nothing
-stays : (s t : State) (c d : ControlBlock) → s.endpoint.connection ≡ Some c → t.endpoint.connection ≡ Some d → c.reset ≡ false → d.reset ≡ true
-    → s ≡ t → ⊥
-stays s t c d hc hd still was same = not_same c d _ _ hc hd (ap (λ (u : State). u.endpoint.connection) (sym same)) still was
+-- nor does taking a segment
+taking_live : (now : ℕ) (segment : Segment) (c : ControlBlock) (o : Option Established) → (taking now segment c o).0.reset ≡ c.reset
+taking_live now segment c None = refl
+taking_live now segment c (Some e) = ap (λ (x : ControlBlock). x.reset) (taking_keeps now segment c e)
 
--- nor does a packet more
-answers : (s t : State) (c d : ControlBlock) (packets : List Sent) → s.endpoint.connection ≡ Some c → t.endpoint.connection ≡ Some d → c.reset ≡ false → d.reset ≡ true
-    → beside s (with_outbox s.endpoint (if nat_lt (length s.endpoint.outbox) 1024 then Ok packets else Err Limit)) ≡ Ok t → ⊥
-answers s t c d packets hc hd still was h = not_same c d _ _ hc hd (outbox_keeps (nat_lt (length s.endpoint.outbox) 1024) packets s t h) still was
+-- nor the end of the handshake
+established_live : (now : ℕ) (settings : Settings) (segment : Segment) (c : ControlBlock) → (established_by now settings segment c).reset ≡ c.reset
+established_live now settings segment c =
+    ap (λ (x : ControlBlock). x.reset) (measured_keeps now settings.granularity_us 1 (syn_acked c) (syn_acked c).timed)
+
+-- nor a packet more
+answers : (b : Bool) (packets : List Sent) (s : State) → IsLive s
+    → Leaves IsLive (beside s (with_outbox s.endpoint (if b then Ok packets else Err Limit)))
+answers true packets s live = live
+answers false packets s live = tt
 
 -- the ruling that resets
-resets : (r : Option Ruling) (segment : Segment) (now : ℕ) (s t : State) (c d : ControlBlock)
-    → s.endpoint.connection ≡ Some c → t.endpoint.connection ≡ Some d → c.reset ≡ false → d.reset ≡ true
-    → ruled now segment c s r ≡ Ok t
-    → r ≡ Some ExactRst
-resets (Some NotRun) segment now s t c d hc hd still was h = absurd cc
-resets (Some StrayRst) segment now s t c d hc hd still was h = absurd (stays s t c d hc hd still was (sym (given _ t h)))
-resets (Some OutsideWindow) segment now s t c d hc hd still was h = absurd (answers s t c d _ hc hd still was h)
-resets (Some ExactRst) segment now s t c d hc hd still was h = refl
-resets (Some ChallengedRst) segment now s t c d hc hd still was h = absurd (answers s t c d _ hc hd still was h)
-resets (Some WithoutAck) segment now s t c d hc hd still was h = absurd (stays s t c d hc hd still was (sym (given _ t h)))
-resets (Some FirstAck) segment now s t c d hc hd still was h =
-    absurd (not_same (established_by s.settings segment c) d _ _ refl hd (ap (λ (u : State). u.endpoint.connection) (given _ t h)) still was)
-resets (Some RefusedAck) segment now s t c d hc hd still was h = absurd (answers s t c d _ hc hd still was h)
-resets (Some EarlyAck) segment now s t c d hc hd still was h = absurd (answers s t c d _ hc hd still was h)
-resets (Some OldAck) segment now s t c d hc hd still was h = absurd (stays s t c d hc hd still was (sym (given _ t h)))
-resets None segment now s t c d hc hd still was h =
-    absurd (not_same (taken_by segment c) d _ _ refl hd (ap (λ (u : State). u.endpoint.connection) (given _ t h)) (taken_keeps segment c ∙ still) was)
+resets : (r : Option Ruling) (segment : Segment) (now : ℕ) (s : State) (c : ControlBlock) → c.reset ≡ false → IsLive s
+    → (r ≡ Some ExactRst) ⊎ Leaves IsLive (ruled now segment c s r)
+resets (Some NotRun) segment now s c still live = inr tt
+resets (Some StrayRst) segment now s c still live = inr live
+resets (Some OutsideWindow) segment now s c still live = inr (answers (nat_lt (length s.endpoint.outbox) 1024) _ s live)
+resets (Some ExactRst) segment now s c still live = inl refl
+resets (Some ChallengedRst) segment now s c still live = inr (answers (nat_lt (length s.endpoint.outbox) 1024) _ s live)
+resets (Some WithoutAck) segment now s c still live = inr live
+resets (Some FirstAck) segment now s c still live = inr (established_live now s.settings segment c ∙ still)
+resets (Some RefusedAck) segment now s c still live = inr (answers (nat_lt (length s.endpoint.outbox) 1024) _ s live)
+resets (Some EarlyAck) segment now s c still live = inr (answers (nat_lt (length s.endpoint.outbox) 1024) _ s live)
+resets (Some OldAck) segment now s c still live = inr live
+resets None segment now s c still live =
+    let left : State = with_block (taking now segment c c.established).0 s in
+    inr (leaves_too (IsSentOn now left) IsLive (taken now segment c s c.established)
+    (λ t h. sent_live now left t h (taking_live now segment c c.established ∙ still)) (taken_sends now segment c s c.established))
+
+-- an arrival that resets was ruled so
+was_exact : (r : Option Ruling) (x : Result State Halt) (t : State) (d : ControlBlock) → t.endpoint.connection ≡ Some d → d.reset ≡ true
+    → x ≡ Ok t → (r ≡ Some ExactRst) ⊎ Leaves IsLive x → r ≡ Some ExactRst
+was_exact r x t d hd was h (inl same) = same
+was_exact r x t d hd was h (inr live) =
+    absurd (true≢false (sym was ∙ sym (ap was_reset hd) ∙ came IsLive x t h live))
 
 -- the check that rules so
 at_rcv_nxt : (bad inside rst here flag shaken sent above below : Bool)
@@ -89,8 +106,11 @@ equal : (m n : ℕ) → (m == n) ≡ true → m ≡ n
 equal m n h = grind (arith, nat_tests)
 
 pub only_an_exact_rst_resets : OnlyAnExactRstResets
-only_an_exact_rst_resets segment now s t c d hc hd still was came =
-    let ruling : ruling_of c segment ≡ Some ExactRst = resets (ruling_of c segment) segment now s t c d hc hd still was (ap (arrived_on now segment s) (sym hc) ∙ came) in
+only_an_exact_rst_resets segment now s t c d hc hd still was h =
+    let arrives : ruled now segment c s (ruling_of c segment) ≡ Ok t = ap (arrived_on now segment s) (sym hc) ∙ h in
+    let ruling : ruling_of c segment ≡ Some ExactRst =
+    was_exact (ruling_of c segment) (ruled now segment c s (ruling_of c segment)) t d hd was arrives
+    (resets (ruling_of c segment) segment now s c still (ap was_reset hc ∙ still)) in
     let at : (segment.flags.rst ≡ true) × ((segment.start == c.rcv_nxt) ≡ true) =
     at_rcv_nxt _ _ segment.flags.rst (segment.start == c.rcv_nxt) _ _ _ _ _ ruling in
     (at.0, equal segment.start c.rcv_nxt at.1)

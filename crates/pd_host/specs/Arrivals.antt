@@ -1,15 +1,16 @@
 -- A segment that arrives: its checks in their order, and what each ruling does.
-use Rattle.std.specs.Prelude.{ℕ, ◌+◌, ◌==◌, nat_lt, nat_le, max, Bool, true, ◌&&◌, ◌||◌, List, [], ◌∷◌, Option, Some, None, is_some, Result, Ok, Err, if◌then◌else◌}
+use Rattle.std.specs.Prelude.{ℕ, ◌+◌, ◌==◌, nat_lt, nat_le, Bool, true, ◌&&◌, ◌||◌, List, [], ◌∷◌, Option, Some, None, is_some, Result, Ok, Err, if◌then◌else◌}
 use Rattle.pd_seg.specs.declared.segments.Segment.{Segment}
 use Rattle.pd_host.specs.declared.halts.Halt.{Halt}
 use Rattle.pd_host.specs.declared.halts.Halt.TheVariants.{Unsupported}
 use Rattle.pd_host.specs.declared.rulings.Ruling.{Ruling}
 use Rattle.pd_host.specs.declared.rulings.Ruling.TheVariants.{NotRun, StrayRst, OutsideWindow, ExactRst, ChallengedRst, WithoutAck, FirstAck, RefusedAck, EarlyAck, OldAck}
-use Rattle.pd_host.specs.Handshake.{length_of, opened_by, established_by, establishment_uses, window_in, with_window}
+use Rattle.pd_timer.specs.Timer.{stopped}
+use Rattle.pd_host.specs.Acknowledgments.{taken}
+use Rattle.pd_host.specs.Handshake.{length_of, opened_by, established_by, establishment_uses}
 use Rattle.pd_host.specs.Packets.{ack_of, refusal_of}
 use Rattle.pd_host.specs.ControlBlock.{ControlBlock}
 use Rattle.pd_host.specs.declared.endpoint.Endpoint.{Endpoint}
-use Rattle.pd_host.specs.declared.established.Established.{Established}
 use Rattle.pd_host.specs.declared.sender_state.State.{State}
 use Rattle.pd_host.specs.Sender.{beside, put_out}
 
@@ -43,14 +44,14 @@ check_ack_flag segment = if segment.flags.ack then None else Some WithoutAck
 abbrev pub check_handshake : ControlBlock → Segment → Option Ruling
 check_handshake c segment =
     if is_some c.established then None
-    else Some (if nat_lt c.una segment.ack && nat_le segment.ack c.top then FirstAck else RefusedAck)
+    else Some (if nat_lt c.board.una segment.ack && nat_le segment.ack c.board.top then FirstAck else RefusedAck)
 
 -- 6. an ACK of what wasn't sent is answered by an ACK and dropped; one below what is acknowledged is dropped (RFC 9293,
 -- section 3.10.7.4, fifth check, ESTABLISHED)
 abbrev pub check_ack : ControlBlock → Segment → Option Ruling
 check_ack c segment =
-    if nat_lt c.top segment.ack then Some EarlyAck
-    else if nat_lt segment.ack c.una then Some OldAck
+    if nat_lt c.board.top segment.ack then Some EarlyAck
+    else if nat_lt segment.ack c.board.una then Some OldAck
     else None
 
 -- the ruling of the first check that rules
@@ -70,33 +71,10 @@ ruling_of c segment = first_ruling (
     ∷ check_ack c segment
     ∷ [])
 
--- 7. all below the ack number is acknowledged (RFC 9293, section 3.10.7.4: SND.UNA), and is sent no more
-abbrev pub acknowledged : Segment → ControlBlock → ControlBlock
-acknowledged segment c = record c { una = segment.ack; next = max c.next segment.ack }
-
--- the segment is no older than the one that the window was taken from
-abbrev pub is_current : Established → Segment → Bool
-is_current e segment = nat_lt e.wl1 segment.start || (e.wl1 == segment.start && nat_le e.wl2 segment.ack)
-
--- the window is taken from the segment, where that is current
-abbrev pub window_renewed : Segment → ControlBlock → Option Established → ControlBlock
-window_renewed segment c None = c
-window_renewed segment c (Some e) =
-    if is_current e segment
-    then record c { widest = max c.widest (window_in c segment); established = Some (with_window (window_in c segment) segment e) }
-    else c
-
--- 9. the window is taken unless the segment is old (RFC 9293, section 3.10.7.4: SND.WL1 and SND.WL2)
-abbrev pub with_new_window : Segment → ControlBlock → ControlBlock
-with_new_window segment c = window_renewed segment c c.established
-
--- the connection after a segment that passed all checks: first its ack number, then its window
-abbrev pub taken_by : Segment → ControlBlock → ControlBlock
-taken_by segment c = with_new_window segment (acknowledged segment c)
-
--- an RST ends the connection for good (RFC 9293, section 3.10.7.4, second check; in the handshake too: own profile)
+-- an RST ends the connection for good (RFC 9293, section 3.10.7.4, second check; in the handshake too: own profile): its
+-- timer stops, and nothing is sent any more
 abbrev pub reset_of : ControlBlock → ControlBlock
-reset_of c = record c { reset = true }
+reset_of c = record c { reset = true; timer = stopped c.timer; timed = None }
 
 -- the endpoint with this connection
 abbrev pub with_connection : ControlBlock → Endpoint → Endpoint
@@ -112,12 +90,12 @@ ruled now segment c s (Some ChallengedRst) = beside s (put_out now (ack_of c) s.
 ruled now segment c s (Some WithoutAck) = Ok s
 ruled now segment c s (Some FirstAck) = Ok (record s {
   uses = establishment_uses s.uses;
-  endpoint = with_connection (established_by s.settings segment c) s.endpoint;
+  endpoint = with_connection (established_by now s.settings segment c) s.endpoint;
 })
 ruled now segment c s (Some RefusedAck) = beside s (put_out now (refusal_of segment.ack) s.endpoint)
 ruled now segment c s (Some EarlyAck) = beside s (put_out now (ack_of c) s.endpoint)
 ruled now segment c s (Some OldAck) = Ok s
-ruled now segment c s None = beside s (Ok (with_connection (taken_by segment c) s.endpoint))
+ruled now segment c s None = taken now segment c s c.established
 
 -- an arrival, by whether a connection was begun
 abbrev pub arrived_on : ℕ → Segment → State → Option ControlBlock → Result State Halt

@@ -1,6 +1,6 @@
 -- The table of calls: what each answers, and what it changes (own profile of POSIX's socket calls). Every call answers at
 -- once, as on a descriptor that doesn't block.
-use Rattle.std.specs.Prelude.{ℕ, ◌==◌, Bool, true, false, not, ◌&&◌, Option, Some, None, is_some, option_map, Result, Ok, Err, if◌then◌else◌}
+use Rattle.std.specs.Prelude.{ℕ, ◌-◌, ◌==◌, min, Bool, true, false, not, ◌&&◌, Option, Some, None, is_some, option_map, Result, Ok, Err, if◌then◌else◌}
 use Rattle.pd_script.specs.declared.calls.Call.{Call}
 use Rattle.pd_seg.specs.declared.answers.Answer.{Answer}
 use Rattle.pd_seg.specs.declared.answers.Answer.TheVariants.{Number, Error}
@@ -19,7 +19,10 @@ use Rattle.pd_host.specs.declared.requests.Request.TheVariants.{Socket, On}
 use Rattle.pd_host.specs.declared.streams.Stream.{Stream}
 use Rattle.pd_host.specs.declared.streams.Stream.TheVariants as stream
 use Rattle.pd_host.specs.Requests.{request_of}
+use Rattle.pd_settings.specs.declared.use_set.UseSet.{UseSet}
+use Rattle.pd_board.specs.Scoreboard.{written}
 use Rattle.pd_host.specs.ControlBlock.{ControlBlock}
+use Rattle.pd_host.specs.Sending.{ordinary_outside_recovery}
 use Rattle.pd_host.specs.declared.endpoint.Endpoint.{Endpoint}
 use Rattle.pd_host.specs.declared.sender_state.State.{State}
 
@@ -127,24 +130,62 @@ no_delay_reply s set Connected = answered (with_stored (option_map (with_nagle (
 abbrev pub idle_reply : State → Reply
 idle_reply s = answered s (Number 0)
 
--- whether the connection was reset
-abbrev pub is_reset : Option ControlBlock → Bool
-is_reset None = false
-is_reset (Some c) = c.reset
+-- an answer beside what a rule gives for the state
+abbrev pub with_answer : Answer → Result State Halt → Reply
+with_answer answer (Ok s) = Ok (s, answer)
+with_answer answer (Err halt) = Err halt
 
--- `write` at a moment: EINVAL on 3; on 4 only a count of 0 is run yet: EPIPE after a reset, else 0
+-- how many octets `write` may still queue, by the setting `sndbuf`
+abbrev pub free_of : ℕ → ControlBlock → ℕ
+free_of sndbuf c = sndbuf - (c.board.end - c.board.una)
+
+-- the connection with octets more queued
+abbrev pub with_queued : ℕ → ControlBlock → ControlBlock
+with_queued n c = record c { board = written n c.board }
+
+-- the settings that a `write` of some octets consults
+abbrev pub write_uses : UseSet → UseSet
+write_uses uses = record uses { sndbuf = true }
+
+-- octets are queued, as many as there is room for, and sent as the windows let them; without room EAGAIN
+abbrev pub queued : ℕ → ℕ → ℕ → ControlBlock → State → Reply
+queued now n free c s =
+    if free == 0 then answered s (Error Eagain)
+    else with_answer (Number (min n free)) (ordinary_outside_recovery now c (with_stored (Some (with_queued (min n free) c)) s))
+
+-- `write` on an open 4: EPIPE after a reset, 0 for no octets
+abbrev pub written_on : ℕ → ℕ → Option ControlBlock → State → Reply
+written_on now n None s = answered s (Error Ebadf)
+written_on now n (Some c) s =
+    if c.reset then answered s (Error Epipe)
+    else if n == 0 then answered s (Number 0)
+    else queued now n (free_of s.settings.sndbuf c) c (record s { uses = write_uses s.uses })
+
+-- `write` at a moment: EINVAL on 3
 abbrev pub write_reply : ℕ → State → ℕ → Descriptor → Reply
 write_reply now s n Listening = answered s (Error Einval)
-write_reply now s n Connected =
-    if not (n == 0) then Err Unsupported
-    else if is_reset s.endpoint.connection then answered s (Error Epipe)
-    else answered s (Number 0)
+write_reply now s n Connected = written_on now n s.endpoint.connection s
 
--- `close` at a moment: 0 on 3, but not while a connection was begun and isn't accepted; on 4 it isn't run yet
+-- our FIN is queued behind the data (RFC 9293, section 3.10.4)
+abbrev pub with_fin : ControlBlock → ControlBlock
+with_fin c = record (with_queued 1 c) { fin = true }
+
+-- the connection whose descriptor is closed; a FIN is queued unless it was reset
+abbrev pub closed_stream : ControlBlock → ControlBlock
+closed_stream c = with_stream stream.Closed (if c.reset then c else with_fin c)
+
+-- `close` on an open 4: 0, and the FIN is sent as the windows let it
+abbrev pub closed_on : ℕ → Option ControlBlock → State → Reply
+closed_on now None s = answered s (Error Ebadf)
+closed_on now (Some c) s =
+    let closed = with_stored (Some (closed_stream c)) s in
+    with_answer (Number 0) (if c.reset then Ok closed else ordinary_outside_recovery now c closed)
+
+-- `close` at a moment: 0 on 3, but not while a connection was begun and isn't accepted
 abbrev pub close_reply : ℕ → State → Descriptor → Reply
 close_reply now s Listening =
     if is_pending s.endpoint.connection then Err Unsupported else answered (with_listener Closed s) (Number 0)
-close_reply now s Connected = Err Unsupported
+close_reply now s Connected = closed_on now s.endpoint.connection s
 
 -- the row of an operation on an open descriptor
 abbrev pub operated : ℕ → State → Descriptor → Operation → Reply

@@ -17,6 +17,11 @@ use Rattle.pd_host.specs.declared.offers.Offers.{Offers}
 use Rattle.pd_host.specs.declared.scaling.Scaling.{Scaling}
 use Rattle.pd_host.specs.declared.streams.Stream.TheVariants.{Waiting}
 use Rattle.pd_host.specs.Packets.{peer_count, syn_ack_of}
+use Rattle.pd_seg.specs.declared.sack_blocks.Span.{Span}
+use Rattle.pd_board.specs.Scoreboard.{opened, acknowledged}
+use Rattle.pd_recover.specs.Congestion as congestion
+use Rattle.pd_timer.specs.Timer.{initial, started}
+use Rattle.pd_host.specs.Timing.{with_sample, with_timer_settled}
 use Rattle.pd_host.specs.ControlBlock.{ControlBlock}
 use Rattle.pd_host.specs.declared.sender_state.State.{State}
 use Rattle.pd_host.specs.Sender.{beside, put_out}
@@ -105,19 +110,23 @@ is_sack_agreed settings offers = settings.sack && offers.sack
 abbrev pub scaling_of : Settings → Offers → Option Scaling
 scaling_of settings offers = option_map (λ count. record { own = settings.wscale; peer = min count 14 }) offers.count
 
--- the connection after the SYN: our SYN is sent, and the SYN's own window isn't shifted (RFC 7323, section 2.2)
-abbrev pub begun : Settings → Segment → ControlBlock
-begun settings syn = record {
+-- the octet of our SYN
+abbrev pub syn_octet : Span
+syn_octet = record { start = 0; end = 1 }
+
+-- the connection after a SYN at a moment: our SYN is sent and timed (RFC 6298, section 5.1), and the SYN's own window isn't
+-- shifted (RFC 7323, section 2.2)
+abbrev pub begun : ℕ → Settings → Segment → ControlBlock
+begun now settings syn = record {
   announced = settings.mss;
-  smss = smss_of settings (offers_of syn.options);
   sack = is_sack_agreed settings (offers_of syn.options);
   scaling = scaling_of settings (offers_of syn.options);
   rcv_nxt = 1;
   rcv_wnd = settings.rcv_wnd;
-  una = 0;
-  next = 1;
-  top = 1;
-  end = 1;
+  board = opened (smss_of settings (offers_of syn.options));
+  fin = false;
+  timer = started now (initial settings.min_rto_us settings.max_rto_us);
+  timed = Some (record { segment = syn_octet; sent_at = now });
   widest = syn.win;
   resent = false;
   established = None;
@@ -126,7 +135,7 @@ begun settings syn = record {
 
 -- the settings that an answered SYN consults
 abbrev pub syn_uses : UseSet → UseSet
-syn_uses uses = record uses { mss = true; sack = true; wscale = true; rcv_wnd = true }
+syn_uses uses = record uses { mss = true; sack = true; wscale = true; rcv_wnd = true; min_rto_us = true; max_rto_us = true }
 
 -- the connection begins, and the SYN/ACK is put out
 abbrev pub answered_syn : ℕ → ControlBlock → State → Result State Halt
@@ -137,7 +146,7 @@ answered_syn now c s =
 abbrev pub opened_by : ℕ → Segment → State → Result State Halt
 opened_by now segment s =
     if is_opening s.endpoint.listener segment
-    then answered_syn now (begun s.settings segment) s
+    then answered_syn now (begun now s.settings segment) s
     else Err Unsupported
 
 -- the window that a later segment tells, shifted by the peer's count (RFC 7323, section 2.3)
@@ -148,26 +157,31 @@ window_in c segment = segment.win * 2 ^ peer_count c.scaling
 abbrev pub with_window : ℕ → Segment → Established → Established
 with_window window segment e = record e { rwnd = window; wl1 = segment.start; wl2 = segment.ack }
 
--- what a connection has from the end of its handshake on: the window, Nagle's algorithm as the setting says, and a
--- descriptor that `accept` has still to hand out
+-- what a connection has from the end of its handshake on: the window, Nagle's algorithm and the clock's granularity as the
+-- settings say, the initial congestion window (RFC 5681, section 3.1), and a descriptor that `accept` has still to hand out
 abbrev pub established_with : Settings → Segment → ControlBlock → Established
 established_with settings segment c = record {
   rwnd = window_in c segment;
   wl1 = segment.start;
   wl2 = segment.ack;
   nagle = settings.nagle;
+  granularity_us = settings.granularity_us;
+  congestion = congestion.begun settings.initial_ssthresh c.board.smss c.resent;
   stream = Waiting;
 }
 
--- the handshake is finished: our SYN is acknowledged, and the window is taken (RFC 9293, section 3.10.7.4, fifth check,
--- SYN-RECEIVED)
-abbrev pub established_by : Settings → Segment → ControlBlock → ControlBlock
-established_by settings segment c = record c {
-  una = 1;
+-- our SYN is acknowledged
+abbrev pub syn_acked : ControlBlock → ControlBlock
+syn_acked c = record c { board = acknowledged 1 c.board }
+
+-- the handshake is finished at a moment: our SYN is acknowledged, which gives the first sample unless it was sent again, the
+-- timer stops, and the window is taken (RFC 9293, section 3.10.7.4, fifth check, SYN-RECEIVED)
+abbrev pub established_by : ℕ → Settings → Segment → ControlBlock → ControlBlock
+established_by now settings segment c = record (with_timer_settled (with_sample now settings.granularity_us 1 (syn_acked c))) {
   widest = max c.widest (window_in c segment);
   established = Some (established_with settings segment c);
 }
 
 -- the settings that the establishment consults
 abbrev pub establishment_uses : UseSet → UseSet
-establishment_uses uses = record uses { nagle = true }
+establishment_uses uses = record uses { nagle = true; initial_ssthresh = true; granularity_us = true }

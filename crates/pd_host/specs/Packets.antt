@@ -1,11 +1,12 @@
 -- The segments that the handshake and its checks put out.
-use Rattle.std.specs.Prelude.{ℕ, ◌/◌, ◌^◌, min, Bool, true, false, List, [], ◌∷◌, ◌++◌, Option, Some, None}
+use Rattle.std.specs.Prelude.{ℕ, ◌/◌, ◌^◌, min, nat_lt, nat_le, ◌&&◌, Bool, true, false, List, [], ◌∷◌, ◌++◌, Option, Some, None}
 use Rattle.pd_seg.specs.declared.control_bits.Flags.{Flags}
 use Rattle.pd_seg.specs.declared.option_list.SegOption.{SegOption}
 use Rattle.pd_seg.specs.declared.option_list.SegOption.TheVariants.{Mss, Wscale, SackOk, Nop}
+use Rattle.pd_seg.specs.declared.sack_blocks.Span.{Span}
 use Rattle.pd_seg.specs.declared.segments.Segment.{Segment}
 use Rattle.pd_host.specs.declared.scaling.Scaling.{Scaling}
-use Rattle.pd_host.specs.ControlBlock.{ControlBlock}
+use Rattle.pd_host.specs.ControlBlock.{ControlBlock, data_end}
 
 -- a segment without flags
 abbrev pub no_flags : Flags
@@ -30,8 +31,27 @@ shifted_window c = min (c.rcv_wnd / 2 ^ own_count c.scaling) 65535
 abbrev pub ack_of : ControlBlock → Segment
 ack_of c = record {
   flags = record no_flags { ack = true };
-  start = c.top;
-  end = c.top;
+  start = c.board.top;
+  end = c.board.top;
+  ack = c.rcv_nxt;
+  win = shifted_window c;
+  options = [];
+}
+
+-- the segment covers our FIN, the last octet queued
+abbrev pub covers_fin : ControlBlock → Span → Bool
+covers_fin c segment = c.fin && (nat_lt segment.start c.board.end && nat_le c.board.end segment.end)
+
+-- it carries the last octet of data that is queued (RFC 9293, section 3.9.1.2: PUSH)
+abbrev pub ends_data : ControlBlock → Span → Bool
+ends_data c segment = nat_lt segment.start (data_end c) && nat_le (data_end c) segment.end
+
+-- a segment with these octets of data; our FIN has no part in its written end and length (RFC 9293, section 3.4)
+abbrev pub data_of : ControlBlock → Span → Segment
+data_of c segment = record {
+  flags = record no_flags { fin = covers_fin c segment; psh = ends_data c segment; ack = true };
+  start = segment.start;
+  end = min segment.end (data_end c);
   ack = c.rcv_nxt;
   win = shifted_window c;
   options = [];

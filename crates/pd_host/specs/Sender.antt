@@ -1,9 +1,10 @@
 -- The sender: what it holds between two inputs, and how a rule changes that or halts.
-use Rattle.std.specs.Prelude.{ℕ, nat_lt, List, [], ◌∷◌, ◌++◌, length, drop, Option, Some, None, unwrap_or, Result, Ok, Err, if◌then◌else◌}
+use Rattle.std.specs.Prelude.{ℕ, ◌<◌, ◌^◌, nat_lt, List, [], ◌∷◌, ◌++◌, length, drop, Option, Some, None, unwrap_or, Result, Ok, Err, if◌then◌else◌}
 use Rattle.pd_settings.specs.Uses.{no_uses}
 use Rattle.pd_settings.specs.declared.fields.Settings.{Settings}
 use Rattle.pd_seg.specs.declared.segments.Segment.{Segment}
 use Rattle.pd_seg.specs.declared.segments.Sent.{Sent}
+use Rattle.pd_host.specs.ControlBlock.{ControlBlock}
 use Rattle.pd_host.specs.declared.endpoint.Endpoint.{Endpoint}
 use Rattle.pd_host.specs.declared.halts.Halt.{Halt}
 use Rattle.pd_host.specs.declared.halts.Halt.TheVariants.{Limit}
@@ -16,6 +17,15 @@ use Rattle.pd_host.specs.declared.sender_state.State.{State}
 pub record Sender : Type 0 where
   pub state : State
   pub ended : Option Ending
+
+-- the number after the last octet that a connection has queued, 0 without one
+abbrev pub queued_to : Option ControlBlock → ℕ
+queued_to None = 0
+queued_to (Some c) = c.board.end
+
+-- what is queued leaves room for all that one call queues
+abbrev pub IsShort : State → Type 0
+IsShort s = queued_to s.endpoint.connection < 2 ^ 30
 
 -- an endpoint that nothing has happened to
 abbrev pub fresh_endpoint : Endpoint
@@ -68,11 +78,3 @@ end_of sender = unwrap_or sender.ended OutOfMemory
 -- a sender for which no memory was found has ended
 abbrev pub exhausted : Sender → Sender
 exhausted sender = record sender { ended = Some (end_of sender) }
-
--- the moment of the next expiry: there is no timer yet
-abbrev pub deadline_of : State → Option ℕ
-deadline_of s = None
-
--- all expiries up to a moment: there are none yet
-abbrev pub advanced : ℕ → State → Result State Halt
-advanced until s = Ok s

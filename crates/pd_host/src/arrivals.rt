@@ -1,5 +1,5 @@
 //! A segment that arrives.
-ghost use Rattle.std.specs.Prelude.{◌≡◌};
+ghost use Rattle.std.specs.Prelude.{◌≡◌, ◌<◌, ◌^◌};
 ghost use Rattle.pd_host.specs.Arrivals.{arrived};
 ghost use Rattle.pd_host.specs.Handshake.{is_syn_alone, is_opening, opened_by};
 ghost use Rattle.pd_host.specs.Outcome.{Gives};
@@ -19,6 +19,7 @@ const NOT_RUN: Ending = Ending::Halted(Halt::Unsupported);
 impl State {
     /// A segment arrives at a moment: the first one, or one on the connection that was begun.
     pub fn arrive(&mut self, segment: &Segment, now: u64) -> Result<(), Ending>
+        requires early { now < 2 ^ 62 }
         ensures { Gives (arrived segment.now now self.old) result self.new }
     {
         let Some(connection) = &mut self.endpoint.connection else {
@@ -37,7 +38,7 @@ impl State {
                 Ok(())
             }
             Some(Ruling::FirstAck) => {
-                connection.establish(&self.settings, segment);
+                connection.establish(&self.settings, segment, now);
                 self.uses = with_establishment(self.uses);
                 Ok(())
             }
@@ -46,22 +47,23 @@ impl State {
                 outbox.put_out(rst, now)
             }
             None => {
-                connection.acknowledge(segment);
-                connection.take_new_window(segment);
-                Ok(())
+                let then = connection.take(segment, now)?;
+                self.respond(then, now)
             }
         }
     }
 
     /// The first segment begins the connection, or isn't run.
     fn open(&mut self, segment: &Segment, now: u64) -> Result<(), Ending>
+        requires early { now < 2 ^ 62 }
         ensures { Gives (opened_by now segment.now self.old) result self.new }
     {
         if !is_opening(self.endpoint.listener, segment) {
             return Err(NOT_RUN);
         }
-        let connection = Connection::begin(&self.settings, segment);
-        let syn_ack = connection.syn_ack(self.endpoint.outbox.allocator())?;
+        let alloc = self.endpoint.outbox.allocator();
+        let connection = Connection::begin(alloc, &self.settings, segment, now);
+        let syn_ack = connection.syn_ack(alloc)?;
         self.uses = with_syn(self.uses);
         self.endpoint.connection = Some(connection);
         self.endpoint.outbox.put_out(syn_ack, now)

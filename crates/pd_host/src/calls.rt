@@ -1,7 +1,8 @@
 //! The table of calls.
-ghost use Rattle.std.specs.Prelude.{◌≡◌, Ok};
-ghost use Rattle.pd_host.specs.Calls.{opened, is_stream_open, is_pending, is_reset, socket_reply, bind_reply, listen_reply, accept_reply, handed_out, no_delay_reply, write_reply, close_reply, operated, reply_to};
+ghost use Rattle.std.specs.Prelude.{◌≡◌, ◌<◌, ◌^◌, Ok};
+ghost use Rattle.pd_host.specs.Calls.{opened, is_stream_open, is_pending, socket_reply, bind_reply, listen_reply, accept_reply, handed_out, no_delay_reply, write_reply, close_reply, closed_on, operated, reply_to};
 ghost use Rattle.pd_host.specs.Outcome.{GivesAnswer};
+ghost use Rattle.pd_host.specs.Sender.{IsShort};
 
 use crate::descriptors::Descriptor;
 use crate::endpoint::Endpoint;
@@ -9,6 +10,7 @@ use crate::halts::{Ending, Halt};
 use crate::listeners::Listener;
 use crate::requests::{Operation, Request};
 use crate::sender_state::State;
+use crate::uses::with_write;
 use pd_seg::{Answer, Errno};
 
 /// The number of the listening descriptor.
@@ -54,20 +56,13 @@ impl Endpoint {
             Some(connection) => connection.stream().is_waiting(),
         }
     }
-
-    fn is_reset(&self) -> bool
-        ensures { result ≡ is_reset self.now.connection }
-    {
-        match &self.connection {
-            None => false,
-            Some(connection) => connection.is_reset(),
-        }
-    }
 }
 
 impl State {
     /// Answers a request at a moment. A descriptor that isn't open answers EBADF, before all else.
     pub fn call(&mut self, request: Request, now: u64) -> Result<Answer, Ending>
+        requires early { now < 2 ^ 62 }
+        requires short { IsShort self.old }
         ensures { GivesAnswer (reply_to now self.old request) result self.new }
     {
         match request {
@@ -86,6 +81,8 @@ impl State {
         operation: Operation,
         now: u64,
     ) -> Result<Answer, Ending>
+        requires early { now < 2 ^ 62 }
+        requires short { IsShort self.old }
         ensures { GivesAnswer (operated now self.old descriptor operation) result self.new }
     {
         match operation {
@@ -171,25 +168,40 @@ impl State {
         DONE
     }
 
-    fn write(&mut self, descriptor: Descriptor, n: u64, _now: u64) -> Result<Answer, Ending>
-        ensures { GivesAnswer (write_reply _now self.old n descriptor) result self.new }
+    fn write(&mut self, descriptor: Descriptor, n: u64, now: u64) -> Result<Answer, Ending>
+        requires early { now < 2 ^ 62 }
+        requires short { IsShort self.old }
+        ensures { GivesAnswer (write_reply now self.old n descriptor) result self.new }
     {
-        match descriptor {
-            Descriptor::Listening => Ok(Answer::Error(Errno::Einval)),
-            Descriptor::Connected => {
-                if n > 0 {
-                    Err(NOT_RUN)
-                } else if self.endpoint.is_reset() {
-                    Ok(Answer::Error(Errno::Epipe))
-                } else {
-                    Ok(DONE)
-                }
-            }
+        let Descriptor::Connected = descriptor else {
+            return Ok(Answer::Error(Errno::Einval));
+        };
+        let Some(connection) = &mut self.endpoint.connection else {
+            return Ok(Answer::Error(Errno::Ebadf));
+        };
+        if connection.is_reset() {
+            return Ok(Answer::Error(Errno::Epipe));
         }
+        if n == 0 {
+            return Ok(DONE);
+        }
+        self.uses = with_write(self.uses);
+        let free = connection.free(self.settings.sndbuf);
+        if free == 0 {
+            return Ok(Answer::Error(Errno::Eagain));
+        }
+        let count = n.min(u64::from(free)) as u32;
+        connection.queue(count);
+        if !connection.is_recovering() {
+            self.send(now)?;
+        }
+        Ok(Answer::Number(count))
     }
 
-    fn close(&mut self, descriptor: Descriptor, _now: u64) -> Result<Answer, Ending>
-        ensures { GivesAnswer (close_reply _now self.old descriptor) result self.new }
+    fn close(&mut self, descriptor: Descriptor, now: u64) -> Result<Answer, Ending>
+        requires early { now < 2 ^ 62 }
+        requires short { IsShort self.old }
+        ensures { GivesAnswer (close_reply now self.old descriptor) result self.new }
     {
         match descriptor {
             Descriptor::Listening => {
@@ -200,7 +212,26 @@ impl State {
                     Ok(DONE)
                 }
             }
-            Descriptor::Connected => Err(NOT_RUN),
+            Descriptor::Connected => self.close_stream(now),
         }
+    }
+
+    /// Descriptor 4 is closed, and a FIN queued and sent unless the connection was reset.
+    fn close_stream(&mut self, now: u64) -> Result<Answer, Ending>
+        requires early { now < 2 ^ 62 }
+        requires short { IsShort self.old }
+        ensures { GivesAnswer (closed_on now self.old.endpoint.connection self.old) result self.new }
+    {
+        let Some(connection) = &mut self.endpoint.connection else {
+            return Ok(Answer::Error(Errno::Ebadf));
+        };
+        connection.close();
+        if !connection.is_reset() {
+            connection.queue_fin();
+            if !connection.is_recovering() {
+                self.send(now)?;
+            }
+        }
+        Ok(DONE)
     }
 }

@@ -1,22 +1,32 @@
 //! A connection: what was agreed, the numbers that it sends by, and how far it has come.
-ghost use Rattle.std.specs.Prelude.{◌≡◌, ◌≤◌, is_some};
-ghost use Rattle.pd_host.specs.Arrivals.{acknowledged, with_new_window, reset_of};
-ghost use Rattle.pd_host.specs.Calls.{stream_of, with_stream, with_nagle};
+ghost use Rattle.std.specs.Prelude.{◌≡◌, ◌+◌, ◌≤◌, ◌<◌, ◌^◌, true, is_some};
+ghost use Rattle.pd_host.specs.Arrivals.{reset_of};
+ghost use Rattle.pd_host.specs.Calls.{stream_of, with_stream, with_nagle, free_of, with_queued, with_fin};
 ghost use Rattle.pd_host.specs.ControlBlock.{IsScalable};
-ghost use Rattle.pd_host.specs.Handshake.{smss_of, scaling_of, begun, window_in, established_by};
-ghost use Rattle.pd_host.specs.declared.streams.Stream.TheVariants.{Open as StreamOpen};
+ghost use Rattle.pd_host.specs.Handshake.{offered_mss, is_mss_run, smss_of, scaling_of, begun, window_in, established_by};
+ghost use Rattle.pd_host.specs.Sending.{is_recovering};
+ghost use Rattle.pd_host.specs.declared.streams.Stream.TheVariants.{Open as StreamOpen, Closed as StreamClosed};
 ghost use Rattle.pd_host.specs.Packets.{peer_count};
 
+mod acknowledgments;
 mod checks;
+mod expiring;
 mod packets;
+mod sending;
+mod timing;
 
 use crate::established::Established;
 use crate::offers::Offers;
 use crate::scaling::Scaling;
 use crate::streams::Stream;
+use crate::timings::Timing;
 pub use packets::refusal;
-use pd_seg::Segment;
+use pd_board::Board;
+use pd_recover::Cong;
+use pd_seg::{Segment, Span};
 use pd_settings::Settings;
+use pd_timer::Rto;
+use std::alloc::Global;
 use std::marker::Model;
 
 /// The MSS of a peer that names none, in octets (RFC 9293, section 3.7.1).
@@ -29,15 +39,14 @@ const MOST_SHIFT: u8 = 14;
 #[derive(Drop)]
 pub struct Connection {
     announced: u16,
-    smss: u16,
     sack: bool,
     scaling: Option<Scaling>,
     rcv_nxt: u32,
     rcv_wnd: u32,
-    una: u32,
-    next: u32,
-    top: u32,
-    end: u32,
+    board: Board,
+    fin: bool,
+    timer: Rto,
+    timed: Option<Timing>,
     widest: u32,
     resent: bool,
     established: Option<Established>,
@@ -45,13 +54,13 @@ pub struct Connection {
 }
 
 impl Model for Connection {
-    ghost use Rattle.pd_host.specs.ControlBlock.{ControlBlock, IsControlled};
+    ghost use Rattle.pd_host.specs.ControlBlock.{ControlBlock, IsConnection};
 
     ghost Value = { ControlBlock };
 
-    ghost view = { λ c. record { announced = c.announced; smss = c.smss; sack = c.sack; scaling = c.scaling; rcv_nxt = c.rcv_nxt; rcv_wnd = c.rcv_wnd; una = c.una; next = c.next; top = c.top; end = c.end; widest = c.widest; resent = c.resent; established = c.established; reset = c.reset } };
+    ghost view = { λ c. record { announced = c.announced; sack = c.sack; scaling = c.scaling; rcv_nxt = c.rcv_nxt; rcv_wnd = c.rcv_wnd; board = c.board; fin = c.fin; timer = c.timer; timed = c.timed; widest = c.widest; resent = c.resent; established = c.established; reset = c.reset } };
 
-    ghost invariant = { λ c. IsControlled c.una c.next c.top c.end c.scaling };
+    ghost invariant = { λ c. IsConnection c.scaling c.board.una c.established };
 }
 
 /// By how much the windows that the peer sends are shifted.
@@ -68,7 +77,10 @@ fn peer_count(scaling: Option<Scaling>) -> u8
 
 /// The greatest segment that is sent to a peer that offers this, in octets.
 fn smss_of(settings: &Settings, offers: Offers) -> u16
-    ensures { result ≡ smss_of settings.now offers }
+    requires { is_mss_run offers.mss ≡ true }
+    ensures value { result ≡ smss_of settings.now offers }
+    ensures low { 64 ≤ result }
+    ensures high { result ≤ 65495 }
 {
     settings.mss.min(offers.mss.unwrap_or(DEFAULT_MSS))
 }
@@ -87,22 +99,28 @@ fn scaling_of(settings: &Settings, offers: Offers) -> Option<Scaling>
 }
 
 impl Connection {
-    /// The connection that a SYN begins; our SYN counts as sent.
-    pub fn begin(settings: &Settings, syn: &Segment) -> Connection
-        ensures { result ≡ begun settings.now syn.now }
+    /// The connection that a SYN begins at a moment; our SYN counts as sent.
+    pub fn begin(alloc: Global, settings: &Settings, syn: &Segment, now: u64) -> Connection
+        requires early { now < 2 ^ 62 }
+        requires run { is_mss_run (offered_mss syn.now.options) ≡ true }
+        ensures { result ≡ begun now settings.now syn.now }
     {
         let offers = Offers::of(syn.options.as_slice());
+        let mut timer = Rto::new(settings);
+        timer.start(now);
         Connection {
             announced: settings.mss,
-            smss: smss_of(settings, offers),
             sack: settings.sack && offers.sack,
             scaling: scaling_of(settings, offers),
             rcv_nxt: 1,
             rcv_wnd: settings.rcv_wnd,
-            una: 0,
-            next: 1,
-            top: 1,
-            end: 1,
+            board: Board::new(alloc, smss_of(settings, offers)),
+            fin: false,
+            timer,
+            timed: Some(Timing {
+                segment: Span { start: 0, end: 1 },
+                sent_at: now,
+            }),
             widest: u32::from(syn.win),
             resent: false,
             established: None,
@@ -110,43 +128,27 @@ impl Connection {
         }
     }
 
-    /// The handshake is finished by this segment.
-    pub fn establish(&mut self, settings: &Settings, segment: &Segment)
-        ensures { self.new ≡ established_by settings.now segment.now self.old }
+    /// The handshake is finished by this segment at a moment.
+    pub fn establish(&mut self, settings: &Settings, segment: &Segment, now: u64)
+        requires early { now < 2 ^ 62 }
+        requires begun { self.old.board.una ≤ 1 }
+        requires sent { 1 ≤ self.old.board.top }
+        ensures { self.new ≡ established_by now settings.now segment.now self.old }
     {
         let window = self.window_in(segment);
-        self.una = 1;
+        self.board.take_ack(1);
+        self.sample(now, settings.granularity_us, 1);
+        self.settle_timer();
         self.widest = self.widest.max(window);
         self.established = Some(Established {
             rwnd: window,
             wl1: segment.start,
             wl2: segment.ack,
             nagle: settings.nagle,
+            granularity_us: settings.granularity_us,
+            congestion: Cong::new(settings, self.board.smss(), self.resent),
             stream: Stream::Waiting,
         });
-    }
-
-    /// The ack number of a segment that passed all checks is taken.
-    pub fn acknowledge(&mut self, segment: &Segment)
-        requires known { self.old.una ≤ segment.now.ack }
-        requires sent { segment.now.ack ≤ self.old.top }
-        ensures { self.new ≡ acknowledged segment.now self.old }
-    {
-        self.una = segment.ack;
-        self.next = self.next.max(segment.ack);
-    }
-
-    /// The window of such a segment is taken, unless the segment is old.
-    pub fn take_new_window(&mut self, segment: &Segment)
-        ensures { self.new ≡ with_new_window segment.now self.old }
-    {
-        let window = self.window_in(segment);
-        if let Some(established) = &mut self.established {
-            if established.is_current(segment) {
-                established.take_window(segment, window);
-                self.widest = self.widest.max(window);
-            }
-        }
     }
 
     /// The window that a segment tells, in octets.
@@ -161,6 +163,8 @@ impl Connection {
         ensures { self.new ≡ reset_of self.old }
     {
         self.reset = true;
+        self.timer.stop();
+        self.timed = None;
     }
 
     /// `accept` hands out the connection.
@@ -178,6 +182,48 @@ impl Connection {
     {
         if let Some(established) = &mut self.established {
             established.nagle = on;
+        }
+    }
+
+    /// How many octets `write` may still queue, by the setting `sndbuf`.
+    pub fn free(&self, sndbuf: u32) -> u32
+        ensures { result ≡ free_of sndbuf self.now }
+    {
+        sndbuf.saturating_sub(self.board.end() - self.board.una())
+    }
+
+    /// Queues octets.
+    pub fn queue(&mut self, count: u32)
+        requires small { self.old.board.end + count < 2 ^ 31 }
+        ensures { self.new ≡ with_queued count self.old }
+    {
+        self.board.write(count);
+    }
+
+    /// Queues our FIN behind them.
+    pub fn queue_fin(&mut self)
+        requires small { self.old.board.end + 1 < 2 ^ 31 }
+        ensures { self.new ≡ with_fin self.old }
+    {
+        self.board.write(1);
+        self.fin = true;
+    }
+
+    /// `close` closes descriptor 4.
+    pub fn close(&mut self)
+        ensures { self.new ≡ with_stream StreamClosed self.old }
+    {
+        if let Some(established) = &mut self.established {
+            established.stream = Stream::Closed;
+        }
+    }
+
+    pub fn is_recovering(&self) -> bool
+        ensures { result ≡ is_recovering self.now.established }
+    {
+        match &self.established {
+            None => false,
+            Some(established) => established.congestion.is_recovering(),
         }
     }
 

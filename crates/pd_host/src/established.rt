@@ -1,13 +1,14 @@
 //! What a connection has from the end of its handshake on.
 ghost use Rattle.std.specs.Prelude.{◌≡◌};
-ghost use Rattle.pd_host.specs.Arrivals.{is_current};
+ghost use Rattle.pd_host.specs.Acknowledgments.{is_current};
 ghost use Rattle.pd_host.specs.Handshake.{with_window};
 
 use crate::streams::Stream;
+use pd_recover::Cong;
 use pd_seg::Segment;
 
 /// What a connection has from the end of its handshake on.
-#[derive(Clone, Copy, PartialEq, Eq)]
+#[derive(Clone, Copy)]
 pub struct Established {
     /// SND.WND: the peer's window, in octets (RFC 9293, section 3.3.1).
     pub rwnd: u32,
@@ -17,6 +18,10 @@ pub struct Established {
     pub wl2: u32,
     /// Whether Nagle's algorithm is on (RFC 9293, section 3.7.4).
     pub nagle: bool,
+    /// The clock's granularity, in microseconds (RFC 6298, section 2).
+    pub granularity_us: u64,
+    /// The congestion window, and what loss recovery keeps (RFC 5681, RFC 6675).
+    pub congestion: Cong,
     /// Descriptor 4.
     pub stream: Stream,
 }

@@ -3,7 +3,8 @@ ghost use Rattle.std.specs.Prelude.{◌≡◌, ◌<◌, ◌^◌, slice_get};
 ghost use Rattle.pd_host.specs.Arrivals.{arrived};
 ghost use Rattle.pd_host.specs.Calls.{called};
 ghost use Rattle.pd_host.specs.Outcome.{Goes, Answers};
-ghost use Rattle.pd_host.specs.Sender.{fresh, advanced, deadline_of, without_oldest, exhausted, end_of};
+ghost use Rattle.pd_host.specs.Expiries.{advanced, deadline_of};
+ghost use Rattle.pd_host.specs.Sender.{IsShort, fresh, without_oldest, exhausted, end_of};
 
 use crate::endpoint::Endpoint;
 use crate::halts::{Ending, Halt};
@@ -52,9 +53,10 @@ impl Host {
     ///
     /// # Errors
     ///
-    /// `Halted` for a call that isn't run.
+    /// `Halted` for a call that isn't run, and where more than 1,024 packets would stand untaken.
     pub fn call(&mut self, call: &Call, now: u64) -> Result<Answer, Ending>
         requires early { now < 2 ^ 62 }
+        requires short { IsShort self.old.state }
         ensures { Answers self.old (called call.now now) result self.new }
     {
         if let Some(ending) = self.ended {
@@ -94,7 +96,10 @@ impl Host {
     {
         match self.ended {
             Some(ending) => Err(ending),
-            None => Ok(()),
+            None => match self.state.advance(until) {
+                Ok(()) => Ok(()),
+                Err(halted) => Err(self.end(halted)),
+            },
         }
     }
 
@@ -102,7 +107,7 @@ impl Host {
     pub fn deadline(&self) -> Option<u64>
         ensures { result ≡ deadline_of self.now.state }
     {
-        None
+        self.state.deadline()
     }
 
     /// The packets that were put out and not yet taken.

@@ -1,5 +1,12 @@
 //! Laws of the rules: functions without code, whose contracts are the laws.
-ghost use Rattle.pd_host.specs.Laws.{OutsideIsHarmless, OnlyAnExactRstResets, PutsOutBehind, OnlyUsesMatter, CallsKeepTheOutbox, StartsUpToDate, AdvancesKeepUp, ArrivalsKeepUp, CallsKeepUp, TakingKeepsUp};
+ghost use Rattle.pd_host.specs.Growth.{ExpiriesQueueNothing, ArrivalsQueueOurSyn, CallsQueueWhatTheyAsk};
+ghost use Rattle.pd_host.specs.Laws.{StartsUpToDate, AdvancesKeepUp, ArrivalsKeepUp, CallsKeepUp, TakingKeepsUp};
+ghost use Rattle.pd_host.specs.Invariants.{StartsLawful, AdvancesStayLawful, ArrivalsStayLawful, CallsStayLawful, TakingStaysLawful, BoardsAreScoreboards, CallsStayInRange, EndsForGood};
+ghost use Rattle.pd_host.specs.InputLaws.{OutsideIsHarmless, OnlyAnExactRstResets, PutsOutBehind, OnlyUsesMatter, CallsPutOutBehind, CallsOnlyUse, AdvancesPutOutBehind, AdvancesUseNone};
+ghost use Rattle.pd_host.specs.SendingLaws.{ControlsFlow, StaysInWindow, ControlsCongestion, KeepsToWindow, SendsAllThatMay, TimesOnce, MeasuresWhatIsSentOnce, EndsWithFin, SparesWhatArrived, EndsRecovery};
+
+use pd_recover::recovery_is_lawful;
+use pd_timer::timers_are_lawful;
 
 /// What holds of every segment that arrives, whatever the checks and their order.
 pub fn arrivals_are_lawful()
@@ -11,8 +18,31 @@ pub fn arrivals_are_lawful()
 
 /// What holds of every call, whatever it asks.
 pub fn calls_are_lawful()
-    ensures outbox { CallsKeepTheOutbox }
+    ensures packets { CallsPutOutBehind }
+    ensures settings { CallsOnlyUse }
 {}
+
+/// What holds of all expiries up to a moment.
+pub fn advances_are_lawful()
+    ensures packets { AdvancesPutOutBehind }
+    ensures settings { AdvancesUseNone }
+{}
+
+/// What holds of all that is sent, whatever came in.
+pub fn sending_is_lawful()
+    ensures flow { ControlsFlow }
+    ensures window { StaysInWindow }
+    ensures congestion { ControlsCongestion }
+    ensures room { KeepsToWindow }
+    ensures all { SendsAllThatMay }
+    ensures timing { TimesOnce }
+    ensures measured { MeasuresWhatIsSentOnce }
+    ensures fin { EndsWithFin }
+    ensures sacked { SparesWhatArrived }
+    ensures recovery { EndsRecovery }
+{
+    recovery_is_lawful();
+}
 
 /// At which moments packets left and the next expiry lies, whatever came in.
 pub fn moments_are_lawful()
@@ -21,4 +51,28 @@ pub fn moments_are_lawful()
     ensures arrivals { ArrivalsKeepUp }
     ensures calls { CallsKeepUp }
     ensures taking { TakingKeepsUp }
+{
+    timers_are_lawful();
+}
+
+/// What holds of every state that the rules reach, whatever came in.
+pub fn states_are_lawful()
+    ensures start { StartsLawful }
+    ensures advances { AdvancesStayLawful }
+    ensures arrivals { ArrivalsStayLawful }
+    ensures calls { CallsStayLawful }
+    ensures taking { TakingStaysLawful }
+    ensures boards { BoardsAreScoreboards }
+    ensures range { CallsStayInRange }
+    ensures resets { EndsForGood }
+{
+    timers_are_lawful();
+    recovery_is_lawful();
+}
+
+/// How much an input queues at most.
+pub fn growth_is_lawful()
+    ensures expiries { ExpiriesQueueNothing }
+    ensures arrivals { ArrivalsQueueOurSyn }
+    ensures calls { CallsQueueWhatTheyAsk }
 {}

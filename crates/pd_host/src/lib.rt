@@ -1,12 +1,14 @@
 //! The TCP sender: what it answers to calls and to segments that arrive, and which packets it puts out when.
 #![tactic(auto)]
 
+mod acknowledgments;
 mod arrivals;
 mod calls;
 mod connection;
 mod descriptors;
 mod endpoint;
 mod established;
+mod expiries;
 mod halts;
 mod host;
 mod laws;
@@ -17,11 +19,16 @@ mod requests;
 mod rulings;
 mod scaling;
 mod sender_state;
+mod sending;
 mod streams;
+mod timings;
 mod uses;
 
 pub use halts::{Ending, Halt};
 pub use host::Host;
-pub use laws::{arrivals_are_lawful, calls_are_lawful, moments_are_lawful};
+pub use laws::{
+    advances_are_lawful, arrivals_are_lawful, calls_are_lawful, growth_is_lawful,
+    moments_are_lawful, sending_is_lawful, states_are_lawful,
+};
 pub use outbox::Outbox;
 pub use requests::{Operation, Request, is_run};

@@ -53,7 +53,7 @@ impl Outbox {
     }
 
     /// Whether no further packet may be put out.
-    pub fn is_full(&self) -> bool
+    fn is_full(&self) -> bool
         ensures { result ≡ nat_le 1024 (length self.now) }
     {
         self.packets.len() >= MOST_PACKETS

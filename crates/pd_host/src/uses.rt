@@ -1,5 +1,6 @@
 //! Which settings the sender consults when.
 ghost use Rattle.std.specs.Prelude.{◌≡◌};
+ghost use Rattle.pd_host.specs.Calls.{write_uses};
 ghost use Rattle.pd_host.specs.Handshake.{syn_uses, establishment_uses};
 
 use pd_settings::UseSet;
@@ -13,6 +14,8 @@ pub fn with_syn(uses: UseSet) -> UseSet
         sack: true,
         wscale: true,
         rcv_wnd: true,
+        min_rto_us: true,
+        max_rto_us: true,
         ..uses
     }
 }
@@ -23,6 +26,18 @@ pub fn with_establishment(uses: UseSet) -> UseSet
 {
     UseSet {
         nagle: true,
+        initial_ssthresh: true,
+        granularity_us: true,
+        ..uses
+    }
+}
+
+/// With the one that a `write` of some octets consults.
+pub fn with_write(uses: UseSet) -> UseSet
+    ensures { result ≡ write_uses uses }
+{
+    UseSet {
+        sndbuf: true,
         ..uses
     }
 }

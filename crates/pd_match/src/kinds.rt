@@ -1,7 +1,7 @@
 //! The ways in which an event can fail.
 
 /// What failed in an event.
-#[derive(Clone, Copy, Debug, PartialEq, Eq)]
+#[derive(Clone, Copy, PartialEq, Eq)]
 pub enum Kind {
     /// The packet was sent too early or too late.
     Time,

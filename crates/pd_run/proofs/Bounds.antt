@@ -15,9 +15,10 @@ use Rattle.pd_seg.specs.declared.segments.Segment.{Segment}
 use Rattle.pd_seg.specs.declared.segments.Sent.{Sent}
 use Rattle.pd_host.specs.Arrivals.{arrived}
 use Rattle.pd_host.specs.Calls.{called}
-use Rattle.pd_host.specs.Laws.{AreInOrder, IsUpTo, AdvancesKeepUp, ArrivalsKeepUp, CallsKeepUp, TakingKeepsUp}
+use Rattle.pd_host.specs.Laws.{AreInOrder, IsUpTo}
 use Rattle.pd_host.specs.Outcome.{Goes, GoesFrom, Answers, AnswersFrom}
-use Rattle.pd_host.specs.Sender.{Sender, then_on, advanced, deadline_of, without_oldest}
+use Rattle.pd_host.specs.Expiries.{advanced, deadline_of}
+use Rattle.pd_host.specs.Sender.{Sender, then_on, without_oldest}
 use Rattle.pd_host.specs.declared.halts.Halt.{Halt}
 use Rattle.pd_host.specs.declared.sender_state.State.{State}
 use Rattle.pd_match.specs.Calls.{result_mismatch}
@@ -25,7 +26,8 @@ use Rattle.pd_match.specs.Packets.{mismatch}
 use Rattle.pd_match.specs.declared.kinds.Kind.{Kind}
 use Rattle.pd_match.specs.declared.kinds.Kind.TheVariants.{Missing, Backwards}
 use Rattle.pd_run.specs.Inbound.{segment_in}
-use Rattle.pd_run.specs.Limits.{is_long, written_times, is_over_limit}
+use Rattle.pd_run.specs.Laws.{SenderIsLawful}
+use Rattle.pd_run.specs.Limits.{is_long, written_times, written_until, is_action_over, is_over_limit}
 use Rattle.pd_run.specs.Shapes.{is_run}
 use Rattle.pd_run.specs.Step.{Running, IsUpToDate, on_step, judged, with_state, acts_at, acted, arrives, on_arrival, answers, on_answer, on_expiry, expires, awaited, taken, performed, step}
 use Rattle.pd_run.specs.Times.{is_single, moment_of, moments_of, is_backwards, is_in_reach, base_after}
@@ -39,13 +41,6 @@ pub record IsWithin (n : ℕ) (r : Running) : Type 0 where
   pub base : r.base ≤ n
   pub up_to : IsUpTo r.clock r.host.state
 
--- the laws of the sender's moments
-pub record Moments : Type 0 where
-  pub advances : AdvancesKeepUp
-  pub arrivals : ArrivalsKeepUp
-  pub calls : CallsKeepUp
-  pub taking : TakingKeepsUp
-
 -- where a refusal comes first, an `Ok` means that it didn't
 let_through : (b : Bool) (v : Verdict) (rest : Result Running Verdict) (s : Running)
     → (if b then Err v else rest) ≡ Ok s → (b ≡ false) × (rest ≡ Ok s)
@@ -55,6 +50,14 @@ let_through false v rest s h = (refl, h)
 or_false : (a b : Bool) → (a || b) ≡ false → a ≡ false
 or_false true b h = absurd cc
 or_false false b h = refl
+
+or_false_last : (a b : Bool) → (a || b) ≡ false → b ≡ false
+or_false_last true b h = absurd cc
+or_false_last false b h = h
+
+-- where no number of an event is over its limit, none of its action is
+pub action_within : (e : Event) → is_over_limit e ≡ false → is_action_over e.action ≡ false
+action_within e h = or_false_last (list_any is_long (written_times e.time) || list_any is_long (written_until e.until)) (is_action_over e.action) h
 
 -- a time within its limit lies at most 3,600 seconds after the base, or after the start
 moment_within : (base : ℕ) (time : Time) → list_any is_long (written_times time) ≡ false → moment_of base time ≤ base + 3600000000
@@ -80,18 +83,18 @@ agreed line r s None h = given r s h
 agreed line r s (Some kind) h = absurd cc
 
 -- an `Ok` of two rules is one of each
-both : {A B : Type 0} (next : A → Result B Halt) (came : Result A Halt) (t : B) → then_on next came ≡ Ok t → (s : A) × (came ≡ Ok s) × (next s ≡ Ok t)
+pub both : {A B : Type 0} (next : A → Result B Halt) (came : Result A Halt) (t : B) → then_on next came ≡ Ok t → (s : A) × (came ≡ Ok s) × (next s ≡ Ok t)
 both next (Ok s) t h = (s, refl, h)
 both next (Err halt) t h = absurd cc
 
 -- a packet that arrives, and a call, after all expiries up to a later moment
-pub arrival_keeps_up : Moments → (segment : Segment) (clock moment : ℕ) (s t : State) → clock ≤ moment → IsUpTo clock s
+pub arrival_keeps_up : SenderIsLawful → (segment : Segment) (clock moment : ℕ) (s t : State) → clock ≤ moment → IsUpTo clock s
     → then_on (arrived segment moment) (advanced moment s) ≡ Ok t → IsUpTo moment t
 arrival_keeps_up laws segment clock moment s t le up h =
     let came = both (arrived segment moment) (advanced moment s) t h in
     laws.arrivals segment moment came.0 t (laws.advances clock moment s came.0 le up came.1) came.2
 
-pub call_keeps_up : Moments → (call : Call) (clock moment : ℕ) (s t : State) (answer : Answer) → clock ≤ moment → IsUpTo clock s
+pub call_keeps_up : SenderIsLawful → (call : Call) (clock moment : ℕ) (s t : State) (answer : Answer) → clock ≤ moment → IsUpTo clock s
     → then_on (called call moment) (advanced moment s) ≡ Ok (t, answer) → IsUpTo moment t
 call_keeps_up laws call clock moment s t answer le up h =
     let came = both (called call moment) (advanced moment s) (t, answer) h in
@@ -105,28 +108,44 @@ answers_on : (old new : Sender) (rule : State → Result (State × Answer) Halt)
 answers_on old new rule a live h = let told : AnswersFrom None old rule (Ok a) new = subst (λ o. AnswersFrom o old rule (Ok a) new) live h in told.0
 
 -- so the sender is up to date at the moment of the packet, and of the call
-pub host_after_arrival : Moments → (old new : Sender) (segment : Segment) (clock moment : ℕ) (u : Unit {0})
+pub host_after_arrival : SenderIsLawful → (old new : Sender) (segment : Segment) (clock moment : ℕ) (u : Unit {0})
     → IsUpToDate old clock → old.ended ≡ None → clock ≤ moment
     → Goes old (λ s. then_on (arrived segment moment) (advanced moment s)) (Ok u) new
     → IsUpToDate new moment
 host_after_arrival laws old new segment clock moment u up live le h =
     λ _. arrival_keeps_up laws segment clock moment old.state new.state le (up live) (goes_on old new (λ s. then_on (arrived segment moment) (advanced moment s)) u live h)
 
-pub host_after_call : Moments → (old new : Sender) (call : Call) (clock moment : ℕ) (answer : Answer)
+pub host_after_call : SenderIsLawful → (old new : Sender) (call : Call) (clock moment : ℕ) (answer : Answer)
     → IsUpToDate old clock → old.ended ≡ None → clock ≤ moment
     → Answers old (λ s. then_on (called call moment) (advanced moment s)) (Ok answer) new
     → IsUpToDate new moment
 host_after_call laws old new call clock moment answer up live le h =
     λ _. call_keeps_up laws call clock moment old.state new.state answer le (up live) (answers_on old new (λ s. then_on (called call moment) (advanced moment s)) answer live h)
 
+-- where the next expiry lies
+ahead : (clock most at : ℕ) (o : Option ℕ) → IfSome o (λ x. (clock < x) × (x ≤ clock + most)) → o ≡ Some at → (clock < at) × (at ≤ clock + most)
+ahead clock most at None h is = absurd cc
+ahead clock most at (Some x) h is = let same : x ≡ at = cc in subst (λ (y : ℕ). (clock < y) × (y ≤ clock + most)) same h
+
+-- it lies at most an hour ahead
+due : (clock at : ℕ) (s : State) → IsUpTo clock s → deadline_of s ≡ Some at → (clock < at) × (at ≤ clock + 3600000000)
+due clock at s up is =
+    let reach : (clock < at) × (at ≤ clock + s.settings.max_rto_us) = ahead clock s.settings.max_rto_us at (deadline_of s) up.deadline is in
+    let most : s.settings.max_rto_us ≤ 3600000000 = s.settings.max_rto_us_in_range.1 in
+    (reach.0, omega (arith, reach.1, most))
+
+-- and the sender is up to date there
+pub host_after_expiry : SenderIsLawful → (old new : Sender) (clock at : ℕ) (u : Unit {0})
+    → IsUpToDate old clock → old.ended ≡ None → deadline_of old.state ≡ Some at
+    → Goes old (advanced at) (Ok u) new
+    → IsUpToDate new at
+host_after_expiry laws old new clock at u up live is h =
+    let reach : (clock < at) × (at ≤ clock + 3600000000) = due clock at old.state (up live) is in
+    λ _. laws.advances clock at old.state new.state (omega (arith, reach.0)) (up live) (goes_on old new (advanced at) u live h)
+
 -- an event acts at the clock or later
 pub acts_later : (r : Running) (e : Event) (clock moment : ℕ) → clock ≡ r.clock → moment ≡ acts_at r e → clock ≤ moment
 acts_later r e clock moment same is = omega (arith, same, is)
-
--- where the next expiry lies
-pub ahead : (clock most at : ℕ) (o : Option ℕ) → IfSome o (λ x. (clock < x) × (x ≤ clock + most)) → o ≡ Some at → (clock < at) × (at ≤ clock + most)
-ahead clock most at None h is = absurd cc
-ahead clock most at (Some x) h is = let same : x ≡ at = cc in subst (λ (y : ℕ). (clock < y) × (y ≤ clock + most)) same h
 
 oldest : (n : ℕ) (packets : List Sent) (p : Sent) → AreInOrder n packets → slice_get packets 0 ≡ Some p → p.at ≤ n
 oldest n [] p h is = absurd cc
@@ -140,7 +159,7 @@ acted_within n r e t within moment up =
     let clock : r.clock ≤ n = within.clock in
     record { live = within.live; clock = omega arith; base = moment; up_to = up }
 
-arrival_within : Moments → (n : ℕ) (r s : Running) (e : Event) (p : Packet) (came : Result State Halt) → arrives r e p ≡ came
+arrival_within : SenderIsLawful → (n : ℕ) (r s : Running) (e : Event) (p : Packet) (came : Result State Halt) → arrives r e p ≡ came
     → IsWithin n r → moment_of r.base e.time ≤ n + 3600000000
     → on_arrival r e came ≡ Ok s → IsWithin (n + 3600000000) s
 arrival_within laws n r s e p (Ok t) is within moment h =
@@ -148,7 +167,7 @@ arrival_within laws n r s e p (Ok t) is within moment h =
     (acted_within n r e t within moment (arrival_keeps_up laws (segment_in p) r.clock (acts_at r e) r.host.state t (omega arith) within.up_to is))
 arrival_within laws n r s e p (Err halt) is within moment h = absurd cc
 
-answer_within : Moments → (n : ℕ) (r s : Running) (e : Event) (call : Call) (came : Result (State × Answer) Halt) → answers r e call ≡ came
+answer_within : SenderIsLawful → (n : ℕ) (r s : Running) (e : Event) (call : Call) (came : Result (State × Answer) Halt) → answers r e call ≡ came
     → IsWithin n r → moment_of r.base e.time ≤ n + 3600000000
     → on_answer r e call came ≡ Ok s → IsWithin (n + 3600000000) s
 answer_within laws n r s e call (Ok (t, a)) is within moment h =
@@ -157,7 +176,7 @@ answer_within laws n r s e call (Ok (t, a)) is within moment h =
 answer_within laws n r s e call (Err halt) is within moment h = absurd cc
 
 -- after a packet that was taken
-taken_within : Moments → (n : ℕ) (r s : Running) (e : Event) (p : Packet) (first : Option Sent) → slice_get r.host.state.endpoint.outbox 0 ≡ first
+taken_within : SenderIsLawful → (n : ℕ) (r s : Running) (e : Event) (p : Packet) (first : Option Sent) → slice_get r.host.state.endpoint.outbox 0 ≡ first
     → IsWithin n r → moment_of r.base e.time ≤ n
     → taken e p r first ≡ Ok s → IsWithin n s
 taken_within laws n r s e p None is within moment h = absurd cc
@@ -177,34 +196,32 @@ taken_within laws n r s e p (Some sent) is within moment h =
 abbrev Waited : ℕ → Running → Running → Type 0
 Waited n r s = IsWithin (n + 3600000000) s × (s.base ≡ r.base)
 
-expired : Moments → (n at : ℕ) (r s : Running) (e : Event) (came : Result State Halt) → advanced at r.host.state ≡ came
+expired : SenderIsLawful → (n at : ℕ) (r s : Running) (e : Event) (came : Result State Halt) → advanced at r.host.state ≡ came
     → deadline_of r.host.state ≡ Some at → IsWithin n r → on_expiry r e at came ≡ Ok s → Waited n r s
-expired laws n at r s e (Ok t) is due within h =
+expired laws n at r s e (Ok t) is is_due within h =
     let clock : r.clock ≤ n = within.clock in
     let base : r.base ≤ n = within.base in
-    let most : r.host.state.settings.max_rto_us ≤ 3600000000 = r.host.state.settings.max_rto_us_in_range.1 in
-    let reach : (r.clock < at) × (at ≤ r.clock + r.host.state.settings.max_rto_us) =
-    ahead r.clock r.host.state.settings.max_rto_us at (deadline_of r.host.state) within.up_to.deadline due in
+    let reach : (r.clock < at) × (at ≤ r.clock + 3600000000) = due r.clock at r.host.state within.up_to is_due in
     subst (Waited n r) (given (record (with_state r t) { clock = at }) s h) (
       record {
         live = within.live;
-        clock = omega (arith, clock, most, reach.1);
+        clock = omega (arith, clock, reach.1);
         base = omega (arith, base);
         up_to = laws.advances r.clock at r.host.state t (omega (arith, reach.0)) within.up_to is;
       },
       refl,
     )
-expired laws n at r s e (Err halt) is due within h = absurd cc
+expired laws n at r s e (Err halt) is is_due within h = absurd cc
 
 pub in_reach : (b : Bool) (line : ℕ) (x : Result Running Verdict) (s : Running) → (if b then x else Err (Fail line Missing)) ≡ Ok s → x ≡ Ok s
 in_reach true line x s h = h
 in_reach false line x s h = absurd cc
 
-expires_within : Moments → (n : ℕ) (r s : Running) (e : Event) (o : Option ℕ) → deadline_of r.host.state ≡ o
+expires_within : SenderIsLawful → (n : ℕ) (r s : Running) (e : Event) (o : Option ℕ) → deadline_of r.host.state ≡ o
     → IsWithin n r → expires r e o ≡ Ok s → Waited n r s
-expires_within laws n r s e None due within h = absurd cc
-expires_within laws n r s e (Some at) due within h =
-    expired laws n at r s e (advanced at r.host.state) refl due within
+expires_within laws n r s e None is_due within h = absurd cc
+expires_within laws n r s e (Some at) is_due within h =
+    expired laws n at r s e (advanced at r.host.state) refl is_due within
     (in_reach (is_in_reach (moments_of r.base e.time) r.tolerance at) e.line (on_expiry r e at (advanced at r.host.state)) s h)
 
 later : (n : ℕ) (r : Running) → IsWithin n r → IsWithin (n + 3600000000) r
@@ -213,12 +230,12 @@ later n r within =
     let base : r.base ≤ n = within.base in
     record { live = within.live; clock = omega arith; base = omega arith; up_to = within.up_to }
 
-awaited_within : Moments → (n : ℕ) (r s : Running) (e : Event) (empty : Bool) → IsWithin n r
+awaited_within : SenderIsLawful → (n : ℕ) (r s : Running) (e : Event) (empty : Bool) → IsWithin n r
     → (if empty then expires r e (deadline_of r.host.state) else Ok r) ≡ Ok s → Waited n r s
 awaited_within laws n r s e true within h = expires_within laws n r s e (deadline_of r.host.state) refl within h
 awaited_within laws n r s e false within h = subst (Waited n r) (given r s h) (later n r within, refl)
 
-leaves_within : Moments → (n : ℕ) (r s : Running) (e : Event) (p : Packet) (came : Result Running Verdict) → awaited r e ≡ came
+leaves_within : SenderIsLawful → (n : ℕ) (r s : Running) (e : Event) (p : Packet) (came : Result Running Verdict) → awaited r e ≡ came
     → IsWithin n r → moment_of r.base e.time ≤ n + 3600000000
     → on_step (λ q. taken e p q (slice_get q.host.state.endpoint.outbox 0)) (λ v. Err v) came ≡ Ok s
     → IsWithin (n + 3600000000) s
@@ -228,7 +245,7 @@ leaves_within laws n r s e p (Ok t) is within moment h =
     (subst (λ (b : ℕ). moment_of b e.time ≤ n + 3600000000) (sym waited.1) moment) h
 leaves_within laws n r s e p (Err v) is within moment h = absurd cc
 
-performed_within : Moments → (n : ℕ) (r s : Running) (e : Event) (action : Action)
+performed_within : SenderIsLawful → (n : ℕ) (r s : Running) (e : Event) (action : Action)
     → IsWithin n r → moment_of r.base e.time ≤ n + 3600000000 → performed r e action ≡ Ok s → IsWithin (n + 3600000000) s
 performed_within laws n r s e (Inbound p) within moment h = arrival_within laws n r s e p (arrives r e p) refl within moment h
 performed_within laws n r s e (Outbound p) within moment h = leaves_within laws n r s e p (awaited r e) refl within moment h
@@ -247,15 +264,18 @@ step_performs r s e h =
     let_through (is_backwards r.base e.time) (Fail e.line Backwards) (performed r e e.action) s shape.1 in
     onwards.1
 
--- its times are within their limits
-step_short : (r s : Running) (e : Event) → step r e ≡ Ok s → list_any is_long (written_times e.time) ≡ false
-step_short r s e h =
+-- its numbers are within their limits
+pub step_unlimited : (r s : Running) (e : Event) → step r e ≡ Ok s → is_over_limit e ≡ false
+step_unlimited r s e h =
     let shaped : Result Running Verdict = if is_backwards r.base e.time then Err (Fail e.line Backwards) else performed r e e.action in
     let unlimited : Result Running Verdict = if not (is_run e) then Err (Unsupported e.line) else shaped in
     let limit : (is_over_limit e ≡ false) × (unlimited ≡ Ok s) = let_through (is_over_limit e) (Limit e.line) unlimited s h in
-    or_false _ _ (or_false _ _ limit.0)
+    limit.0
 
-pub step_within : Moments → (n : ℕ) (r s : Running) (e : Event) → IsWithin n r → step r e ≡ Ok s → IsWithin (n + 3600000000) s
+step_short : (r s : Running) (e : Event) → step r e ≡ Ok s → list_any is_long (written_times e.time) ≡ false
+step_short r s e h = or_false _ _ (or_false _ _ (step_unlimited r s e h))
+
+pub step_within : SenderIsLawful → (n : ℕ) (r s : Running) (e : Event) → IsWithin n r → step r e ≡ Ok s → IsWithin (n + 3600000000) s
 step_within laws n r s e within h =
     let base : r.base ≤ n = within.base in
     let moment : moment_of r.base e.time ≤ r.base + 3600000000 = moment_within r.base e.time (step_short r s e h) in

@@ -2,5 +2,6 @@
 pub mod Bounds
 pub mod HeaderItems
 pub mod Passed
+pub mod Queued
 pub mod Steps
 pub mod WithinLimits

@@ -7,11 +7,24 @@ use Rattle.pd_script.specs.declared.script_events.Action.TheVariants.{Outbound, 
 use Rattle.pd_script.specs.declared.script_events.Event.{Event}
 use Rattle.pd_seg.specs.declared.answers.Answer.{Answer}
 use Rattle.pd_seg.specs.declared.segments.Sent.{Sent}
+use Rattle.pd_host.specs.Growth.{ExpiriesQueueNothing, ArrivalsQueueOurSyn, CallsQueueWhatTheyAsk}
+use Rattle.pd_host.specs.Laws.{StartsUpToDate, AdvancesKeepUp, ArrivalsKeepUp, CallsKeepUp, TakingKeepsUp}
 use Rattle.pd_host.specs.declared.sender_state.State.{State}
 use Rattle.pd_match.specs.Agreement.{Agrees, IsResult}
 use Rattle.pd_match.specs.Packets.{compared}
 use Rattle.pd_run.specs.Step.{Running, answers, awaited, step}
 use Rattle.pd_run.specs.Times.{moments_of}
+
+-- what runs rest on: the sender stays up to date, and no input queues more than it names
+pub record SenderIsLawful : Type 0 where
+  pub start : StartsUpToDate
+  pub advances : AdvancesKeepUp
+  pub arrivals : ArrivalsKeepUp
+  pub calls : CallsKeepUp
+  pub taking : TakingKeepsUp
+  pub queued_by_expiries : ExpiriesQueueNothing
+  pub queued_by_arrivals : ArrivalsQueueOurSyn
+  pub queued_by_calls : CallsQueueWhatTheyAsk
 
 -- where an expected packet passes, one had left: the oldest that nobody had taken agrees with it in every field
 abbrev pub PassedPacketsAgree : Type 0

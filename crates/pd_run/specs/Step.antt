@@ -11,7 +11,8 @@ use Rattle.pd_seg.specs.declared.segments.Sent.{Sent}
 use Rattle.pd_host.specs.Arrivals.{arrived}
 use Rattle.pd_host.specs.Calls.{called}
 use Rattle.pd_host.specs.Laws.{IsUpTo}
-use Rattle.pd_host.specs.Sender.{Sender, then_on, advanced, deadline_of, without_oldest}
+use Rattle.pd_host.specs.Expiries.{advanced, deadline_of}
+use Rattle.pd_host.specs.Sender.{Sender, then_on, without_oldest}
 use Rattle.pd_host.specs.declared.halts.Halt.{Halt}
 use Rattle.pd_host.specs.declared.halts.Halt.TheVariants as halt
 use Rattle.pd_host.specs.declared.halts.Ending.{Ending}

@@ -3,11 +3,13 @@ ghost use Rattle.std.specs.Prelude.{◌≡◌, ◌<◌, ◌^◌, false};
 ghost use Rattle.pd_host.specs.Arrivals.{arrived};
 ghost use Rattle.pd_host.specs.Calls.{called};
 ghost use Rattle.pd_host.specs.Outcome.{Goes, Answers};
-ghost use Rattle.pd_host.specs.Sender.{then_on, advanced};
+ghost use Rattle.pd_host.specs.Expiries.{advanced};
+ghost use Rattle.pd_host.specs.Sender.{IsShort, then_on};
 ghost use Rattle.pd_run.specs.Inbound.{segment_in};
 ghost use Rattle.pd_run.specs.Limits.{is_packet_over};
 
 use crate::inbound::segment_of;
+use crate::laws::sender_is_lawful;
 use pd_host::{Ending, Host};
 use pd_script::{Call, Packet};
 use pd_seg::Answer;
@@ -17,14 +19,14 @@ use pd_seg::Answer;
 /// # Errors
 ///
 /// Why the host has ended, here or before.
-pub fn arrive(host: &mut Host, packet: &Packet, moment: u64) -> Result<(), Ending>
+pub fn arrive(host: &mut Host, packet: &Packet, at: u64) -> Result<(), Ending>
     requires fits { is_packet_over packet.now ≡ false }
-    requires early { moment < 2 ^ 62 }
-    ensures { Goes host.old (λ s. then_on (arrived (segment_in packet.now) moment) (advanced moment s)) result host.new }
+    requires early { at < 2 ^ 62 }
+    ensures { Goes host.old (λ s. then_on (arrived (segment_in packet.now) at) (advanced at s)) result host.new }
 {
-    host.advance(moment)?;
+    host.advance(at)?;
     match segment_of(host.outbox().allocator(), packet) {
-        Ok(segment) => host.arrive(&segment, moment),
+        Ok(segment) => host.arrive(&segment, at),
         Err(_) => Err(host.exhaust()),
     }
 }
@@ -34,10 +36,12 @@ pub fn arrive(host: &mut Host, packet: &Packet, moment: u64) -> Result<(), Endin
 /// # Errors
 ///
 /// Why the host has ended, here or before.
-pub fn answer(host: &mut Host, call: &Call, moment: u64) -> Result<Answer, Ending>
-    requires early { moment < 2 ^ 62 }
-    ensures { Answers host.old (λ s. then_on (called call.now moment) (advanced moment s)) result host.new }
+pub fn answer(host: &mut Host, call: &Call, now: u64) -> Result<Answer, Ending>
+    requires early { now < 2 ^ 62 }
+    requires short { IsShort host.old.state }
+    ensures { Answers host.old (λ s. then_on (called call.now now) (advanced now s)) result host.new }
 {
-    host.advance(moment)?;
-    host.call(call, moment)
+    sender_is_lawful();
+    host.advance(now)?;
+    host.call(call, now)
 }

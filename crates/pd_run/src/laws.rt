@@ -1,7 +1,16 @@
 //! Laws of runs: functions whose contracts are the laws; they call those that they rest on.
-ghost use Rattle.pd_run.specs.Laws.{PassedPacketsAgree, PassedCallsAnswer, ToleranceStays};
+ghost use Rattle.pd_run.specs.Laws.{SenderIsLawful, PassedPacketsAgree, PassedCallsAnswer, ToleranceStays};
 
+use pd_host::{growth_is_lawful, moments_are_lawful};
 use pd_match::comparisons_are_lawful;
+
+/// What runs rest on: what the sender keeps, whatever comes in.
+pub(crate) fn sender_is_lawful()
+    ensures { SenderIsLawful }
+{
+    moments_are_lawful();
+    growth_is_lawful();
+}
 
 /// What holds of every step that goes on, whatever the checks and their order.
 pub fn steps_are_lawful()

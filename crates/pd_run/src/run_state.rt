@@ -1,19 +1,22 @@
 //! The state of a run between two events.
 ghost use Rattle.std.specs.Prelude.{◌≡◌, ◌<◌, ◌^◌, false, None, Some, IfOk, OnErr, max, slice_get};
 ghost use Rattle.std.specs.List.{list_any};
+ghost use Rattle.pd_host.specs.Expiries.{advanced, deadline_of};
+ghost use Rattle.pd_host.specs.Sender.{IsShort};
 ghost use Rattle.pd_host.specs.declared.halts.Ending.TheVariants.{OutOfMemory};
 ghost use Rattle.pd_run.specs.Limits.{is_long, written_times, is_packet_over};
 ghost use Rattle.pd_run.specs.Times.{moment_of};
 ghost use Rattle.pd_run.specs.Run.{start_of};
-ghost use Rattle.pd_run.specs.Step.{acts_at, arrives, on_arrival, answers, on_answer, awaited, taken, leaves, Tells, Steps};
+ghost use Rattle.pd_run.specs.Step.{acts_at, arrives, on_arrival, answers, on_answer, on_expiry, awaited, taken, leaves, Tells, Steps};
 
 use crate::acting::{answer, arrive};
+use crate::laws::sender_is_lawful;
 use crate::limits::is_over_limit;
 use crate::shapes::is_run;
 use crate::stepping::{StepEnd, end_by};
 use crate::times::{base_after, is_backwards, is_in_reach, moment_of, moments_of};
 use crate::verdicts::Verdict;
-use pd_host::{Host, moments_are_lawful};
+use pd_host::Host;
 use pd_match::{Expect, Kind, check_call, check_packet};
 use pd_script::{Action, Call, Event, Header, HeaderKind, Packet, Time};
 use pd_settings::Settings;
@@ -70,6 +73,7 @@ impl RunState {
     pub(crate) fn step(&mut self, event: &Event) -> Result<StepEnd, AllocError>
         requires clock { self.old.clock < 2 ^ 61 }
         requires base { self.old.base < 2 ^ 61 }
+        requires short { IsShort self.old.host.state }
         ensures ends { IfOk result (λ end. Steps self.old event.now end self.new) }
         ensures memory { OnErr result (self.new.host.ended ≡ Some OutOfMemory) }
     {
@@ -122,7 +126,7 @@ impl RunState {
         ensures ends { IfOk result (λ end. Tells (on_arrival self.old event.now (arrives self.old event.now packet.now)) end self.new) }
         ensures memory { OnErr result (self.new.host.ended ≡ Some OutOfMemory) }
     {
-        moments_are_lawful();
+        sender_is_lawful();
         let moment = self.acts_at(event);
         match arrive(&mut self.host, packet, moment) {
             Ok(()) => {}
@@ -138,10 +142,11 @@ impl RunState {
         requires clock { self.old.clock < 2 ^ 61 }
         requires base { self.old.base < 2 ^ 61 }
         requires short { list_any is_long (written_times event.now.time) ≡ false }
+        requires room { IsShort self.old.host.state }
         ensures ends { IfOk result (λ end. Tells (on_answer self.old event.now call.now (answers self.old event.now call.now)) end self.new) }
         ensures memory { OnErr result (self.new.host.ended ≡ Some OutOfMemory) }
     {
-        moments_are_lawful();
+        sender_is_lawful();
         let moment = self.acts_at(event);
         let answer = match answer(&mut self.host, call, moment) {
             Ok(answer) => answer,
@@ -179,32 +184,41 @@ impl RunState {
         ensures memory { OnErr result (self.new.host.ended ≡ Some OutOfMemory) }
         ensures base { self.new.base ≡ self.old.base }
     {
-        moments_are_lawful();
         if !self.host.outbox().is_empty() {
             return Ok(StepEnd::Go);
         }
         let moments = moments_of(self.base, event.time);
         match self.host.deadline() {
-            Some(at) if is_in_reach(moments, self.tolerance, at) => {
-                match self.host.advance(at) {
-                    Ok(()) => {}
-                    Err(ending) => return end_by(ending, event.line),
-                }
-                self.clock = at;
-                Ok(StepEnd::Go)
-            }
+            Some(at) if is_in_reach(moments, self.tolerance, at) => self.expire(event, at),
             _ => Ok(StepEnd::Stop(Verdict::Fail(event.line, Kind::Missing))),
         }
     }
 
+    /// Performs the next expiry, whose moment the clock becomes.
+    fn expire(&mut self, event: &Event, at: u64) -> Result<StepEnd, AllocError>
+        requires live { self.old.host.ended ≡ None }
+        requires clock { self.old.clock < 2 ^ 61 }
+        requires due { deadline_of self.old.host.state ≡ Some at }
+        ensures ends { IfOk result (λ end. Tells (on_expiry self.old event.now at (advanced at self.old.host.state)) end self.new) }
+        ensures memory { OnErr result (self.new.host.ended ≡ Some OutOfMemory) }
+        ensures base { self.new.base ≡ self.old.base }
+    {
+        sender_is_lawful();
+        match self.host.advance(at) {
+            Ok(()) => {}
+            Err(ending) => return end_by(ending, event.line),
+        }
+        self.clock = at;
+        Ok(StepEnd::Go)
+    }
+
     /// Takes the oldest packet and compares it.
     fn take(&mut self, event: &Event, packet: &Packet) -> StepEnd
-        requires clock { self.old.clock < 2 ^ 61 }
         requires base { self.old.base < 2 ^ 61 }
         requires short { list_any is_long (written_times event.now.time) ≡ false }
         ensures { Tells (taken event.now packet.now self.old (slice_get self.old.host.state.endpoint.outbox 0)) result self.new }
     {
-        moments_are_lawful();
+        sender_is_lawful();
         let Some(sent) = self.host.take() else {
             return StepEnd::Stop(Verdict::Fail(event.line, Kind::Missing));
         };

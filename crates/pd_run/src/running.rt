@@ -3,10 +3,10 @@ ghost use Rattle.std.specs.Prelude.{◌≡◌, ◌+◌, ◌<◌, ◌≤◌, ◌^
 ghost use Rattle.pd_host.specs.Sender.{fresh};
 ghost use Rattle.pd_run.specs.Run.{verdict_of, stepped_of, verdict_from, stepped_from};
 
+use crate::laws::sender_is_lawful;
 use crate::run_state::RunState;
 use crate::stepping::{Plain, StepEnd, Stepper};
 use crate::verdicts::Verdict;
-use pd_host::moments_are_lawful;
 use pd_script::{Event, parse};
 use pd_settings::Settings;
 use pd_text::Lines;
@@ -55,7 +55,7 @@ fn run_events<S: Stepper>(
     ensures verdict { IfOk result (λ verdict. verdict ≡ verdict_from 0 events.now start) }
     ensures steps { OnOk result (S.counted stepper.new ≡ S.counted stepper.old + stepped_from events.now start) }
 {
-    moments_are_lawful();
+    sender_is_lawful();
     let mut state = start;
     let mut passed = 0;
     for event in events {

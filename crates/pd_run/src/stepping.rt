@@ -1,5 +1,6 @@
 //! Steps of a run, and who takes them.
 ghost use Rattle.std.specs.Prelude.{◌≡◌, ◌+◌, ◌-◌, ◌<◌, ◌^◌, ℕ, Some, IfOk, OnErr};
+ghost use Rattle.pd_host.specs.Sender.{IsShort};
 ghost use Rattle.pd_host.specs.declared.halts.Ending.TheVariants.{OutOfMemory};
 ghost use Rattle.pd_run.specs.Step.{ended_by, Steps};
 
@@ -45,6 +46,7 @@ pub trait Stepper {
         requires room { counted self.old < 2 ^ 64 - 1 }
         requires clock { state.old.clock < 2 ^ 61 }
         requires base { state.old.base < 2 ^ 61 }
+        requires short { IsShort state.old.host.state }
         ensures ends { IfOk result (λ end. Steps state.old event.now end state.new) }
         ensures one_more { counted self.new ≡ counted self.old + 1 };
 
@@ -88,6 +90,7 @@ impl Stepper for Plain {
         requires room { self.old < 2 ^ 64 - 1 }
         requires clock { state.old.clock < 2 ^ 61 }
         requires base { state.old.base < 2 ^ 61 }
+        requires short { IsShort state.old.host.state }
         ensures ends { IfOk result (λ end. Steps state.old event.now end state.new) }
         ensures memory { OnErr result (state.new.host.ended ≡ Some OutOfMemory) }
         ensures one_more { self.new ≡ self.old + 1 }

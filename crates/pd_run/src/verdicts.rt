@@ -3,7 +3,7 @@ use pd_match::Kind;
 
 /// The verdict of a script. Lines are counted from 1: that of the first token of the event that stopped the run, or
 /// of the fault of a text that is no script.
-#[derive(Clone, Copy, Debug, PartialEq, Eq)]
+#[derive(Clone, Copy, PartialEq, Eq)]
 pub enum Verdict {
     /// All events passed: their number.
     Pass(usize),

@@ -1,5 +1,6 @@
 //! The checks of a segment that arrives on a connection.
-ghost use Rattle.std.specs.Prelude.{◌≡◌, ◌≤◌, IfNone};
+ghost use Rattle.std.specs.Prelude.{◌≡◌, ◌≤◌, Some, IfNone};
+ghost use Rattle.pd_host.specs.declared.rulings.Ruling.TheVariants.{FirstAck};
 ghost use Rattle.pd_host.specs.Arrivals.{is_in_window, check_contents, check_window, check_rst, check_ack_flag, check_handshake, check_ack, ruling_of};
 
 use super::Connection;
@@ -10,8 +11,9 @@ impl Connection {
     /// The ruling of the first check that rules; `None` for a segment that passes them all.
     pub fn ruling(&self, segment: &Segment) -> Option<Ruling>
         ensures ruling { result ≡ ruling_of self.now segment.now }
-        ensures known { IfNone result (self.now.una ≤ segment.now.ack) }
-        ensures sent { IfNone result (segment.now.ack ≤ self.now.top) }
+        ensures known { IfNone result (self.now.board.una ≤ segment.now.ack) }
+        ensures sent { IfNone result (segment.now.ack ≤ self.now.board.top) }
+        ensures first { result ≡ Some FirstAck → (self.now.board.una ≤ 1) × (1 ≤ self.now.board.top) }
     {
         self.check_contents(segment)
             .or(self.check_window(segment))
@@ -63,11 +65,12 @@ impl Connection {
     }
 
     fn check_handshake(&self, segment: &Segment) -> Option<Ruling>
-        ensures { result ≡ check_handshake self.now segment.now }
+        ensures ruling { result ≡ check_handshake self.now segment.now }
+        ensures known { IfNone self.now.established (self.now.board.una ≤ 1) }
     {
         if self.established.is_some() {
             None
-        } else if self.una < segment.ack && segment.ack <= self.top {
+        } else if self.board.una() < segment.ack && segment.ack <= self.board.top() {
             Some(Ruling::FirstAck)
         } else {
             Some(Ruling::RefusedAck)
@@ -77,9 +80,9 @@ impl Connection {
     fn check_ack(&self, segment: &Segment) -> Option<Ruling>
         ensures { result ≡ check_ack self.now segment.now }
     {
-        if self.top < segment.ack {
+        if self.board.top() < segment.ack {
             Some(Ruling::EarlyAck)
-        } else if segment.ack < self.una {
+        } else if segment.ack < self.board.una() {
             Some(Ruling::OldAck)
         } else {
             None

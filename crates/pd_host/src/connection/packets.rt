@@ -1,7 +1,7 @@
 //! The segments that the handshake and its checks put out.
 ghost use Rattle.std.specs.Prelude.{◌≡◌, ◌≤◌, IfOk};
 ghost use Rattle.pd_host.specs.ControlBlock.{IsScalable};
-ghost use Rattle.pd_host.specs.Packets.{own_count, ack_of, syn_ack_of, refusal_of};
+ghost use Rattle.pd_host.specs.Packets.{own_count, shifted_window, ack_of, syn_ack_of, refusal_of};
 
 use super::Connection;
 use crate::scaling::Scaling;
@@ -9,10 +9,10 @@ use pd_seg::{Flags, SegOption, SegOptions, Segment};
 use std::alloc::{AllocError, Global};
 
 /// The greatest window field.
-const WIDEST_FIELD: u32 = 65_535;
+pub(super) const WIDEST_FIELD: u32 = 65_535;
 
 /// The flags of a segment that has none.
-const NO_FLAGS: Flags = Flags {
+pub(super) const NO_FLAGS: Flags = Flags {
     syn: false,
     fin: false,
     rst: false,
@@ -79,20 +79,27 @@ impl Connection {
         })
     }
 
+    /// The window field of a segment that is no SYN.
+    pub(super) fn shifted_window(&self) -> u16
+        ensures { result ≡ shifted_window self.now }
+    {
+        let shifted = self.rcv_wnd >> own_count(self.scaling);
+        shifted.min(WIDEST_FIELD) as u16
+    }
+
     /// An ACK of what was received.
     pub fn acknowledgment(&self, alloc: Global) -> Segment
         ensures { result ≡ ack_of self.now }
     {
-        let shifted = self.rcv_wnd >> own_count(self.scaling);
         Segment {
             flags: Flags {
                 ack: true,
                 ..NO_FLAGS
             },
-            start: self.top,
-            end: self.top,
+            start: self.board.top(),
+            end: self.board.top(),
             ack: self.rcv_nxt,
-            win: shifted.min(WIDEST_FIELD) as u16,
+            win: self.shifted_window(),
             options: SegOptions::new(alloc),
         }
     }

@@ -1,8 +1,8 @@
 -- The laws hold.
+use Rattle.pd_host.proofs.Behind.{puts_out_behind}
+use Rattle.pd_host.proofs.Consulted.{only_uses_matter}
 use Rattle.pd_host.proofs.ExactRst.{only_an_exact_rst_resets}
 use Rattle.pd_host.proofs.Harmless.{outside_is_harmless}
-use Rattle.pd_host.proofs.OneMore.{puts_out_behind}
-use Rattle.pd_host.proofs.Consulted.{only_uses_matter}
 use Rattle.pd_host.proofs.laws.arrivals_are_lawful.Goals as goal
 
 pub returns : goal.returns

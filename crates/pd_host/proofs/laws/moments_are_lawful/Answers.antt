@@ -5,8 +5,8 @@ use Rattle.pd_host.proofs.laws.moments_are_lawful.Goals as goal
 pub returns : goal.returns
 returns c = record {
   start = starts_up_to_date;
-  advances = advances_keep_up;
-  arrivals = arrivals_keep_up;
-  calls = calls_keep_up;
+  advances = advances_keep_up c.timers_are_lawful.ensures.bounds;
+  arrivals = arrivals_keep_up c.timers_are_lawful.ensures.bounds;
+  calls = calls_keep_up c.timers_are_lawful.ensures.bounds;
   taking = taking_keeps_up;
 }

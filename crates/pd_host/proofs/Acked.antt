@@ -1,0 +1,256 @@
+-- What holds of a connection that the rules reach, through an ACK.
+use Rattle.std.proofs.Common.{◌≡◌, ℕ, ◌+◌, ◌-◌, ◌^◌, ◌<◌, ◌≤◌, ◌==◌, ◌&&◌, nat_lt, nat_le, not, Bool, true, false, if◌then◌else◌, Option, Some, None, refl, sym, subst, arith}
+use Rattle.std.specs.Prelude.{is_some, IfSome}
+use Rattle.std.proofs.lemmas.Option.{IfSome_then}
+use Rattle.std.proofs.lemmas.Bool.Decides.{nat_tests}
+use Rattle.pd_settings.specs.declared.fields.Settings.{Settings}
+use Rattle.pd_seg.specs.declared.sack_blocks.Span.{Span}
+use Rattle.pd_seg.specs.declared.segments.Segment.{Segment}
+use Rattle.pd_board.specs.Scoreboard.{Scoreboard, acknowledged}
+use Rattle.pd_timer.specs.Timer.{Timer, stopped, restarted, sampled}
+use Rattle.pd_recover.specs.Acks.{IsNamed, acked}
+use Rattle.pd_recover.specs.Laws.{StaysWithin}
+use Rattle.pd_recover.specs.declared.responses.Then.TheVariants.{NewSegment, FastRetransmit}
+use Rattle.pd_host.specs.Acknowledgments.{newly_acked, with_number, blocks_of, told_blocks, scored, with_blocks, with_timing, is_current, with_new_window, with_ack, ack_of_segment, answering, taking}
+use Rattle.pd_host.specs.Arrivals.{ruling_of}
+use Rattle.pd_host.specs.Calls.{stream_in}
+use Rattle.pd_host.specs.ControlBlock.{ControlBlock}
+use Rattle.pd_host.specs.Handshake.{looked_at}
+use Rattle.pd_host.specs.Invariants.{IsOrdered, IsOfPhase, IsInBounds, IsTimed, IsReached, fin_octets}
+use Rattle.pd_host.specs.Sending.{sent_on}
+use Rattle.pd_host.specs.Timing.{is_measured, clocked, measured, with_timer_moved}
+use Rattle.pd_host.specs.declared.established.Established.{Established}
+use Rattle.pd_host.specs.declared.streams.Stream.TheVariants as stream
+use Rattle.pd_host.specs.declared.timings.Timing.{Timing}
+use Rattle.pd_host.proofs.Boards.{HasNumbersOf, acknowledged_ordered, blocks_keep}
+use Rattle.pd_host.proofs.Kept.{by_test}
+use Rattle.pd_host.proofs.Passed.{Passes, passes}
+use Rattle.pd_host.proofs.Reached.{IsLive, at_some, clocked_live, sent_live, congestion_live, numbers}
+use Rattle.pd_host.proofs.Sendables.{new_leaves}
+use Rattle.pd_host.proofs.AckedBelow.{acked_leads, ge}
+
+-- a board of these numbers
+pub bounds_at : (b : Settings) (smss top smss' top' widest : ℕ) (e : Established) → smss' ≡ smss → top' ≡ top
+    → IsInBounds b smss top widest e → IsInBounds b smss' top' widest e
+bounds_at b smss top smss' top' widest e s t h =
+    subst (λ x. IsInBounds b smss' x widest e) (sym t) (subst (λ x. IsInBounds b x top widest e) (sym s) h)
+
+phase_up : (o : Option Established) (e : Established) (una una' top top' end end' : ℕ) → o ≡ Some e → una ≤ una'
+    → IsOfPhase o una top end → IsOfPhase o una' top' end'
+phase_up None e una una' top top' end end' is le h = absurd cc
+phase_up (Some e') e una una' top top' end end' is le h = omega (arith, h, le)
+
+-- the timer of an ACK of new octets
+pub nothing_out : (una top : ℕ) (reset : Bool) → top ≤ una → false ≡ (nat_lt una top && not reset)
+nothing_out una top reset le = grind (arith, nat_tests)
+
+all_out : (una top : ℕ) (reset : Bool) → (una == top) ≡ true → false ≡ (nat_lt una top && not reset)
+all_out una top reset e = let same : una ≡ top = grind (arith, nat_tests) in nothing_out una top reset (omega (arith, same))
+
+some_out : (una top : ℕ) (reset : Bool) → (una == top) ≡ false → una ≤ top → reset ≡ false → true ≡ (nat_lt una top && not reset)
+some_out una top true e le live = absurd cc
+some_out una top false e le live = grind (arith, nat_tests)
+
+not_measured : (una end : ℕ) → nat_le end una ≡ false → una < end
+not_measured una end e = grind (arith, nat_tests)
+
+none_new : (n una una' : ℕ) → nat_lt 0 n ≡ false → n ≡ una' - una → una ≤ una' → una' ≡ una
+none_new n una una' e is le = let zero : n ≤ 0 = ge 0 n e in omega (arith, zero, is, le)
+
+fin_small : (fin : Bool) → fin_octets fin ≤ 1
+fin_small true = omega arith
+fin_small false = omega arith
+
+module _ (b : Settings) (now : ℕ) where
+  -- the board has moved up
+  record IsUp (c : ControlBlock) (s : Scoreboard) : Type 0 where
+    ordered : IsOrdered s
+    smss : s.smss ≡ c.board.smss
+    top : s.top ≡ c.board.top
+    end : s.end ≡ c.board.end
+    una : c.board.una ≤ s.una
+
+  -- a live connection, and what it has since its establishment
+  record IsOn (e : Established) (c : ControlBlock) : Type 0 where
+    live : IsLive b now c
+    is : c.established ≡ Some e
+
+  rebuilt : (c : ControlBlock) (e : Established) (s : Scoreboard) (t : Timer) (o : Option Timing) → IsLive b now c → c.established ≡ Some e → IsUp c s
+      → is_some t.deadline ≡ (nat_lt s.una s.top && not c.reset) → IfSome o (IsTimed now s.una s.top)
+      → IsOn e (record c { board = s; timer = t; timed = o })
+  rebuilt c e s t o h is up runs timed = record {
+    live = record {
+      reached = record {
+        agreed = record {
+          mss = h.reached.agreed.mss;
+          no_longer = omega (arith, h.reached.agreed.no_longer, up.smss);
+          next = h.reached.agreed.next;
+          window = h.reached.agreed.window;
+        };
+        board = up.ordered;
+        room = omega (arith, h.reached.room, up.end, up.una);
+        phase = phase_up c.established e c.board.una s.una c.board.top s.top c.board.end s.end is up.una h.reached.phase;
+        fin = h.reached.fin;
+        bounds = IfSome_then c.established h.reached.bounds (λ x k. bounds_at b c.board.smss c.board.top s.smss s.top c.widest x up.smss up.top k);
+        runs = runs;
+        timed = timed;
+      };
+      live = h.live;
+    };
+    is = is;
+  }
+
+  moved_on : (c : ControlBlock) (e : Established) (s : Scoreboard) (t : Timer) (o : Option Timing) → IsLive b now c → c.established ≡ Some e → IsUp c s
+      → IfSome o (IsTimed now s.una s.top) → IsOn e (with_timer_moved now (record c { board = s; timer = t; timed = o }))
+  moved_on c e s t o h is up timed =
+      rebuilt c e s (if s.una == s.top then stopped t else restarted now t) o h is up
+      (by_test (λ (u : Timer). is_some u.deadline ≡ (nat_lt s.una s.top && not c.reset)) (s.una == s.top) (stopped t) (restarted now t)
+      (λ all. all_out s.una s.top c.reset all)
+      (λ out. some_out s.una s.top c.reset out (omega (arith, up.ordered.una_next, up.ordered.next_top)) h.live)) timed
+
+  -- what is still timed
+  still_timed : (una una' top top' : ℕ) (o : Option Timing) (t : Timing) → o ≡ Some t → top' ≡ top → una' < t.segment.end
+      → IfSome o (IsTimed now una top) → IfSome o (IsTimed now una' top')
+  still_timed una una' top top' None t e same above h = absurd cc
+  still_timed una una' top top' (Some x) t e same above h =
+      let eq : x ≡ t = cc in
+      record { some = h.some; waited = subst (λ (y : Timing). una' < y.segment.end) (sym eq) above; sent = omega (arith, h.sent, same); past = h.past }
+
+  none_timed : (una una' top top' : ℕ) (o : Option Timing) → o ≡ None → IfSome o (IsTimed now una top) → IfSome o (IsTimed now una' top')
+  none_timed una una' top top' None e h = tt
+  none_timed una una' top top' (Some x) e h = absurd cc
+
+  sampled_on : (c : ControlBlock) (e : Established) (s : Scoreboard) (granularity : ℕ) (o : Option Timing) → IsLive b now c → c.established ≡ Some e → IsUp c s
+      → c.timed ≡ o → IsOn e (with_timer_moved now (measured now granularity s.una (record c { board = s }) o))
+  sampled_on c e s granularity None h is up timed =
+      moved_on c e s c.timer c.timed h is up (none_timed c.board.una s.una c.board.top s.top c.timed timed h.reached.timed)
+  sampled_on c e s granularity (Some t) h is up timed =
+      by_test (λ (d : ControlBlock). IsOn e (with_timer_moved now d)) (is_measured s.una t) _ (record c { board = s })
+      (λ _. moved_on c e s (sampled (now - t.sent_at) granularity c.timer) None h is up tt)
+      (λ waits. moved_on c e s c.timer c.timed h is up
+      (still_timed c.board.una s.una c.board.top s.top c.timed t timed up.top (not_measured s.una t.segment.end waits) h.reached.timed))
+
+  same_timed : (una una' top top' : ℕ) (o : Option Timing) → una' ≡ una → top' ≡ top → IfSome o (IsTimed now una top) → IfSome o (IsTimed now una' top')
+  same_timed una una' top top' o u t h = subst (λ x. IfSome o (IsTimed now una' x)) (sym t) (subst (λ x. IfSome o (IsTimed now x top)) (sym u) h)
+
+  same_runs : (una una' top top' : ℕ) (reset runs : Bool) → una' ≡ una → top' ≡ top → runs ≡ (nat_lt una top && not reset) → runs ≡ (nat_lt una' top' && not reset)
+  same_runs una una' top top' reset runs u t h = subst (λ x. runs ≡ (nat_lt una' x && not reset)) (sym t) (subst (λ x. runs ≡ (nat_lt x top && not reset)) (sym u) h)
+
+  timing_on : (c : ControlBlock) (e : Established) (s : Scoreboard) (granularity n : ℕ) → IsLive b now c → c.established ≡ Some e → IsUp c s
+      → n ≡ s.una - c.board.una → IsOn e (with_timing now granularity n (record c { board = s }))
+  timing_on c e s granularity n h is up count =
+      by_test (IsOn e) (nat_lt 0 n) _ (record c { board = s })
+      (λ _. sampled_on c e s granularity c.timed h is up refl)
+      (λ none. let same : s.una ≡ c.board.una = none_new n c.board.una s.una none count up.una in
+      rebuilt c e s c.timer c.timed h is up
+      (same_runs c.board.una s.una c.board.top s.top c.reset (is_some c.timer.deadline) same up.top h.reached.runs)
+      (same_timed c.board.una s.una c.board.top s.top c.timed same up.top h.reached.timed))
+
+  -- the window
+  window_live : (c : ControlBlock) (e : Established) (segment : Segment) → IsOn e c → IsLive b now (with_new_window segment e c)
+  window_live c e segment h =
+      by_test (IsLive b now) (is_current e segment) _ c
+      (λ _.
+      let k : IsInBounds b c.board.smss c.board.top c.widest e = at_some (IsInBounds b c.board.smss c.board.top c.widest) c.established e h.is h.live.reached.bounds in
+      record {
+        reached = record {
+          agreed = h.live.reached.agreed;
+          board = h.live.reached.board;
+          room = h.live.reached.room;
+          phase = subst (λ o. IsOfPhase o c.board.una c.board.top c.board.end) h.is h.live.reached.phase;
+          fin = subst (λ (o : Option Established). c.fin ≡ true → stream_in o ≡ stream.Closed) h.is h.live.reached.fin;
+          bounds = record {
+            windows = k.windows;
+            widest = omega arith;
+            recovery_point = k.recovery_point;
+            high_rxt = k.high_rxt;
+            rescue_rxt = k.rescue_rxt;
+          };
+          runs = h.live.reached.runs;
+          timed = h.live.reached.timed;
+        };
+        live = h.live.live;
+      })
+      (λ _. h.live)
+
+  -- the number and the blocks
+  scored_keeps : (segment : Segment) (c : ControlBlock) → IsOrdered c.board → HasNumbersOf c.board (scored segment c).0
+  scored_keeps segment c h =
+      let same : HasNumbersOf c.board c.board = record { smss = refl; una = refl; top = refl; end = refl; ordered = h } in
+      by_test (λ (t : Scoreboard × Bool). HasNumbersOf c.board t.0) c.sack (told_blocks (blocks_of (looked_at segment.options)) (c.board, false)) (c.board, false)
+      (λ _. blocks_keep c.board (blocks_of (looked_at segment.options)) (c.board, false) same) (λ _. same)
+
+  with_ack_live : (segment : Segment) (c : ControlBlock) (e : Established) → IsReached b now c → Passes c segment → c.established ≡ Some e
+      → IsLive b now (with_ack now segment e c).0
+  with_ack_live segment c e h passed is =
+      let s : Scoreboard = (scored segment (with_number segment c)).0 in
+      let k : HasNumbersOf (acknowledged segment.ack c.board) s =
+      scored_keeps segment (with_number segment c) (acknowledged_ordered segment.ack c.board passed.from passed.to h.board) in
+      let up : IsUp c s = record { ordered = k.ordered; smss = k.smss; top = k.top; end = k.end; una = omega (arith, k.una, passed.from) } in
+      let count : newly_acked c segment ≡ s.una - c.board.una = omega (arith, k.una) in
+      window_live (with_timing now e.granularity_us (newly_acked c segment) (with_blocks segment (with_number segment c))) e segment
+      (timing_on c e s e.granularity_us (newly_acked c segment) (record { reached = h; live = passed.live }) is up count)
+
+  pub few : (c : ControlBlock) → IsReached b now c → c.board.top - c.board.una ≤ 2 ^ 20 + 1
+  few c h = omega (arith, h.room, h.board.top_end, b.sndbuf_in_range.1, fin_small c.fin)
+
+  module _ (windows : StaysWithin) where
+    sent_above : (c : ControlBlock) → IsReached b now c → c.board.una ≤ c.board.top
+    sent_above c h = omega (arith, h.board.una_next, h.board.next_top)
+
+    some_segment : (c : ControlBlock) → IsReached b now c → 0 < c.board.smss
+    some_segment c h = omega (arith, h.board.smss_low)
+
+    answered_live : (segment : Segment) (n : ℕ) (fresh : Bool) (e : Established) (c : ControlBlock) (o : Option Established)
+        → IsLive b now c → c.established ≡ o → IsLive b now (answering segment n fresh e c o).0
+    answered_live segment n fresh e c None h is = h
+    answered_live segment n fresh e c (Some after) h is =
+        let k : IsInBounds b c.board.smss c.board.top c.widest after = at_some (IsInBounds b c.board.smss c.board.top c.widest) c.established after is h.reached.bounds in
+        congestion_live b now c after (acked (ack_of_segment segment n fresh e after c) after.congestion).0 h is
+        (windows.ack b.initial_ssthresh (ack_of_segment segment n fresh e after c) after.congestion h.reached.board.smss_high (few c h.reached) k.windows)
+        (acked_leads (ack_of_segment segment n fresh e after c) (some_segment c h.reached) (sent_above c h.reached) after.congestion (numbers b now c after h is)).below
+
+    named : (segment : Segment) (n : ℕ) (fresh : Bool) (e : Established) (c : ControlBlock) (after : Established) → IsLive b now c → c.established ≡ Some after
+        → IsNamed (ack_of_segment segment n fresh e after c) (answering segment n fresh e c (Some after)).1
+    named segment n fresh e c after h is =
+        (acked_leads (ack_of_segment segment n fresh e after c) (some_segment c h.reached) (sent_above c h.reached) after.congestion (numbers b now c after h is)).named
+
+    new_live : (segment : Segment) (n : ℕ) (fresh : Bool) (e : Established) (c : ControlBlock) (new : Span) (o : Option Established)
+        → IsLive b now c → c.established ≡ o → (answering segment n fresh e c o).1 ≡ NewSegment new → IsLive b now (sent_on now new (answering segment n fresh e c o).0)
+    new_live segment n fresh e c new None h is x = absurd cc
+    new_live segment n fresh e c new (Some after) h is x =
+        let k : IsNamed (ack_of_segment segment n fresh e after c) (NewSegment new) =
+        subst (IsNamed (ack_of_segment segment n fresh e after c)) x (named segment n fresh e c after h is) in
+        sent_live b now (answering segment n fresh e c (Some after)).0 _ new (answered_live segment n fresh e c (Some after) h is) refl
+        (new_leaves c.board new h.reached.board (record { start = k.0; some = k.1; end = k.2 }))
+
+    again_live : (segment : Segment) (n : ℕ) (fresh : Bool) (e : Established) (c : ControlBlock) (first : Span) (o : Option Established)
+        → IsLive b now c → c.established ≡ o → (answering segment n fresh e c o).1 ≡ FastRetransmit first → IsLive b now (clocked now first (answering segment n fresh e c o).0)
+    again_live segment n fresh e c first None h is x = absurd cc
+    again_live segment n fresh e c first (Some after) h is x =
+        let k : IsNamed (ack_of_segment segment n fresh e after c) (FastRetransmit first) =
+        subst (IsNamed (ack_of_segment segment n fresh e after c)) x (named segment n fresh e c after h is) in
+        clocked_live b now (answering segment n fresh e c (Some after)).0 first (answered_live segment n fresh e c (Some after) h is)
+        (omega (arith, k.0, k.1, k.2)) (omega (arith, k.1, k.2))
+
+    -- a segment that passed all checks
+    pub taking_live : (segment : Segment) (c : ControlBlock) (o : Option Established) → IsReached b now c → ruling_of c segment ≡ None → c.established ≡ o
+        → IsLive b now (taking now segment c o).0
+    taking_live segment c None h passed is = record { reached = h; live = (passes c segment passed).live }
+    taking_live segment c (Some e) h passed is =
+        answered_live segment (newly_acked c segment) (with_ack now segment e c).1 e (with_ack now segment e c).0 (with_ack now segment e c).0.established
+        (with_ack_live segment c e h (passes c segment passed) is) refl
+
+    pub taking_new : (segment : Segment) (c : ControlBlock) (new : Span) (o : Option Established) → IsReached b now c → ruling_of c segment ≡ None → c.established ≡ o
+        → (taking now segment c o).1 ≡ NewSegment new → IsLive b now (sent_on now new (taking now segment c o).0)
+    taking_new segment c new None h passed is x = absurd cc
+    taking_new segment c new (Some e) h passed is x =
+        new_live segment (newly_acked c segment) (with_ack now segment e c).1 e (with_ack now segment e c).0 new (with_ack now segment e c).0.established
+        (with_ack_live segment c e h (passes c segment passed) is) refl x
+
+    pub taking_again : (segment : Segment) (c : ControlBlock) (first : Span) (o : Option Established) → IsReached b now c → ruling_of c segment ≡ None → c.established ≡ o
+        → (taking now segment c o).1 ≡ FastRetransmit first → IsLive b now (clocked now first (taking now segment c o).0)
+    taking_again segment c first None h passed is x = absurd cc
+    taking_again segment c first (Some e) h passed is x =
+        again_live segment (newly_acked c segment) (with_ack now segment e c).1 e (with_ack now segment e c).0 first (with_ack now segment e c).0.established
+        (with_ack_live segment c e h (passes c segment passed) is) refl x

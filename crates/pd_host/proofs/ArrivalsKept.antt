@@ -1,0 +1,156 @@
+-- What each rule keeps of a connection, arrivals keep.
+use Rattle.std.proofs.Common.{◌≡◌, ℕ, nat_lt, length, Bool, true, false, if◌then◌else◌, List, Option, Some, None, Result, Ok, Err, refl}
+use Rattle.std.specs.Prelude.{IfSome}
+use Rattle.pd_settings.specs.declared.fields.Settings.{Settings}
+use Rattle.pd_seg.specs.declared.sack_blocks.Span.{Span}
+use Rattle.pd_seg.specs.declared.segments.Segment.{Segment}
+use Rattle.pd_seg.specs.declared.segments.Sent.{Sent}
+use Rattle.pd_recover.specs.declared.responses.Then.{Then}
+use Rattle.pd_recover.specs.declared.responses.Then.TheVariants.{Ordinary, StepC, Entry, LimitedTransmit, NewSegment, FastRetransmit, Nothing}
+use Rattle.pd_recover.specs.declared.segments.NextSegment.{NextSegment}
+use Rattle.pd_host.specs.Acknowledgments.{OnTheWay, taking, taken, step_c_found, step_c_sent, step_c, sender_of, pipe_of, limited_found, limited_sent, limited_transmit, put_segment, entered_on, entry, led_to}
+use Rattle.pd_host.specs.Arrivals.{ruling_of, ruled, arrived_on, arrived}
+use Rattle.pd_host.specs.ControlBlock.{ControlBlock}
+use Rattle.pd_host.specs.Handshake.{is_opening, begun, syn_uses}
+use Rattle.pd_host.specs.Packets.{ack_of, refusal_of, syn_ack_of, data_of}
+use Rattle.pd_host.specs.Sender.{beside, with_outbox, put_out}
+use Rattle.pd_host.specs.Sending.{with_block, places_left, sent_on, ordinary}
+use Rattle.pd_host.specs.Timing.{clocked}
+use Rattle.pd_host.specs.declared.endpoint.Endpoint.{Endpoint}
+use Rattle.pd_host.specs.declared.halts.Halt.{Halt}
+use Rattle.pd_host.specs.declared.halts.Halt.TheVariants.{Limit, Unsupported}
+use Rattle.pd_host.specs.declared.rulings.Ruling.{Ruling}
+use Rattle.pd_host.specs.declared.rulings.Ruling.TheVariants.{NotRun, StrayRst, OutsideWindow, ExactRst, ChallengedRst, WithoutAck, FirstAck, RefusedAck, EarlyAck, OldAck}
+use Rattle.pd_host.specs.declared.sender_state.State.{State}
+use Rattle.pd_host.proofs.Kept.{Comes, by_test, came, comes_more, comes_then, repeated_holds}
+use Rattle.pd_host.proofs.Rules.{Holds, KeptByArrivals, first_run}
+use Rattle.pd_host.proofs.SendingKept.{TakesOne, placed, ordinary_holds}
+
+-- what holds of the sender that a state of loss recovery has
+sender_comes : (P : State → Type 0) (r : Result OnTheWay Halt) → Comes (λ t. P t.0) r → Comes P (sender_of r)
+sender_comes P (Ok t) h = h
+sender_comes P (Err halt) h = tt
+
+module _ (now : ℕ) (O : List Sent → Type 0) (C D : Settings → ControlBlock → Type 0) (more : TakesOne now O) where
+  -- it holds between two inputs
+  abbrev All : State → Type 0
+  All s = Holds O C s
+
+  -- it holds while data is sent
+  abbrev Sends : State → Type 0
+  Sends s = Holds O D s
+
+  module _ (rules : (b : Settings) → KeptByArrivals now b (C b) (D b)) where
+    ordinary_after : (s : State) → Sends s → Comes Sends (ordinary now s)
+    ordinary_after s h = ordinary_holds now O D more (λ b. (rules b).sending) s h
+
+    in_step_c : (o : Option ControlBlock) (sent : NextSegment) (t : OnTheWay) → Sends t.0 → IfSome o (D t.0.settings)
+        → step_c_found t.1 o ≡ Some sent → Sends (step_c_sent now sent o t).0
+    in_step_c None sent t h d e = h
+    in_step_c (Some c) sent t h d e = placed now O D more _ _ t.0 h ((rules t.0.settings).acks.step_c t.1 c sent d e)
+
+    step_c_holds : (s : State) → Sends s → Comes Sends (step_c now s)
+    step_c_holds s h =
+        sender_comes Sends _ (repeated_holds (λ (t : OnTheWay). Sends t.0) (λ t. step_c_found t.1 t.0.endpoint.connection)
+        (λ sent t. step_c_sent now sent t.0.endpoint.connection t)
+        (λ t sent k e. in_step_c t.0.endpoint.connection sent t k k.connection e)
+        (places_left s) (s, pipe_of s.endpoint.connection) h)
+
+    in_limited : (o : Option ControlBlock) (segment : Span) (t : OnTheWay) → Sends t.0 → IfSome o (D t.0.settings)
+        → limited_found t.1 o ≡ Some segment → Sends (limited_sent now segment o t).0
+    in_limited None segment t h d e = h
+    in_limited (Some c) segment t h d e = placed now O D more _ _ t.0 h ((rules t.0.settings).acks.limited t.1 c segment d e)
+
+    limited_holds : (s : State) → Sends s → Comes Sends (limited_transmit now s)
+    limited_holds s h =
+        sender_comes Sends _ (repeated_holds (λ (t : OnTheWay). Sends t.0) (λ t. limited_found t.1 t.0.endpoint.connection)
+        (λ segment t. limited_sent now segment t.0.endpoint.connection t)
+        (λ t segment k e. in_limited t.0.endpoint.connection segment t k k.connection e)
+        (places_left s) (s, pipe_of s.endpoint.connection) h)
+
+    put_holds : (segment : Span) (before after : ControlBlock) (s : State) → Sends s → D s.settings after
+        → Comes Sends (put_segment now segment before after s)
+    put_holds segment before after s h d =
+        by_test (Comes Sends) (nat_lt 0 (places_left s)) _ (Err Limit) (λ _. placed now O D more (data_of before segment) after s h d) (λ _. tt)
+
+    entry_holds : (c : ControlBlock) (s : State) → Sends s → D s.settings c → Comes Sends (entry now c s)
+    entry_holds c s h d =
+        by_test (Comes Sends) (nat_lt (first_run c).start (first_run c).end) _ _
+        (λ e. put_holds (first_run c) c (entered_on (first_run c) (clocked now (first_run c) c) c.established) s h ((rules s.settings).acks.entry c d e))
+        (λ _. record { packets = h.packets; connection = (rules s.settings).acks.entry_alone c d })
+
+    -- what an ACK that was taken leads to
+    led_holds : (segment : Segment) (c : ControlBlock) (s : State) (x : Then)
+        → Sends s → C s.settings c → D s.settings (taking now segment c c.established).0 → ruling_of c segment ≡ None
+        → (taking now segment c c.established).1 ≡ x → Comes Sends (led_to now (taking now segment c c.established).0 s x)
+    led_holds segment c s Ordinary h old d passed e = ordinary_after s h
+    led_holds segment c s StepC h old d passed e = step_c_holds s h
+    led_holds segment c s Entry h old d passed e =
+        comes_then Sends Sends (step_c now) step_c_holds (entry now (taking now segment c c.established).0 s)
+        (entry_holds (taking now segment c c.established).0 s h d)
+    led_holds segment c s LimitedTransmit h old d passed e = limited_holds s h
+    led_holds segment c s (NewSegment new) h old d passed e =
+        let t : ControlBlock = (taking now segment c c.established).0 in
+        put_holds new t (sent_on now new t) s h ((rules s.settings).acks.new_segment segment c new old passed e)
+    led_holds segment c s (FastRetransmit first) h old d passed e =
+        let t : ControlBlock = (taking now segment c c.established).0 in
+        comes_then Sends Sends (ordinary now) ordinary_after (put_segment now first t (clocked now first t) s)
+        (put_holds first t (clocked now first t) s h ((rules s.settings).acks.again segment c first old passed e))
+    led_holds segment c s Nothing h old d passed e = h
+
+    went_on : (s : State) → (o : Option ControlBlock) → IfSome o (D s.settings) → IfSome o (C s.settings)
+    went_on s None d = tt
+    went_on s (Some c) d = (rules s.settings).sent c d
+
+    sent_all : (s : State) → Sends s → All s
+    sent_all s h = record { packets = h.packets; connection = went_on s s.endpoint.connection h.connection }
+
+    taken_holds : (segment : Segment) (c : ControlBlock) (s : State) → All s → C s.settings c → ruling_of c segment ≡ None
+        → Comes All (taken now segment c s c.established)
+    taken_holds segment c s h d passed =
+        let k : D s.settings (taking now segment c c.established).0 = (rules s.settings).acks.ack segment c d passed in
+        comes_more Sends All sent_all (taken now segment c s c.established)
+        (led_holds segment c (with_block (taking now segment c c.established).0 s) (taking now segment c c.established).1
+        (record { packets = h.packets; connection = k }) d k passed refl)
+
+    -- a packet is put out, where the outbox has a place
+    answers : (room : Bool) (packets : List Sent) (s : State) (e : Endpoint) → O packets → IfSome e.connection (C s.settings)
+        → Comes All (beside s (with_outbox e (if room then Ok packets else Err Limit)))
+    answers true packets s e h d = record { packets = h; connection = d }
+    answers false packets s e h d = tt
+
+    answers_with : (segment : Segment) (s : State) (e : Endpoint) → O e.outbox → IfSome e.connection (C s.settings)
+        → Comes All (beside s (put_out now segment e))
+    answers_with segment s e h d = answers (nat_lt (length e.outbox) 1024) _ s e (more e.outbox _ refl h) d
+
+    ruled_holds : (r : Option Ruling) (segment : Segment) (c : ControlBlock) (s : State)
+        → All s → C s.settings c → s.endpoint.connection ≡ Some c → ruling_of c segment ≡ r → Comes All (ruled now segment c s r)
+    ruled_holds (Some NotRun) segment c s h d is e = tt
+    ruled_holds (Some StrayRst) segment c s h d is e = h
+    ruled_holds (Some OutsideWindow) segment c s h d is e = answers_with (ack_of c) s s.endpoint h.packets h.connection
+    ruled_holds (Some ExactRst) segment c s h d is e = record { packets = h.packets; connection = (rules s.settings).reset c d }
+    ruled_holds (Some ChallengedRst) segment c s h d is e = answers_with (ack_of c) s s.endpoint h.packets h.connection
+    ruled_holds (Some WithoutAck) segment c s h d is e = h
+    ruled_holds (Some FirstAck) segment c s h d is e =
+        record { packets = h.packets; connection = (rules s.settings).established segment c d e }
+    ruled_holds (Some RefusedAck) segment c s h d is e = answers_with (refusal_of segment.ack) s s.endpoint h.packets h.connection
+    ruled_holds (Some EarlyAck) segment c s h d is e = answers_with (ack_of c) s s.endpoint h.packets h.connection
+    ruled_holds (Some OldAck) segment c s h d is e = h
+    ruled_holds None segment c s h d is e = taken_holds segment c s h d e
+
+    opened_holds : (segment : Segment) (s : State) → All s → Comes All (arrived_on now segment s None)
+    opened_holds segment s h =
+        by_test (Comes All) (is_opening s.endpoint.listener segment) _ (Err Unsupported)
+        (λ e. answers_with (syn_ack_of (begun now s.settings segment)) (record s { uses = syn_uses s.uses })
+        (record s.endpoint { connection = Some (begun now s.settings segment) }) h.packets
+        ((rules s.settings).begun s.endpoint.listener segment e))
+        (λ _. tt)
+
+    arrived_on_holds : (o : Option ControlBlock) (segment : Segment) (s : State) → All s → IfSome o (C s.settings) → s.endpoint.connection ≡ o
+        → Comes All (arrived_on now segment s o)
+    arrived_on_holds None segment s h d is = opened_holds segment s h
+    arrived_on_holds (Some c) segment s h d is = ruled_holds (ruling_of c segment) segment c s h d is refl
+
+    pub arrived_holds : (segment : Segment) (s t : State) → All s → arrived segment now s ≡ Ok t → All t
+    arrived_holds segment s t h is =
+        came All (arrived segment now s) t (arrived_on_holds s.endpoint.connection segment s h h.connection refl) is

@@ -1,0 +1,177 @@
+-- Other settings that agree on all that was consulted give the same call.
+use Rattle.std.proofs.Common.{◌≡◌, ℕ, ◌==◌, min, Bool, true, false, ◌&&◌, if◌then◌else◌, Option, None, Some, is_some, Result, Ok, Err, refl, sym, ap, ◌∙◌}
+use Rattle.pd_seg.specs.declared.answers.Answer.{Answer}
+use Rattle.pd_seg.specs.declared.answers.Answer.TheVariants.{Number, Error}
+use Rattle.pd_seg.specs.declared.answers.Errno.TheVariants.{Eagain, Epipe}
+use Rattle.pd_settings.specs.Uses.{Agree}
+use Rattle.pd_settings.specs.declared.fields.Settings.{Settings}
+use Rattle.pd_settings.specs.declared.use_set.UseSet.{UseSet}
+use Rattle.pd_host.specs.Calls.{Reply, answered, with_listener, with_stored, with_answer, socket_reply, bind_reply, listen_reply, accept_reply, handed_out, no_delay_reply, free_of, with_queued, write_uses, queued, written_on, write_reply, closed_stream, closed_on, close_reply, operated, on_open, opened, reply_to, requested, is_pending, is_waiting, stream_of, with_stream}
+use Rattle.pd_host.specs.Requests.{request_of}
+use Rattle.pd_host.specs.ControlBlock.{ControlBlock}
+use Rattle.pd_host.specs.InputLaws.{CallsOnlyUse, rebound}
+use Rattle.pd_host.specs.Sending.{ordinary, ordinary_outside_recovery, is_recovering}
+use Rattle.pd_host.specs.declared.descriptors.Descriptor.{Descriptor}
+use Rattle.pd_host.specs.declared.descriptors.Descriptor.TheVariants.{Listening, Connected}
+use Rattle.pd_host.specs.declared.halts.Halt.{Halt}
+use Rattle.pd_host.specs.declared.halts.Halt.TheVariants.{Unsupported}
+use Rattle.pd_host.specs.declared.listeners.Listener.{Listener}
+use Rattle.pd_host.specs.declared.listeners.Listener.TheVariants.{Absent, Open, Bound, Listens, Closed}
+use Rattle.pd_host.specs.declared.requests.Operation.{Operation}
+use Rattle.pd_host.specs.declared.requests.Operation.TheVariants.{Bind, Listen, Accept, ReuseAddress, NoDelay, SetFlags, Write, Close}
+use Rattle.pd_host.specs.declared.requests.Request.{Request}
+use Rattle.pd_host.specs.declared.requests.Request.TheVariants.{Socket, On}
+use Rattle.pd_host.specs.declared.sender_state.State.{State}
+use Rattle.pd_host.specs.declared.streams.Stream.TheVariants as stream
+use Rattle.pd_host.proofs.CallsBehind.{queued_sends}
+use Rattle.pd_host.proofs.Outcomes.{came, mapped, either_mapped}
+use Rattle.pd_host.proofs.Rebound.{again, ordinary_again}
+
+-- a state and an answer, with other settings held
+abbrev rebound_with : Settings → State × Answer → State × Answer
+rebound_with b x = (rebound b x.0, x.1)
+
+abbrev reply_again : Settings → Reply → Reply
+reply_again b r = mapped (rebound_with b) r
+
+answer_again : (b : Settings) (answer : Answer) (r : Result State Halt) → with_answer answer (again b r) ≡ reply_again b (with_answer answer r)
+answer_again b answer (Ok s) = refl
+answer_again b answer (Err halt) = refl
+
+outside_again : (b : Settings) (now : ℕ) (c : ControlBlock) (s : State)
+    → ordinary_outside_recovery now c (rebound b s) ≡ again b (ordinary_outside_recovery now c s)
+outside_again b now c s =
+    either_mapped (rebound b) (is_recovering c.established) (Ok s) (ordinary now s) (Ok (rebound b s)) (ordinary now (rebound b s))
+    refl (ordinary_again b now s)
+
+queued_again : (b : Settings) (now n free : ℕ) (c : ControlBlock) (s : State) → queued now n free c (rebound b s) ≡ reply_again b (queued now n free c s)
+queued_again b now n free c s =
+    let u : State = with_stored (Some (with_queued (min n free) c)) s in
+    let answer : Answer = Number (min n free) in
+    either_mapped (rebound_with b) (free == 0)
+    (answered s (Error Eagain)) (with_answer answer (ordinary_outside_recovery now c u))
+    (answered (rebound b s) (Error Eagain)) (with_answer answer (ordinary_outside_recovery now c (rebound b u)))
+    refl
+    (ap (with_answer answer) (outside_again b now c u) ∙ answer_again b answer (ordinary_outside_recovery now c u))
+
+socket_again : (b : Settings) (s : State) (l : Listener) → socket_reply (rebound b s) l ≡ reply_again b (socket_reply s l)
+socket_again b s Absent = refl
+socket_again b s _ = refl
+
+bind_again : (b : Settings) (s : State) (l : Listener) (d : Descriptor) → bind_reply (rebound b s) l d ≡ reply_again b (bind_reply s l d)
+bind_again b s Open Listening = refl
+bind_again b s _ _ = refl
+
+listen_again : (b : Settings) (s : State) (l : Listener) (d : Descriptor) → listen_reply (rebound b s) l d ≡ reply_again b (listen_reply s l d)
+listen_again b s Bound Listening = refl
+listen_again b s Listens Listening = refl
+listen_again b s _ _ = refl
+
+handed_again : (b : Settings) (s : State) (o : Option ControlBlock) → handed_out (rebound b s) o ≡ reply_again b (handed_out s o)
+handed_again b s None = refl
+handed_again b s (Some c) =
+    let handed : State = with_stored (Some (with_stream stream.Open c)) s in
+    either_mapped (rebound_with b) (is_some c.established && is_waiting (stream_of c))
+    (answered handed (Number 4)) (answered s (Error Eagain))
+    (answered (rebound b handed) (Number 4)) (answered (rebound b s) (Error Eagain)) refl refl
+
+accept_again : (b : Settings) (s : State) (l : Listener) (d : Descriptor) → accept_reply (rebound b s) l d ≡ reply_again b (accept_reply s l d)
+accept_again b s Listens Listening = handed_again b s s.endpoint.connection
+accept_again b s _ _ = refl
+
+no_delay_again : (b : Settings) (s : State) (set : Bool) (d : Descriptor) → no_delay_reply (rebound b s) set d ≡ reply_again b (no_delay_reply s set d)
+no_delay_again b s set Listening = refl
+no_delay_again b s set Connected = refl
+
+-- what a `write` consulted
+queued_uses : (now n free : ℕ) (c : ControlBlock) (s t : State) (a : Answer) → queued now n free c s ≡ Ok (t, a) → t.uses ≡ s.uses
+queued_uses now n free c s t a h =
+    came (λ (x : State × Answer). x.0.uses ≡ s.uses) (queued now n free c s) (t, a) h
+    (queued_sends now n free c s (λ u. u.uses ≡ s.uses) refl (λ u sent. sent.uses))
+
+-- a `write`, by whether the connection was reset and whether it has octets
+abbrev wrote : Bool → Bool → ℕ → ℕ → ControlBlock → State → Reply
+wrote reset none now n c s =
+    if reset then answered s (Error Epipe)
+    else if none then answered s (Number 0)
+    else queued now n (free_of s.settings.sndbuf c) c (record s { uses = write_uses s.uses })
+
+wrote_again : (b : Settings) (reset none : Bool) (now n : ℕ) (c : ControlBlock) (s t : State) (a : Answer)
+    → wrote reset none now n c s ≡ Ok (t, a)
+    → Agree t.uses s.settings b
+    → wrote reset none now n c (rebound b s) ≡ reply_again b (wrote reset none now n c s)
+wrote_again b true none now n c s t a h agree = refl
+wrote_again b false true now n c s t a h agree = refl
+wrote_again b false false now n c s t a h agree =
+    let u : State = record s { uses = write_uses s.uses } in
+    let uses : t.uses ≡ write_uses s.uses = queued_uses now n (free_of s.settings.sndbuf c) c u t a h in
+    let same : b.sndbuf ≡ s.settings.sndbuf = sym (agree.sndbuf (ap (λ (x : UseSet). x.sndbuf) uses)) in
+    ap (λ (x : ℕ). queued now n (free_of x c) c (rebound b u)) same ∙ queued_again b now n (free_of s.settings.sndbuf c) c u
+
+written_again : (b : Settings) (now n : ℕ) (o : Option ControlBlock) (s t : State) (a : Answer)
+    → written_on now n o s ≡ Ok (t, a)
+    → Agree t.uses s.settings b
+    → written_on now n o (rebound b s) ≡ reply_again b (written_on now n o s)
+written_again b now n None s t a h agree = refl
+written_again b now n (Some c) s t a h agree = wrote_again b c.reset (n == 0) now n c s t a h agree
+
+write_again : (b : Settings) (now : ℕ) (s : State) (n : ℕ) (d : Descriptor) (t : State) (a : Answer)
+    → write_reply now s n d ≡ Ok (t, a)
+    → Agree t.uses s.settings b
+    → write_reply now (rebound b s) n d ≡ reply_again b (write_reply now s n d)
+write_again b now s n Listening t a h agree = refl
+write_again b now s n Connected t a h agree = written_again b now n s.endpoint.connection s t a h agree
+
+closed_again : (b : Settings) (now : ℕ) (o : Option ControlBlock) (s : State) → closed_on now o (rebound b s) ≡ reply_again b (closed_on now o s)
+closed_again b now None s = refl
+closed_again b now (Some c) s =
+    let closed : State = with_stored (Some (closed_stream c)) s in
+    let r : Result State Halt = if c.reset then Ok closed else ordinary_outside_recovery now c closed in
+    ap (with_answer (Number 0))
+    (either_mapped (rebound b) c.reset (Ok closed) (ordinary_outside_recovery now c closed)
+    (Ok (rebound b closed)) (ordinary_outside_recovery now c (rebound b closed)) refl (outside_again b now c closed))
+    ∙ answer_again b (Number 0) r
+
+close_again : (b : Settings) (now : ℕ) (s : State) (d : Descriptor) → close_reply now (rebound b s) d ≡ reply_again b (close_reply now s d)
+close_again b now s Listening =
+    either_mapped (rebound_with b) (is_pending s.endpoint.connection)
+    (Err Unsupported) (answered (with_listener Closed s) (Number 0))
+    (Err Unsupported) (answered (rebound b (with_listener Closed s)) (Number 0)) refl refl
+close_again b now s Connected = closed_again b now s.endpoint.connection s
+
+operated_again : (b : Settings) (now : ℕ) (s : State) (d : Descriptor) (o : Operation) (t : State) (a : Answer)
+    → operated now s d o ≡ Ok (t, a)
+    → Agree t.uses s.settings b
+    → operated now (rebound b s) d o ≡ reply_again b (operated now s d o)
+operated_again b now s d Bind t a h agree = bind_again b s s.endpoint.listener d
+operated_again b now s d Listen t a h agree = listen_again b s s.endpoint.listener d
+operated_again b now s d Accept t a h agree = accept_again b s s.endpoint.listener d
+operated_again b now s d ReuseAddress t a h agree = refl
+operated_again b now s d (NoDelay set) t a h agree = no_delay_again b s set d
+operated_again b now s d SetFlags t a h agree = refl
+operated_again b now s d (Write n) t a h agree = write_again b now s n d t a h agree
+operated_again b now s d Close t a h agree = close_again b now s d
+
+open_again : (b : Settings) (now : ℕ) (s : State) (o : Operation) (d : Option Descriptor) (t : State) (a : Answer)
+    → on_open now s o d ≡ Ok (t, a)
+    → Agree t.uses s.settings b
+    → on_open now (rebound b s) o d ≡ reply_again b (on_open now s o d)
+open_again b now s o None t a h agree = refl
+open_again b now s o (Some d) t a h agree = operated_again b now s d o t a h agree
+
+replied_again : (b : Settings) (now : ℕ) (s : State) (r : Request) (t : State) (a : Answer)
+    → reply_to now s r ≡ Ok (t, a)
+    → Agree t.uses s.settings b
+    → reply_to now (rebound b s) r ≡ reply_again b (reply_to now s r)
+replied_again b now s Socket t a h agree = socket_again b s s.endpoint.listener
+replied_again b now s (On fd o) t a h agree = open_again b now s o (opened s.endpoint fd) t a h agree
+
+requested_again : (b : Settings) (now : ℕ) (s : State) (r : Option Request) (t : State) (a : Answer)
+    → requested now s r ≡ Ok (t, a)
+    → Agree t.uses s.settings b
+    → requested now (rebound b s) r ≡ reply_again b (requested now s r)
+requested_again b now s None t a h agree = refl
+requested_again b now s (Some r) t a h agree = replied_again b now s r t a h agree
+
+pub calls_only_use : CallsOnlyUse
+calls_only_use call now s t a b h agree = requested_again b now s (request_of call) t a h agree ∙ ap (reply_again b) h

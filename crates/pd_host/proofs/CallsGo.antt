@@ -1,0 +1,208 @@
+-- A relation of states that each segment sent keeps holds of all that a call sends.
+use Rattle.std.proofs.Common.{◌≡◌, ℕ, ◌==◌, min, Bool, true, false, not, ◌&&◌, if◌then◌else◌, Option, None, Some, is_some, option_map, Result, Ok, Err, refl, sym, ap, ◌∙◌}
+use Rattle.pd_script.specs.declared.calls.Call.{Call}
+use Rattle.pd_seg.specs.declared.answers.Answer.{Answer}
+use Rattle.pd_seg.specs.declared.answers.Answer.TheVariants.{Number, Error}
+use Rattle.pd_seg.specs.declared.answers.Errno.TheVariants.{Eagain, Epipe}
+use Rattle.pd_host.specs.Calls.{Reply, answered, with_listener, with_stored, with_answer, socket_reply, bind_reply, listen_reply, accept_reply, handed_out, no_delay_reply, free_of, with_queued, write_uses, queued, written_on, write_reply, closed_stream, with_fin, closed_on, close_reply, operated, on_open, opened, reply_to, requested, called, is_pending, is_waiting, stream_of, with_stream, with_nagle}
+use Rattle.pd_host.specs.ControlBlock.{ControlBlock}
+use Rattle.pd_host.specs.Requests.{request_of}
+use Rattle.pd_host.specs.Sending.{ordinary, ordinary_outside_recovery, is_recovering}
+use Rattle.pd_host.specs.SendingLaws.{sent_in, taken_in, timed_in, window_end}
+use Rattle.pd_host.specs.declared.descriptors.Descriptor.{Descriptor}
+use Rattle.pd_host.specs.declared.descriptors.Descriptor.TheVariants.{Listening, Connected}
+use Rattle.pd_host.specs.declared.established.Established.{Established}
+use Rattle.pd_host.specs.declared.halts.Halt.{Halt}
+use Rattle.pd_host.specs.declared.halts.Halt.TheVariants.{Unsupported}
+use Rattle.pd_host.specs.declared.listeners.Listener.{Listener}
+use Rattle.pd_host.specs.declared.listeners.Listener.TheVariants.{Absent, Open, Bound, Listens, Closed}
+use Rattle.pd_host.specs.declared.requests.Operation.{Operation}
+use Rattle.pd_host.specs.declared.requests.Operation.TheVariants.{Bind, Listen, Accept, ReuseAddress, NoDelay, SetFlags, Write, Close}
+use Rattle.pd_host.specs.declared.requests.Request.{Request}
+use Rattle.pd_host.specs.declared.requests.Request.TheVariants.{Socket, On}
+use Rattle.pd_host.specs.declared.sender_state.State.{State}
+use Rattle.pd_host.specs.declared.streams.Stream.{Stream}
+use Rattle.pd_host.specs.declared.streams.Stream.TheVariants as stream
+use Rattle.pd_host.proofs.CallsBehind.{Replies, either_reply, reply_leaves}
+use Rattle.pd_host.proofs.Goes.{Goes, ordinary_goes}
+use Rattle.pd_host.proofs.Outcomes.{Leaves, came, leaves_too, either}
+
+-- nothing was put out, nothing else is timed, and the numbers of what was sent and what the peer takes are the same
+pub record IsQuiet (s t : State) : Type 0 where
+  pub outbox : t.endpoint.outbox ≡ s.endpoint.outbox
+  pub timed : timed_in t.endpoint.connection ≡ timed_in s.endpoint.connection
+  pub sent : sent_in t.endpoint.connection ≡ sent_in s.endpoint.connection
+  pub taken : taken_in t.endpoint.connection ≡ taken_in s.endpoint.connection
+
+-- so of connections
+record IsAlike (x y : Option ControlBlock) : Type 0 where
+  pub timed : timed_in x ≡ timed_in y
+  pub sent : sent_in x ≡ sent_in y
+  pub taken : taken_in x ≡ taken_in y
+
+self : (x : Option ControlBlock) → IsAlike x x
+self x = record { timed = refl; sent = refl; taken = refl }
+
+quiet : (s t : State) → t.endpoint.outbox ≡ s.endpoint.outbox → t.endpoint.connection ≡ s.endpoint.connection → IsQuiet s t
+quiet s t out same = record { outbox = out; timed = ap timed_in same; sent = ap sent_in same; taken = ap taken_in same }
+
+stored_in : (s u : State) (x y : Option ControlBlock) → u.endpoint.outbox ≡ s.endpoint.outbox → s.endpoint.connection ≡ y → IsAlike x y
+    → IsQuiet s (with_stored x u)
+stored_in s u x y out e h = record {
+  outbox = out;
+  timed = h.timed ∙ sym (ap timed_in e);
+  sent = h.sent ∙ sym (ap sent_in e);
+  taken = h.taken ∙ sym (ap taken_in e);
+}
+
+stored : (s : State) (x y : Option ControlBlock) → s.endpoint.connection ≡ y → IsAlike x y → IsQuiet s (with_stored x s)
+stored s x y e h = stored_in s s x y refl e h
+
+-- what calls change of a connection
+
+stream_window : (d : Stream) (c : ControlBlock) (o : Option Established) → window_end c (option_map {T = Established} (λ e. record e { stream = d }) o) ≡ window_end c o
+stream_window d c None = refl
+stream_window d c (Some e) = refl
+
+streamed : (d : Stream) (c : ControlBlock) → IsAlike (Some (with_stream d c)) (Some c)
+streamed d c = record { timed = refl; sent = refl; taken = stream_window d c c.established }
+
+nagle_window : (on : Bool) (c : ControlBlock) (o : Option Established) → window_end c (option_map {T = Established} (λ e. record e { nagle = on }) o) ≡ window_end c o
+nagle_window on c None = refl
+nagle_window on c (Some e) = refl
+
+nagled : (on : Bool) (o : Option ControlBlock) → IsAlike (option_map (with_nagle on) o) o
+nagled on None = self None
+nagled on (Some c) = record { timed = refl; sent = refl; taken = nagle_window on c c.established }
+
+bounded : (c : ControlBlock) (n : ℕ) → IsAlike (Some (with_queued n c)) (Some c)
+bounded c n = record { timed = refl; sent = refl; taken = queued_window c.established }
+  where
+    queued_window : (o : Option Established) → window_end (with_queued n c) o ≡ window_end c o
+    queued_window None = refl
+    queued_window (Some e) = refl
+
+finished : (c : ControlBlock) → IsAlike (Some (with_fin c)) (Some c)
+finished c = record { timed = refl; sent = refl; taken = fin_window c.established }
+  where
+    fin_window : (o : Option Established) → window_end (with_fin c) o ≡ window_end c o
+    fin_window None = refl
+    fin_window (Some e) = refl
+
+after_both : (x y z : Option ControlBlock) → IsAlike x y → IsAlike y z → IsAlike x z
+after_both x y z h k = record { timed = h.timed ∙ k.timed; sent = h.sent ∙ k.sent; taken = h.taken ∙ k.taken }
+
+closed_so : (b : Bool) (c : ControlBlock) → IsAlike (Some (with_stream stream.Closed (if b then c else with_fin c))) (Some c)
+closed_so true c = streamed stream.Closed c
+closed_so false c = after_both (Some (with_stream stream.Closed (with_fin c))) (Some (with_fin c)) (Some c) (streamed stream.Closed (with_fin c)) (finished c)
+
+module _ (now : ℕ) (R : State → State → Type 0) (rules : Goes now R) where
+  -- a call leaves a quiet state, and sends from there on
+  abbrev pub Went : State → State → Type 0
+  Went s t = (u : State) × IsQuiet s u × R u t
+
+  stayed : (s : State) → Went s s
+  stayed s = (s, quiet s s refl refl, rules.none s)
+
+  changed : (s t : State) → t.endpoint.outbox ≡ s.endpoint.outbox → t.endpoint.connection ≡ s.endpoint.connection → Went s t
+  changed s t out same = (t, quiet s t out same, rules.none t)
+
+  outside_goes : (c : ControlBlock) (s : State) → Leaves (R s) (ordinary_outside_recovery now c s)
+  outside_goes c s =
+      either (R s) (is_recovering c.established) (Ok s) (ordinary now s) (rules.none s) (ordinary_goes now R rules s s (rules.none s))
+
+  socket_goes : (s : State) (l : Listener) → Replies (Went s) (socket_reply s l)
+  socket_goes s Absent = changed s (with_listener Open s) refl refl
+  socket_goes s _ = tt
+
+  bind_goes : (s : State) (l : Listener) (d : Descriptor) → Replies (Went s) (bind_reply s l d)
+  bind_goes s Open Listening = changed s (with_listener Bound s) refl refl
+  bind_goes s _ _ = stayed s
+
+  listen_goes : (s : State) (l : Listener) (d : Descriptor) → Replies (Went s) (listen_reply s l d)
+  listen_goes s Bound Listening = changed s (with_listener Listens s) refl refl
+  listen_goes s Listens Listening = stayed s
+  listen_goes s _ _ = stayed s
+
+  handed_goes : (s : State) (o : Option ControlBlock) → s.endpoint.connection ≡ o → Replies (Went s) (handed_out s o)
+  handed_goes s None e = stayed s
+  handed_goes s (Some c) e =
+      let x : Option ControlBlock = Some (with_stream stream.Open c) in
+      either_reply (Went s) (is_some c.established && is_waiting (stream_of c)) (answered (with_stored x s) (Number 4)) (answered s (Error Eagain))
+      (with_stored x s, stored s x (Some c) e (streamed stream.Open c), rules.none (with_stored x s)) (stayed s)
+
+  accept_goes : (s : State) (l : Listener) (d : Descriptor) → Replies (Went s) (accept_reply s l d)
+  accept_goes s Listens Listening = handed_goes s s.endpoint.connection refl
+  accept_goes s _ _ = stayed s
+
+  no_delay_goes : (s : State) (set : Bool) (d : Descriptor) → Replies (Went s) (no_delay_reply s set d)
+  no_delay_goes s set Listening = stayed s
+  no_delay_goes s set Connected =
+      let x : Option ControlBlock = option_map (with_nagle (not set)) s.endpoint.connection in
+      (with_stored x s, stored s x s.endpoint.connection refl (nagled (not set) s.endpoint.connection), rules.none (with_stored x s))
+
+  -- what a call queues is sent on
+  sends_on : (c : ControlBlock) (s u : State) (answer : Answer) → IsQuiet s u → Replies (Went s) (with_answer answer (ordinary_outside_recovery now c u))
+  sends_on c s u answer h =
+      reply_leaves (Went s) answer (ordinary_outside_recovery now c u)
+      (leaves_too (R u) (Went s) (ordinary_outside_recovery now c u) (λ t r. (u, h, r)) (outside_goes c u))
+
+  written_goes : (n : ℕ) (s : State) (o : Option ControlBlock) → s.endpoint.connection ≡ o → Replies (Went s) (written_on now n o s)
+  written_goes n s None e = stayed s
+  written_goes n s (Some c) e =
+      let noted : State = record s { uses = write_uses s.uses } in
+      let free : ℕ = free_of s.settings.sndbuf c in
+      let x : Option ControlBlock = Some (with_queued (min n free) c) in
+      let sending : Reply = with_answer (Number (min n free)) (ordinary_outside_recovery now c (with_stored x noted)) in
+      let rest : Reply = if n == 0 then answered s (Number 0) else queued now n free c noted in
+      either_reply (Went s) c.reset (answered s (Error Epipe)) rest (stayed s)
+      (either_reply (Went s) (n == 0) (answered s (Number 0)) (queued now n free c noted) (stayed s)
+      (either_reply (Went s) (free == 0) (answered noted (Error Eagain)) sending (changed s noted refl refl)
+      (sends_on c s (with_stored x noted) (Number (min n free)) (stored_in s noted x (Some c) refl e (bounded c (min n free))))))
+
+  write_goes : (s : State) (n : ℕ) (d : Descriptor) → Replies (Went s) (write_reply now s n d)
+  write_goes s n Listening = stayed s
+  write_goes s n Connected = written_goes n s s.endpoint.connection refl
+
+  closed_goes : (s : State) (o : Option ControlBlock) → s.endpoint.connection ≡ o → Replies (Went s) (closed_on now o s)
+  closed_goes s None e = stayed s
+  closed_goes s (Some c) e =
+      let x : Option ControlBlock = Some (closed_stream c) in
+      let u : State = with_stored x s in
+      let h : IsQuiet s u = stored s x (Some c) e (closed_so c.reset c) in
+      let r : Result State Halt = if c.reset then Ok u else ordinary_outside_recovery now c u in
+      reply_leaves (Went s) (Number 0) r
+      (either (Went s) c.reset (Ok u) (ordinary_outside_recovery now c u) (u, h, rules.none u)
+      (leaves_too (R u) (Went s) (ordinary_outside_recovery now c u) (λ t k. (u, h, k)) (outside_goes c u)))
+
+  close_goes : (s : State) (d : Descriptor) → Replies (Went s) (close_reply now s d)
+  close_goes s Listening =
+      either_reply (Went s) (is_pending s.endpoint.connection) (Err Unsupported) (answered (with_listener Closed s) (Number 0)) tt
+      (changed s (with_listener Closed s) refl refl)
+  close_goes s Connected = closed_goes s s.endpoint.connection refl
+
+  operated_goes : (s : State) (d : Descriptor) (o : Operation) → Replies (Went s) (operated now s d o)
+  operated_goes s d Bind = bind_goes s s.endpoint.listener d
+  operated_goes s d Listen = listen_goes s s.endpoint.listener d
+  operated_goes s d Accept = accept_goes s s.endpoint.listener d
+  operated_goes s d ReuseAddress = stayed s
+  operated_goes s d (NoDelay set) = no_delay_goes s set d
+  operated_goes s d SetFlags = stayed s
+  operated_goes s d (Write n) = write_goes s n d
+  operated_goes s d Close = close_goes s d
+
+  open_goes : (s : State) (o : Operation) (d : Option Descriptor) → Replies (Went s) (on_open now s o d)
+  open_goes s o None = stayed s
+  open_goes s o (Some d) = operated_goes s d o
+
+  reply_goes : (s : State) (r : Request) → Replies (Went s) (reply_to now s r)
+  reply_goes s Socket = socket_goes s s.endpoint.listener
+  reply_goes s (On fd o) = open_goes s o (opened s.endpoint fd)
+
+  requested_goes : (s : State) (r : Option Request) → Replies (Went s) (requested now s r)
+  requested_goes s None = tt
+  requested_goes s (Some r) = reply_goes s r
+
+  pub called_goes : (call : Call) (s t : State) (a : Answer) → called call now s ≡ Ok (t, a) → Went s t
+  called_goes call s t a h =
+      came (λ (x : State × Answer). Went s x.0) (called call now s) (t, a) h (requested_goes s (request_of call))

@@ -1,0 +1,181 @@
+-- What each rule keeps of a connection, calls keep.
+use Rattle.std.proofs.Common.{◌≡◌, ℕ, ◌==◌, ◌&&◌, min, not, Bool, true, false, if◌then◌else◌, List, Option, Some, None, Result, Ok, Err, refl}
+use Rattle.std.specs.Prelude.{is_some, option_map, IfSome}
+use Rattle.pd_script.specs.declared.calls.Call.{Call}
+use Rattle.pd_settings.specs.declared.fields.Settings.{Settings}
+use Rattle.pd_seg.specs.declared.answers.Answer.{Answer}
+use Rattle.pd_seg.specs.declared.answers.Answer.TheVariants.{Number}
+use Rattle.pd_seg.specs.declared.segments.Sent.{Sent}
+use Rattle.pd_host.specs.Calls.{Reply, with_answer, with_listener, with_stored, is_listener_open, is_waiting, is_open, is_stream_open, is_pending, stream_of, opened, socket_reply, bind_reply, listen_reply, handed_out, accept_reply, with_stream, with_nagle, no_delay_reply, free_of, with_queued, write_uses, queued, written_on, write_reply, closed_stream, closed_on, close_reply, operated, on_open, reply_to, requested, called}
+use Rattle.pd_host.specs.ControlBlock.{ControlBlock}
+use Rattle.pd_host.specs.Requests.{request_of}
+use Rattle.pd_host.specs.Sending.{is_recovering, ordinary, ordinary_outside_recovery}
+use Rattle.pd_host.specs.declared.descriptors.Descriptor.{Descriptor}
+use Rattle.pd_host.specs.declared.descriptors.Descriptor.TheVariants.{Listening, Connected}
+use Rattle.pd_host.specs.declared.endpoint.Endpoint.{Endpoint}
+use Rattle.pd_host.specs.declared.halts.Halt.{Halt}
+use Rattle.pd_host.specs.declared.halts.Halt.TheVariants.{Unsupported}
+use Rattle.pd_host.specs.declared.listeners.Listener.{Listener}
+use Rattle.pd_host.specs.declared.listeners.Listener.TheVariants.{Absent, Open, Bound, Listens, Closed}
+use Rattle.pd_host.specs.declared.requests.Operation.{Operation}
+use Rattle.pd_host.specs.declared.requests.Operation.TheVariants.{Bind, Listen, Accept, ReuseAddress, NoDelay, SetFlags, Write, Close}
+use Rattle.pd_host.specs.declared.requests.Request.{Request}
+use Rattle.pd_host.specs.declared.requests.Request.TheVariants.{Socket, On}
+use Rattle.pd_host.specs.declared.sender_state.State.{State}
+use Rattle.pd_host.specs.declared.streams.Stream.TheVariants as stream
+use Rattle.pd_host.proofs.Kept.{Comes, by_test, came, comes_more}
+use Rattle.pd_host.proofs.Rules.{Holds, KeptByCalls}
+use Rattle.pd_host.proofs.SendingKept.{TakesOne, ordinary_where}
+
+-- it holds of the state of a reply
+abbrev Leaves : (State → Type 0) → Reply → Type 0
+Leaves P reply = Comes (λ (r : State × Answer). P r.0) reply
+
+answered_leaves : (P : State → Type 0) (answer : Answer) (r : Result State Halt) → Comes P r → Leaves P (with_answer answer r)
+answered_leaves P answer (Ok s) h = h
+answered_leaves P answer (Err halt) h = tt
+
+-- descriptor 4 is open where it was found
+connected_so : (a b is : Bool) → (if a then Some Listening else if b && is then Some Connected else None) ≡ Some Connected → is ≡ true
+connected_so true b is e = absurd cc
+connected_so false true true e = refl
+connected_so false true false e = absurd cc
+connected_so false false is e = absurd cc
+
+connected : (e : Endpoint) (fd : ℕ) → opened e fd ≡ Some Connected → is_stream_open e.connection ≡ true
+connected e fd is = connected_so (fd == 3 && is_listener_open e.listener) (fd == 4) (is_stream_open e.connection) is
+
+module _ (now : ℕ) (O : List Sent → Type 0) (C D : Settings → ControlBlock → Type 0) (Q : ControlBlock → Type 0)
+    (more : (b : Settings) (c : ControlBlock) → D b c → TakesOne now O) (rules : (b : Settings) → KeptByCalls now b Q (C b) (D b)) where
+  abbrev All : State → Type 0
+  All s = Holds O C s
+
+  -- the same connection under another listener, and the other way round
+  listens : (l : Listener) (s : State) → All s → All (with_listener l s)
+  listens l s h = record { packets = h.packets; connection = h.connection }
+
+  stored : (o : Option ControlBlock) (s : State) → All s → IfSome o (C s.settings) → All (with_stored o s)
+  stored o s h d = record { packets = h.packets; connection = d }
+
+  socket_leaves : (s : State) (l : Listener) → All s → Leaves All (socket_reply s l)
+  socket_leaves s Absent h = listens Open s h
+  socket_leaves s _ h = tt
+
+  bind_leaves : (s : State) (l : Listener) (d : Descriptor) → All s → Leaves All (bind_reply s l d)
+  bind_leaves s Open Listening h = listens Bound s h
+  bind_leaves s _ _ h = h
+
+  listen_leaves : (s : State) (l : Listener) (d : Descriptor) → All s → Leaves All (listen_reply s l d)
+  listen_leaves s Bound Listening h = listens Listens s h
+  listen_leaves s Listens Listening h = h
+  listen_leaves s _ _ h = h
+
+  handed_leaves : (s : State) (o : Option ControlBlock) → All s → IfSome o (C s.settings) → Leaves All (handed_out s o)
+  handed_leaves s None h d = h
+  handed_leaves s (Some c) h d =
+      by_test (Leaves All) (is_some c.established && is_waiting (stream_of c)) _ _
+      (λ e. stored (Some (with_stream stream.Open c)) s h ((rules s.settings).accepted c d e)) (λ _. h)
+
+  accept_leaves : (s : State) (l : Listener) (d : Descriptor) → All s → Leaves All (accept_reply s l d)
+  accept_leaves s Listens Listening h = handed_leaves s s.endpoint.connection h h.connection
+  accept_leaves s _ _ h = h
+
+  -- Nagle's algorithm
+  switched : (b : Settings) (on : Bool) (o : Option ControlBlock) → IfSome o (C b) → IfSome (option_map (with_nagle on) o) (C b)
+  switched b on None d = tt
+  switched b on (Some c) d = (rules b).nagle on c d
+
+  no_delay_leaves : (s : State) (set : Bool) (d : Descriptor) → All s → Leaves All (no_delay_reply s set d)
+  no_delay_leaves s set Listening h = h
+  no_delay_leaves s set Connected h =
+      stored (option_map (with_nagle (not set)) s.endpoint.connection) s h (switched s.settings (not set) s.endpoint.connection h.connection)
+
+  -- octets are queued, and sent
+  went_on : (s : State) → (o : Option ControlBlock) → IfSome o (D s.settings) → IfSome o (C s.settings)
+  went_on s None d = tt
+  went_on s (Some c) d = (rules s.settings).sent c d
+
+  sent_all : (s : State) → Holds O D s → All s
+  sent_all s h = record { packets = h.packets; connection = went_on s s.endpoint.connection h.connection }
+
+  outside_recovery : (c : ControlBlock) (s : State) → Holds O D s → Comes All (ordinary_outside_recovery now c s)
+  outside_recovery c s h =
+      by_test (Comes All) (is_recovering c.established) (Ok s) (ordinary now s) (λ _. sent_all s h)
+      (λ _. comes_more (Holds O D) All sent_all (ordinary now s) (ordinary_where now O D more (λ b. (rules b).sending) s h))
+
+  queued_leaves : (n : ℕ) (c : ControlBlock) (s : State) → Q c → All s → C s.settings c → is_open (stream_of c) ≡ true → c.reset ≡ false
+      → Leaves All (queued now n (free_of s.settings.sndbuf c) c s)
+  queued_leaves n c s q h d unclosed still =
+      by_test (Leaves All) (free_of s.settings.sndbuf c == 0) _ _ (λ _. h)
+      (λ _. answered_leaves All (Number (min n (free_of s.settings.sndbuf c))) _
+      (outside_recovery c (with_stored (Some (with_queued (min n (free_of s.settings.sndbuf c)) c)) s)
+      (record { packets = h.packets; connection = (rules s.settings).queued n c q d unclosed still })))
+
+  written_leaves : (n : ℕ) (o : Option ControlBlock) (s : State) → IfSome o Q → All s → IfSome o (C s.settings) → is_stream_open o ≡ true
+      → Leaves All (written_on now n o s)
+  written_leaves n None s q h d unclosed = h
+  written_leaves n (Some c) s q h d unclosed =
+      by_test (Leaves All) c.reset _ _ (λ _. h)
+      (λ still. by_test (Leaves All) (n == 0) _ _ (λ _. h)
+      (λ _. queued_leaves n c (record s { uses = write_uses s.uses }) q (record { packets = h.packets; connection = h.connection }) d unclosed still))
+
+  closed_leaves : (o : Option ControlBlock) (s : State) → IfSome o Q → All s → IfSome o (C s.settings) → is_stream_open o ≡ true
+      → Leaves All (closed_on now o s)
+  closed_leaves None s q h d unclosed = h
+  closed_leaves (Some c) s q h d unclosed =
+      let closed : State = with_stored (Some (closed_stream c)) s in
+      answered_leaves All (Number 0) (if c.reset then Ok closed else ordinary_outside_recovery now c closed)
+      (by_test (Comes All) c.reset (Ok closed) (ordinary_outside_recovery now c closed)
+      (λ was. stored (Some (closed_stream c)) s h ((rules s.settings).abandoned c d unclosed was))
+      (λ still. outside_recovery c closed (record { packets = h.packets; connection = (rules s.settings).finished c q d unclosed still })))
+
+  -- the condition is looked at where descriptor 4 is open
+  abbrev MayCall : State → Type 0
+  MayCall s = IfSome s.endpoint.connection Q
+
+  abbrev IsOpenOn : State → Descriptor → Type 0
+  IsOpenOn s Listening = Unit {0}
+  IsOpenOn s Connected = is_stream_open s.endpoint.connection ≡ true
+
+  write_leaves : (s : State) (n : ℕ) (d : Descriptor) → MayCall s → All s → IsOpenOn s d → Leaves All (write_reply now s n d)
+  write_leaves s n Listening q h unclosed = h
+  write_leaves s n Connected q h unclosed = written_leaves n s.endpoint.connection s q h h.connection unclosed
+
+  close_leaves : (s : State) (d : Descriptor) → MayCall s → All s → IsOpenOn s d → Leaves All (close_reply now s d)
+  close_leaves s Listening q h unclosed =
+      by_test (Leaves All) (is_pending s.endpoint.connection) (Err Unsupported) _ (λ _. tt) (λ _. listens Closed s h)
+  close_leaves s Connected q h unclosed = closed_leaves s.endpoint.connection s q h h.connection unclosed
+
+  operated_leaves : (s : State) (d : Descriptor) (o : Operation) → MayCall s → All s → IsOpenOn s d → Leaves All (operated now s d o)
+  operated_leaves s d Bind q h unclosed = bind_leaves s s.endpoint.listener d h
+  operated_leaves s d Listen q h unclosed = listen_leaves s s.endpoint.listener d h
+  operated_leaves s d Accept q h unclosed = accept_leaves s s.endpoint.listener d h
+  operated_leaves s d ReuseAddress q h unclosed = h
+  operated_leaves s d (NoDelay set) q h unclosed = no_delay_leaves s set d h
+  operated_leaves s d SetFlags q h unclosed = h
+  operated_leaves s d (Write n) q h unclosed = write_leaves s n d q h unclosed
+  operated_leaves s d Close q h unclosed = close_leaves s d q h unclosed
+
+  open_leaves : (s : State) (fd : ℕ) (o : Operation) (d : Option Descriptor) → MayCall s → All s → opened s.endpoint fd ≡ d
+      → Leaves All (on_open now s o d)
+  open_leaves s fd o None q h is = h
+  open_leaves s fd o (Some Listening) q h is = operated_leaves s Listening o q h tt
+  open_leaves s fd o (Some Connected) q h is = operated_leaves s Connected o q h (connected s.endpoint fd is)
+
+  reply_leaves : (s : State) (r : Request) → MayCall s → All s → Leaves All (reply_to now s r)
+  reply_leaves s Socket q h = socket_leaves s s.endpoint.listener h
+  reply_leaves s (On fd o) q h = open_leaves s fd o (opened s.endpoint fd) q h refl
+
+  requested_leaves : (s : State) (r : Option Request) → MayCall s → All s → Leaves All (requested now s r)
+  requested_leaves s None q h = tt
+  requested_leaves s (Some r) q h = reply_leaves s r q h
+
+  pub called_where : (call : Call) (s t : State) (answer : Answer) → MayCall s → All s → called call now s ≡ Ok (t, answer) → All t
+  called_where call s t answer q h is =
+      came (λ (r : State × Answer). All r.0) (called call now s) (t, answer) (requested_leaves s (request_of call) q h) is
+
+-- the same where any packet may be put out
+pub called_holds : (now : ℕ) (O : List Sent → Type 0) (C D : Settings → ControlBlock → Type 0) (Q : ControlBlock → Type 0) → TakesOne now O
+    → ((b : Settings) → KeptByCalls now b Q (C b) (D b))
+    → (call : Call) (s t : State) (answer : Answer) → IfSome s.endpoint.connection Q → Holds O C s → called call now s ≡ Ok (t, answer) → Holds O C t
+called_holds now O C D Q more = called_where now O C D Q (λ b c d. more)

@@ -1,0 +1,144 @@
+-- What an RST ends, and in which range the numbers stay.
+use Rattle.std.proofs.Common.{◌≡◌, ℕ, zero, suc, ◌^◌, ◌<◌, ◌&&◌, ◌||◌, nat_lt, not, List, [], ◌∷◌, Bool, true, false, if◌then◌else◌, Option, Some, None, Ok, Err, refl, sym, ap, subst, ◌∙◌, arith}
+use Rattle.std.specs.Prelude.{is_some, IfSome}
+use Rattle.pd_settings.specs.declared.fields.Settings.{Settings}
+use Rattle.pd_seg.specs.declared.segments.Segment.{Segment}
+use Rattle.pd_seg.specs.declared.segments.Sent.{Sent}
+use Rattle.pd_host.specs.Arrivals.{check_window, check_rst, check_ack_flag, check_handshake, check_ack, first_ruling, ruling_of, ruled, arrived_on}
+use Rattle.pd_host.specs.Calls.{with_stream, with_fin, closed_stream}
+use Rattle.pd_host.specs.ControlBlock.{ControlBlock}
+use Rattle.pd_host.specs.Expiries.{due_by, deadline_on, deadline_of, expired}
+use Rattle.pd_host.specs.Handshake.{length_of}
+use Rattle.pd_host.specs.Invariants.{IsReached, BoardsAreScoreboards, CallsStayInRange, EndsForGood}
+use Rattle.pd_host.specs.Sender.{queued_to}
+use Rattle.pd_host.specs.Sending.{repeated, on_found, places_left}
+use Rattle.pd_host.specs.declared.halts.Halt.TheVariants.{Limit}
+use Rattle.pd_host.specs.declared.rulings.Ruling.{Ruling}
+use Rattle.pd_host.specs.declared.rulings.Ruling.TheVariants.{NotRun}
+use Rattle.pd_host.specs.declared.streams.Stream.TheVariants as stream
+use Rattle.pd_host.proofs.CallsKept.{called_where, called_holds}
+use Rattle.pd_host.proofs.Kept.{by_test, nothing_found}
+use Rattle.pd_host.proofs.Moments.{anything}
+use Rattle.pd_host.proofs.Queued.{clash}
+use Rattle.pd_host.proofs.Reached.{at_some}
+use Rattle.pd_host.proofs.Rules.{Holds, KeptByCalls}
+
+pub boards_are_scoreboards : BoardsAreScoreboards
+boards_are_scoreboards now s c h is low =
+    let k : IsReached s.settings now c = at_some (IsReached s.settings now) s.endpoint.connection c is h.connection in
+    record {
+      smss_low = k.board.smss_low;
+      smss_high = k.board.smss_high;
+      una_next = k.board.una_next;
+      next_top = k.board.next_top;
+      top_end = k.board.top_end;
+      end_low = low;
+      sacked_ascending = k.board.sacked_ascending;
+      sacked_sent = k.board.sacked_sent;
+    }
+
+-- The range of the numbers
+
+abbrev IsLow : ControlBlock → Type 0
+IsLow c = c.board.end < 2 ^ 31
+
+abbrev MayQueue : ControlBlock → Type 0
+MayQueue c = c.board.end < 2 ^ 30
+
+closed_low : (c : ControlBlock) → MayQueue c → IsLow (closed_stream c)
+closed_low c h = by_test (λ (d : ControlBlock). IsLow (with_stream stream.Closed d)) c.reset c (with_fin c) (λ _. omega (arith, h)) (λ _. omega (arith, h))
+
+reset_low : (c : ControlBlock) → IsLow c → c.reset ≡ true → IsLow (closed_stream c)
+reset_low c h was =
+    by_test (λ (d : ControlBlock). IsLow (with_stream stream.Closed d)) c.reset c (with_fin c) (λ _. h) (λ still. absurd (clash c.reset was still))
+
+calls_low : (now : ℕ) (b : Settings) → KeptByCalls now b MayQueue IsLow IsLow
+calls_low now b = record {
+  sending = record { ready = λ c h. h; sent = λ c segment h e. h };
+  sent = λ c h. h;
+  accepted = λ c h e. h;
+  nagle = λ on c h. h;
+  queued = λ n c q h unclosed still. omega (arith, q, b.sndbuf_in_range.1);
+  finished = λ c q h unclosed still. closed_low c q;
+  abandoned = λ c h unclosed was. reset_low c h was;
+}
+
+may_queue : (o : Option ControlBlock) → queued_to o < 2 ^ 30 → IfSome o MayQueue
+may_queue None h = tt
+may_queue (Some c) h = h
+
+low_before : (o : Option ControlBlock) → queued_to o < 2 ^ 30 → IfSome o IsLow
+low_before None h = tt
+low_before (Some c) h = omega (arith, h)
+
+low_after : (o : Option ControlBlock) → IfSome o IsLow → queued_to o < 2 ^ 31
+low_after None h = omega arith
+low_after (Some c) h = h
+
+pub calls_stay_in_range : CallsStayInRange
+calls_stay_in_range call now s t answer short came =
+    low_after t.endpoint.connection
+    (called_holds now (λ _. Unit {0}) (λ b c. IsLow c) (λ b c. IsLow c) MayQueue (λ packets p e h. tt) (calls_low now) call s t answer
+    (may_queue s.endpoint.connection short) (record { packets = tt; connection = low_before s.endpoint.connection short }) came).connection
+
+-- After an RST
+
+not_run : (a b c reset : Bool) (checks : List (Option Ruling)) → reset ≡ true
+    → first_ruling ((if a || (b || (c || reset)) then Some NotRun else None) ∷ checks) ≡ Some NotRun
+not_run true b c reset checks e = refl
+not_run false true c reset checks e = refl
+not_run false false true reset checks e = refl
+not_run false false false true checks e = refl
+not_run false false false false checks e = absurd cc
+
+reset_rules : (c : ControlBlock) (segment : Segment) → c.reset ≡ true → ruling_of c segment ≡ Some NotRun
+reset_rules c segment e =
+    not_run (nat_lt 0 (length_of segment)) segment.flags.syn segment.flags.fin c.reset
+    (check_window c segment ∷ check_rst c segment ∷ check_ack_flag segment ∷ check_handshake c segment ∷ check_ack c segment ∷ []) e
+
+off : (x reset : Bool) → reset ≡ true → (x && not reset) ≡ false
+off true true e = refl
+off false true e = refl
+off x false e = absurd cc
+
+nothing_due : (until : ℕ) (o : Option ControlBlock) (c : ControlBlock) → o ≡ Some c → c.timer.deadline ≡ None → due_by until (deadline_on o) ≡ None
+nothing_due until o c is e = ap (λ x. due_by until (deadline_on x)) is ∙ ap (due_by until) e
+
+rests : {S X : Type 0} (find : S → Option X) (act : X → S → S) (n : ℕ) (s : S) → find s ≡ None → repeated find act n s ≡ Ok s
+rests find act zero s e = ap (λ o. if is_some o then Err Limit else Ok s) e
+rests find act (suc n) s e = ap (on_found (repeated find act n) act s) e
+
+-- a connection that was reset sends nothing
+module _ (now : ℕ) where
+  resets : (b : Settings) → KeptByCalls now b (λ _. Unit {0}) (λ c. c.reset ≡ true) (λ _. ⊥)
+  resets b = record {
+    sending = record { ready = λ c never. never; sent = λ c segment never e. never };
+    sent = λ c never. absurd never;
+    accepted = λ c h e. h;
+    nagle = λ on c h. h;
+    queued = λ n c q h unclosed still. clash c.reset h still;
+    finished = λ c q h unclosed still. clash c.reset h still;
+    abandoned = λ c h unclosed was.
+        by_test (λ (d : ControlBlock). (with_stream stream.Closed d).reset ≡ true) c.reset c (with_fin c) (λ _. h) (λ _. h);
+  }
+
+  reset_of_some : (o : Option ControlBlock) (c : ControlBlock) → o ≡ Some c → c.reset ≡ true → IfSome o (λ x. x.reset ≡ true)
+  reset_of_some o c is e = subst (λ x. IfSome x (λ y. y.reset ≡ true)) (sym is) e
+
+pub ends_for_good : EndsForGood
+ends_for_good = record {
+  arrivals = λ segment now s c is e.
+      ap (arrived_on now segment s) is ∙ ap (ruled now segment c s) (reset_rules c segment e);
+  expiries = λ now until s c h is e.
+      let k : IsReached s.settings now c = at_some (IsReached s.settings now) s.endpoint.connection c is h.connection in
+      let none : c.timer.deadline ≡ None = nothing_found c.timer.deadline (k.runs ∙ off (nat_lt c.board.una c.board.top) c.reset e) in
+      rests (λ t. due_by until (deadline_of t)) (λ at t. expired at t.endpoint.connection t) (places_left s) s
+      (nothing_due until s.endpoint.connection c is none);
+  calls = λ call now s t answer c d is after e came.
+      let O : List Sent → Type 0 = λ packets. packets ≡ s.endpoint.outbox in
+      let C : Settings → ControlBlock → Type 0 = λ b x. x.reset ≡ true in
+      let k : Holds O C t =
+      called_where now O C (λ b x. ⊥) (λ _. Unit {0}) (λ b x never. absurd never) (resets now) call s t answer (anything s.endpoint.connection)
+      (record { packets = refl; connection = reset_of_some now s.endpoint.connection c is e }) came in
+      (at_some (λ (x : ControlBlock). x.reset ≡ true) t.endpoint.connection d after k.connection, k.packets);
+}

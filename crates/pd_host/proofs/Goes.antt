@@ -1,0 +1,259 @@
+-- A relation of states that each segment sent keeps holds of all that is sent.
+use Rattle.std.proofs.Common.{◌≡◌, ℕ, ◌<◌, ◌≤◌, max, nat_lt, Option, None, Some, Ok, Err, refl, sym, subst, ap, ◌∙◌, arith}
+use Rattle.pd_board.specs.Choice.{run_at}
+use Rattle.pd_recover.specs.Choice.{segment_of}
+use Rattle.pd_recover.specs.declared.responses.Then.{Then}
+use Rattle.pd_recover.specs.declared.responses.Then.TheVariants.{Ordinary, StepC, Entry, LimitedTransmit, NewSegment, FastRetransmit, Nothing}
+use Rattle.pd_recover.specs.declared.segments.NextSegment.{NextSegment}
+use Rattle.pd_recover.specs.declared.segments.NextSegment.TheVariants.{Lost, New, Hole, Rescue}
+use Rattle.pd_seg.specs.declared.sack_blocks.Span.{Span}
+use Rattle.pd_host.specs.Acknowledgments.{OnTheWay, step_c_on, step_c_found, sent_as, noted_on, octets_of, step_c_sent, pipe_of, step_c, limited_on, limited_found, counted_on, limited_sent, limited_transmit, put_segment, entered_on, entry, led_to}
+use Rattle.pd_host.specs.ControlBlock.{ControlBlock}
+use Rattle.pd_host.specs.Sending.{places_left, with_block, past_sacked, sent_on, with_segment, found_on, found, sent_ordinarily, ready, ordinary}
+use Rattle.pd_host.specs.SendingLaws.{window_end}
+use Rattle.pd_host.specs.Timing.{clocked, timed_after}
+use Rattle.pd_host.specs.declared.established.Established.{Established}
+use Rattle.pd_host.specs.declared.halts.Halt.TheVariants.{Limit}
+use Rattle.pd_host.specs.declared.sender_state.State.{State}
+use Rattle.pd_host.proofs.Chosen.{Stands, ordinary_end, step_c_stands, limited_flow, run_end}
+use Rattle.pd_host.proofs.Outcomes.{Leaves, kept, either, then_leaves}
+use Rattle.pd_host.proofs.SentOn.{still, sender_leaves, finds, sends, c_finds, c_sends, c_still, limited_finds, limited_sends, counted_still, entered_still}
+
+-- a segment that the windows let leave is sent from a connection, which becomes another one
+pub record IsSending (now : ℕ) (segment : Span) (c d : ControlBlock) : Type 0 where
+  pub stays : still d ≡ still c
+  pub timed : d.timed ≡ timed_after now segment c.board.top c.timed
+  pub low : d.board.top ≤ max c.board.top segment.end
+  pub high : c.board.top ≤ d.board.top
+  pub within : segment.end ≤ d.board.top
+  pub allowed : c.board.top < segment.end → segment.end ≤ window_end c c.established
+
+-- a connection is left as it is, but for the sending place and what recovery has sent
+pub record IsMoved (c d : ControlBlock) : Type 0 where
+  pub stays : still d ≡ still c
+  pub timed : d.timed ≡ c.timed
+  pub top : d.board.top ≡ c.board.top
+
+-- such a relation
+pub record Goes (now : ℕ) (R : State → State → Type 0) : Type 0 where
+  pub none : (s : State) → R s s
+  pub more : (r s t : State) → R r s → R s t → R r t
+  pub moved : (c d : ControlBlock) (s : State) → s.endpoint.connection ≡ Some c → IsMoved c d → R s (with_block d s)
+  pub sent :
+      (segment : Span) (c d : ControlBlock) (s : State) → s.endpoint.connection ≡ Some c → IsSending now segment c d
+      → R s (with_segment now segment c d s)
+
+greater : (a b : ℕ) → (a ≤ max a b) × (b ≤ max a b)
+greater a b = (omega arith, omega arith)
+
+same : (a : ℕ) → a ≤ a
+same a = omega arith
+
+-- what ends among octets that were sent has no others
+sent_before : (a b edge : ℕ) → a ≤ b → b < a → a ≤ edge
+sent_before a b edge le lt = absurd (omega (arith, le, lt))
+
+-- One segment
+
+-- new octets
+new_octets : (now : ℕ) (segment : Span) (c d : ControlBlock) → still d ≡ still c
+    → d.timed ≡ timed_after now segment c.board.top c.timed → d.board.top ≡ max c.board.top segment.end
+    → (c.board.top < segment.end → segment.end ≤ window_end c c.established) → IsSending now segment c d
+new_octets now segment c d stays timed top allowed = record {
+  stays = stays;
+  timed = timed;
+  low = subst (λ (n : ℕ). n ≤ max c.board.top segment.end) (sym top) (same (max c.board.top segment.end));
+  high = subst (λ (n : ℕ). c.board.top ≤ n) (sym top) (greater c.board.top segment.end).0;
+  within = subst (λ (n : ℕ). segment.end ≤ n) (sym top) (greater c.board.top segment.end).1;
+  allowed = allowed;
+}
+
+-- octets again
+old_octets : (now : ℕ) (segment : Span) (c d : ControlBlock) → still d ≡ still c
+    → d.timed ≡ timed_after now segment c.board.top c.timed → d.board.top ≡ c.board.top
+    → segment.end ≤ c.board.top → IsSending now segment c d
+old_octets now segment c d stays timed top below = record {
+  stays = stays;
+  timed = timed;
+  low = subst (λ (n : ℕ). n ≤ max c.board.top segment.end) (sym top) (greater c.board.top segment.end).0;
+  high = subst (λ (n : ℕ). c.board.top ≤ n) (sym top) (same c.board.top);
+  within = subst (λ (n : ℕ). segment.end ≤ n) (sym top) below;
+  allowed = sent_before segment.end c.board.top (window_end c c.established) below;
+}
+
+-- what ordinary sending finds ends in the peer's window
+found_end : (c : ControlBlock) (o : Option Established) (segment : Span) → found_on c o ≡ Some segment → segment.end ≤ window_end c o
+found_end c None segment h = absurd cc
+found_end c (Some e) segment h = ordinary_end c e segment h
+
+ordinary_sending : (now : ℕ) (segment : Span) (c : ControlBlock) → found_on c c.established ≡ Some segment
+    → IsSending now segment c (past_sacked (sent_on now segment c))
+ordinary_sending now segment c h =
+    new_octets now segment c (past_sacked (sent_on now segment c)) refl refl refl (λ _. found_end c c.established segment h)
+
+-- what is noted leaves the rest
+abbrev bare : ControlBlock → ControlBlock
+bare c = record c { established = None }
+
+noted_bare : (sent : NextSegment) (c : ControlBlock) (o : Option Established) → bare (noted_on sent c o) ≡ bare c
+noted_bare sent c None = refl
+noted_bare sent c (Some e) = refl
+
+counted_bare : (octets : ℕ) (c : ControlBlock) (o : Option Established) → bare (counted_on octets c o) ≡ bare c
+counted_bare octets c None = refl
+counted_bare octets c (Some e) = refl
+
+entered_bare : (segment : Span) (c : ControlBlock) (o : Option Established) → bare (entered_on segment c o) ≡ bare c
+entered_bare segment c None = refl
+entered_bare segment c (Some e) = refl
+
+-- where what step C finds stands
+abbrev StandsOn : ControlBlock → Option Established → NextSegment → Type 0
+StandsOn c o (New segment) = segment.end ≤ window_end c o
+StandsOn c o (Lost segment) = segment.end ≤ c.board.top
+StandsOn c o (Hole segment) = segment.end ≤ c.board.top
+StandsOn c o (Rescue segment) = segment.end ≤ c.board.top
+
+on_board : (c : ControlBlock) (e : Established) (sent : NextSegment) → Stands e.rwnd c.board sent → StandsOn c (Some e) sent
+on_board c e (New segment) h = h.1
+on_board c e (Lost segment) h = h
+on_board c e (Hole segment) h = h
+on_board c e (Rescue segment) h = h
+
+c_stands : (n : ℕ) (c : ControlBlock) (o : Option Established) (sent : NextSegment) → step_c_on n c o ≡ Some sent → StandsOn c o sent
+c_stands n c None sent h = absurd cc
+c_stands n c (Some e) sent h = on_board c e sent (step_c_stands e.rwnd n c.board e.congestion sent h)
+
+-- what step C makes of the connection
+abbrev c_left : ℕ → NextSegment → ControlBlock → ControlBlock
+c_left now sent c = noted_on sent (sent_as now sent c) c.established
+
+c_old : (now : ℕ) (sent : NextSegment) (c : ControlBlock) → sent_as now sent c ≡ clocked now (segment_of sent) c
+    → (segment_of sent).end ≤ c.board.top → IsSending now (segment_of sent) c (c_left now sent c)
+c_old now sent c e below =
+    let left : bare (c_left now sent c) ≡ bare (clocked now (segment_of sent) c) =
+    noted_bare sent (sent_as now sent c) c.established ∙ ap bare e in
+    old_octets now (segment_of sent) c (c_left now sent c) (c_still now sent c)
+    (ap (λ (x : ControlBlock). x.timed) left) (ap (λ (x : ControlBlock). x.board.top) left) below
+
+c_sending : (now : ℕ) (sent : NextSegment) (c : ControlBlock) → StandsOn c c.established sent
+    → IsSending now (segment_of sent) c (c_left now sent c)
+c_sending now (New segment) c h =
+    let left : bare (c_left now (New segment) c) ≡ bare (sent_on now segment c) =
+    noted_bare (New segment) (sent_on now segment c) c.established in
+    new_octets now segment c (c_left now (New segment) c) (c_still now (New segment) c)
+    (ap (λ (x : ControlBlock). x.timed) left) (ap (λ (x : ControlBlock). x.board.top) left) (λ _. h)
+c_sending now (Lost segment) c h = c_old now (Lost segment) c refl h
+c_sending now (Hole segment) c h = c_old now (Hole segment) c refl h
+c_sending now (Rescue segment) c h = c_old now (Rescue segment) c refl h
+
+-- what limited transmit finds ends in the peer's window
+limited_end : (n : ℕ) (c : ControlBlock) (o : Option Established) (segment : Span) → limited_on n c o ≡ Some segment
+    → c.board.top < segment.end → segment.end ≤ window_end c o
+limited_end n c None segment h = absurd cc
+limited_end n c (Some e) segment h = λ new. (limited_flow e.rwnd n c.board e.congestion segment h new).1
+
+limited_sending : (now n : ℕ) (segment : Span) (c : ControlBlock) → limited_on n c c.established ≡ Some segment
+    → IsSending now segment c (counted_on (octets_of segment) (sent_on now segment c) c.established)
+limited_sending now n segment c h =
+    let left : bare (counted_on (octets_of segment) (sent_on now segment c) c.established) ≡ bare (sent_on now segment c) =
+    counted_bare (octets_of segment) (sent_on now segment c) c.established in
+    new_octets now segment c (counted_on (octets_of segment) (sent_on now segment c) c.established)
+    (counted_still (octets_of segment) (sent_on now segment c) c.established refl)
+    (ap (λ (x : ControlBlock). x.timed) left) (ap (λ (x : ControlBlock). x.board.top) left)
+    (limited_end n c c.established segment h)
+
+entry_sending : (now : ℕ) (segment : Span) (c : ControlBlock) → segment.end ≤ c.board.top
+    → IsSending now segment c (entered_on segment (clocked now segment c) c.established)
+entry_sending now segment c below =
+    let left : bare (entered_on segment (clocked now segment c) c.established) ≡ bare (clocked now segment c) =
+    entered_bare segment (clocked now segment c) c.established in
+    old_octets now segment c (entered_on segment (clocked now segment c) c.established)
+    (entered_still segment (clocked now segment c) c.established refl)
+    (ap (λ (x : ControlBlock). x.timed) left) (ap (λ (x : ControlBlock). x.board.top) left) below
+
+entry_moved : (segment : Span) (c : ControlBlock) → IsMoved c (entered_on segment c c.established)
+entry_moved segment c = record {
+  stays = entered_still segment c c.established refl;
+  timed = ap (λ (x : ControlBlock). x.timed) (entered_bare segment c c.established);
+  top = ap (λ (x : ControlBlock). x.board.top) (entered_bare segment c c.established);
+}
+
+-- All that an ACK or a call leads to
+
+-- a segment that an ACK names stands there
+abbrev pub IsNamed : ControlBlock → Then → Type 0
+IsNamed c (NewSegment segment) = segment.end ≤ window_end c c.established
+IsNamed c (FastRetransmit segment) = segment.end ≤ c.board.top
+IsNamed c _ = Unit {0}
+
+module _ (now : ℕ) (R : State → State → Type 0) (rules : Goes now R) where
+  once : (segment : Span) (s : State) (o : Option ControlBlock) → s.endpoint.connection ≡ o → found o ≡ Some segment
+      → R s (sent_ordinarily now segment o s)
+  once segment s None e h = rules.none s
+  once segment s (Some c) e h = rules.sent segment c (past_sacked (sent_on now segment c)) s e (ordinary_sending now segment c h)
+
+  made_ready : (s : State) (o : Option ControlBlock) → s.endpoint.connection ≡ o → R s (ready o s)
+  made_ready s None e = rules.none s
+  made_ready s (Some c) e = rules.moved c (past_sacked c) s e (record { stays = refl; timed = refl; top = refl })
+
+  pub ordinary_goes : (r s : State) → R r s → Leaves (R r) (ordinary now s)
+  ordinary_goes r s h =
+      let u : State = ready s.endpoint.connection s in
+      kept (R r) finds (sends now)
+      (λ segment t e so_far. rules.more r t (sends now segment t) so_far (once segment t t.endpoint.connection refl e))
+      (places_left u) u (rules.more r s u h (made_ready s s.endpoint.connection refl))
+
+  c_once : (sent : NextSegment) (t : OnTheWay) (o : Option ControlBlock) → t.0.endpoint.connection ≡ o → step_c_found t.1 o ≡ Some sent
+      → R t.0 (step_c_sent now sent o t).0
+  c_once sent t None e h = rules.none t.0
+  c_once sent t (Some c) e h =
+      rules.sent (segment_of sent) c (c_left now sent c) t.0 e (c_sending now sent c (c_stands t.1 c c.established sent h))
+
+  pub step_c_goes : (r s : State) → R r s → Leaves (R r) (step_c now s)
+  step_c_goes r s h =
+      sender_leaves (R r) _
+      (kept (λ t. R r t.0) c_finds (c_sends now)
+      (λ sent t e so_far. rules.more r t.0 (c_sends now sent t).0 so_far (c_once sent t t.0.endpoint.connection refl e))
+      (places_left s) (s, pipe_of s.endpoint.connection) h)
+
+  limited_once : (segment : Span) (t : OnTheWay) (o : Option ControlBlock) → t.0.endpoint.connection ≡ o → limited_found t.1 o ≡ Some segment
+      → R t.0 (limited_sent now segment o t).0
+  limited_once segment t None e h = rules.none t.0
+  limited_once segment t (Some c) e h =
+      rules.sent segment c (counted_on (octets_of segment) (sent_on now segment c) c.established) t.0 e (limited_sending now t.1 segment c h)
+
+  pub limited_goes : (r s : State) → R r s → Leaves (R r) (limited_transmit now s)
+  limited_goes r s h =
+      sender_leaves (R r) _
+      (kept (λ t. R r t.0) limited_finds (limited_sends now)
+      (λ segment t e so_far. rules.more r t.0 (limited_sends now segment t).0 so_far (limited_once segment t t.0.endpoint.connection refl e))
+      (places_left s) (s, pipe_of s.endpoint.connection) h)
+
+  put_goes : (segment : Span) (c d : ControlBlock) (s : State) → s.endpoint.connection ≡ Some c → IsSending now segment c d
+      → Leaves (R s) (put_segment now segment c d s)
+  put_goes segment c d s e h =
+      either (R s) (nat_lt 0 (places_left s)) (Ok (with_segment now segment c d s)) (Err Limit) (rules.sent segment c d s e h) tt
+
+  entry_goes : (c : ControlBlock) (s : State) → s.endpoint.connection ≡ Some c → Leaves (R s) (entry now c s)
+  entry_goes c s e =
+      let segment : Span = run_at c.board.una c.board in
+      let sent : ControlBlock = entered_on segment (clocked now segment c) c.established in
+      let moved : ControlBlock = entered_on segment c c.established in
+      either (R s) (nat_lt segment.start segment.end) (put_segment now segment c sent s) (Ok (with_block moved s))
+      (put_goes segment c sent s e (entry_sending now segment c (run_end c.board c.board.una)))
+      (rules.moved c moved s e (entry_moved segment c))
+
+  pub led_to_goes : (c : ControlBlock) (s : State) (next : Then) → s.endpoint.connection ≡ Some c → IsNamed c next → Leaves (R s) (led_to now c s next)
+  led_to_goes c s Ordinary e h = ordinary_goes s s (rules.none s)
+  led_to_goes c s StepC e h = step_c_goes s s (rules.none s)
+  led_to_goes c s Entry e h =
+      then_leaves (R s) (R s) (step_c now) (entry now c s) (entry_goes c s e) (λ t so_far. step_c_goes s t so_far)
+  led_to_goes c s LimitedTransmit e h = limited_goes s s (rules.none s)
+  led_to_goes c s (NewSegment segment) e h =
+      put_goes segment c (sent_on now segment c) s e (new_octets now segment c (sent_on now segment c) refl refl refl (λ _. h))
+  led_to_goes c s (FastRetransmit segment) e h =
+      then_leaves (R s) (R s) (ordinary now) (put_segment now segment c (clocked now segment c) s)
+      (put_goes segment c (clocked now segment c) s e (old_octets now segment c (clocked now segment c) refl refl refl h))
+      (λ t so_far. ordinary_goes s t so_far)
+  led_to_goes c s Nothing e h = rules.none s

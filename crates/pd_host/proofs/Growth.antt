@@ -1,0 +1,305 @@
+-- How much an input queues.
+use Rattle.std.proofs.Common.{◌≡◌, ℕ, ◌+◌, ◌≤◌, ◌==◌, ◌&&◌, ◌||◌, min, nat_lt, not, Bool, true, false, if◌then◌else◌, Option, None, Some, is_some, List, [], ◌∷◌, ◌++◌, Result, Ok, Err, refl, sym, ap, subst, ◌∙◌, arith}
+use Rattle.std.specs.Prelude.{option_map, IfSome}
+use Rattle.pd_settings.specs.declared.fields.Settings.{Settings}
+use Rattle.pd_seg.specs.declared.answers.Answer.{Answer}
+use Rattle.pd_seg.specs.declared.answers.Answer.TheVariants.{Number, Error}
+use Rattle.pd_seg.specs.declared.answers.Errno.TheVariants.{Eagain, Epipe}
+use Rattle.pd_seg.specs.declared.sack_blocks.Span.{Span}
+use Rattle.pd_seg.specs.declared.segments.Segment.{Segment}
+use Rattle.pd_seg.specs.declared.segments.Sent.{Sent}
+use Rattle.pd_board.specs.Scoreboard.{Scoreboard, marked, has_new}
+use Rattle.pd_recover.specs.declared.segments.NextSegment.{NextSegment}
+use Rattle.pd_recover.specs.declared.segments.NextSegment.TheVariants.{Lost, New, Hole, Rescue}
+use Rattle.pd_host.specs.Acknowledgments.{is_block_sent, told_block, told_blocks, blocks_of, scored, with_number, with_blocks, newly_acked, with_timing, with_new_window, is_current, noted_on, sent_as, counted_on, octets_of, entered_on, with_ack, answering, taking}
+use Rattle.pd_host.specs.Calls.{Reply, answered, with_listener, with_stored, with_stream, with_nagle, with_queued, with_fin, with_answer, socket_reply, bind_reply, listen_reply, accept_reply, handed_out, no_delay_reply, queued, free_of, write_uses, written_on, write_reply, closed_stream, closed_on, close_reply, operated, on_open, opened, requested, called, is_pending, is_waiting, stream_of}
+use Rattle.pd_host.specs.ControlBlock.{ControlBlock}
+use Rattle.pd_host.specs.Expiries.{advanced, deadline_of, due_by, expired, expired_on}
+use Rattle.pd_host.specs.Growth.{asked_by, ExpiriesQueueNothing, ArrivalsQueueOurSyn, CallsQueueWhatTheyAsk}
+use Rattle.pd_host.specs.Handshake.{syn_acked, looked_at}
+use Rattle.pd_host.specs.Requests.{request_of}
+use Rattle.pd_host.specs.Sender.{queued_to}
+use Rattle.pd_host.specs.Sending.{places_left, sent_on, ordinary, is_recovering, ordinary_outside_recovery}
+use Rattle.pd_host.specs.Timing.{clocked, measured, is_measured, with_sample, with_timer_moved}
+use Rattle.pd_host.specs.declared.descriptors.Descriptor.{Descriptor}
+use Rattle.pd_host.specs.declared.descriptors.Descriptor.TheVariants.{Listening, Connected}
+use Rattle.pd_host.specs.declared.established.Established.{Established}
+use Rattle.pd_host.specs.declared.halts.Halt.{Halt}
+use Rattle.pd_host.specs.declared.halts.Halt.TheVariants.{Unsupported}
+use Rattle.pd_host.specs.declared.listeners.Listener.{Listener}
+use Rattle.pd_host.specs.declared.listeners.Listener.TheVariants.{Absent, Open, Bound, Listens, Closed}
+use Rattle.pd_host.specs.declared.requests.Operation.{Operation}
+use Rattle.pd_host.specs.declared.requests.Operation.TheVariants.{Bind, Listen, Accept, ReuseAddress, NoDelay, SetFlags, Write, Close}
+use Rattle.pd_host.specs.declared.requests.Request.{Request}
+use Rattle.pd_host.specs.declared.requests.Request.TheVariants.{Socket, On}
+use Rattle.pd_host.specs.declared.sender_state.State.{State}
+use Rattle.pd_host.specs.declared.streams.Stream.TheVariants as stream
+use Rattle.pd_host.specs.declared.timings.Timing.{Timing}
+use Rattle.pd_host.proofs.ArrivalsKept.{arrived_holds}
+use Rattle.pd_host.proofs.Kept.{Comes, by_test, came, repeated_holds}
+use Rattle.pd_host.proofs.Rules.{Holds, KeptBySending, KeptByArrivals, first_run}
+use Rattle.pd_host.proofs.SendingKept.{ordinary_holds}
+
+-- What an ACK leaves
+
+either : (b : Bool) (c d : ControlBlock) (n : ℕ) → c.board.end ≡ n → d.board.end ≡ n → (if b then c else d).board.end ≡ n
+either true c d n hc hd = hc
+either false c d n hc hd = hd
+
+told_end : (blocks : List Span) (told : Scoreboard × Bool) → (told_blocks blocks told).0.end ≡ told.0.end
+told_end [] told = refl
+told_end (block ∷ blocks) told = told_end blocks (told_block block told) ∙ one (is_block_sent told.0 block)
+  where
+    one : (b : Bool) → (if b then (marked block told.0, told.1 || has_new block told.0) else told).0.end ≡ told.0.end
+    one true = refl
+    one false = refl
+
+scored_end : (segment : Segment) (c : ControlBlock) → (scored segment c).0.end ≡ c.board.end
+scored_end segment c = by_sack c.sack
+  where
+    by_sack : (b : Bool) → (if b then told_blocks (blocks_of (looked_at segment.options)) (c.board, false) else (c.board, false)).0.end ≡ c.board.end
+    by_sack true = told_end (blocks_of (looked_at segment.options)) (c.board, false)
+    by_sack false = refl
+
+measured_end : (now granularity ack : ℕ) (c : ControlBlock) (o : Option Timing) → (measured now granularity ack c o).board.end ≡ c.board.end
+measured_end now granularity ack c None = refl
+measured_end now granularity ack c (Some t) = either (is_measured ack t) _ c c.board.end refl refl
+
+timing_end : (now granularity n : ℕ) (c : ControlBlock) → (with_timing now granularity n c).board.end ≡ c.board.end
+timing_end now granularity n c =
+    either (nat_lt 0 n) (with_timer_moved now (with_sample now granularity c.board.una c)) c c.board.end
+    (measured_end now granularity c.board.una c c.timed) refl
+
+window_end : (segment : Segment) (e : Established) (c : ControlBlock) → (with_new_window segment e c).board.end ≡ c.board.end
+window_end segment e c = either (is_current e segment) _ c c.board.end refl refl
+
+with_ack_end : (now : ℕ) (segment : Segment) (e : Established) (c : ControlBlock) → (with_ack now segment e c).0.board.end ≡ c.board.end
+with_ack_end now segment e c =
+    let told : ControlBlock = with_blocks segment (with_number segment c) in
+    window_end segment e (with_timing now e.granularity_us (newly_acked c segment) told)
+    ∙ (timing_end now e.granularity_us (newly_acked c segment) told ∙ scored_end segment (with_number segment c))
+
+answering_end : (segment : Segment) (n : ℕ) (fresh : Bool) (before : Established) (c : ControlBlock) (o : Option Established)
+    → (answering segment n fresh before c o).0.board.end ≡ c.board.end
+answering_end segment n fresh before c None = refl
+answering_end segment n fresh before c (Some after) = refl
+
+taking_end : (now : ℕ) (segment : Segment) (c : ControlBlock) (o : Option Established) → (taking now segment c o).0.board.end ≡ c.board.end
+taking_end now segment c None = refl
+taking_end now segment c (Some e) =
+    let after : ControlBlock × Bool = with_ack now segment e c in
+    answering_end segment (newly_acked c segment) after.1 e after.0 after.0.established ∙ with_ack_end now segment e c
+
+-- What is sent leaves the end
+
+sent_as_end : (now : ℕ) (sent : NextSegment) (c : ControlBlock) → (sent_as now sent c).board.end ≡ c.board.end
+sent_as_end now (Lost segment) c = refl
+sent_as_end now (New segment) c = refl
+sent_as_end now (Hole segment) c = refl
+sent_as_end now (Rescue segment) c = refl
+
+noted_end : (sent : NextSegment) (c : ControlBlock) (o : Option Established) → (noted_on sent c o).board.end ≡ c.board.end
+noted_end sent c None = refl
+noted_end sent c (Some e) = refl
+
+counted_end : (octets : ℕ) (c : ControlBlock) (o : Option Established) → (counted_on octets c o).board.end ≡ c.board.end
+counted_end octets c None = refl
+counted_end octets c (Some e) = refl
+
+entered_end : (segment : Span) (c : ControlBlock) (o : Option Established) → (entered_on segment c o).board.end ≡ c.board.end
+entered_end segment c None = refl
+entered_end segment c (Some e) = refl
+
+-- Arrivals
+
+-- a connection ends at or below a place
+abbrev IsUpToPlace : ℕ → ControlBlock → Type 0
+IsUpToPlace n c = c.board.end ≤ n
+
+alike : (n from to : ℕ) → to ≡ from → from ≤ n → to ≤ n
+alike n from to same h = subst (λ m. m ≤ n) (sym same) h
+
+sending : (now n : ℕ) → KeptBySending now (IsUpToPlace n)
+sending now n = record { ready = λ c h. h; sent = λ c segment h e. h }
+
+arrivals : (now n : ℕ) → 1 ≤ n → (b : Settings) → KeptByArrivals now b (IsUpToPlace n) (IsUpToPlace n)
+arrivals now n some b = record {
+  sending = sending now n;
+  sent = λ c h. h;
+  acks = record {
+    step_c = λ pipe c sent h e. alike n _ _ (noted_end sent (sent_as now sent c) c.established ∙ sent_as_end now sent c) h;
+    limited = λ pipe c segment h e. alike n _ _ (counted_end (octets_of segment) (sent_on now segment c) c.established) h;
+    entry = λ c h e. alike n _ _ (entered_end (first_run c) (clocked now (first_run c) c) c.established) h;
+    entry_alone = λ c h. alike n _ _ (entered_end (first_run c) c c.established) h;
+    ack = λ segment c h passed. alike n _ _ (taking_end now segment c c.established) h;
+    new_segment = λ segment c new h passed e. alike n _ _ (taking_end now segment c c.established) h;
+    again = λ segment c first h passed e. alike n _ _ (taking_end now segment c c.established) h;
+  };
+  begun = λ listener segment e. some;
+  established = λ segment c h e. alike n _ _ (measured_end now b.granularity_us 1 (syn_acked c) c.timed) h;
+  reset = λ c h. h;
+}
+
+-- a sender whose connection, if any, ends at or below a place
+abbrev Ends : ℕ → State → Type 0
+Ends n s = queued_to s.endpoint.connection ≤ n
+
+abbrev Sparse : ℕ → State → Type 0
+Sparse n s = Holds (λ _. Unit {0}) (λ _ c. IsUpToPlace n c) s
+
+of_end : (n : ℕ) (o : Option ControlBlock) → queued_to o ≤ n → IfSome o (IsUpToPlace n)
+of_end n None h = tt
+of_end n (Some c) h = h
+
+to_end : (n : ℕ) (o : Option ControlBlock) → IfSome o (IsUpToPlace n) → queued_to o ≤ n
+to_end n None h = omega arith
+to_end n (Some c) h = h
+
+sparse : (n : ℕ) (s : State) → Ends n s → Sparse n s
+sparse n s h = record { packets = tt; connection = of_end n s.endpoint.connection h }
+
+pub arrivals_queue_our_syn : ArrivalsQueueOurSyn
+arrivals_queue_our_syn segment now s t is =
+    let n : ℕ = queued_to s.endpoint.connection + 1 in
+    let after : Sparse n t =
+    arrived_holds now (λ _. Unit {0}) (λ _ c. IsUpToPlace n c) (λ _ c. IsUpToPlace n c) (λ packets p e h. tt) (arrivals now n (omega arith)) segment s t (sparse n s (omega arith)) is in
+    to_end n t.endpoint.connection after.connection
+
+-- Expiries
+
+expired_on_end : (at : ℕ) (c : ControlBlock) (o : Option Established) (s : State) → queued_to (expired_on at c o s).endpoint.connection ≡ c.board.end
+expired_on_end at c None s = refl
+expired_on_end at c (Some e) s = refl
+
+expired_end : (at : ℕ) (o : Option ControlBlock) (s : State) → s.endpoint.connection ≡ o
+    → queued_to (expired at o s).endpoint.connection ≡ queued_to s.endpoint.connection
+expired_end at None s is = refl
+expired_end at (Some c) s is = expired_on_end at c c.established s ∙ sym (ap queued_to is)
+
+pub expiries_queue_nothing : ExpiriesQueueNothing
+expiries_queue_nothing until s t is =
+    came (λ (u : State). queued_to u.endpoint.connection ≡ queued_to s.endpoint.connection) (advanced until s) t
+    (repeated_holds (λ (u : State). queued_to u.endpoint.connection ≡ queued_to s.endpoint.connection) (λ u. due_by until (deadline_of u))
+    (λ at u. expired at u.endpoint.connection u) (λ u at same e. expired_end at u.endpoint.connection u refl ∙ same) (places_left s) s refl)
+    is
+
+-- Calls
+
+more : (m n : ℕ) → m ≤ m + n
+more m n = omega arith
+
+-- the reply leaves the end at or below a place
+abbrev AtMost : ℕ → Reply → Type 0
+AtMost n reply = Comes (λ (r : State × Answer). Ends n r.0) reply
+
+answered_at_most : (n : ℕ) (answer : Answer) (r : Result State Halt) → Comes (Ends n) r → AtMost n (with_answer answer r)
+answered_at_most n answer (Ok s) h = h
+answered_at_most n answer (Err halt) h = tt
+
+sparse_ends : (n : ℕ) (r : Result State Halt) → Comes (Sparse n) r → Comes (Ends n) r
+sparse_ends n (Ok s) h = to_end n s.endpoint.connection h.connection
+sparse_ends n (Err halt) h = tt
+
+outside_recovery_ends : (n now : ℕ) (c : ControlBlock) (s : State) → Ends n s → Comes (Ends n) (ordinary_outside_recovery now c s)
+outside_recovery_ends n now c s h =
+    by_test (Comes (Ends n)) (is_recovering c.established) (Ok s) (ordinary now s) (λ _. h)
+    (λ _. sparse_ends n (ordinary now s) (ordinary_holds now (λ _. Unit {0}) (λ _ c. IsUpToPlace n c) (λ packets p e h. tt) (λ b. sending now n) s (sparse n s h)))
+
+socket_ends : (n : ℕ) (s : State) (l : Listener) → Ends n s → AtMost n (socket_reply s l)
+socket_ends n s Absent h = h
+socket_ends n s _ h = tt
+
+bind_ends : (n : ℕ) (s : State) (l : Listener) (d : Descriptor) → Ends n s → AtMost n (bind_reply s l d)
+bind_ends n s Open Listening h = h
+bind_ends n s _ _ h = h
+
+listen_ends : (n : ℕ) (s : State) (l : Listener) (d : Descriptor) → Ends n s → AtMost n (listen_reply s l d)
+listen_ends n s Bound Listening h = h
+listen_ends n s Listens Listening h = h
+listen_ends n s _ _ h = h
+
+handed_ends : (n : ℕ) (s : State) (o : Option ControlBlock) → s.endpoint.connection ≡ o → Ends n s → AtMost n (handed_out s o)
+handed_ends n s None is h = h
+handed_ends n s (Some c) is h =
+    by_test (AtMost n) (is_some c.established && is_waiting (stream_of c)) (answered (with_stored (Some (with_stream stream.Open c)) s) (Number 4))
+    (answered s (Error Eagain)) (λ _. subst (λ o. queued_to o ≤ n) is h) (λ _. h)
+
+accept_ends : (n : ℕ) (s : State) (l : Listener) (d : Descriptor) → Ends n s → AtMost n (accept_reply s l d)
+accept_ends n s Listens Listening h = handed_ends n s s.endpoint.connection refl h
+accept_ends n s _ _ h = h
+
+nagle_end : (on : Bool) (o : Option ControlBlock) → queued_to (option_map (with_nagle on) o) ≡ queued_to o
+nagle_end on None = refl
+nagle_end on (Some c) = refl
+
+no_delay_ends : (n : ℕ) (s : State) (set : Bool) (d : Descriptor) → Ends n s → AtMost n (no_delay_reply s set d)
+no_delay_ends n s set Listening h = h
+no_delay_ends n s set Connected h = omega (arith, nagle_end (not set) s.endpoint.connection, h)
+
+queued_ends : (now octets free n : ℕ) (c : ControlBlock) (s : State) → c.board.end + octets ≤ n → Ends n s → AtMost n (queued now octets free c s)
+queued_ends now octets free n c s le h =
+    by_test (AtMost n) (free == 0) (answered s (Error Eagain)) _ (λ _. h)
+    (λ _. answered_at_most n (Number (min octets free)) _
+    (outside_recovery_ends n now c (with_stored (Some (with_queued (min octets free) c)) s) (omega (arith, le))))
+
+written_ends : (now octets : ℕ) (s : State) (o : Option ControlBlock) → s.endpoint.connection ≡ o
+    → AtMost (queued_to s.endpoint.connection + octets) (written_on now octets o s)
+written_ends now octets s None is = more (queued_to s.endpoint.connection) octets
+written_ends now octets s (Some c) is =
+    let n : ℕ = queued_to s.endpoint.connection + octets in
+    let kept : Ends n s = more (queued_to s.endpoint.connection) octets in
+    let same : queued_to s.endpoint.connection ≡ c.board.end = ap queued_to is in
+    let after : State = record s { uses = write_uses s.uses } in
+    by_test (AtMost n) c.reset (answered s (Error Epipe)) _ (λ _. kept)
+    (λ _. by_test (AtMost n) (octets == 0) (answered s (Number 0)) (queued now octets (free_of s.settings.sndbuf c) c after) (λ _. kept)
+    (λ _. queued_ends now octets (free_of s.settings.sndbuf c) n c after (omega (arith, same)) kept))
+
+write_ends : (now : ℕ) (s : State) (octets : ℕ) (d : Descriptor) → AtMost (queued_to s.endpoint.connection + octets) (write_reply now s octets d)
+write_ends now s octets Listening = more (queued_to s.endpoint.connection) octets
+write_ends now s octets Connected = written_ends now octets s s.endpoint.connection refl
+
+closed_stream_end : (c : ControlBlock) → (closed_stream c).board.end ≤ c.board.end + 1
+closed_stream_end c = by_test (λ (d : ControlBlock). d.board.end ≤ c.board.end + 1) c.reset c (with_fin c) (λ _. more c.board.end 1) (λ _. omega arith)
+
+closed_ends : (now : ℕ) (s : State) (o : Option ControlBlock) → s.endpoint.connection ≡ o
+    → AtMost (queued_to s.endpoint.connection + 1) (closed_on now o s)
+closed_ends now s None is = more (queued_to s.endpoint.connection) 1
+closed_ends now s (Some c) is =
+    let n : ℕ = queued_to s.endpoint.connection + 1 in
+    let same : queued_to s.endpoint.connection ≡ c.board.end = ap queued_to is in
+    let closed : State = with_stored (Some (closed_stream c)) s in
+    let kept : Ends n closed = omega (arith, same, closed_stream_end c) in
+    answered_at_most n (Number 0) _
+    (by_test (Comes (Ends n)) c.reset (Ok closed) (ordinary_outside_recovery now c closed) (λ _. kept) (λ _. outside_recovery_ends n now c closed kept))
+
+close_ends : (now : ℕ) (s : State) (d : Descriptor) → AtMost (queued_to s.endpoint.connection + 1) (close_reply now s d)
+close_ends now s Listening =
+    by_test (AtMost (queued_to s.endpoint.connection + 1)) (is_pending s.endpoint.connection) (Err Unsupported) (answered (with_listener Closed s) (Number 0))
+    (λ _. tt) (λ _. more (queued_to s.endpoint.connection) 1)
+close_ends now s Connected = closed_ends now s s.endpoint.connection refl
+
+operated_ends : (now fd : ℕ) (s : State) (d : Descriptor) (o : Operation)
+    → AtMost (queued_to s.endpoint.connection + asked_by (Some (On fd o))) (operated now s d o)
+operated_ends now fd s d Bind = bind_ends (queued_to s.endpoint.connection + 0) s s.endpoint.listener d (more (queued_to s.endpoint.connection) 0)
+operated_ends now fd s d Listen = listen_ends (queued_to s.endpoint.connection + 0) s s.endpoint.listener d (more (queued_to s.endpoint.connection) 0)
+operated_ends now fd s d Accept = accept_ends (queued_to s.endpoint.connection + 0) s s.endpoint.listener d (more (queued_to s.endpoint.connection) 0)
+operated_ends now fd s d ReuseAddress = more (queued_to s.endpoint.connection) 0
+operated_ends now fd s d (NoDelay set) = no_delay_ends (queued_to s.endpoint.connection + 0) s set d (more (queued_to s.endpoint.connection) 0)
+operated_ends now fd s d SetFlags = more (queued_to s.endpoint.connection) 0
+operated_ends now fd s d (Write octets) = write_ends now s octets d
+operated_ends now fd s d Close = close_ends now s d
+
+open_ends : (now fd : ℕ) (s : State) (o : Operation) (d : Option Descriptor)
+    → AtMost (queued_to s.endpoint.connection + asked_by (Some (On fd o))) (on_open now s o d)
+open_ends now fd s o None = more (queued_to s.endpoint.connection) (asked_by (Some (On fd o)))
+open_ends now fd s o (Some d) = operated_ends now fd s d o
+
+requested_ends : (now : ℕ) (s : State) (r : Option Request) → AtMost (queued_to s.endpoint.connection + asked_by r) (requested now s r)
+requested_ends now s None = tt
+requested_ends now s (Some Socket) = socket_ends (queued_to s.endpoint.connection + 0) s s.endpoint.listener (more (queued_to s.endpoint.connection) 0)
+requested_ends now s (Some (On fd o)) = open_ends now fd s o (opened s.endpoint fd)
+
+pub calls_queue_what_they_ask : CallsQueueWhatTheyAsk
+calls_queue_what_they_ask call now s t answer is =
+    came (λ (r : State × Answer). Ends (queued_to s.endpoint.connection + asked_by (request_of call)) r.0) (called call now s) (t, answer)
+    (requested_ends now s (request_of call)) is

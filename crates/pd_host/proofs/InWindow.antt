@@ -1,0 +1,328 @@
+-- Each octet that is put out was sent before, or lies in the peer's window.
+use Rattle.std.proofs.Common.{◌≡◌, ℕ, ◌+◌, ◌-◌, ◌<◌, ◌≤◌, min, max, nat_lt, Bool, true, false, if◌then◌else◌, List, [], ◌∷◌, ◌++◌, Option, None, Some, Ok, Err, length, refl, sym, subst, ap, ◌∙◌, append_assoc, append-nil, arith}
+use Rattle.std.specs.List.{AllByRecursion}
+use Rattle.std.proofs.lemmas.Bool.Decides.{nat_tests}
+use Rattle.pd_recover.specs.declared.feedback.Ack.{Ack}
+use Rattle.pd_recover.specs.declared.responses.Then.{Then}
+use Rattle.pd_recover.specs.declared.responses.Then.TheVariants.{Ordinary, StepC, Entry, LimitedTransmit, NewSegment, FastRetransmit, Nothing}
+use Rattle.pd_seg.specs.declared.answers.Answer.{Answer}
+use Rattle.pd_seg.specs.declared.sack_blocks.Span.{Span}
+use Rattle.pd_seg.specs.declared.segments.Segment.{Segment}
+use Rattle.pd_seg.specs.declared.segments.Sent.{Sent}
+use Rattle.pd_host.specs.Acknowledgments.{newly_acked, ack_of_segment, answering, with_ack, taking, taken}
+use Rattle.pd_board.specs.Scoreboard.{unmarked}
+use Rattle.pd_script.specs.declared.calls.Call.{Call}
+use Rattle.pd_host.specs.Calls.{called}
+use Rattle.pd_host.specs.Arrivals.{ruled, arrived_on, arrived, ruling_of, reset_of}
+use Rattle.pd_host.specs.ControlBlock.{ControlBlock, data_end}
+use Rattle.pd_host.specs.Expiries.{first_again, segment_again, block_expired, expired, advanced}
+use Rattle.pd_host.specs.Handshake.{is_opening, begun, answered_syn, syn_uses, established_by, establishment_uses}
+use Rattle.pd_host.specs.Packets.{data_of, covers_fin, ack_of, refusal_of, syn_ack_of}
+use Rattle.pd_host.specs.Sender.{beside, with_outbox}
+use Rattle.pd_host.specs.Sending.{places_left, with_block, with_segment}
+use Rattle.pd_host.specs.SendingLaws.{sent_in, window_end, taken_in, end_with_fin, LiesBelow, PutsOutInWindow, StaysInWindow}
+use Rattle.pd_host.specs.declared.endpoint.Endpoint.{Endpoint}
+use Rattle.pd_host.specs.declared.established.Established.{Established}
+use Rattle.pd_host.specs.declared.halts.Halt.TheVariants.{Limit, Unsupported}
+use Rattle.pd_host.specs.declared.rulings.Ruling.{Ruling}
+use Rattle.pd_host.specs.declared.rulings.Ruling.TheVariants.{NotRun, StrayRst, OutsideWindow, ExactRst, ChallengedRst, WithoutAck, FirstAck, RefusedAck, EarlyAck, OldAck}
+use Rattle.pd_host.specs.declared.sender_state.State.{State}
+use Rattle.pd_host.proofs.Advances.{expiry_finds, expiry_sends}
+use Rattle.pd_host.proofs.CallsGo.{IsQuiet, called_goes}
+use Rattle.pd_host.proofs.Chosen.{run_end}
+use Rattle.pd_host.proofs.Duplicates.{IsAllowed, what_follows}
+use Rattle.pd_host.proofs.Goes.{IsSending, IsMoved, Goes, IsNamed, led_to_goes}
+use Rattle.pd_host.proofs.LastOctet.{fin_covered}
+use Rattle.pd_host.proofs.Outcomes.{Leaves, came, leaves_too, either, kept}
+use Rattle.pd_host.proofs.SentOn.{still, at_rest}
+use Rattle.pd_host.proofs.Taken.{taking_keeps}
+
+-- Numbers
+
+lower : (x m n : ℕ) → x ≤ m → m ≤ n → x ≤ n
+lower x m n h k = omega (arith, h, k)
+
+greater : (a b : ℕ) → (a ≤ max a b) × (b ≤ max a b)
+greater a b = (omega arith, omega arith)
+
+both_below : (a b m : ℕ) → a ≤ m → b ≤ m → max a b ≤ m
+both_below a b m h k = omega (arith, h, k)
+
+below_self : (n : ℕ) → n < n → ⊥
+below_self n h = omega (arith, h)
+
+-- what ends at or below one number, and else below another one
+either_bound : (b : Bool) (top x edge : ℕ) → nat_lt top x ≡ b → (top < x → x ≤ edge) → x ≤ max top edge
+either_bound true top x edge t h =
+    let lt : top < x = grind (arith, nat_tests, t) in
+    let le : x ≤ edge = h lt in
+    omega (arith, le)
+either_bound false top x edge t h =
+    let le : x ≤ top = grind (arith, nat_tests, t) in
+    omega (arith, le)
+
+-- A segment's octets
+
+fin_end : (x end n : ℕ) → n < end → end ≤ x → min x (end - 1) + 1 ≤ x
+fin_end x end n h k = omega (arith, h, k)
+
+shorter : (a b : ℕ) → min a b ≤ a
+shorter a b = omega arith
+
+data_ends : (b : Bool) (c : ControlBlock) (segment : Span) → covers_fin c segment ≡ b
+    → (if b then min segment.end (data_end c) + 1 else min segment.end (data_end c)) ≤ segment.end
+data_ends true c segment e =
+    let h = fin_covered c segment e in
+    let last : data_end c ≡ c.board.end - 1 = ap (λ (x : Bool). if x then c.board.end - 1 else c.board.end) h.0 in
+    subst (λ (n : ℕ). min segment.end n + 1 ≤ segment.end) (sym last) (fin_end segment.end c.board.end segment.start h.1 h.2)
+data_ends false c segment e = shorter segment.end (data_end c)
+
+-- the octets of a packet of data are those of its segment
+pub packet_ends : (c : ControlBlock) (segment : Span) → end_with_fin (data_of c segment) ≤ segment.end
+packet_ends c segment = data_ends (covers_fin c segment) c segment refl
+
+-- Packets
+
+abbrev AllBelow : ℕ → List Sent → Type 0
+AllBelow edge packets = AllByRecursion (LiesBelow edge) packets
+
+pub lifted : (m n : ℕ) → m ≤ n → (packets : List Sent) → AllBelow m packets → AllBelow n packets
+lifted m n le [] h = tt
+lifted m n le (p ∷ packets) h = (λ lt. lower (end_with_fin p.segment) m n (h.0 lt) le, lifted m n le packets h.1)
+
+pub both_lists : (n : ℕ) (a b : List Sent) → AllBelow n a → AllBelow n b → AllBelow n (a ++ b)
+both_lists n [] b first second = second
+both_lists n (p ∷ a) b first second = (first.0, both_lists n a b first.1 second)
+
+-- The relation
+
+abbrev edge : Option ControlBlock → ℕ
+edge o = max (sent_in o) (taken_in o)
+
+record IsIn (s t : State) : Type 0 where
+  pub packets : List Sent
+  pub below : AllBelow (edge s.endpoint.connection) packets
+  pub outbox : t.endpoint.outbox ≡ s.endpoint.outbox ++ packets
+  pub reach : sent_in t.endpoint.connection ≤ edge s.endpoint.connection
+  pub window : taken_in t.endpoint.connection ≡ taken_in s.endpoint.connection
+
+rest_window : (c : ControlBlock) (o : Option Established) → window_end (still c) (at_rest o) ≡ window_end c o
+rest_window c None = refl
+rest_window c (Some e) = refl
+
+same_window : (c d : ControlBlock) → still d ≡ still c → taken_in (Some d) ≡ taken_in (Some c)
+same_window c d h = sym (rest_window d d.established) ∙ ap (λ (x : ControlBlock). taken_in (Some x)) h ∙ rest_window c c.established
+
+none_in : (s : State) → IsIn s s
+none_in s = record {
+  packets = [];
+  below = tt;
+  outbox = sym (append-nil s.endpoint.outbox);
+  reach = (greater (sent_in s.endpoint.connection) (taken_in s.endpoint.connection)).0;
+  window = refl;
+}
+
+further : (r s t : State) → IsIn r s → IsIn s t → IsIn r t
+further r s t a b =
+    let m : ℕ = edge r.endpoint.connection in
+    let least : taken_in s.endpoint.connection ≤ m =
+    subst (λ (n : ℕ). n ≤ m) (sym a.window) (greater (sent_in r.endpoint.connection) (taken_in r.endpoint.connection)).1 in
+    let le : edge s.endpoint.connection ≤ m = both_below (sent_in s.endpoint.connection) (taken_in s.endpoint.connection) m a.reach least in
+    record {
+      packets = a.packets ++ b.packets;
+      below = both_lists m a.packets b.packets a.below (lifted (edge s.endpoint.connection) m le b.packets b.below);
+      outbox = b.outbox ∙ ap (λ l. l ++ b.packets) a.outbox ∙ append_assoc r.endpoint.outbox a.packets b.packets;
+      reach = lower (sent_in t.endpoint.connection) (edge s.endpoint.connection) m b.reach le;
+      window = b.window ∙ a.window;
+    }
+
+moved : (c d : ControlBlock) (s : State) → s.endpoint.connection ≡ Some c → IsMoved c d → IsIn s (with_block d s)
+moved c d s e h =
+    let top : sent_in (Some d) ≡ sent_in s.endpoint.connection = h.top ∙ sym (ap sent_in e) in
+    record {
+      packets = [];
+      below = tt;
+      outbox = sym (append-nil s.endpoint.outbox);
+      reach = subst (λ (n : ℕ). n ≤ edge s.endpoint.connection) (sym top) (greater (sent_in s.endpoint.connection) (taken_in s.endpoint.connection)).0;
+      window = same_window c d h.stays ∙ sym (ap taken_in e);
+    }
+
+sent : (now : ℕ) (segment : Span) (c d : ControlBlock) (s : State) → s.endpoint.connection ≡ Some c → IsSending now segment c d
+    → IsIn s (with_segment now segment c d s)
+sent now segment c d s e h =
+    let packet : Sent = record { segment = data_of c segment; at = now } in
+    let m : ℕ = edge (Some c) in
+    let here : m ≡ edge s.endpoint.connection = sym (ap edge e) in
+    let ends : segment.end ≤ m = either_bound (nat_lt c.board.top segment.end) c.board.top segment.end (window_end c c.established) refl h.allowed in
+    let reach : d.board.top ≤ m =
+    lower d.board.top (max c.board.top segment.end) m h.low
+    (both_below c.board.top segment.end m (greater c.board.top (window_end c c.established)).0 ends) in
+    record {
+      packets = packet ∷ [];
+      below = subst (λ (n : ℕ). AllBelow n (packet ∷ [])) here (λ lt. lower (end_with_fin packet.segment) segment.end m (packet_ends c segment) ends, tt);
+      outbox = refl;
+      reach = subst (λ (n : ℕ). d.board.top ≤ n) here reach;
+      window = same_window c d h.stays ∙ sym (ap taken_in e);
+    }
+
+in_rules : (now : ℕ) → Goes now IsIn
+in_rules now = record { none = none_in; more = further; moved = moved; sent = sent now }
+
+-- Calls
+
+pub calls_in_window : (call : Call) (now : ℕ) (s t : State) (a : Answer) → called call now s ≡ Ok (t, a) → PutsOutInWindow s t
+calls_in_window call now s t a h =
+    let went = called_goes now IsIn (in_rules now) call s t a h in
+    let u : State = went.0 in
+    let quiet : IsQuiet s u = went.1 in
+    let run : IsIn u t = went.2 in
+    let same : edge u.endpoint.connection ≡ max (sent_in s.endpoint.connection) (taken_in t.endpoint.connection) =
+    ap (λ (n : ℕ). max n (taken_in u.endpoint.connection)) quiet.sent ∙ ap (λ (n : ℕ). max (sent_in s.endpoint.connection) n) (sym run.window) in (
+      run.packets,
+      subst (λ (n : ℕ). AllBelow n run.packets) same run.below,
+      run.outbox ∙ ap (λ (l : List Sent). l ++ run.packets) quiet.outbox,
+    )
+
+-- Arrivals
+
+nothing_out : (s t : State) → t.endpoint.outbox ≡ s.endpoint.outbox → PutsOutInWindow s t
+nothing_out s t same = ([], tt, sym (append-nil t.endpoint.outbox) ∙ ap (λ (l : List Sent). l ++ []) same)
+
+-- a packet without octets
+one_out : (b : Bool) (now : ℕ) (segment : Segment) (u s : State) (e : Endpoint) → e.outbox ≡ s.endpoint.outbox
+    → (segment.start < end_with_fin segment → ⊥)
+    → Leaves (PutsOutInWindow s) (beside u (with_outbox e (if b then Ok (e.outbox ++ record { segment = segment; at = now } ∷ []) else Err Limit)))
+one_out true now segment u s e same empty =
+    let packet : Sent = record { segment = segment; at = now } in
+    (packet ∷ [], (λ lt. absurd (empty lt), tt), ap (λ (l : List Sent). l ++ packet ∷ []) same)
+one_out false now segment u s e same empty = tt
+
+answered_out : (now : ℕ) (segment : Segment) (s : State) → (segment.start < end_with_fin segment → ⊥)
+    → Leaves (PutsOutInWindow s) (beside s (with_outbox s.endpoint (if nat_lt (length s.endpoint.outbox) 1024 then Ok (s.endpoint.outbox ++ record { segment = segment; at = now } ∷ []) else Err Limit)))
+answered_out now segment s empty = one_out (nat_lt (length s.endpoint.outbox) 1024) now segment s s s.endpoint refl empty
+
+-- what an ACK names stands where the connection that it left says
+
+named : (ack : Ack) (c : ControlBlock) (next : Then) → ack.una + ack.rwnd ≡ window_end c c.established → ack.top ≡ c.board.top
+    → IsAllowed ack next → IsNamed c next
+named ack c Ordinary window top h = tt
+named ack c StepC window top h = tt
+named ack c Entry window top h = tt
+named ack c LimitedTransmit window top h = tt
+named ack c (NewSegment segment) window top h = subst (λ (n : ℕ). segment.end ≤ n) window h.1
+named ack c (FastRetransmit segment) window top h = subst (λ (n : ℕ). segment.end ≤ n) top h
+named ack c Nothing window top h = tt
+
+answer_named : (segment : Segment) (n : ℕ) (fresh : Bool) (before : Established) (c : ControlBlock) (o : Option Established)
+    → IsNamed (answering segment n fresh before c o).0 (answering segment n fresh before c o).1
+answer_named segment n fresh before c None = tt
+answer_named segment n fresh before c (Some e) =
+    let ack : Ack = ack_of_segment segment n fresh before e c in
+    let step : ControlBlock × Then = answering segment n fresh before c (Some e) in
+    named ack step.0 step.1 refl refl (what_follows ack e.congestion)
+
+pub taking_named : (now : ℕ) (segment : Segment) (c : ControlBlock) (o : Option Established)
+    → IsNamed (taking now segment c o).0 (taking now segment c o).1
+taking_named now segment c None = tt
+taking_named now segment c (Some e) =
+    let after : ControlBlock × Bool = with_ack now segment e c in
+    answer_named segment (newly_acked c segment) after.1 e after.0 after.0.established
+
+pub taking_top : (now : ℕ) (segment : Segment) (c : ControlBlock) (o : Option Established) → (taking now segment c o).0.board.top ≡ c.board.top
+taking_top now segment c None = refl
+taking_top now segment c (Some e) = ap (λ (x : ControlBlock). x.board.top) (taking_keeps now segment c e)
+
+taken_in_window : (now : ℕ) (segment : Segment) (c : ControlBlock) (s : State) (o : Option Established) → s.endpoint.connection ≡ Some c
+    → Leaves (PutsOutInWindow s) (taken now segment c s o)
+taken_in_window now segment c s o e =
+    let step : ControlBlock × Then = taking now segment c o in
+    let u : State = with_block step.0 s in
+    leaves_too (IsIn u) (PutsOutInWindow s) (taken now segment c s o)
+    (λ t run.
+    let top : sent_in u.endpoint.connection ≡ sent_in s.endpoint.connection = taking_top now segment c o ∙ sym (ap sent_in e) in
+    let same : edge u.endpoint.connection ≡ max (sent_in s.endpoint.connection) (taken_in t.endpoint.connection) =
+    ap (λ (n : ℕ). max n (taken_in u.endpoint.connection)) top ∙ ap (λ (n : ℕ). max (sent_in s.endpoint.connection) n) (sym run.window) in
+    (run.packets, subst (λ (n : ℕ). AllBelow n run.packets) same run.below, run.outbox))
+    (led_to_goes now IsIn (in_rules now) step.0 u step.1 refl (taking_named now segment c o))
+
+by_ruling : (r : Option Ruling) (segment : Segment) (now : ℕ) (s : State) (c : ControlBlock) → s.endpoint.connection ≡ Some c
+    → Leaves (PutsOutInWindow s) (ruled now segment c s r)
+by_ruling (Some NotRun) segment now s c e = tt
+by_ruling (Some StrayRst) segment now s c e = nothing_out s s refl
+by_ruling (Some OutsideWindow) segment now s c e = answered_out now (ack_of c) s (below_self c.board.top)
+by_ruling (Some ExactRst) segment now s c e = nothing_out s (with_block (reset_of c) s) refl
+by_ruling (Some ChallengedRst) segment now s c e = answered_out now (ack_of c) s (below_self c.board.top)
+by_ruling (Some WithoutAck) segment now s c e = nothing_out s s refl
+by_ruling (Some FirstAck) segment now s c e =
+    let left : State = with_block (established_by now s.settings segment c) s in
+    nothing_out s (record left { uses = establishment_uses s.uses }) refl
+by_ruling (Some RefusedAck) segment now s c e = answered_out now (refusal_of segment.ack) s (below_self segment.ack)
+by_ruling (Some EarlyAck) segment now s c e = answered_out now (ack_of c) s (below_self c.board.top)
+by_ruling (Some OldAck) segment now s c e = nothing_out s s refl
+by_ruling None segment now s c e = taken_in_window now segment c s c.established e
+
+on_connection : (o : Option ControlBlock) (segment : Segment) (now : ℕ) (s : State) → s.endpoint.connection ≡ o
+    → Leaves (PutsOutInWindow s) (arrived_on now segment s o)
+on_connection None segment now s e =
+    let c : ControlBlock = begun now s.settings segment in
+    either (PutsOutInWindow s) (is_opening s.endpoint.listener segment) (answered_syn now c s) (Err Unsupported)
+    (one_out (nat_lt (length s.endpoint.outbox) 1024) now (syn_ack_of c) (record s { uses = syn_uses s.uses }) s
+    (record s.endpoint { connection = Some c }) refl (below_self 0)) tt
+on_connection (Some c) segment now s e = by_ruling (ruling_of c segment) segment now s c e
+
+-- Expiries
+
+-- an expiry puts out no octet that wasn't sent before
+record IsAgain (s t : State) : Type 0 where
+  pub packets : List Sent
+  pub below : AllBelow (sent_in s.endpoint.connection) packets
+  pub outbox : t.endpoint.outbox ≡ s.endpoint.outbox ++ packets
+  pub top : sent_in t.endpoint.connection ≡ sent_in s.endpoint.connection
+
+highest : (a b : ℕ) → b ≤ a → max a b ≡ a
+highest a b h = omega (arith, h)
+
+expired_top : (at : ℕ) (c : ControlBlock) (o : Option Established) → (block_expired at c o).board.top ≡ c.board.top
+expired_top at c None = refl
+expired_top at c (Some e) = highest c.board.top (first_again c).end (again_end c)
+  where
+    again_end : (d : ControlBlock) → (first_again d).end ≤ d.board.top
+    again_end d = run_end (unmarked d.board) d.board.una
+
+expired_below : (at : ℕ) (c : ControlBlock) (o : Option Established) → LiesBelow c.board.top (record { segment = segment_again c o; at = at })
+expired_below at c None = λ lt. absurd (below_self 0 lt)
+expired_below at c (Some e) =
+    λ lt. lower (end_with_fin (data_of c (first_again c))) (first_again c).end c.board.top (packet_ends c (first_again c)) (run_end (unmarked c.board) c.board.una)
+
+one_again : (at : ℕ) (s t : State) (o : Option ControlBlock) → t.endpoint.connection ≡ o → IsAgain s t → IsAgain s (expired at o t)
+one_again at s t None e h = h
+one_again at s t (Some c) e h =
+    let packet : Sent = record { segment = segment_again c c.established; at = at } in
+    let top : c.board.top ≡ sent_in s.endpoint.connection = sym (ap sent_in e) ∙ h.top in
+    record {
+      packets = h.packets ++ packet ∷ [];
+      below = both_lists (sent_in s.endpoint.connection) h.packets (packet ∷ []) h.below
+          (subst (λ (n : ℕ). LiesBelow n packet) top (expired_below at c c.established), tt);
+      outbox = ap (λ (l : List Sent). l ++ packet ∷ []) h.outbox ∙ append_assoc s.endpoint.outbox h.packets (packet ∷ []);
+      top = expired_top at c c.established ∙ top;
+    }
+
+none_again : (s : State) → IsAgain s s
+none_again s = record { packets = []; below = tt; outbox = sym (append-nil s.endpoint.outbox); top = refl }
+
+expiries_in_window : (until : ℕ) (s t : State) → advanced until s ≡ Ok t → PutsOutInWindow s t
+expiries_in_window until s t h =
+    let run : IsAgain s t =
+    came (IsAgain s) (advanced until s) t h
+    (kept (IsAgain s) (expiry_finds until) expiry_sends (λ at u e so_far. one_again at s u u.endpoint.connection refl so_far) (places_left s) s (none_again s)) in
+    let m : ℕ = sent_in s.endpoint.connection in
+    let n : ℕ = taken_in t.endpoint.connection in
+    (run.packets, lifted m (max m n) (greater m n).0 run.packets run.below, run.outbox)
+
+pub stays_in_window : StaysInWindow
+stays_in_window = record {
+  arrivals = λ segment now s t h.
+      came (PutsOutInWindow s) (arrived segment now s) t h (on_connection s.endpoint.connection segment now s refl);
+  calls = calls_in_window;
+  expiries = expiries_in_window;
+}

@@ -1,0 +1,240 @@
+-- The FIN is the last octet that is queued, and `close` alone queues it.
+use Rattle.std.proofs.Common.{◌≡◌, ◌⊎◌, inl, inr, ℕ, ◌==◌, ◌<◌, ◌≤◌, min, Bool, true, false, true≢false, not, ◌&&◌, nat_lt, nat_le, if◌then◌else◌, Option, None, Some, is_some, option_map, Ok, Err, refl, sym, ap, ◌∙◌, arith}
+use Rattle.std.proofs.lemmas.Bool.Decides.{nat_tests}
+use Rattle.pd_script.specs.declared.calls.Call.{Call}
+use Rattle.pd_seg.specs.declared.answers.Answer.{Answer}
+use Rattle.pd_seg.specs.declared.answers.Answer.TheVariants.{Number, Error}
+use Rattle.pd_seg.specs.declared.answers.Errno.TheVariants.{Eagain, Epipe}
+use Rattle.pd_seg.specs.declared.sack_blocks.Span.{Span}
+use Rattle.pd_host.specs.Calls.{Reply, answered, with_listener, with_stored, socket_reply, bind_reply, listen_reply, accept_reply, handed_out, no_delay_reply, free_of, with_queued, write_uses, queued, written_on, write_reply, operated, on_open, opened, reply_to, requested, called, is_pending, is_waiting, is_open, is_stream_open, is_listener_open, stream_of, with_stream, with_nagle}
+use Rattle.pd_host.specs.ControlBlock.{ControlBlock, data_end}
+use Rattle.pd_host.specs.Packets.{data_of}
+use Rattle.pd_host.specs.Requests.{request_of}
+use Rattle.pd_host.specs.declared.descriptors.Descriptor.{Descriptor}
+use Rattle.pd_host.specs.declared.descriptors.Descriptor.TheVariants.{Listening, Connected}
+use Rattle.pd_host.specs.declared.endpoint.Endpoint.{Endpoint}
+use Rattle.pd_host.specs.declared.halts.Halt.TheVariants.{Unsupported}
+use Rattle.pd_host.specs.declared.listeners.Listener.{Listener}
+use Rattle.pd_host.specs.declared.listeners.Listener.TheVariants.{Absent, Open, Bound, Listens, Closed}
+use Rattle.pd_host.specs.declared.requests.Operation.{Operation}
+use Rattle.pd_host.specs.declared.requests.Operation.TheVariants.{Bind, Listen, Accept, ReuseAddress, NoDelay, SetFlags, Write, Close}
+use Rattle.pd_host.specs.declared.requests.Request.{Request}
+use Rattle.pd_host.specs.declared.requests.Request.TheVariants.{Socket, On}
+use Rattle.pd_host.specs.declared.sender_state.State.{State}
+use Rattle.pd_host.specs.declared.streams.Stream.TheVariants as stream
+use Rattle.pd_host.proofs.CallsBehind.{Replies, either_reply, queued_sends}
+use Rattle.pd_host.proofs.Chosen.{first_of_two, second_of_two, is_above, is_within}
+use Rattle.pd_host.proofs.Outcomes.{came}
+use Rattle.pd_host.proofs.SentOn.{IsSentOn, stills}
+
+-- Segments
+
+pub fin_covered : (c : ControlBlock) (segment : Span) → (data_of c segment).flags.fin ≡ true
+    → (c.fin ≡ true) × (segment.start < c.board.end) × (c.board.end ≤ segment.end)
+fin_covered c segment h =
+    let below : Bool = nat_lt segment.start c.board.end in
+    let above : Bool = nat_le c.board.end segment.end in
+    let both : (below && above) ≡ true = second_of_two c.fin (below && above) h in (
+      first_of_two c.fin (below && above) h,
+      is_above segment.start c.board.end (first_of_two below above both),
+      is_within c.board.end segment.end (second_of_two below above both),
+    )
+
+lesser : (a b : ℕ) → min a b ≤ b
+lesser a b = omega arith
+
+pub ends_before : (c : ControlBlock) (segment : Span) → (data_of c segment).end ≤ data_end c
+ends_before c segment = lesser segment.end (data_end c)
+
+-- Descriptors
+
+nothing : (d : Descriptor) → None ≡ Some d → ⊥
+nothing d e = cc
+
+apart : Some Listening ≡ Some Connected → ⊥
+apart e = cc
+
+-- which descriptor is open, by four tests
+abbrev tested : Bool → Bool → Bool → Option Descriptor
+tested listening four stands = if listening then Some Listening else if four && stands then Some Connected else None
+
+connected_so : (listening four stands : Bool) → tested listening four stands ≡ Some Connected → (four ≡ true) × (stands ≡ true)
+connected_so true four stands e = absurd (apart e)
+connected_so false true true e = (refl, refl)
+connected_so false true false e = absurd (nothing Connected e)
+connected_so false false stands e = absurd (nothing Connected e)
+
+equal : (m n : ℕ) → (m == n) ≡ true → m ≡ n
+equal m n h = grind (arith, nat_tests)
+
+is_connected : (e : Endpoint) (fd : ℕ) → opened e fd ≡ Some Connected → ((fd == 4) ≡ true) × (is_stream_open e.connection ≡ true)
+is_connected e fd h = connected_so (fd == 3 && is_listener_open e.listener) (fd == 4) (is_stream_open e.connection) h
+
+-- Only `close` queues the FIN
+
+abbrev fins : Option ControlBlock → Bool
+fins None = false
+fins (Some c) = c.fin
+
+abbrev SameFin : State → State → Type 0
+SameFin s t = fins t.endpoint.connection ≡ fins s.endpoint.connection
+
+still_fin : (o : Option ControlBlock) → fins (stills o) ≡ fins o
+still_fin None = refl
+still_fin (Some c) = refl
+
+sent_fin : (now : ℕ) (s t : State) → IsSentOn now s t → SameFin s t
+sent_fin now s t h = sym (still_fin t.endpoint.connection) ∙ ap fins h.connection ∙ still_fin s.endpoint.connection
+
+socket_fin : (s : State) (l : Listener) → Replies (SameFin s) (socket_reply s l)
+socket_fin s Absent = refl
+socket_fin s _ = tt
+
+bind_fin : (s : State) (l : Listener) (d : Descriptor) → Replies (SameFin s) (bind_reply s l d)
+bind_fin s Open Listening = refl
+bind_fin s _ _ = refl
+
+listen_fin : (s : State) (l : Listener) (d : Descriptor) → Replies (SameFin s) (listen_reply s l d)
+listen_fin s Bound Listening = refl
+listen_fin s Listens Listening = refl
+listen_fin s _ _ = refl
+
+handed_fin : (s : State) (o : Option ControlBlock) → s.endpoint.connection ≡ o → Replies (SameFin s) (handed_out s o)
+handed_fin s None e = refl
+handed_fin s (Some c) e =
+    either_reply (SameFin s) (is_some c.established && is_waiting (stream_of c))
+    (answered (with_stored (Some (with_stream stream.Open c)) s) (Number 4)) (answered s (Error Eagain)) (sym (ap fins e)) refl
+
+accept_fin : (s : State) (l : Listener) (d : Descriptor) → Replies (SameFin s) (accept_reply s l d)
+accept_fin s Listens Listening = handed_fin s s.endpoint.connection refl
+accept_fin s _ _ = refl
+
+nagle_fin : (on : Bool) (o : Option ControlBlock) → fins (option_map (with_nagle on) o) ≡ fins o
+nagle_fin on None = refl
+nagle_fin on (Some c) = refl
+
+no_delay_fin : (s : State) (set : Bool) (d : Descriptor) → Replies (SameFin s) (no_delay_reply s set d)
+no_delay_fin s set Listening = refl
+no_delay_fin s set Connected = nagle_fin (not set) s.endpoint.connection
+
+written_fin : (now n : ℕ) (s : State) (o : Option ControlBlock) → s.endpoint.connection ≡ o → Replies (SameFin s) (written_on now n o s)
+written_fin now n s None e = refl
+written_fin now n s (Some c) e =
+    let noted : State = record s { uses = write_uses s.uses } in
+    let free : ℕ = free_of s.settings.sndbuf c in
+    let u : State = with_stored (Some (with_queued (min n free) c)) noted in
+    let rest : Reply = if n == 0 then answered s (Number 0) else queued now n free c noted in
+    either_reply (SameFin s) c.reset (answered s (Error Epipe)) rest refl
+    (either_reply (SameFin s) (n == 0) (answered s (Number 0)) (queued now n free c noted) refl
+    (queued_sends now n free c noted (SameFin s) refl (λ t h. sent_fin now u t h ∙ sym (ap fins e))))
+
+write_fin : (now : ℕ) (s : State) (n : ℕ) (d : Descriptor) → Replies (SameFin s) (write_reply now s n d)
+write_fin now s n Listening = refl
+write_fin now s n Connected = written_fin now n s s.endpoint.connection refl
+
+-- what is asked of an open descriptor leaves the FIN, or is the closing of the connection's
+operated_fin : (now fd : ℕ) (s : State) (d : Option Descriptor) (o : Operation) → opened s.endpoint fd ≡ d
+    → (On fd o ≡ On 4 Close) ⊎ Replies (SameFin s) (on_open now s o d)
+operated_fin now fd s None o e = inr refl
+operated_fin now fd s (Some d) Bind e = inr (bind_fin s s.endpoint.listener d)
+operated_fin now fd s (Some d) Listen e = inr (listen_fin s s.endpoint.listener d)
+operated_fin now fd s (Some d) Accept e = inr (accept_fin s s.endpoint.listener d)
+operated_fin now fd s (Some d) ReuseAddress e = inr refl
+operated_fin now fd s (Some d) (NoDelay set) e = inr (no_delay_fin s set d)
+operated_fin now fd s (Some d) SetFlags e = inr refl
+operated_fin now fd s (Some d) (Write n) e = inr (write_fin now s n d)
+operated_fin now fd s (Some Listening) Close e =
+    inr (either_reply (SameFin s) (is_pending s.endpoint.connection) (Err Unsupported) (answered (with_listener Closed s) (Number 0)) tt refl)
+operated_fin now fd s (Some Connected) Close e =
+    inl (ap (λ (n : ℕ). On n Close) (equal fd 4 (is_connected s.endpoint fd e).0))
+
+reply_fin : (now : ℕ) (s : State) (r : Request) → (r ≡ On 4 Close) ⊎ Replies (SameFin s) (reply_to now s r)
+reply_fin now s Socket = inr (socket_fin s s.endpoint.listener)
+reply_fin now s (On fd o) = operated_fin now fd s (opened s.endpoint fd) o refl
+
+-- a call that queued the FIN
+abbrev Queues : State → State → Type 0
+Queues s t = (fins s.endpoint.connection ≡ false) × (fins t.endpoint.connection ≡ true)
+
+fin_queued : (now : ℕ) (s t : State) (a : Answer) (r : Request) → Queues s t → reply_to now s r ≡ Ok (t, a)
+    → (r ≡ On 4 Close) ⊎ Replies (SameFin s) (reply_to now s r) → r ≡ On 4 Close
+fin_queued now s t a r queues h (inl same) = same
+fin_queued now s t a r queues h (inr kept) =
+    let same : SameFin s t = came (λ (x : State × Answer). SameFin s x.0) (reply_to now s r) (t, a) h kept in
+    absurd (true≢false (sym queues.1 ∙ same ∙ queues.0))
+
+asked : (now : ℕ) (s t : State) (a : Answer) (o : Option Request) → Queues s t → requested now s o ≡ Ok (t, a) → o ≡ Some (On 4 Close)
+asked now s t a None queues h = absurd cc
+asked now s t a (Some r) queues h = ap (λ (x : Request). Some x) (fin_queued now s t a r queues h (reply_fin now s r))
+
+pub only_close_queues : (call : Call) (now : ℕ) (s t : State) (a : Answer) (c d : ControlBlock)
+    → s.endpoint.connection ≡ Some c → t.endpoint.connection ≡ Some d → c.fin ≡ false → d.fin ≡ true
+    → called call now s ≡ Ok (t, a) → request_of call ≡ Some (On 4 Close)
+only_close_queues call now s t a c d hc hd before after h =
+    asked now s t a (request_of call) (ap fins hc ∙ before, ap fins hd ∙ after) h
+
+-- After `close` no call moves the connection
+
+abbrev SameConnection : State → State → Type 0
+SameConnection s t = t.endpoint.connection ≡ s.endpoint.connection
+
+socket_same : (s : State) (l : Listener) → Replies (SameConnection s) (socket_reply s l)
+socket_same s Absent = refl
+socket_same s _ = tt
+
+bind_same : (s : State) (l : Listener) → Replies (SameConnection s) (bind_reply s l Listening)
+bind_same s Open = refl
+bind_same s _ = refl
+
+listen_same : (s : State) (l : Listener) → Replies (SameConnection s) (listen_reply s l Listening)
+listen_same s Bound = refl
+listen_same s Listens = refl
+listen_same s _ = refl
+
+nobody_waits : (a b : Bool) (s : State) (x : Reply) → b ≡ false → Replies (SameConnection s) (if a && b then x else answered s (Error Eagain))
+nobody_waits a true s x e = absurd (true≢false e)
+nobody_waits true false s x e = refl
+nobody_waits false false s x e = refl
+
+handed_same : (s : State) (c : ControlBlock) (o : Option ControlBlock) → o ≡ Some c → stream_of c ≡ stream.Closed
+    → Replies (SameConnection s) (handed_out s o)
+handed_same s c None e closed = refl
+handed_same s c (Some d) e closed =
+    let same : d ≡ c = cc in
+    nobody_waits (is_some d.established) (is_waiting (stream_of d)) s (answered (with_stored (Some (with_stream stream.Open d)) s) (Number 4))
+    (ap (λ (x : ControlBlock). is_waiting (stream_of x)) same ∙ ap is_waiting closed)
+
+accept_same : (s : State) (c : ControlBlock) (l : Listener) → s.endpoint.connection ≡ Some c → stream_of c ≡ stream.Closed
+    → Replies (SameConnection s) (accept_reply s l Listening)
+accept_same s c Listens e closed = handed_same s c s.endpoint.connection e closed
+accept_same s c _ e closed = refl
+
+listening_same : (now : ℕ) (s : State) (c : ControlBlock) (o : Operation) → s.endpoint.connection ≡ Some c → stream_of c ≡ stream.Closed
+    → Replies (SameConnection s) (operated now s Listening o)
+listening_same now s c Bind e closed = bind_same s s.endpoint.listener
+listening_same now s c Listen e closed = listen_same s s.endpoint.listener
+listening_same now s c Accept e closed = accept_same s c s.endpoint.listener e closed
+listening_same now s c ReuseAddress e closed = refl
+listening_same now s c (NoDelay set) e closed = refl
+listening_same now s c SetFlags e closed = refl
+listening_same now s c (Write n) e closed = refl
+listening_same now s c Close e closed =
+    either_reply (SameConnection s) (is_pending s.endpoint.connection) (Err Unsupported) (answered (with_listener Closed s) (Number 0)) tt refl
+
+open_same : (now fd : ℕ) (s : State) (c : ControlBlock) (o : Operation) (d : Option Descriptor) → s.endpoint.connection ≡ Some c → stream_of c ≡ stream.Closed
+    → opened s.endpoint fd ≡ d → Replies (SameConnection s) (on_open now s o d)
+open_same now fd s c o None e closed h = refl
+open_same now fd s c o (Some Listening) e closed h = listening_same now s c o e closed
+open_same now fd s c o (Some Connected) e closed h =
+    absurd (true≢false (sym (is_connected s.endpoint fd h).1 ∙ ap is_stream_open e ∙ ap is_open closed))
+
+reply_same : (now : ℕ) (s : State) (c : ControlBlock) (o : Option Request) → s.endpoint.connection ≡ Some c → stream_of c ≡ stream.Closed
+    → Replies (SameConnection s) (requested now s o)
+reply_same now s c None e closed = tt
+reply_same now s c (Some Socket) e closed = socket_same s s.endpoint.listener
+reply_same now s c (Some (On fd o)) e closed = open_same now fd s c o (opened s.endpoint fd) e closed refl
+
+pub closed_stays : (call : Call) (now : ℕ) (s t : State) (a : Answer) (c : ControlBlock)
+    → s.endpoint.connection ≡ Some c → stream_of c ≡ stream.Closed → called call now s ≡ Ok (t, a) → t.endpoint.connection ≡ Some c
+closed_stays call now s t a c e closed h =
+    came (λ (x : State × Answer). SameConnection s x.0) (called call now s) (t, a) h (reply_same now s c (request_of call) e closed) ∙ e

@@ -1,0 +1,78 @@
+-- What is known of a segment by the check that rules, or by none.
+use Rattle.std.proofs.Common.{◌≡◌, refl, ◌≤◌, ◌&&◌, ◌||◌, Bool, true, false, if◌then◌else◌, nat_lt, nat_le, ◌∷◌, [], Option, None, Some}
+use Rattle.std.specs.Prelude.{is_some}
+use Rattle.pd_seg.specs.declared.segments.Segment.{Segment}
+use Rattle.pd_host.specs.Arrivals.{first_ruling, ruling_of, is_in_window}
+use Rattle.pd_host.specs.ControlBlock.{ControlBlock}
+use Rattle.pd_host.specs.Handshake.{length_of}
+use Rattle.pd_host.specs.declared.rulings.Ruling.{Ruling}
+use Rattle.pd_host.specs.declared.rulings.Ruling.TheVariants.{NotRun, StrayRst, OutsideWindow, ExactRst, ChallengedRst, WithoutAck, FirstAck, RefusedAck, EarlyAck, OldAck}
+use Rattle.pd_host.proofs.Kept.{nothing_found}
+use Rattle.pd_host.proofs.AckedBelow.{ge}
+
+abbrev checks : (bad inside rst here flag shaken sent above below : Bool) → Option Ruling
+checks bad inside rst here flag shaken sent above below = first_ruling (
+    (if bad then Some NotRun else None)
+    ∷ (if inside then None else Some (if rst then StrayRst else OutsideWindow))
+    ∷ (if rst then Some (if here then ExactRst else ChallengedRst) else None)
+    ∷ (if flag then None else Some WithoutAck)
+    ∷ (if shaken then None else Some (if sent then FirstAck else RefusedAck))
+    ∷ (if above then Some EarlyAck else if below then Some OldAck else None)
+    ∷ [])
+
+none_rules : (bad inside rst here flag shaken sent above below : Bool) → checks bad inside rst here flag shaken sent above below ≡ None
+    → (bad ≡ false) × (above ≡ false) × (below ≡ false)
+none_rules true inside rst here flag shaken sent above below h = absurd cc
+none_rules false false true here flag shaken sent above below h = absurd cc
+none_rules false false false here flag shaken sent above below h = absurd cc
+none_rules false true true true flag shaken sent above below h = absurd cc
+none_rules false true true false flag shaken sent above below h = absurd cc
+none_rules false true false here false shaken sent above below h = absurd cc
+none_rules false true false here true false true above below h = absurd cc
+none_rules false true false here true false false above below h = absurd cc
+none_rules false true false here true true sent true below h = absurd cc
+none_rules false true false here true true sent false true h = absurd cc
+none_rules false true false here true true sent false false h = (refl, refl, refl)
+
+shakes : (bad inside rst here flag shaken sent above below : Bool) → checks bad inside rst here flag shaken sent above below ≡ Some FirstAck
+    → (bad ≡ false) × (shaken ≡ false)
+shakes true inside rst here flag shaken sent above below h = absurd cc
+shakes false false true here flag shaken sent above below h = absurd cc
+shakes false false false here flag shaken sent above below h = absurd cc
+shakes false true true true flag shaken sent above below h = absurd cc
+shakes false true true false flag shaken sent above below h = absurd cc
+shakes false true false here false shaken sent above below h = absurd cc
+shakes false true false here true false sent above below h = (refl, refl)
+shakes false true false here true true sent true below h = absurd cc
+shakes false true false here true true sent false true h = absurd cc
+shakes false true false here true true sent false false h = absurd cc
+
+last_of_four : (a b c d : Bool) → (a || (b || (c || d))) ≡ false → d ≡ false
+last_of_four false false false d h = h
+last_of_four true b c d h = absurd cc
+last_of_four false true c d h = absurd cc
+last_of_four false false true d h = absurd cc
+
+-- a segment that passes comes before a reset, and acknowledges what was sent
+pub record Passes (c : ControlBlock) (segment : Segment) : Type 0 where
+  pub live : c.reset ≡ false
+  pub from : c.board.una ≤ segment.ack
+  pub to : segment.ack ≤ c.board.top
+
+pub passes : (c : ControlBlock) (segment : Segment) → ruling_of c segment ≡ None → Passes c segment
+passes c segment h =
+    let k = none_rules (nat_lt 0 (length_of segment) || (segment.flags.syn || (segment.flags.fin || c.reset))) (is_in_window c segment) segment.flags.rst _ segment.flags.ack
+    (is_some c.established) (nat_lt c.board.una segment.ack && nat_le segment.ack c.board.top)
+    (nat_lt c.board.top segment.ack) (nat_lt segment.ack c.board.una) h in
+    record {
+      live = last_of_four (nat_lt 0 (length_of segment)) segment.flags.syn segment.flags.fin c.reset k.0;
+      from = ge segment.ack c.board.una k.2;
+      to = ge c.board.top segment.ack k.1;
+    }
+
+-- the first ACK comes before a reset, in the handshake
+pub first_comes : (c : ControlBlock) (segment : Segment) → ruling_of c segment ≡ Some FirstAck → (c.reset ≡ false) × (c.established ≡ None)
+first_comes c segment h =
+    let k = shakes (nat_lt 0 (length_of segment) || (segment.flags.syn || (segment.flags.fin || c.reset))) (is_in_window c segment) segment.flags.rst _ segment.flags.ack
+    (is_some c.established) (nat_lt c.board.una segment.ack && nat_le segment.ack c.board.top) _ _ h in
+    (last_of_four (nat_lt 0 (length_of segment)) segment.flags.syn segment.flags.fin c.reset k.0, nothing_found c.established k.1)

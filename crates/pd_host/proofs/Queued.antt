@@ -1,0 +1,155 @@
+-- What holds of a connection that the rules reach, through calls.
+use Rattle.std.proofs.Common.{◌≡◌, ℕ, ◌+◌, ◌&&◌, min, Bool, true, false, Option, Some, None, refl, ap, subst, ◌∙◌, arith}
+use Rattle.std.specs.Prelude.{is_some, option_map, IfSome}
+use Rattle.pd_settings.specs.declared.fields.Settings.{Settings}
+use Rattle.pd_host.specs.Calls.{is_open, is_waiting, stream_in, stream_of, with_stream, with_nagle, free_of, with_queued, with_fin, closed_stream}
+use Rattle.pd_host.specs.ControlBlock.{ControlBlock}
+use Rattle.pd_host.specs.Invariants.{IsOfPhase, IsInBounds, IsReached, fin_octets}
+use Rattle.pd_host.specs.declared.established.Established.{Established}
+use Rattle.pd_host.specs.declared.streams.Stream.{Stream}
+use Rattle.pd_host.specs.declared.streams.Stream.TheVariants as stream
+use Rattle.pd_host.proofs.Boards.{sure, written_ordered}
+use Rattle.pd_host.proofs.Kept.{by_test}
+use Rattle.pd_host.proofs.Reached.{IsLive, phase_of}
+use Rattle.pd_host.proofs.AckedBelow.{second_of_two}
+
+-- descriptor 4 is open on an established connection alone
+opened_some : (o : Option Established) → is_open (stream_in o) ≡ true → (e : Established) × (o ≡ Some e)
+opened_some None e = absurd cc
+opened_some (Some est) e = (est, refl)
+
+phase_same : (f : Established → Established) (o : Option Established) (una top end : ℕ) → IsOfPhase o una top end → IsOfPhase (option_map f o) una top end
+phase_same f None una top end h = h
+phase_same f (Some e) una top end h = h
+
+bounds_same : (b : Settings) (f : Established → Established) (smss top widest : ℕ) (o : Option Established)
+    → ((e : Established) → IsInBounds b smss top widest e → IsInBounds b smss top widest (f e))
+    → IfSome o (IsInBounds b smss top widest) → IfSome (option_map f o) (IsInBounds b smss top widest)
+bounds_same b f smss top widest None kept h = tt
+bounds_same b f smss top widest (Some e) kept h = kept e h
+
+-- another stream, or Nagle's algorithm, leaves the windows
+module _ (b : Settings) (smss top widest : ℕ) where
+  stream_bounds : (d : Stream) (e : Established) → IsInBounds b smss top widest e → IsInBounds b smss top widest (record e { stream = d })
+  stream_bounds d e h = record {
+    windows = h.windows;
+    widest = h.widest;
+    recovery_point = h.recovery_point;
+    high_rxt = h.high_rxt;
+    rescue_rxt = h.rescue_rxt;
+  }
+
+  nagle_bounds : (on : Bool) (e : Established) → IsInBounds b smss top widest e → IsInBounds b smss top widest (record e { nagle = on })
+  nagle_bounds on e h = record {
+    windows = h.windows;
+    widest = h.widest;
+    recovery_point = h.recovery_point;
+    high_rxt = h.high_rxt;
+    rescue_rxt = h.rescue_rxt;
+  }
+
+nagle_stream : (on : Bool) (o : Option Established) → stream_in (option_map {T = Established} (λ e. record e { nagle = on }) o) ≡ stream_in o
+nagle_stream on None = refl
+nagle_stream on (Some e) = refl
+
+closed_in : (o : Option Established) → is_open (stream_in o) ≡ true → stream_in (option_map {T = Established} (λ e. record e { stream = stream.Closed }) o) ≡ stream.Closed
+closed_in None e = absurd cc
+closed_in (Some est) e = refl
+
+not_waiting : (d : Stream) → is_waiting d ≡ true → d ≡ stream.Closed → ⊥
+not_waiting d e f = let w : is_waiting stream.Closed ≡ true = subst (λ x. is_waiting x ≡ true) f e in absurd cc
+
+not_open : (d : Stream) → is_open d ≡ true → d ≡ stream.Closed → ⊥
+not_open d e f = let w : is_open stream.Closed ≡ true = subst (λ x. is_open x ≡ true) f e in absurd cc
+
+pub clash : (x : Bool) → x ≡ true → x ≡ false → ⊥
+clash x t f = cc
+
+module _ (b : Settings) (now : ℕ) where
+  -- descriptor 4 is that far
+  restreamed : (d : Stream) (c : ControlBlock) → IsReached b now c
+      → (c.fin ≡ true → stream_in (option_map {T = Established} (λ e. record e { stream = d }) c.established) ≡ stream.Closed)
+      → IsReached b now (with_stream d c)
+  restreamed d c h fin = record {
+    agreed = h.agreed;
+    board = h.board;
+    room = h.room;
+    phase = phase_same (λ e. record e { stream = d }) c.established c.board.una c.board.top c.board.end h.phase;
+    fin = fin;
+    bounds = bounds_same b (λ e. record e { stream = d }) c.board.smss c.board.top c.widest c.established (stream_bounds b c.board.smss c.board.top c.widest d) h.bounds;
+    runs = h.runs;
+    timed = h.timed;
+  }
+
+  pub accepted_reached : (c : ControlBlock) → IsReached b now c → (is_some c.established && is_waiting (stream_of c)) ≡ true
+      → IsReached b now (with_stream stream.Open c)
+  accepted_reached c h e =
+      restreamed stream.Open c h (λ queued. absurd (not_waiting (stream_of c) (second_of_two (is_some c.established) _ e) (h.fin queued)))
+
+  pub nagle_reached : (on : Bool) (c : ControlBlock) → IsReached b now c → IsReached b now (with_nagle on c)
+  nagle_reached on c h = record {
+    agreed = h.agreed;
+    board = h.board;
+    room = h.room;
+    phase = phase_same (λ e. record e { nagle = on }) c.established c.board.una c.board.top c.board.end h.phase;
+    fin = λ queued. nagle_stream on c.established ∙ h.fin queued;
+    bounds = bounds_same b (λ e. record e { nagle = on }) c.board.smss c.board.top c.widest c.established (nagle_bounds b c.board.smss c.board.top c.widest on) h.bounds;
+    runs = h.runs;
+    timed = h.timed;
+  }
+
+  -- no FIN is queued while descriptor 4 is open
+  unfinished : (c : ControlBlock) → IsReached b now c → is_open (stream_of c) ≡ true → c.fin ≡ false
+  unfinished c h unclosed = sure c.fin (λ queued. not_open (stream_of c) unclosed (h.fin queued))
+
+  pub queued_live : (n : ℕ) (c : ControlBlock) → IsReached b now c → is_open (stream_of c) ≡ true → c.reset ≡ false
+      → IsLive b now (with_queued (min n (free_of b.sndbuf c)) c)
+  queued_live n c h unclosed still =
+      let none : fin_octets c.fin ≡ 0 = ap fin_octets (unfinished c h unclosed) in
+      let k = opened_some c.established unclosed in
+      record {
+        reached = record {
+          agreed = h.agreed;
+          board = written_ordered (min n (free_of b.sndbuf c)) c.board h.board;
+          room = omega (arith, h.room, none, h.board.una_next, h.board.next_top, h.board.top_end);
+          phase = phase_of c.established k.0 c.board.una c.board.top c.board.end c.board.top (c.board.end + min n (free_of b.sndbuf c)) k.1 h.phase;
+          fin = h.fin;
+          bounds = h.bounds;
+          runs = h.runs;
+          timed = h.timed;
+        };
+        live = still;
+      }
+
+  -- our FIN is queued, and descriptor 4 is closed
+  fin_live : (c : ControlBlock) → IsReached b now c → is_open (stream_of c) ≡ true → c.reset ≡ false → IsLive b now (with_stream stream.Closed (with_fin c))
+  fin_live c h unclosed still =
+      let none : fin_octets c.fin ≡ 0 = ap fin_octets (unfinished c h unclosed) in
+      let k = opened_some c.established unclosed in
+      record {
+        reached = record {
+          agreed = h.agreed;
+          board = written_ordered 1 c.board h.board;
+          room = omega (arith, h.room, none);
+          phase =
+              phase_same (λ e. record e { stream = stream.Closed }) c.established c.board.una c.board.top (c.board.end + 1)
+              (phase_of c.established k.0 c.board.una c.board.top c.board.end c.board.top (c.board.end + 1) k.1 h.phase);
+          fin = λ _. closed_in c.established unclosed;
+          bounds =
+              bounds_same b (λ e. record e { stream = stream.Closed }) c.board.smss c.board.top c.widest c.established
+              (stream_bounds b c.board.smss c.board.top c.widest stream.Closed) h.bounds;
+          runs = h.runs;
+          timed = h.timed;
+        };
+        live = still;
+      }
+
+  pub finished_live : (c : ControlBlock) → IsReached b now c → is_open (stream_of c) ≡ true → c.reset ≡ false → IsLive b now (closed_stream c)
+  finished_live c h unclosed still =
+      by_test (λ (d : ControlBlock). IsLive b now (with_stream stream.Closed d)) c.reset c (with_fin c)
+      (λ was. absurd (clash c.reset was still)) (λ _. fin_live c h unclosed still)
+
+  pub abandoned_reached : (c : ControlBlock) → IsReached b now c → is_open (stream_of c) ≡ true → c.reset ≡ true → IsReached b now (closed_stream c)
+  abandoned_reached c h unclosed was =
+      by_test (λ (d : ControlBlock). IsReached b now (with_stream stream.Closed d)) c.reset c (with_fin c)
+      (λ _. restreamed stream.Closed c h (λ _. closed_in c.established unclosed)) (λ still. absurd (clash c.reset was still))

@@ -1,0 +1,243 @@
+-- What holds of a connection that the rules reach, through sending and congestion control.
+use Rattle.std.proofs.Common.{◌≡◌, ℕ, ◌<◌, ◌≤◌, ◌&&◌, max, nat_lt, nat_le, not, Bool, true, false, Option, Some, None, refl, sym, subst, ◌∙◌, arith}
+use Rattle.std.specs.Prelude.{is_some, IfSome}
+use Rattle.std.proofs.lemmas.Option.{IfSome_then}
+use Rattle.std.proofs.lemmas.Bool.Decides.{nat_tests}
+use Rattle.pd_settings.specs.declared.fields.Settings.{Settings}
+use Rattle.pd_seg.specs.declared.sack_blocks.Span.{Span}
+use Rattle.pd_timer.specs.Timer.{Timer, started, restarted}
+use Rattle.pd_recover.specs.Choice.{noted}
+use Rattle.pd_recover.specs.Congestion.{Congestion, entered_to, with_limited}
+use Rattle.pd_recover.specs.Laws.{IsWithin}
+use Rattle.pd_recover.specs.declared.segments.NextSegment.{NextSegment}
+use Rattle.pd_recover.specs.declared.segments.NextSegment.TheVariants.{Lost, New, Hole, Rescue}
+use Rattle.pd_host.specs.Acknowledgments.{step_c_on, sent_as, noted_on, limited_on, counted_on, octets_of, entered_on}
+use Rattle.pd_host.specs.Calls.{stream_in}
+use Rattle.pd_host.specs.ControlBlock.{ControlBlock}
+use Rattle.pd_host.specs.Invariants.{IsOfPhase, IsInBounds, IsTimed, IsReached}
+use Rattle.pd_host.specs.Sending.{past_sacked, sent_on, found_on}
+use Rattle.pd_host.specs.Timing.{overlaps, timed_after, clocked}
+use Rattle.pd_host.specs.declared.established.Established.{Established}
+use Rattle.pd_host.specs.declared.streams.Stream.TheVariants as stream
+use Rattle.pd_host.specs.declared.timings.Timing.{Timing}
+use Rattle.pd_host.proofs.Boards.{sent_ordered, skipped_ordered}
+use Rattle.pd_host.proofs.Kept.{by_test}
+use Rattle.pd_host.proofs.Rules.{KeptBySending, first_run}
+use Rattle.pd_host.proofs.Runs.{run_within}
+use Rattle.pd_host.proofs.Sendables.{CanLeave, IsNext, new_leaves, step_c_fits, limited_new, ordinary_leaves}
+use Rattle.pd_host.proofs.AckedBelow.{IsBelow, lt, le}
+
+-- a connection that wasn't reset, while data is sent on it
+pub record IsLive (b : Settings) (now : ℕ) (c : ControlBlock) : Type 0 where
+  pub reached : IsReached b now c
+  pub live : c.reset ≡ false
+
+-- what holds of what an option has
+pub at_some : {X : Type 0} (P : X → Type 0) (o : Option X) (x : X) → o ≡ Some x → IfSome o P → P x
+at_some P o x e h = subst (λ p. IfSome p P) e h
+
+pub phase_of : (o : Option Established) (e : Established) (una top end top' end' : ℕ) → o ≡ Some e → IsOfPhase o una top end → IsOfPhase o una top' end'
+phase_of None e una top end top' end' is h = absurd cc
+phase_of (Some e') e una top end top' end' is h = h
+
+pub widened : (b : Settings) (smss top widest top' widest' : ℕ) (e : Established) → top ≤ top' → widest ≤ widest'
+    → IsInBounds b smss top widest e → IsInBounds b smss top' widest' e
+widened b smss top widest top' widest' e t w h = record {
+  windows = h.windows;
+  widest = omega (arith, h.widest, w);
+  recovery_point = omega (arith, h.recovery_point, t);
+  high_rxt = omega (arith, h.high_rxt, t);
+  rescue_rxt = omega (arith, h.rescue_rxt, t);
+}
+
+-- the timer
+
+pub started_runs : (now : ℕ) (t : Timer) → is_some (started now t).deadline ≡ true
+started_runs now t = by_test (λ (u : Timer). is_some u.deadline ≡ true) (is_some t.deadline) t (restarted now t) (λ e. e) (λ _. refl)
+
+pub outstanding : (una top : ℕ) (reset : Bool) → una < top → reset ≡ false → (nat_lt una top && not reset) ≡ true
+outstanding una top true u e = absurd cc
+outstanding una top false u e = grind (arith, nat_tests)
+
+timed_longer : (now una top top' : ℕ) (t : Timing) → top ≤ top' → IsTimed now una top t → IsTimed now una top' t
+timed_longer now una top top' t le h = record { some = h.some; waited = h.waited; sent = omega (arith, h.sent, le); past = h.past }
+
+-- a segment of new octets is timed, and none that was sent before
+timed_then : (now una top top' : ℕ) (segment : Span) (o : Option Timing) → una ≤ top → top ≤ top'
+    → (top ≤ segment.start → (segment.start < segment.end) × (segment.end ≤ top'))
+    → IfSome o (IsTimed now una top) → IfSome (timed_after now segment top o) (IsTimed now una top')
+timed_then now una top top' segment None u t some h =
+    by_test (λ (o : Option Timing). IfSome o (IsTimed now una top')) (nat_le top segment.start) _ None
+    (λ e. let from : top ≤ segment.start = le _ _ e in
+    record { some = (some from).0; waited = omega (arith, u, from, (some from).0); sent = (some from).1; past = omega arith }) (λ _. tt)
+timed_then now una top top' segment (Some old) u t some h =
+    by_test (λ (o : Option Timing). IfSome o (IsTimed now una top')) (overlaps old.segment segment) None (Some old)
+    (λ _. tt) (λ _. timed_longer now una top top' old t h)
+
+module _ (b : Settings) (now : ℕ) where
+  -- the sending place moves past SACKed octets
+  pub ready_reached : (c : ControlBlock) → IsReached b now c → IsReached b now (past_sacked c)
+  ready_reached c h = record {
+    agreed = h.agreed;
+    board = skipped_ordered c.board h.board;
+    room = h.room;
+    phase = h.phase;
+    fin = h.fin;
+    bounds = h.bounds;
+    runs = h.runs;
+    timed = h.timed;
+  }
+
+  -- octets are sent again, from below top
+  pub clocked_live : (c : ControlBlock) (segment : Span) → IsLive b now c → c.board.una < c.board.top → segment.start < c.board.top
+      → IsLive b now (clocked now segment c)
+  clocked_live c segment h out below = record {
+    reached = record {
+      agreed = h.reached.agreed;
+      board = h.reached.board;
+      room = h.reached.room;
+      phase = h.reached.phase;
+      fin = h.reached.fin;
+      bounds = h.reached.bounds;
+      runs = started_runs now c.timer ∙ sym (outstanding c.board.una c.board.top c.reset out h.live);
+      timed = timed_then now c.board.una c.board.top c.board.top segment c.timed (omega (arith, out)) (omega arith) (λ no. absurd (omega (arith, no, below))) h.reached.timed;
+    };
+    live = h.live;
+  }
+
+  -- a segment leaves, and the sending place moves to its end
+  pub sent_live : (c : ControlBlock) (e : Established) (segment : Span) → IsLive b now c → c.established ≡ Some e → CanLeave c.board segment
+      → IsLive b now (sent_on now segment c)
+  sent_live c e segment h is l = record {
+    reached = record {
+      agreed = h.reached.agreed;
+      board = sent_ordered segment.end c.board l.from l.to h.reached.board;
+      room = h.reached.room;
+      phase = phase_of c.established e c.board.una c.board.top c.board.end (max c.board.top segment.end) c.board.end is h.reached.phase;
+      fin = h.reached.fin;
+      bounds = IfSome_then c.established h.reached.bounds (λ x k. widened b c.board.smss c.board.top c.widest (max c.board.top segment.end) c.widest x (omega arith) (omega arith) k);
+      runs = started_runs now c.timer ∙ sym (outstanding c.board.una (max c.board.top segment.end) c.reset l.outstanding h.live);
+      timed =
+          timed_then now c.board.una c.board.top (max c.board.top segment.end) segment c.timed
+          (omega (arith, h.reached.board.una_next, h.reached.board.next_top)) (omega arith)
+          (λ from. (l.some from, omega arith)) h.reached.timed;
+    };
+    live = h.live;
+  }
+
+  -- what ordinary sending finds is found on an established connection
+  found_leaves : (c : ControlBlock) (segment : Span) (o : Option Established) → IsLive b now c → c.established ≡ o → found_on c o ≡ Some segment
+      → IsLive b now (sent_on now segment c)
+  found_leaves c segment None h is e = absurd cc
+  found_leaves c segment (Some est) h is e = sent_live c est segment h is (ordinary_leaves c est h.reached.board segment e)
+
+  pub sending_live : KeptBySending now (IsLive b now)
+  sending_live = record {
+    ready = λ c h. record { reached = ready_reached c h.reached; live = h.live };
+    sent = λ c segment h e.
+        let k = found_leaves c segment c.established h refl e in
+        record { reached = ready_reached (sent_on now segment c) k.reached; live = k.live };
+  }
+
+  -- congestion control changes, within its bounds
+  pub congestion_live : (c : ControlBlock) (e : Established) (w : Congestion) → IsLive b now c → c.established ≡ Some e
+      → IsWithin c.board.smss b.initial_ssthresh w → IsBelow c.board.top w
+      → IsLive b now (record c { established = Some (record e { congestion = w }) })
+  congestion_live c e w h is within below = record {
+    reached = record {
+      agreed = h.reached.agreed;
+      board = h.reached.board;
+      room = h.reached.room;
+      phase = subst (λ o. IsOfPhase o c.board.una c.board.top c.board.end) is h.reached.phase;
+      fin = subst (λ (o : Option Established). c.fin ≡ true → stream_in o ≡ stream.Closed) is h.reached.fin;
+      bounds = record {
+        windows = within;
+        widest = (at_some (IsInBounds b c.board.smss c.board.top c.widest) c.established e is h.reached.bounds).widest;
+        recovery_point = below.recovery_point;
+        high_rxt = below.high_rxt;
+        rescue_rxt = below.rescue_rxt;
+      };
+      runs = h.reached.runs;
+      timed = h.reached.timed;
+    };
+    live = h.live;
+  }
+
+  -- the window and the threshold stay, and what loss recovery names was sent
+  renumbered : (c : ControlBlock) (e : Established) (w : Congestion) → IsLive b now c → c.established ≡ Some e
+      → w.cwnd ≡ e.congestion.cwnd → w.ssthresh ≡ e.congestion.ssthresh → w.recovering ≡ e.congestion.recovering → IsBelow c.board.top w
+      → IsLive b now (record c { established = Some (record e { congestion = w }) })
+  renumbered c e w h is cwnd ssthresh recovering below =
+      let k : IsInBounds b c.board.smss c.board.top c.widest e = at_some (IsInBounds b c.board.smss c.board.top c.widest) c.established e is h.reached.bounds in
+      congestion_live c e w h is (record {
+        cwnd_from = omega (arith, k.windows.cwnd_from, cwnd);
+        cwnd_to = omega (arith, k.windows.cwnd_to, cwnd);
+        ssthresh_from = omega (arith, k.windows.ssthresh_from, ssthresh);
+        ssthresh_to = omega (arith, k.windows.ssthresh_to, ssthresh);
+        recovering = λ r. let low = k.windows.recovering (sym recovering ∙ r) in omega (arith, low, ssthresh);
+      }) below
+
+  pub numbers : (c : ControlBlock) (e : Established) → IsLive b now c → c.established ≡ Some e → IsBelow c.board.top e.congestion
+  numbers c e h is =
+      let k : IsInBounds b c.board.smss c.board.top c.widest e = at_some (IsInBounds b c.board.smss c.board.top c.widest) c.established e is h.reached.bounds in
+      record { recovery_point = k.recovery_point; high_rxt = k.high_rxt; rescue_rxt = k.rescue_rxt }
+
+  -- step C
+  noted_live : (c : ControlBlock) (e : Established) (sent : NextSegment) → IsLive b now c → c.established ≡ Some e → IsNext c.board sent
+      → IsLive b now (noted_on sent (sent_as now sent c) (Some e))
+  noted_live c e (New segment) h is fits =
+      let d = sent_live c e segment h is (new_leaves c.board segment h.reached.board fits) in
+      renumbered (sent_on now segment c) e e.congestion d is refl refl refl (numbers (sent_on now segment c) e d is)
+  noted_live c e (Lost segment) h is fits =
+      let d = clocked_live c segment h fits.outstanding fits.start in
+      let k = numbers c e h is in
+      renumbered (clocked now segment c) e (noted (Lost segment) e.congestion) d is refl refl refl
+      (record { recovery_point = k.recovery_point; high_rxt = fits.end; rescue_rxt = k.rescue_rxt })
+  noted_live c e (Hole segment) h is fits =
+      let d = clocked_live c segment h fits.outstanding fits.start in
+      let k = numbers c e h is in
+      renumbered (clocked now segment c) e (noted (Hole segment) e.congestion) d is refl refl refl
+      (record { recovery_point = k.recovery_point; high_rxt = fits.end; rescue_rxt = k.rescue_rxt })
+  noted_live c e (Rescue segment) h is fits =
+      let d = clocked_live c segment h fits.outstanding fits.start in
+      let k = numbers c e h is in
+      renumbered (clocked now segment c) e (noted (Rescue segment) e.congestion) d is refl refl refl
+      (record { recovery_point = k.recovery_point; high_rxt = k.high_rxt; rescue_rxt = k.recovery_point })
+
+  pub step_c_live : (pipe : ℕ) (c : ControlBlock) (sent : NextSegment) (o : Option Established) → IsLive b now c → c.established ≡ o
+      → step_c_on pipe c o ≡ Some sent → IsLive b now (noted_on sent (sent_as now sent c) o)
+  step_c_live pipe c sent None h is e = absurd cc
+  step_c_live pipe c sent (Some est) h is e =
+      noted_live c est sent h is (step_c_fits est.rwnd pipe c.board est.congestion h.reached.board sent e)
+
+  pub limited_live : (pipe : ℕ) (c : ControlBlock) (segment : Span) (o : Option Established) → IsLive b now c → c.established ≡ o
+      → limited_on pipe c o ≡ Some segment → IsLive b now (counted_on (octets_of segment) (sent_on now segment c) o)
+  limited_live pipe c segment None h is e = absurd cc
+  limited_live pipe c segment (Some est) h is e =
+      let d = sent_live c est segment h is (new_leaves c.board segment h.reached.board (limited_new est.rwnd pipe c.board est.congestion segment e)) in
+      let k = numbers (sent_on now segment c) est d is in
+      renumbered (sent_on now segment c) est (with_limited (octets_of segment) est.congestion) d is refl refl refl
+      (record { recovery_point = k.recovery_point; high_rxt = k.high_rxt; rescue_rxt = k.rescue_rxt })
+
+  -- entry
+  pub entered_live : (segment : Span) (c : ControlBlock) (o : Option Established) → IsLive b now c → c.established ≡ o → segment.end ≤ c.board.top
+      → IsLive b now (entered_on segment c o)
+  entered_live segment c None h is to = h
+  entered_live segment c (Some est) h is to =
+      let k = numbers c est h is in
+      renumbered c est (entered_to segment.end est.congestion) h is refl refl refl
+      (record { recovery_point = k.recovery_point; high_rxt = to; rescue_rxt = to })
+
+  first_to : (c : ControlBlock) → IsLive b now c → (first_run c).end ≤ c.board.top
+  first_to c h = (run_within c.board.una c.board (omega (arith, h.reached.board.una_next, h.reached.board.next_top))).1
+
+  pub entry_live : (c : ControlBlock) → IsLive b now c → nat_lt (first_run c).start (first_run c).end ≡ true
+      → IsLive b now (entered_on (first_run c) (clocked now (first_run c) c) c.established)
+  entry_live c h e =
+      let to = first_to c h in
+      let some : c.board.una < (first_run c).end = lt _ _ e in
+      entered_live (first_run c) (clocked now (first_run c) c) c.established
+      (clocked_live c (first_run c) h (omega (arith, to, some)) (omega (arith, to, some))) refl to
+
+  pub entry_alone_live : (c : ControlBlock) → IsLive b now c → IsLive b now (entered_on (first_run c) c c.established)
+  entry_alone_live c h = entered_live (first_run c) c c.established h refl (first_to c h)

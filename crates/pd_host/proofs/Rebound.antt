@@ -1,0 +1,106 @@
+-- What is sent doesn't depend on the settings that are held.
+use Rattle.std.proofs.Common.{◌≡◌, ℕ, nat_lt, Option, None, Some, Result, Ok, Err, refl, ap, ◌∙◌}
+use Rattle.pd_board.specs.Choice.{run_at}
+use Rattle.pd_recover.specs.declared.responses.Then.{Then}
+use Rattle.pd_recover.specs.declared.responses.Then.TheVariants.{Ordinary, StepC, Entry, LimitedTransmit, NewSegment, FastRetransmit, Nothing}
+use Rattle.pd_recover.specs.declared.segments.NextSegment.{NextSegment}
+use Rattle.pd_seg.specs.declared.sack_blocks.Span.{Span}
+use Rattle.pd_seg.specs.declared.segments.Segment.{Segment}
+use Rattle.pd_settings.specs.declared.fields.Settings.{Settings}
+use Rattle.pd_host.specs.Acknowledgments.{OnTheWay, step_c_sent, sender_of, pipe_of, step_c, limited_sent, limited_transmit, put_segment, entered_on, entry, led_to, taking, taken}
+use Rattle.pd_host.specs.ControlBlock.{ControlBlock}
+use Rattle.pd_host.specs.InputLaws.{rebound}
+use Rattle.pd_host.specs.Sender.{then_on}
+use Rattle.pd_host.specs.Sending.{repeated, places_left, with_block, sent_on, with_segment, sent_ordinarily, ready, sent_until_done, ordinary}
+use Rattle.pd_host.specs.Timing.{clocked}
+use Rattle.pd_host.specs.declared.established.Established.{Established}
+use Rattle.pd_host.specs.declared.halts.Halt.{Halt}
+use Rattle.pd_host.specs.declared.halts.Halt.TheVariants.{Limit}
+use Rattle.pd_host.specs.declared.sender_state.State.{State}
+use Rattle.pd_host.proofs.Outcomes.{mapped, alike, either_mapped, then_mapped}
+use Rattle.pd_host.proofs.SentOn.{finds, sends, c_finds, c_sends, limited_finds, limited_sends}
+
+-- what came, with other settings held
+abbrev pub again : Settings → Result State Halt → Result State Halt
+again settings r = mapped (rebound settings) r
+
+-- the same of a state of loss recovery
+abbrev pub rebound_too : Settings → OnTheWay → OnTheWay
+rebound_too settings t = (rebound settings t.0, t.1)
+
+ready_again : (b : Settings) (o : Option ControlBlock) (s : State) → ready o (rebound b s) ≡ rebound b (ready o s)
+ready_again b None s = refl
+ready_again b (Some c) s = refl
+
+sent_again : (b : Settings) (now : ℕ) (segment : Span) (o : Option ControlBlock) (s : State)
+    → sent_ordinarily now segment o (rebound b s) ≡ rebound b (sent_ordinarily now segment o s)
+sent_again b now segment None s = refl
+sent_again b now segment (Some c) s = refl
+
+until_done_again : (b : Settings) (now : ℕ) (s : State) → sent_until_done now (rebound b s) ≡ again b (sent_until_done now s)
+until_done_again b now s =
+    alike (rebound b) finds (sends now) (λ t. refl) (λ segment t. sent_again b now segment t.endpoint.connection t) (places_left s) s
+
+pub ordinary_again : (b : Settings) (now : ℕ) (s : State) → ordinary now (rebound b s) ≡ again b (ordinary now s)
+ordinary_again b now s =
+    ap (sent_until_done now) (ready_again b s.endpoint.connection s) ∙ until_done_again b now (ready s.endpoint.connection s)
+
+c_sent_again : (b : Settings) (now : ℕ) (sent : NextSegment) (o : Option ControlBlock) (t : OnTheWay)
+    → step_c_sent now sent o (rebound_too b t) ≡ rebound_too b (step_c_sent now sent o t)
+c_sent_again b now sent None t = refl
+c_sent_again b now sent (Some c) t = refl
+
+limited_sent_again : (b : Settings) (now : ℕ) (segment : Span) (o : Option ControlBlock) (t : OnTheWay)
+    → limited_sent now segment o (rebound_too b t) ≡ rebound_too b (limited_sent now segment o t)
+limited_sent_again b now segment None t = refl
+limited_sent_again b now segment (Some c) t = refl
+
+sender_again : (b : Settings) (r : Result OnTheWay Halt) → sender_of (mapped (rebound_too b) r) ≡ again b (sender_of r)
+sender_again b (Ok t) = refl
+sender_again b (Err halt) = refl
+
+pub step_c_again : (b : Settings) (now : ℕ) (s : State) → step_c now (rebound b s) ≡ again b (step_c now s)
+step_c_again b now s =
+    let t : OnTheWay = (s, pipe_of s.endpoint.connection) in
+    ap sender_of (alike (rebound_too b) c_finds (c_sends now) (λ u. refl) (λ sent u. c_sent_again b now sent u.0.endpoint.connection u) (places_left s) t)
+    ∙ sender_again b (repeated c_finds (c_sends now) (places_left s) t)
+
+pub limited_again : (b : Settings) (now : ℕ) (s : State) → limited_transmit now (rebound b s) ≡ again b (limited_transmit now s)
+limited_again b now s =
+    let t : OnTheWay = (s, pipe_of s.endpoint.connection) in
+    ap sender_of (alike (rebound_too b) limited_finds (limited_sends now) (λ u. refl) (λ segment u. limited_sent_again b now segment u.0.endpoint.connection u) (places_left s) t)
+    ∙ sender_again b (repeated limited_finds (limited_sends now) (places_left s) t)
+
+put_again : (b : Settings) (now : ℕ) (segment : Span) (before after : ControlBlock) (s : State)
+    → put_segment now segment before after (rebound b s) ≡ again b (put_segment now segment before after s)
+put_again b now segment before after s =
+    either_mapped (rebound b) (nat_lt 0 (places_left s)) (Ok (with_segment now segment before after s)) (Err Limit)
+    (Ok (with_segment now segment before after (rebound b s))) (Err Limit) refl refl
+
+entry_again : (b : Settings) (now : ℕ) (c : ControlBlock) (s : State) → entry now c (rebound b s) ≡ again b (entry now c s)
+entry_again b now c s =
+    let segment : Span = run_at c.board.una c.board in
+    let sent : ControlBlock = entered_on segment (clocked now segment c) c.established in
+    let moved : ControlBlock = entered_on segment c c.established in
+    either_mapped (rebound b) (nat_lt segment.start segment.end) (put_segment now segment c sent s) (Ok (with_block moved s))
+    (put_segment now segment c sent (rebound b s)) (Ok (with_block moved (rebound b s)))
+    (put_again b now segment c sent s) refl
+
+led_to_again : (b : Settings) (now : ℕ) (c : ControlBlock) (s : State) (next : Then) → led_to now c (rebound b s) next ≡ again b (led_to now c s next)
+led_to_again b now c s Ordinary = ordinary_again b now s
+led_to_again b now c s StepC = step_c_again b now s
+led_to_again b now c s Entry =
+    ap (then_on (step_c now)) (entry_again b now c s) ∙ then_mapped (rebound b) (rebound b) (step_c now) (entry now c s) (step_c_again b now)
+led_to_again b now c s LimitedTransmit = limited_again b now s
+led_to_again b now c s (NewSegment segment) = put_again b now segment c (sent_on now segment c) s
+led_to_again b now c s (FastRetransmit segment) =
+    ap (then_on (ordinary now)) (put_again b now segment c (clocked now segment c) s)
+    ∙ then_mapped (rebound b) (rebound b) (ordinary now) (put_segment now segment c (clocked now segment c) s) (ordinary_again b now)
+led_to_again b now c s Nothing = refl
+
+-- taking a segment consults no settings
+pub taken_again : (b : Settings) (now : ℕ) (segment : Segment) (c : ControlBlock) (s : State) (o : Option Established)
+    → taken now segment c (rebound b s) o ≡ again b (taken now segment c s o)
+taken_again b now segment c s o =
+    let t : ControlBlock × Then = taking now segment c o in
+    led_to_again b now t.0 (with_block t.0 s) t.1

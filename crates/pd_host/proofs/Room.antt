@@ -1,0 +1,196 @@
+-- Step C and limited transmit put out no more octets than the congestion window has room for.
+use Rattle.std.proofs.Common.{◌≡◌, ℕ, ◌+◌, ◌-◌, ◌≤◌, ◌&&◌, min, max, nat_lt, nat_le, List, [], ◌∷◌, ◌++◌, Option, None, Some, refl, sym, subst, ap, ◌∙◌, append_assoc, append-nil, arith}
+use Rattle.std.specs.Prelude.{unwrap_or, option_map}
+use Rattle.pd_board.specs.Choice.{run_at, most_from, next_lost, next_hole, rescue, segment_to, after}
+use Rattle.pd_board.specs.Loss.{is_free}
+use Rattle.pd_board.specs.Octets.{contains, least_where, greatest_where}
+use Rattle.pd_board.specs.Scoreboard.{Scoreboard}
+use Rattle.pd_recover.specs.Choice.{segment_of, has_room, lost_run, new_data, hole_run, rescue_run, next_segment as next_seg, step_c_segment, limited_segment}
+use Rattle.pd_recover.specs.Congestion.{Congestion}
+use Rattle.pd_recover.specs.declared.segments.NextSegment.{NextSegment}
+use Rattle.pd_recover.specs.declared.segments.NextSegment.TheVariants.{Lost, New, Hole, Rescue}
+use Rattle.pd_recover.proofs.Chosen.{AllOf, one_of, either_of, map_of, allowed_of}
+use Rattle.pd_recover.proofs.Found.{least}
+use Rattle.pd_seg.specs.declared.sack_blocks.Span.{Span}
+use Rattle.pd_seg.specs.declared.segments.Sent.{Sent}
+use Rattle.pd_host.specs.Acknowledgments.{OnTheWay, octets_of, step_c_on, step_c_found, sent_as, noted_on, step_c_sent, pipe_of, step_c, limited_on, limited_found, counted_on, limited_sent, limited_transmit}
+use Rattle.pd_host.specs.ControlBlock.{ControlBlock}
+use Rattle.pd_host.specs.Packets.{data_of}
+use Rattle.pd_host.specs.Sending.{places_left, sent_on, with_segment}
+use Rattle.pd_host.specs.SendingLaws.{end_with_fin, octets_in, cwnd_on, cwnd_in, FillsWindow, KeepsToWindow}
+use Rattle.pd_host.specs.declared.established.Established.{Established}
+use Rattle.pd_host.specs.declared.sender_state.State.{State}
+use Rattle.pd_host.proofs.Chosen.{is_within}
+use Rattle.pd_host.proofs.InWindow.{packet_ends}
+use Rattle.pd_host.proofs.Outcomes.{Leaves, came, leaves_too, kept}
+use Rattle.pd_host.proofs.SentOn.{still, at_rest, sender_leaves, c_finds, c_sends, c_still, limited_finds, limited_sends, counted_still}
+
+-- Segments of SMSS octets at most
+
+abbrev IsShort : ℕ → Span → Type 0
+IsShort smss segment = octets_of segment ≤ smss
+
+run_short : (s : Scoreboard) (x : ℕ) → IsShort s.smss (run_at x s)
+run_short s x = by (least_where (contains s.sacked) x (most_from x s)) refl
+  where
+    by : (o : Option ℕ) → least_where (contains s.sacked) x (most_from x s) ≡ o → unwrap_or o (most_from x s) - x ≤ s.smss
+    by None e = omega arith
+    by (Some r) e = let h = least (contains s.sacked) x (most_from x s) r e in omega (arith, h.to)
+
+new_short : (top smss left : ℕ) → top + min smss left - top ≤ smss
+new_short top smss left = omega arith
+
+data_short : (rwnd : ℕ) (s : Scoreboard) → AllOf (IsShort s.smss) (new_data rwnd s)
+data_short rwnd s =
+    let to : ℕ = s.top + min s.smss (s.end - s.top) in
+    let segment : Span = record { start = s.top; end = to } in
+    allowed_of (IsShort s.smss) (nat_lt s.top to && nat_le to (s.una + rwnd)) (Some segment)
+    (λ _. one_of (IsShort s.smss) segment (new_short s.top s.smss (s.end - s.top)))
+
+last_short : (una e smss n : ℕ) → e + 1 - max (max una (e + 1 - smss)) n ≤ smss
+last_short una e smss n = omega arith
+
+rescue_short : (s : Scoreboard) → AllOf (IsShort s.smss) (rescue s)
+rescue_short s =
+    map_of (IsShort s.smss) (segment_to s) (greatest_where (λ x. is_free x s) s.una s.top)
+    (λ e f. last_short s.una e s.smss (after (greatest_where (contains s.sacked) s.una e)))
+
+next_short : (rwnd : ℕ) (s : Scoreboard) (w : Congestion) → AllOf (λ sent. IsShort s.smss (segment_of sent)) (next_seg rwnd s w)
+next_short rwnd s w =
+    let P : NextSegment → Type 0 = λ sent. IsShort s.smss (segment_of sent) in
+    either_of P (lost_run s w) _ (map_of P (λ x. Lost (run_at x s)) (next_lost w.high_rxt s) (λ x e. run_short s x))
+    (either_of P (option_map (λ segment. New segment) (new_data rwnd s)) _
+    (map_of P (λ segment. New segment) (new_data rwnd s) (data_short rwnd s))
+    (either_of P (hole_run s w) (rescue_run s w)
+    (map_of P (λ x. Hole (run_at x s)) (next_hole w.high_rxt s) (λ x e. run_short s x))
+    (allowed_of P _ _ (λ _. map_of P (λ segment. Rescue segment) (rescue s) (rescue_short s)))))
+
+-- a segment has room between what is on the way and the window
+abbrev HasRoom : ℕ → ℕ → Span → Type 0
+HasRoom cwnd pipe segment = octets_of segment ≤ cwnd - pipe
+
+fits : (octets smss room : ℕ) → octets ≤ smss → smss ≤ room → octets ≤ room
+fits octets smss room h k = omega (arith, h, k)
+
+c_room : (rwnd pipe : ℕ) (s : Scoreboard) (w : Congestion) → AllOf (λ sent. HasRoom w.cwnd pipe (segment_of sent)) (step_c_segment rwnd pipe s w)
+c_room rwnd pipe s w =
+    allowed_of (λ sent. HasRoom w.cwnd pipe (segment_of sent)) (has_room pipe s w) (next_seg rwnd s w)
+    (λ t sent e. fits (octets_of (segment_of sent)) s.smss (w.cwnd - pipe) (next_short rwnd s w sent e) (is_within s.smss (w.cwnd - pipe) t))
+
+limited_room : (rwnd pipe : ℕ) (s : Scoreboard) (w : Congestion) → AllOf (HasRoom w.cwnd pipe) (limited_segment rwnd pipe s w)
+limited_room rwnd pipe s w =
+    allowed_of (HasRoom w.cwnd pipe) (has_room pipe s w) (new_data rwnd s)
+    (λ t segment e. fits (octets_of segment) s.smss (w.cwnd - pipe) (data_short rwnd s segment e) (is_within s.smss (w.cwnd - pipe) t))
+
+c_room_on : (n : ℕ) (c : ControlBlock) (o : Option Established) (sent : NextSegment) → step_c_on n c o ≡ Some sent → HasRoom (cwnd_on o) n (segment_of sent)
+c_room_on n c None sent h = absurd cc
+c_room_on n c (Some e) sent h = c_room e.rwnd n c.board e.congestion sent h
+
+limited_room_on : (n : ℕ) (c : ControlBlock) (o : Option Established) (segment : Span) → limited_on n c o ≡ Some segment → HasRoom (cwnd_on o) n segment
+limited_room_on n c None segment h = absurd cc
+limited_room_on n c (Some e) segment h = limited_room e.rwnd n c.board e.congestion segment h
+
+-- All of them
+
+-- packets were put out since the pipe was counted, and all that counts as on the way fits the window, if the pipe did
+record IsFilling (pipe cwnd : ℕ) (s : State) (t : OnTheWay) : Type 0 where
+  pub packets : List Sent
+  pub outbox : t.0.endpoint.outbox ≡ s.endpoint.outbox ++ packets
+  pub counted : pipe + octets_in packets ≤ t.1
+  pub full : t.1 ≤ max pipe cwnd
+  pub window : cwnd_in t.0.endpoint.connection ≡ cwnd
+
+one_more : (packets : List Sent) (p : Sent) → octets_in (packets ++ p ∷ []) ≡ octets_in packets + (end_with_fin p.segment - p.segment.start)
+one_more [] p = omega arith
+one_more (q ∷ packets) p =
+    let h : octets_in (packets ++ p ∷ []) ≡ octets_in packets + (end_with_fin p.segment - p.segment.start) = one_more packets p in
+    omega (arith, h)
+
+counted_more : (pipe before last start end n whole : ℕ) → pipe + before ≤ n → last ≤ end → whole ≡ before + (last - start) → pipe + whole ≤ n + (end - start)
+counted_more pipe before last start end n whole h k e = omega (arith, h, k, e)
+
+filled : (pipe cwnd n octets : ℕ) → n ≤ max pipe cwnd → octets ≤ cwnd - n → n + octets ≤ max pipe cwnd
+filled pipe cwnd n octets h k = omega (arith, h, k)
+
+rest_window : (o : Option Established) → cwnd_on (at_rest o) ≡ cwnd_on o
+rest_window None = refl
+rest_window (Some e) = refl
+
+same_window : (c d : ControlBlock) → still d ≡ still c → cwnd_in (Some d) ≡ cwnd_in (Some c)
+same_window c d h = sym (rest_window d.established) ∙ ap (λ (x : ControlBlock). cwnd_in (Some x)) h ∙ rest_window c.established
+
+one_filling : (pipe cwnd now : ℕ) (s : State) (t : OnTheWay) (segment : Span) (c d : ControlBlock) → t.0.endpoint.connection ≡ Some c
+    → HasRoom (cwnd_in (Some c)) t.1 segment → still d ≡ still c → IsFilling pipe cwnd s t
+    → IsFilling pipe cwnd s (with_segment now segment c d t.0, t.1 + octets_of segment)
+one_filling pipe cwnd now s t segment c d e room stays h =
+    let packet : Sent = record { segment = data_of c segment; at = now } in
+    let here : cwnd_in (Some c) ≡ cwnd = sym (ap cwnd_in e) ∙ h.window in
+    record {
+      packets = h.packets ++ packet ∷ [];
+      outbox = ap (λ (l : List Sent). l ++ packet ∷ []) h.outbox ∙ append_assoc s.endpoint.outbox h.packets (packet ∷ []);
+      counted = counted_more pipe (octets_in h.packets) (end_with_fin packet.segment) segment.start segment.end t.1 (octets_in (h.packets ++ packet ∷ []))
+          h.counted (packet_ends c segment) (one_more h.packets packet);
+      full = filled pipe cwnd t.1 (octets_of segment) h.full (subst (λ (n : ℕ). octets_of segment ≤ n - t.1) here room);
+      window = same_window c d stays ∙ here;
+    }
+
+c_once : (pipe cwnd now : ℕ) (s : State) (t : OnTheWay) (sent : NextSegment) (o : Option ControlBlock) → t.0.endpoint.connection ≡ o
+    → step_c_found t.1 o ≡ Some sent → IsFilling pipe cwnd s t → IsFilling pipe cwnd s (step_c_sent now sent o t)
+c_once pipe cwnd now s t sent None e f h = h
+c_once pipe cwnd now s t sent (Some c) e f h =
+    one_filling pipe cwnd now s t (segment_of sent) c (noted_on sent (sent_as now sent c) c.established) e
+    (c_room_on t.1 c c.established sent f) (c_still now sent c) h
+
+limited_once : (pipe cwnd now : ℕ) (s : State) (t : OnTheWay) (segment : Span) (o : Option ControlBlock) → t.0.endpoint.connection ≡ o
+    → limited_found t.1 o ≡ Some segment → IsFilling pipe cwnd s t → IsFilling pipe cwnd s (limited_sent now segment o t)
+limited_once pipe cwnd now s t segment None e f h = h
+limited_once pipe cwnd now s t segment (Some c) e f h =
+    one_filling pipe cwnd now s t segment c (counted_on (octets_of segment) (sent_on now segment c) c.established) e
+    (limited_room_on t.1 c c.established segment f) (counted_still (octets_of segment) (sent_on now segment c) c.established refl) h
+
+most : (pipe cwnd : ℕ) → pipe ≤ max pipe cwnd
+most pipe cwnd = omega arith
+
+none_counted : (pipe : ℕ) → pipe + 0 ≤ pipe
+none_counted pipe = omega arith
+
+begun : (s : State) → IsFilling (pipe_of s.endpoint.connection) (cwnd_in s.endpoint.connection) s (s, pipe_of s.endpoint.connection)
+begun s = record {
+  packets = [];
+  outbox = sym (append-nil s.endpoint.outbox);
+  counted = none_counted (pipe_of s.endpoint.connection);
+  full = most (pipe_of s.endpoint.connection) (cwnd_in s.endpoint.connection);
+  window = refl;
+}
+
+room_left : (pipe octets n cwnd : ℕ) → pipe + octets ≤ n → n ≤ max pipe cwnd → octets ≤ cwnd - pipe
+room_left pipe octets n cwnd h k = omega (arith, h, k)
+
+ended : (s : State) (t : OnTheWay) → IsFilling (pipe_of s.endpoint.connection) (cwnd_in s.endpoint.connection) s t → FillsWindow s t.0
+ended s t h = (
+  h.packets,
+  room_left (pipe_of s.endpoint.connection) (octets_in h.packets) t.1 (cwnd_in s.endpoint.connection) h.counted h.full,
+  h.outbox,
+)
+
+c_fills : (now : ℕ) (s : State) → Leaves (FillsWindow s) (step_c now s)
+c_fills now s =
+    let pipe : ℕ = pipe_of s.endpoint.connection in
+    let cwnd : ℕ = cwnd_in s.endpoint.connection in
+    sender_leaves (FillsWindow s) _
+    (leaves_too (IsFilling pipe cwnd s) (λ t. FillsWindow s t.0) _ (ended s)
+    (kept (IsFilling pipe cwnd s) c_finds (c_sends now) (λ sent t f h. c_once pipe cwnd now s t sent t.0.endpoint.connection refl f h) (places_left s) (s, pipe) (begun s)))
+
+limited_fills : (now : ℕ) (s : State) → Leaves (FillsWindow s) (limited_transmit now s)
+limited_fills now s =
+    let pipe : ℕ = pipe_of s.endpoint.connection in
+    let cwnd : ℕ = cwnd_in s.endpoint.connection in
+    sender_leaves (FillsWindow s) _
+    (leaves_too (IsFilling pipe cwnd s) (λ t. FillsWindow s t.0) _ (ended s)
+    (kept (IsFilling pipe cwnd s) limited_finds (limited_sends now) (λ segment t f h. limited_once pipe cwnd now s t segment t.0.endpoint.connection refl f h) (places_left s) (s, pipe) (begun s)))
+
+pub keeps_to_window : KeepsToWindow
+keeps_to_window = record {
+  step_c = λ now s t h. came (FillsWindow s) (step_c now s) t h (c_fills now s);
+  limited = λ now s t h. came (FillsWindow s) (limited_transmit now s) t h (limited_fills now s);
+}

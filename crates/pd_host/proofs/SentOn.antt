@@ -1,0 +1,245 @@
+-- What all sending leaves as it is, and that its packets stand behind the others.
+use Rattle.std.proofs.Common.{◌≡◌, ℕ, nat_lt, List, [], ◌∷◌, ◌++◌, Option, None, Some, Result, Ok, Err, refl, sym, ap, ◌∙◌, append_assoc, append-nil}
+use Rattle.std.specs.List.{AllByRecursion}
+use Rattle.pd_board.specs.Choice.{run_at}
+use Rattle.pd_recover.specs.declared.responses.Then.{Then}
+use Rattle.pd_recover.specs.declared.responses.Then.TheVariants.{Ordinary, StepC, Entry, LimitedTransmit, NewSegment, FastRetransmit, Nothing}
+use Rattle.pd_recover.specs.declared.segments.NextSegment.{NextSegment}
+use Rattle.pd_recover.specs.declared.segments.NextSegment.TheVariants.{Lost, New, Hole, Rescue}
+use Rattle.pd_recover.specs.Choice.{segment_of}
+use Rattle.pd_seg.specs.declared.sack_blocks.Span.{Span}
+use Rattle.pd_seg.specs.declared.segments.Sent.{Sent}
+use Rattle.pd_timer.specs.Timer.{initial}
+use Rattle.pd_host.specs.Acknowledgments.{OnTheWay, step_c_found, sent_as, noted_on, octets_of, step_c_sent, sender_of, pipe_of, step_c, limited_found, counted_on, limited_sent, limited_transmit, put_segment, entered_on, entry, led_to}
+use Rattle.pd_host.specs.ControlBlock.{ControlBlock}
+use Rattle.pd_host.specs.Packets.{data_of}
+use Rattle.pd_host.specs.Sending.{places_left, with_block, past_sacked, sent_on, with_segment, found, sent_ordinarily, ready, sent_until_done, ordinary}
+use Rattle.pd_host.specs.Timing.{clocked}
+use Rattle.pd_host.specs.declared.established.Established.{Established}
+use Rattle.pd_host.specs.declared.halts.Halt.{Halt}
+use Rattle.pd_host.specs.declared.halts.Halt.TheVariants.{Limit}
+use Rattle.pd_host.specs.declared.sender_state.State.{State}
+use Rattle.pd_host.proofs.Outcomes.{Leaves, kept, either, then_leaves}
+
+-- what sending moves, at rest
+abbrev pub at_rest : Option Established → Option Established
+at_rest None = None
+at_rest (Some e) = Some (record e { congestion = record e.congestion { limited = 0; high_rxt = 0; rescue_rxt = 0 } })
+
+abbrev resting : ControlBlock → Option Established → ControlBlock
+resting c e = record c {
+  board = record c.board { next = 0; top = 0 };
+  timer = initial 0 0;
+  timed = None;
+  established = at_rest e;
+}
+
+-- a connection without what sending moves
+abbrev pub still : ControlBlock → ControlBlock
+still c = resting c c.established
+
+abbrev pub stills : Option ControlBlock → Option ControlBlock
+stills None = None
+stills (Some c) = Some (still c)
+
+-- something was sent at a moment: packets stand behind the others, and all else is as it was
+pub record IsSentOn (now : ℕ) (s t : State) : Type 0 where
+  pub packets : List Sent
+  pub moments : AllByRecursion (λ p. p.at ≡ now) packets
+  pub outbox : t.endpoint.outbox ≡ s.endpoint.outbox ++ packets
+  pub settings : t.settings ≡ s.settings
+  pub uses : t.uses ≡ s.uses
+  pub listener : t.endpoint.listener ≡ s.endpoint.listener
+  pub connection : stills t.endpoint.connection ≡ stills s.endpoint.connection
+
+all_of_both : (now : ℕ) (a b : List Sent) → AllByRecursion (λ p. p.at ≡ now) a → AllByRecursion (λ p. p.at ≡ now) b
+    → AllByRecursion (λ p. p.at ≡ now) (a ++ b)
+all_of_both now [] b first second = second
+all_of_both now (p ∷ a) b first second = (first.0, all_of_both now a b first.1 second)
+
+-- nothing was sent
+pub nothing_sent : (now : ℕ) (s : State) → IsSentOn now s s
+nothing_sent now s = record {
+  packets = [];
+  moments = tt;
+  outbox = sym (append-nil s.endpoint.outbox);
+  settings = refl;
+  uses = refl;
+  listener = refl;
+  connection = refl;
+}
+
+-- more is sent
+pub then_more : (now : ℕ) (r s t : State) → IsSentOn now r s → IsSentOn now s t → IsSentOn now r t
+then_more now r s t a b = record {
+  packets = a.packets ++ b.packets;
+  moments = all_of_both now a.packets b.packets a.moments b.moments;
+  outbox = b.outbox ∙ ap (λ l. l ++ b.packets) a.outbox ∙ append_assoc r.endpoint.outbox a.packets b.packets;
+  settings = b.settings ∙ a.settings;
+  uses = b.uses ∙ a.uses;
+  listener = b.listener ∙ a.listener;
+  connection = b.connection ∙ a.connection;
+}
+
+-- a segment
+pub one_sent : (now : ℕ) (segment : Span) (before c : ControlBlock) (s : State) → stills (Some c) ≡ stills s.endpoint.connection
+    → IsSentOn now s (with_segment now segment before c s)
+one_sent now segment before c s same = record {
+  packets = record { segment = data_of before segment; at = now } ∷ [];
+  moments = (refl, tt);
+  outbox = refl;
+  settings = refl;
+  uses = refl;
+  listener = refl;
+  connection = same;
+}
+
+-- nothing, but the connection has moved
+pub only_moved : (now : ℕ) (c : ControlBlock) (s : State) → stills (Some c) ≡ stills s.endpoint.connection → IsSentOn now s (with_block c s)
+only_moved now c s same = record {
+  packets = [];
+  moments = tt;
+  outbox = sym (append-nil s.endpoint.outbox);
+  settings = refl;
+  uses = refl;
+  listener = refl;
+  connection = same;
+}
+
+-- Ordinary sending
+
+abbrev pub finds : State → Option Span
+finds t = found t.endpoint.connection
+
+abbrev pub sends : ℕ → Span → State → State
+sends now segment t = sent_ordinarily now segment t.endpoint.connection t
+
+once : (now : ℕ) (segment : Span) (s : State) (o : Option ControlBlock) → s.endpoint.connection ≡ o
+    → IsSentOn now s (sent_ordinarily now segment o s)
+once now segment s None e = nothing_sent now s
+once now segment s (Some c) e = one_sent now segment c (past_sacked (sent_on now segment c)) s (sym (ap stills e))
+
+made_ready : (now : ℕ) (s : State) (o : Option ControlBlock) → s.endpoint.connection ≡ o → IsSentOn now s (ready o s)
+made_ready now s None e = nothing_sent now s
+made_ready now s (Some c) e = only_moved now (past_sacked c) s (sym (ap stills e))
+
+until_done : (now : ℕ) (r s : State) → IsSentOn now r s → Leaves (IsSentOn now r) (sent_until_done now s)
+until_done now r s h =
+    kept (IsSentOn now r) finds (sends now)
+    (λ segment t e so_far. then_more now r t (sends now segment t) so_far (once now segment t t.endpoint.connection refl))
+    (places_left s) s h
+
+pub ordinary_sends : (now : ℕ) (r s : State) → IsSentOn now r s → Leaves (IsSentOn now r) (ordinary now s)
+ordinary_sends now r s h =
+    let t = ready s.endpoint.connection s in
+    until_done now r t (then_more now r s t h (made_ready now s s.endpoint.connection refl))
+
+-- Step C
+
+abbrev pub c_finds : OnTheWay → Option NextSegment
+c_finds t = step_c_found t.1 t.0.endpoint.connection
+
+abbrev pub c_sends : ℕ → NextSegment → OnTheWay → OnTheWay
+c_sends now sent t = step_c_sent now sent t.0.endpoint.connection t
+
+sent_as_still : (now : ℕ) (sent : NextSegment) (c : ControlBlock) → still (sent_as now sent c) ≡ still c
+sent_as_still now (Lost segment) c = refl
+sent_as_still now (New segment) c = refl
+sent_as_still now (Hole segment) c = refl
+sent_as_still now (Rescue segment) c = refl
+
+sent_as_established : (now : ℕ) (sent : NextSegment) (c : ControlBlock) → (sent_as now sent c).established ≡ c.established
+sent_as_established now (Lost segment) c = refl
+sent_as_established now (New segment) c = refl
+sent_as_established now (Hole segment) c = refl
+sent_as_established now (Rescue segment) c = refl
+
+noted_still : (sent : NextSegment) (c : ControlBlock) (o : Option Established) → c.established ≡ o → still (noted_on sent c o) ≡ still c
+noted_still sent c None e = refl
+noted_still (Lost segment) c (Some x) e = sym (ap (resting c) e)
+noted_still (New segment) c (Some x) e = sym (ap (resting c) e)
+noted_still (Hole segment) c (Some x) e = sym (ap (resting c) e)
+noted_still (Rescue segment) c (Some x) e = sym (ap (resting c) e)
+
+-- what step C leaves of the connection
+pub c_still : (now : ℕ) (sent : NextSegment) (c : ControlBlock) → still (noted_on sent (sent_as now sent c) c.established) ≡ still c
+c_still now sent c = noted_still sent (sent_as now sent c) c.established (sent_as_established now sent c) ∙ sent_as_still now sent c
+
+c_once : (now : ℕ) (sent : NextSegment) (t : OnTheWay) (o : Option ControlBlock) → t.0.endpoint.connection ≡ o
+    → IsSentOn now t.0 (step_c_sent now sent o t).0
+c_once now sent t None e = nothing_sent now t.0
+c_once now sent t (Some c) e =
+    one_sent now (segment_of sent) c (noted_on sent (sent_as now sent c) c.established) t.0
+    (ap (λ (d : ControlBlock). Some d) (c_still now sent c) ∙ sym (ap stills e))
+
+pub sender_leaves : (P : State → Type 0) (r : Result OnTheWay Halt) → Leaves (λ t. P t.0) r → Leaves P (sender_of r)
+sender_leaves P (Ok t) holds = holds
+sender_leaves P (Err halt) holds = tt
+
+pub step_c_sends : (now : ℕ) (r s : State) → IsSentOn now r s → Leaves (IsSentOn now r) (step_c now s)
+step_c_sends now r s h =
+    sender_leaves (IsSentOn now r) _
+    (kept (λ t. IsSentOn now r t.0) c_finds (c_sends now)
+    (λ sent t e so_far. then_more now r t.0 (c_sends now sent t).0 so_far (c_once now sent t t.0.endpoint.connection refl))
+    (places_left s) (s, pipe_of s.endpoint.connection) h)
+
+-- Limited transmit
+
+abbrev pub limited_finds : OnTheWay → Option Span
+limited_finds t = limited_found t.1 t.0.endpoint.connection
+
+abbrev pub limited_sends : ℕ → Span → OnTheWay → OnTheWay
+limited_sends now segment t = limited_sent now segment t.0.endpoint.connection t
+
+pub counted_still : (octets : ℕ) (c : ControlBlock) (o : Option Established) → c.established ≡ o → still (counted_on octets c o) ≡ still c
+counted_still octets c None e = refl
+counted_still octets c (Some x) e = sym (ap (resting c) e)
+
+limited_once : (now : ℕ) (segment : Span) (t : OnTheWay) (o : Option ControlBlock) → t.0.endpoint.connection ≡ o
+    → IsSentOn now t.0 (limited_sent now segment o t).0
+limited_once now segment t None e = nothing_sent now t.0
+limited_once now segment t (Some c) e =
+    one_sent now segment c (counted_on (octets_of segment) (sent_on now segment c) c.established) t.0
+    (ap (λ (d : ControlBlock). Some d) (counted_still (octets_of segment) (sent_on now segment c) c.established refl) ∙ sym (ap stills e))
+
+pub limited_transmit_sends : (now : ℕ) (r s : State) → IsSentOn now r s → Leaves (IsSentOn now r) (limited_transmit now s)
+limited_transmit_sends now r s h =
+    sender_leaves (IsSentOn now r) _
+    (kept (λ t. IsSentOn now r t.0) limited_finds (limited_sends now)
+    (λ segment t e so_far. then_more now r t.0 (limited_sends now segment t).0 so_far (limited_once now segment t t.0.endpoint.connection refl))
+    (places_left s) (s, pipe_of s.endpoint.connection) h)
+
+-- What an ACK leads to
+
+put_sends : (now : ℕ) (segment : Span) (before c : ControlBlock) (s : State) → stills (Some c) ≡ stills s.endpoint.connection
+    → Leaves (IsSentOn now s) (put_segment now segment before c s)
+put_sends now segment before c s same =
+    either (IsSentOn now s) (nat_lt 0 (places_left s)) (Ok (with_segment now segment before c s)) (Err Limit)
+    (one_sent now segment before c s same) tt
+
+pub entered_still : (segment : Span) (c : ControlBlock) (o : Option Established) → c.established ≡ o → still (entered_on segment c o) ≡ still c
+entered_still segment c None e = refl
+entered_still segment c (Some x) e = sym (ap (resting c) e)
+
+entry_sends : (now : ℕ) (c : ControlBlock) (s : State) → s.endpoint.connection ≡ Some c → Leaves (IsSentOn now s) (entry now c s)
+entry_sends now c s e =
+    let segment : Span = run_at c.board.una c.board in
+    let sent : ControlBlock = entered_on segment (clocked now segment c) c.established in
+    let moved : ControlBlock = entered_on segment c c.established in
+    either (IsSentOn now s) (nat_lt segment.start segment.end) (put_segment now segment c sent s) (Ok (with_block moved s))
+    (put_sends now segment c sent s
+    (ap (λ (d : ControlBlock). Some d) (entered_still segment (clocked now segment c) c.established refl) ∙ sym (ap stills e)))
+    (only_moved now moved s (ap (λ (d : ControlBlock). Some d) (entered_still segment c c.established refl) ∙ sym (ap stills e)))
+
+pub led_to_sends : (now : ℕ) (c : ControlBlock) (s : State) (next : Then) → s.endpoint.connection ≡ Some c
+    → Leaves (IsSentOn now s) (led_to now c s next)
+led_to_sends now c s Ordinary e = ordinary_sends now s s (nothing_sent now s)
+led_to_sends now c s StepC e = step_c_sends now s s (nothing_sent now s)
+led_to_sends now c s Entry e =
+    then_leaves (IsSentOn now s) (IsSentOn now s) (step_c now) (entry now c s) (entry_sends now c s e) (λ t h. step_c_sends now s t h)
+led_to_sends now c s LimitedTransmit e = limited_transmit_sends now s s (nothing_sent now s)
+led_to_sends now c s (NewSegment segment) e = put_sends now segment c (sent_on now segment c) s (sym (ap stills e))
+led_to_sends now c s (FastRetransmit segment) e =
+    then_leaves (IsSentOn now s) (IsSentOn now s) (ordinary now) (put_segment now segment c (clocked now segment c) s)
+    (put_sends now segment c (clocked now segment c) s (sym (ap stills e))) (λ t h. ordinary_sends now s t h)
+led_to_sends now c s Nothing e = nothing_sent now s

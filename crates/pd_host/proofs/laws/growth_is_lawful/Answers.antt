@@ -1,0 +1,10 @@
+-- The laws hold.
+use Rattle.pd_host.proofs.Growth.{expiries_queue_nothing, arrivals_queue_our_syn, calls_queue_what_they_ask}
+use Rattle.pd_host.proofs.laws.growth_is_lawful.Goals as goal
+
+pub returns : goal.returns
+returns c = record {
+  expiries = expiries_queue_nothing;
+  arrivals = arrivals_queue_our_syn;
+  calls = calls_queue_what_they_ask;
+}

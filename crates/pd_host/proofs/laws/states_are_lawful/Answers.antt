@@ -1,0 +1,16 @@
+-- The laws hold.
+use Rattle.pd_host.proofs.Ended.{boards_are_scoreboards, calls_stay_in_range, ends_for_good}
+use Rattle.pd_host.proofs.States.{starts_lawful, advances_stay_lawful, arrivals_stay_lawful, calls_stay_lawful, taking_stays_lawful}
+use Rattle.pd_host.proofs.laws.states_are_lawful.Goals as goal
+
+pub returns : goal.returns
+returns c = record {
+  start = starts_lawful;
+  advances = advances_stay_lawful c.timers_are_lawful.ensures.bounds c.recovery_is_lawful.ensures.windows;
+  arrivals = arrivals_stay_lawful c.timers_are_lawful.ensures.bounds c.recovery_is_lawful.ensures.windows;
+  calls = calls_stay_lawful c.timers_are_lawful.ensures.bounds c.recovery_is_lawful.ensures.windows;
+  taking = taking_stays_lawful;
+  boards = boards_are_scoreboards;
+  range = calls_stay_in_range;
+  resets = ends_for_good;
+}

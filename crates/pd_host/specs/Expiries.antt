@@ -1,0 +1,81 @@
+-- Expiries of the retransmission timer (RFC 6298, section 5), and all of them up to a moment.
+use Rattle.std.specs.Prelude.{ℕ, nat_le, true, Option, Some, None, Result, Ok, if◌then◌else◌}
+use Rattle.pd_seg.specs.declared.sack_blocks.Span.{Span}
+use Rattle.pd_seg.specs.declared.segments.Segment.{Segment}
+use Rattle.pd_board.specs.Choice.{run_at}
+use Rattle.pd_board.specs.Scoreboard.{sent_to, unmarked}
+use Rattle.pd_recover.specs.Congestion.{timed_out}
+use Rattle.pd_timer.specs.Timer.{backed_off}
+use Rattle.pd_host.specs.ControlBlock.{ControlBlock}
+use Rattle.pd_host.specs.Packets.{data_of, syn_ack_of}
+use Rattle.pd_host.specs.Sending.{repeated, places_left, with_place, with_packet_sent, with_block}
+use Rattle.pd_host.specs.declared.established.Established.{Established}
+use Rattle.pd_host.specs.declared.halts.Halt.{Halt}
+use Rattle.pd_host.specs.declared.sender_state.State.{State}
+
+-- the moment of the next expiry, where the timer of a connection runs
+abbrev pub deadline_on : Option ControlBlock → Option ℕ
+deadline_on None = None
+deadline_on (Some c) = c.timer.deadline
+
+abbrev pub deadline_of : State → Option ℕ
+deadline_of s = deadline_on s.endpoint.connection
+
+-- a moment that lies at or before another one
+abbrev pub due_by : ℕ → Option ℕ → Option ℕ
+due_by until None = None
+due_by until (Some at) = if nat_le at until then Some at else None
+
+-- RTO is doubled, the timer starts anew, and what is sent again isn't timed (RFC 6298, sections 3, 5.5 and 5.6)
+abbrev pub with_backoff : ℕ → ControlBlock → ControlBlock
+with_backoff at c = record c { timer = backed_off at c.timer; timed = None }
+
+-- in the handshake the SYN/ACK is sent again
+abbrev pub resent_by : ℕ → ControlBlock → ControlBlock
+resent_by at c = record (with_backoff at c) { resent = true }
+
+-- later the window shrinks to one segment, and no octet counts as SACKed (RFC 5681, section 3.1; RFC 2018, section 8;
+-- RFC 6675, section 5.1)
+abbrev pub collapsed : Established → ControlBlock → ControlBlock
+collapsed e c = record c {
+  board = unmarked c.board;
+  established = Some (record e { congestion = timed_out c.board.smss c.board.una c.board.top e.congestion });
+}
+
+-- the segment at una is sent again, and sending goes on behind it (RFC 6298, section 5.4)
+abbrev pub first_again : ControlBlock → Span
+first_again c = run_at c.board.una (unmarked c.board)
+
+abbrev pub expired_by : ℕ → Established → ControlBlock → ControlBlock
+expired_by at e c =
+    let d = collapsed e (with_backoff at c) in
+    record d { board = sent_to (first_again c).end d.board }
+
+-- which segment an expiry sends again
+abbrev pub segment_again : ControlBlock → Option Established → Segment
+segment_again c None = syn_ack_of c
+segment_again c (Some e) = data_of c (first_again c)
+
+-- the connection after an expiry at a moment
+abbrev pub block_expired : ℕ → ControlBlock → Option Established → ControlBlock
+block_expired at c None = resent_by at c
+block_expired at c (Some e) = expired_by at e c
+
+-- an expiry on a connection
+abbrev pub expired_on : ℕ → ControlBlock → Option Established → State → State
+expired_on at c e s = with_packet_sent at (segment_again c e) (with_block (block_expired at c e) s)
+
+-- an expiry at a moment
+abbrev pub expired : ℕ → Option ControlBlock → State → State
+expired at None s = s
+expired at (Some c) s = expired_on at c c.established s
+
+-- the same, where the outbox has a place
+abbrev pub expired_next : ℕ → Option ControlBlock → State → Result State Halt
+expired_next at None s = Ok s
+expired_next at (Some c) s = with_place s (expired at (Some c) s)
+
+-- all expiries up to a moment, in order, each at its own
+abbrev pub advanced : ℕ → State → Result State Halt
+advanced until s =
+    repeated (λ t. due_by until (deadline_of t)) (λ at t. expired at t.endpoint.connection t) (places_left s) s

@@ -1,0 +1,82 @@
+-- What holds of every arrival, call and expiry, whatever the checks and their order.
+use Rattle.std.specs.Prelude.{◌≡◌, ℕ, true, false, List, ◌++◌, Some, Ok}
+use Rattle.std.specs.List.{AllByRecursion}
+use Rattle.pd_settings.specs.Uses.{Agree}
+use Rattle.pd_settings.specs.declared.fields.Settings.{Settings}
+use Rattle.pd_script.specs.declared.calls.Call.{Call}
+use Rattle.pd_seg.specs.declared.answers.Answer.{Answer}
+use Rattle.pd_seg.specs.declared.segments.Segment.{Segment}
+use Rattle.pd_seg.specs.declared.segments.Sent.{Sent}
+use Rattle.pd_host.specs.Arrivals.{is_in_window, arrived}
+use Rattle.pd_host.specs.Calls.{called}
+use Rattle.pd_host.specs.ControlBlock.{ControlBlock}
+use Rattle.pd_host.specs.Expiries.{advanced}
+use Rattle.pd_host.specs.Laws.{AreInOrder}
+use Rattle.pd_host.specs.declared.sender_state.State.{State}
+
+-- a segment with a number outside the receive window leaves the connection as it is (RFC 5961: blind attacks)
+abbrev pub OutsideIsHarmless : Type 0
+OutsideIsHarmless =
+    (segment : Segment) (now : ℕ) (s t : State) (c : ControlBlock)
+    → s.endpoint.connection ≡ Some c
+    → is_in_window c segment ≡ false
+    → arrived segment now s ≡ Ok t
+    → t.endpoint.connection ≡ Some c
+
+-- nothing but an RST at RCV.NXT resets a connection (RFC 5961, section 3)
+abbrev pub OnlyAnExactRstResets : Type 0
+OnlyAnExactRstResets =
+    (segment : Segment) (now : ℕ) (s t : State) (c d : ControlBlock)
+    → s.endpoint.connection ≡ Some c
+    → t.endpoint.connection ≡ Some d
+    → c.reset ≡ false
+    → d.reset ≡ true
+    → arrived segment now s ≡ Ok t
+    → (segment.flags.rst ≡ true) × (segment.start ≡ c.rcv_nxt)
+
+-- what was put out at a moment stands behind the packets that nobody has taken, and carries that moment
+abbrev pub IsBehind : ℕ → State → State → Type 0
+IsBehind now s t =
+    (packets : List Sent) × AllByRecursion (λ p. p.at ≡ now) packets × (t.endpoint.outbox ≡ s.endpoint.outbox ++ packets)
+
+-- so does what an arrival puts out
+abbrev pub PutsOutBehind : Type 0
+PutsOutBehind = (segment : Segment) (now : ℕ) (s t : State) → arrived segment now s ≡ Ok t → IsBehind now s t
+
+-- and what a call puts out
+abbrev pub CallsPutOutBehind : Type 0
+CallsPutOutBehind = (call : Call) (now : ℕ) (s t : State) (answer : Answer) → called call now s ≡ Ok (t, answer) → IsBehind now s t
+
+-- what the expiries up to a moment put out stands behind the others, in the order of its moments, none of them later
+abbrev pub AdvancesPutOutBehind : Type 0
+AdvancesPutOutBehind =
+    (until : ℕ) (s t : State)
+    → advanced until s ≡ Ok t
+    → (packets : List Sent) × AreInOrder until packets × (t.endpoint.outbox ≡ s.endpoint.outbox ++ packets)
+
+-- the same state with other settings held
+abbrev pub rebound : Settings → State → State
+rebound settings s = record s { settings = settings }
+
+-- other settings that agree on all that was consulted up to after an arrival give that arrival
+abbrev pub OnlyUsesMatter : Type 0
+OnlyUsesMatter =
+    (segment : Segment) (now : ℕ) (s t : State) (settings : Settings)
+    → arrived segment now s ≡ Ok t
+    → Agree t.uses s.settings settings
+    → arrived segment now (rebound settings s) ≡ Ok (rebound settings t)
+
+-- and that call, with its answer
+abbrev pub CallsOnlyUse : Type 0
+CallsOnlyUse =
+    (call : Call) (now : ℕ) (s t : State) (answer : Answer) (settings : Settings)
+    → called call now s ≡ Ok (t, answer)
+    → Agree t.uses s.settings settings
+    → called call now (rebound settings s) ≡ Ok (rebound settings t, answer)
+
+-- expiries consult none
+abbrev pub AdvancesUseNone : Type 0
+AdvancesUseNone =
+    (until : ℕ) (s t : State) (settings : Settings)
+    → advanced until s ≡ Ok t
+    → advanced until (rebound settings s) ≡ Ok (rebound settings t)

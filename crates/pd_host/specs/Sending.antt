@@ -1,0 +1,165 @@
+-- Ordinary sending: what the windows and Nagle's algorithm let leave.
+use Rattle.std.specs.Prelude.{ℕ, ◌+◌, ◌-◌, ◌*◌, ◌≤◌, nat_lt, nat_le, min, zero, suc, not, Bool, false, ◌&&◌, ◌||◌, [], ◌∷◌, ◌++◌, length, Option, Some, None, is_some, Result, Ok, Err, if◌then◌else◌}
+use Rattle.std.specs.Option.{ForSome}
+use Rattle.pd_seg.specs.declared.sack_blocks.Span.{Span}
+use Rattle.pd_seg.specs.declared.segments.Segment.{Segment}
+use Rattle.pd_board.specs.Choice.{run_at}
+use Rattle.pd_board.specs.Scoreboard.{sent_to, skipped}
+use Rattle.pd_host.specs.ControlBlock.{ControlBlock}
+use Rattle.pd_host.specs.Packets.{data_of, covers_fin}
+use Rattle.pd_host.specs.Timing.{clocked}
+use Rattle.pd_host.specs.declared.established.Established.{Established}
+use Rattle.pd_host.specs.declared.halts.Halt.{Halt}
+use Rattle.pd_host.specs.declared.halts.Halt.TheVariants.{Limit}
+use Rattle.pd_host.specs.declared.sender_state.State.{State}
+
+-- How packets are put out one after the other
+
+-- how many packets the outbox still takes: it holds 1,024 (own profile)
+abbrev pub places_left : State → ℕ
+places_left s = 1024 - length s.endpoint.outbox
+
+-- a segment is put out at a moment, where the outbox has a place
+abbrev pub with_packet_sent : ℕ → Segment → State → State
+with_packet_sent now segment s = record s {
+  endpoint = record s.endpoint { outbox = s.endpoint.outbox ++ record { segment = segment; at = now } ∷ [] };
+}
+
+-- the same with the connection that it leaves
+abbrev pub with_block : ControlBlock → State → State
+with_block c s = record s { endpoint = record s.endpoint { connection = Some c } }
+
+-- what comes next, where the outbox takes one packet more
+abbrev pub with_place : State → State → Result State Halt
+with_place s next = if nat_lt (length s.endpoint.outbox) 1024 then Ok next else Err Limit
+
+-- what was found is done, and the rest follows; where nothing is found, all is done
+abbrev pub on_found : {S X : Type 0} → (S → Result S Halt) → (X → S → S) → S → Option X → Result S Halt
+on_found rest act s None = Ok s
+on_found rest act s (Some x) = rest (act x s)
+
+-- what is found is done until nothing more is found, at most n times; each time puts out one packet, so that one more is
+-- too many for the outbox
+abbrev pub repeated : {S X : Type 0} → (S → Option X) → (X → S → S) → ℕ → S → Result S Halt
+repeated find act zero s = if is_some (find s) then Err Limit else Ok s
+repeated find act (suc n) s = on_found (repeated find act n) act s (find s)
+
+-- Which segment is next
+
+-- below this number the congestion window and the peer's window let octets leave (RFC 5681, section 3.1)
+abbrev pub window_edge : ControlBlock → Established → ℕ
+window_edge c e = c.board.una + min e.congestion.cwnd e.rwnd
+
+-- U: how many octets from the sending place on they let leave (RFC 9293, section 3.8.6.2.1)
+abbrev pub usable : ControlBlock → Established → ℕ
+usable c e = window_edge c e - c.board.next
+
+-- D: how many octets are queued from there on (RFC 9293, section 3.8.6.2.1)
+abbrev pub unsent : ControlBlock → ℕ
+unsent c = c.board.end - c.board.next
+
+-- the octets that both let leave
+abbrev pub sendable : ControlBlock → Established → ℕ
+sendable c e = min (unsent c) (usable c e)
+
+-- the segment of new octets that could leave, SMSS octets at most
+abbrev pub new_segment : ControlBlock → Established → Span
+new_segment c e = record { start = c.board.next; end = c.board.next + min (sendable c e) c.board.smss }
+
+-- a full segment can leave (RFC 9293, section 3.8.6.2.1, rule 1)
+abbrev pub is_full : ControlBlock → Established → Bool
+is_full c e = nat_le c.board.smss (sendable c e)
+
+-- all that is queued can leave (RFC 9293, section 3.8.6.2.1, rule 2: D <= U)
+abbrev pub is_all : ControlBlock → Established → Bool
+is_all c e = nat_le (unsent c) (usable c e)
+
+-- at least half of the largest window seen can leave (RFC 9293, section 3.8.6.2.1, rule 3)
+abbrev pub is_half_window : ControlBlock → Established → Bool
+is_half_window c e = nat_le c.widest (2 * sendable c e)
+
+-- Nagle's algorithm holds a segment that isn't full while octets are outstanding (RFC 9293, section 3.7.4), but not our FIN
+-- (own profile)
+abbrev pub is_held_back : ControlBlock → Established → Bool
+is_held_back c e = e.nagle && (nat_lt c.board.una c.board.top && not (covers_fin c (new_segment c e)))
+
+-- a segment of new octets leaves
+abbrev pub leaves_now : ControlBlock → Established → Bool
+leaves_now c e = is_full c e || ((is_all c e || is_half_window c e) && not (is_held_back c e))
+
+-- new octets: the next segment, where one leaves
+abbrev pub next_new : ControlBlock → Established → Option Span
+next_new c e = if nat_lt 0 (sendable c e) && leaves_now c e then Some (new_segment c e) else None
+
+-- octets that were sent before: the next segment, where the windows let all of it leave
+abbrev pub next_again : ControlBlock → Established → Option Span
+next_again c e =
+    let segment = run_at c.board.next c.board in
+    if nat_le segment.end (window_edge c e) then Some segment else None
+
+-- the segment that ordinary sending sends next, on a board whose sending place isn't SACKed
+abbrev pub next_segment : ControlBlock → Established → Option Span
+next_segment c e = if nat_lt c.board.next c.board.top then next_again c e else next_new c e
+
+-- How a segment is sent
+
+-- the sending place moves past SACKed octets (RFC 2018, section 8)
+abbrev pub past_sacked : ControlBlock → ControlBlock
+past_sacked c = record c { board = skipped c.board }
+
+-- a segment was sent at a moment from the sending place, which moves behind it
+abbrev pub sent_on : ℕ → Span → ControlBlock → ControlBlock
+sent_on now segment c = record (clocked now segment c) { board = sent_to segment.end c.board }
+
+-- a segment is put out at a moment, and leaves this connection
+abbrev pub with_segment : ℕ → Span → ControlBlock → ControlBlock → State → State
+with_segment now segment before after s = with_packet_sent now (data_of before segment) (with_block after s)
+
+-- a segment that ends among the octets that are queued, and isn't acknowledged beyond
+abbrev pub IsQueued : Span → ControlBlock → Type 0
+IsQueued segment c = (c.board.una ≤ segment.end) × (segment.end ≤ c.board.end)
+
+-- so on the connection, where one was begun
+abbrev pub IsQueuedOn : Span → Option ControlBlock → Type 0
+IsQueuedOn segment connection = ForSome connection (IsQueued segment)
+
+-- what ordinary sending finds on a connection
+abbrev pub found_on : ControlBlock → Option Established → Option Span
+found_on c None = None
+found_on c (Some e) = next_segment c e
+
+abbrev pub found : Option ControlBlock → Option Span
+found None = None
+found (Some c) = found_on c c.established
+
+-- what it does with that
+abbrev pub sent_ordinarily : ℕ → Span → Option ControlBlock → State → State
+sent_ordinarily now segment None s = s
+sent_ordinarily now segment (Some c) s = with_segment now segment c (past_sacked (sent_on now segment c)) s
+
+-- the same, where the outbox has a place
+abbrev pub sent_next : ℕ → Span → Option ControlBlock → State → Result State Halt
+sent_next now segment None s = Ok s
+sent_next now segment (Some c) s = with_place s (sent_ordinarily now segment (Some c) s)
+
+-- the sending place before anything is sent
+abbrev pub ready : Option ControlBlock → State → State
+ready None s = s
+ready (Some c) s = with_block (past_sacked c) s
+
+-- ordinary sending at a moment, until nothing more leaves
+abbrev pub sent_until_done : ℕ → State → Result State Halt
+sent_until_done now s =
+    repeated (λ t. found t.endpoint.connection) (λ segment t. sent_ordinarily now segment t.endpoint.connection t) (places_left s) s
+
+abbrev pub ordinary : ℕ → State → Result State Halt
+ordinary now s = sent_until_done now (ready s.endpoint.connection s)
+
+-- whether loss recovery goes on
+abbrev pub is_recovering : Option Established → Bool
+is_recovering None = false
+is_recovering (Some e) = e.congestion.recovering
+
+-- ordinary sending after a call: not in recovery (RFC 6675, section 5; RFC 5681, section 3.2)
+abbrev pub ordinary_outside_recovery : ℕ → ControlBlock → State → Result State Halt
+ordinary_outside_recovery now c s = if is_recovering c.established then Ok s else ordinary now s

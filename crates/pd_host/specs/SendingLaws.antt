@@ -1,0 +1,317 @@
+-- What holds of all that is sent.
+use Rattle.std.specs.Prelude.{◌≡◌, ◌↔◌, ℕ, ◌+◌, ◌-◌, ◌<◌, ◌≤◌, ◌⊎◌, ◌&&◌, nat_lt, max, Bool, true, false, List, [], ◌∷◌, ◌++◌, Option, Some, None, Result, Ok, if◌then◌else◌}
+use Rattle.std.specs.List.{AllByRecursion}
+use Rattle.pd_board.specs.Choice.{run_at}
+use Rattle.pd_board.specs.Scoreboard.{Scoreboard, IsScoreboard}
+use Rattle.pd_recover.specs.Acks.{acked}
+use Rattle.pd_recover.specs.Choice.{segment_of}
+use Rattle.pd_recover.specs.Congestion.{Congestion}
+use Rattle.pd_recover.specs.Laws.{IsSpared}
+use Rattle.pd_recover.specs.declared.feedback.Ack.{Ack}
+use Rattle.pd_recover.specs.declared.responses.Then.TheVariants.{NewSegment}
+use Rattle.pd_recover.specs.declared.segments.NextSegment.{NextSegment}
+use Rattle.pd_script.specs.declared.calls.Call.{Call}
+use Rattle.pd_seg.specs.declared.answers.Answer.{Answer}
+use Rattle.pd_seg.specs.declared.sack_blocks.Span.{Span}
+use Rattle.pd_seg.specs.declared.segments.Segment.{Segment}
+use Rattle.pd_seg.specs.declared.segments.Sent.{Sent}
+use Rattle.pd_host.specs.Acknowledgments.{OnTheWay, newly_acked, step_c_on, step_c_found, step_c_sent, pipe_of, step_c, limited_on, limited_found, limited_sent, limited_transmit, taken}
+use Rattle.pd_host.specs.Arrivals.{arrived}
+use Rattle.pd_host.specs.Calls.{called, stream_of}
+use Rattle.pd_host.specs.ControlBlock.{ControlBlock, data_end}
+use Rattle.pd_host.specs.Expiries.{deadline_of, due_by, block_expired, expired_by, advanced}
+use Rattle.pd_host.specs.Packets.{data_of}
+use Rattle.pd_host.specs.Requests.{request_of}
+use Rattle.pd_host.specs.Sending.{repeated, places_left, window_edge, found_on, found, ordinary, is_recovering}
+use Rattle.pd_host.specs.Timing.{overlaps, clocked}
+use Rattle.pd_host.specs.declared.established.Established.{Established}
+use Rattle.pd_host.specs.declared.halts.Halt.{Halt}
+use Rattle.pd_host.specs.declared.requests.Operation.TheVariants.{Close}
+use Rattle.pd_host.specs.declared.requests.Request.TheVariants.{On}
+use Rattle.pd_host.specs.declared.sender_state.State.{State}
+use Rattle.pd_host.specs.declared.streams.Stream.TheVariants as stream
+use Rattle.pd_host.specs.declared.timings.Timing.{Timing}
+
+-- Flow control (RFC 9293, section 3.8.6)
+
+-- a segment with octets that weren't sent before has no others, and ends where the peer's window does at most
+abbrev pub IsInPeersWindow : Scoreboard → ℕ → Span → Type 0
+IsInPeersWindow s rwnd segment = s.top < segment.end → (segment.start ≡ s.top) × (segment.end ≤ s.una + rwnd)
+
+-- so is each segment that is chosen; what is sent again has no such octets
+pub record ControlsFlow : Type 0 where
+  pub ordinary :
+      (c : ControlBlock) (e : Established) (segment : Span) → c.board.next ≤ c.board.top
+      → found_on c (Some e) ≡ Some segment → IsInPeersWindow c.board e.rwnd segment
+  pub step_c :
+      (on_the_way : ℕ) (c : ControlBlock) (e : Established) (sent : NextSegment)
+      → step_c_on on_the_way c (Some e) ≡ Some sent → IsInPeersWindow c.board e.rwnd (segment_of sent)
+  pub limited :
+      (on_the_way : ℕ) (c : ControlBlock) (e : Established) (segment : Span)
+      → limited_on on_the_way c (Some e) ≡ Some segment → IsInPeersWindow c.board e.rwnd segment
+  pub duplicate :
+      (ack : Ack) (w : Congestion) (segment : Span)
+      → (acked ack w).1 ≡ NewSegment segment → (segment.start ≡ ack.top) × (segment.end ≤ ack.una + ack.rwnd)
+  pub again : (s : Scoreboard) (start : ℕ) → (run_at start s).end ≤ s.top
+
+-- the number after the highest octet that was sent
+abbrev pub sent_in : Option ControlBlock → ℕ
+sent_in None = 0
+sent_in (Some c) = c.board.top
+
+-- the number after the last octet that the peer's window takes
+abbrev pub window_end : ControlBlock → Option Established → ℕ
+window_end c None = 0
+window_end c (Some e) = c.board.una + e.rwnd
+
+abbrev pub taken_in : Option ControlBlock → ℕ
+taken_in None = 0
+taken_in (Some c) = window_end c c.established
+
+-- the segment that is timed, if one is
+abbrev pub timed_in : Option ControlBlock → Option Timing
+timed_in None = None
+timed_in (Some c) = c.timed
+
+-- the number after the last octet of a segment, a FIN counted (RFC 9293, section 3.4)
+abbrev pub end_with_fin : Segment → ℕ
+end_with_fin segment = if segment.flags.fin then segment.end + 1 else segment.end
+
+-- the octets of a packet lie below a number, if it has any
+abbrev pub LiesBelow : ℕ → Sent → Type 0
+LiesBelow edge p = p.segment.start < end_with_fin p.segment → end_with_fin p.segment ≤ edge
+
+-- each octet that was put out was sent before, or lies in the peer's window as it is then
+abbrev pub PutsOutInWindow : State → State → Type 0
+PutsOutInWindow s t =
+    (packets : List Sent)
+    × AllByRecursion (LiesBelow (max (sent_in s.endpoint.connection) (taken_in t.endpoint.connection))) packets
+    × (t.endpoint.outbox ≡ s.endpoint.outbox ++ packets)
+
+-- so it is, whatever comes in
+pub record StaysInWindow : Type 0 where
+  pub arrivals : (segment : Segment) (now : ℕ) (s t : State) → arrived segment now s ≡ Ok t → PutsOutInWindow s t
+  pub calls : (call : Call) (now : ℕ) (s t : State) (answer : Answer) → called call now s ≡ Ok (t, answer) → PutsOutInWindow s t
+  pub expiries : (until : ℕ) (s t : State) → advanced until s ≡ Ok t → PutsOutInWindow s t
+
+-- Congestion control (RFC 5681, section 3.1; RFC 6675, section 5)
+
+-- below this number both windows let octets leave
+abbrev pub edge_on : ControlBlock → Option Established → ℕ
+edge_on c None = 0
+edge_on c (Some e) = window_edge c e
+
+abbrev pub edge_of : Option ControlBlock → ℕ
+edge_of None = 0
+edge_of (Some c) = edge_on c c.established
+
+-- ordinary sending chooses nothing that ends beyond the congestion window, and so puts nothing out that does; step C and
+-- limited transmit choose where it has room for a full segment beside what is on the way
+pub record ControlsCongestion : Type 0 where
+  pub chosen :
+      (c : ControlBlock) (e : Established) (segment : Span)
+      → found_on c (Some e) ≡ Some segment → segment.end ≤ c.board.una + e.congestion.cwnd
+  pub ordinary :
+      (now : ℕ) (s t : State)
+      → ordinary now s ≡ Ok t
+      → (packets : List Sent)
+      × AllByRecursion (λ p. p.segment.end ≤ edge_of s.endpoint.connection) packets
+      × (t.endpoint.outbox ≡ s.endpoint.outbox ++ packets)
+  pub step_c :
+      (on_the_way : ℕ) (c : ControlBlock) (e : Established) (sent : NextSegment)
+      → step_c_on on_the_way c (Some e) ≡ Some sent → c.board.smss ≤ e.congestion.cwnd - on_the_way
+  pub limited :
+      (on_the_way : ℕ) (c : ControlBlock) (e : Established) (segment : Span)
+      → limited_on on_the_way c (Some e) ≡ Some segment → c.board.smss ≤ e.congestion.cwnd - on_the_way
+
+-- how many octets packets have
+abbrev pub octets_in : List Sent → ℕ
+octets_in [] = 0
+octets_in (p ∷ packets) = (end_with_fin p.segment - p.segment.start) + octets_in packets
+
+-- the congestion window
+abbrev pub cwnd_on : Option Established → ℕ
+cwnd_on None = 0
+cwnd_on (Some e) = e.congestion.cwnd
+
+abbrev pub cwnd_in : Option ControlBlock → ℕ
+cwnd_in None = 0
+cwnd_in (Some c) = cwnd_on c.established
+
+-- what was put out has no more octets than the congestion window has room for beside what was on the way
+abbrev pub FillsWindow : State → State → Type 0
+FillsWindow s t =
+    (packets : List Sent)
+    × (octets_in packets ≤ cwnd_in s.endpoint.connection - pipe_of s.endpoint.connection)
+    × (t.endpoint.outbox ≡ s.endpoint.outbox ++ packets)
+
+-- so it is after step C and after limited transmit (RFC 6675, section 5)
+pub record KeepsToWindow : Type 0 where
+  pub step_c : (now : ℕ) (s t : State) → step_c now s ≡ Ok t → FillsWindow s t
+  pub limited : (now : ℕ) (s t : State) → limited_transmit now s ≡ Ok t → FillsWindow s t
+
+-- All that may leave does
+
+-- step C, with what is on the way at its end
+abbrev pub step_c_counted : ℕ → State → Result OnTheWay Halt
+step_c_counted now s =
+    repeated (λ t. step_c_found t.1 t.0.endpoint.connection) (λ sent t. step_c_sent now sent t.0.endpoint.connection t)
+    (places_left s) (s, pipe_of s.endpoint.connection)
+
+-- limited transmit, with that
+abbrev pub limited_counted : ℕ → State → Result OnTheWay Halt
+limited_counted now s =
+    repeated (λ t. limited_found t.1 t.0.endpoint.connection) (λ segment t. limited_sent now segment t.0.endpoint.connection t)
+    (places_left s) (s, pipe_of s.endpoint.connection)
+
+-- where sending comes to its end, nothing more is found; no expiry is due up to the moment up to which all were performed
+pub record SendsAllThatMay : Type 0 where
+  pub ordinary : (now : ℕ) (s t : State) → ordinary now s ≡ Ok t → found t.endpoint.connection ≡ None
+  pub step_c :
+      (now : ℕ) (s t : State)
+      → step_c now s ≡ Ok t
+      → (on_the_way : ℕ)
+      × (step_c_counted now s ≡ Ok (t, on_the_way))
+      × (step_c_found on_the_way t.endpoint.connection ≡ None)
+  pub limited :
+      (now : ℕ) (s t : State)
+      → limited_transmit now s ≡ Ok t
+      → (on_the_way : ℕ)
+      × (limited_counted now s ≡ Ok (t, on_the_way))
+      × (limited_found on_the_way t.endpoint.connection ≡ None)
+  pub expiries : (until : ℕ) (s t : State) → advanced until s ≡ Ok t → due_by until (deadline_of t) ≡ None
+
+-- Karn's algorithm (RFC 6298, section 3)
+
+-- a segment that overlaps the timed one gives its timing up, and no other does; only octets that weren't sent before are
+-- timed, from the moment that they are sent at; after an expiry nothing is timed
+pub record TimesOnce : Type 0 where
+  pub given_up :
+      (now : ℕ) (segment : Span) (c : ControlBlock) (t : Timing)
+      → c.timed ≡ Some t → overlaps t.segment segment ≡ true → (clocked now segment c).timed ≡ None
+  pub kept :
+      (now : ℕ) (segment : Span) (c : ControlBlock) (t : Timing)
+      → c.timed ≡ Some t → overlaps t.segment segment ≡ false → (clocked now segment c).timed ≡ Some t
+  pub begun :
+      (now : ℕ) (segment : Span) (c : ControlBlock) (t : Timing)
+      → c.timed ≡ None
+      → (clocked now segment c).timed ≡ Some t
+      → (t.segment ≡ segment) × (t.sent_at ≡ now) × (c.board.top ≤ segment.start)
+  pub expiry : (at : ℕ) (c : ControlBlock) → (block_expired at c c.established).timed ≡ None
+
+-- a packet has an octet of the timed segment
+abbrev pub touches : Timing → Sent → Bool
+touches x p =
+    let octets : Span = record { start = p.segment.start; end = end_with_fin p.segment } in
+    nat_lt octets.start octets.end && overlaps x.segment octets
+
+-- no packet has
+abbrev pub AreApart : Timing → List Sent → Type 0
+AreApart x packets = AllByRecursion (λ p. touches x p ≡ false) packets
+
+-- the timed segment lies at or above a number and is one of the packets, put out at the moment from which it is timed; no
+-- other packet has an octet of it
+pub record IsSentOnce (top : ℕ) (x : Timing) (packets : List Sent) : Type 0 where
+  pub above : top ≤ x.segment.start
+  pub before : List Sent
+  pub packet : Sent
+  pub after : List Sent
+  pub order : packets ≡ before ++ packet ∷ after
+  pub start : packet.segment.start ≡ x.segment.start
+  pub moment : packet.at ≡ x.sent_at
+  pub apart_before : AreApart x before
+  pub apart_after : AreApart x after
+
+-- what is timed after an input was timed before it, and no packet that was put out has an octet of it; or it was put out
+-- then, once, and never before
+abbrev pub TimesNew : State → State → Type 0
+TimesNew s t =
+    (packets : List Sent)
+    × (t.endpoint.outbox ≡ s.endpoint.outbox ++ packets)
+    × ((x : Timing)
+    → timed_in t.endpoint.connection ≡ Some x
+    → ((timed_in s.endpoint.connection ≡ Some x) × AreApart x packets) ⊎ IsSentOnce (sent_in s.endpoint.connection) x packets)
+
+-- so it is, whatever comes in: a round trip is measured only of octets that were sent once
+pub record MeasuresWhatIsSentOnce : Type 0 where
+  pub arrivals : (segment : Segment) (now : ℕ) (s t : State) → arrived segment now s ≡ Ok t → TimesNew s t
+  pub calls : (call : Call) (now : ℕ) (s t : State) (answer : Answer) → called call now s ≡ Ok (t, answer) → TimesNew s t
+  pub expiries : (until : ℕ) (s t : State) → advanced until s ≡ Ok t → TimesNew s t
+
+-- The FIN (RFC 9293, section 3.10.4)
+
+-- it is on a segment that covers the last octet queued, and no octet of data stands behind it; only `close` queues it, and
+-- nothing is queued then any more, neither by a call nor by an arrival or an expiry
+pub record EndsWithFin : Type 0 where
+  pub covered :
+      (c : ControlBlock) (segment : Span)
+      → (data_of c segment).flags.fin ≡ true
+      → (c.fin ≡ true) × (segment.start < c.board.end) × (c.board.end ≤ segment.end)
+  pub before : (c : ControlBlock) (segment : Span) → (data_of c segment).end ≤ data_end c
+  pub closed :
+      (call : Call) (now : ℕ) (s t : State) (answer : Answer) (c d : ControlBlock)
+      → s.endpoint.connection ≡ Some c
+      → t.endpoint.connection ≡ Some d
+      → c.fin ≡ false
+      → d.fin ≡ true
+      → called call now s ≡ Ok (t, answer)
+      → request_of call ≡ Some (On 4 Close)
+  pub last :
+      (call : Call) (now : ℕ) (s t : State) (answer : Answer) (c : ControlBlock)
+      → s.endpoint.connection ≡ Some c
+      → stream_of c ≡ stream.Closed
+      → called call now s ≡ Ok (t, answer)
+      → t.endpoint.connection ≡ Some c
+  pub arrivals :
+      (segment : Segment) (now : ℕ) (s t : State) (c d : ControlBlock)
+      → s.endpoint.connection ≡ Some c
+      → t.endpoint.connection ≡ Some d
+      → arrived segment now s ≡ Ok t
+      → (d.fin ≡ c.fin) × (d.board.end ≡ c.board.end)
+  pub expiries :
+      (until : ℕ) (s t : State) (c d : ControlBlock)
+      → s.endpoint.connection ≡ Some c
+      → t.endpoint.connection ≡ Some d
+      → advanced until s ≡ Ok t
+      → (d.fin ≡ c.fin) × (d.board.end ≡ c.board.end)
+
+-- Octets that the peer has (RFC 2018, section 8; RFC 6675, section 4)
+
+-- no octet of a segment that is chosen is SACKed
+pub record SparesWhatArrived : Type 0 where
+  pub ordinary :
+      (c : ControlBlock) (e : Established) (segment : Span) → IsScoreboard c.board
+      → found_on c (Some e) ≡ Some segment → IsSpared c.board segment
+  pub step_c :
+      (on_the_way : ℕ) (c : ControlBlock) (e : Established) (sent : NextSegment) → IsScoreboard c.board
+      → step_c_on on_the_way c (Some e) ≡ Some sent → IsSpared c.board (segment_of sent)
+  pub limited :
+      (on_the_way : ℕ) (c : ControlBlock) (e : Established) (segment : Span) → IsScoreboard c.board
+      → limited_on on_the_way c (Some e) ≡ Some segment → IsSpared c.board segment
+  pub entry : (c : ControlBlock) → IsSpared c.board (run_at c.board.una c.board)
+
+-- The end of loss recovery (RFC 6675, section 5; RFC 5681, section 3.2)
+
+-- whether it goes on
+abbrev pub recovers : Option ControlBlock → Bool
+recovers None = false
+recovers (Some c) = is_recovering c.established
+
+-- with SACK an ACK ends it exactly where it reaches RecoveryPoint, without SACK exactly where it acknowledges new octets;
+-- an expiry always does
+pub record EndsRecovery : Type 0 where
+  pub with_sack :
+      (now : ℕ) (segment : Segment) (c : ControlBlock) (s t : State) (e : Established)
+      → c.established ≡ Some e
+      → c.sack ≡ true
+      → e.congestion.recovering ≡ true
+      → taken now segment c s c.established ≡ Ok t
+      → (recovers t.endpoint.connection ≡ false) ↔ (e.congestion.recovery_point ≤ segment.ack)
+  pub without_sack :
+      (now : ℕ) (segment : Segment) (c : ControlBlock) (s t : State) (e : Established)
+      → c.established ≡ Some e
+      → c.sack ≡ false
+      → e.congestion.recovering ≡ true
+      → taken now segment c s c.established ≡ Ok t
+      → (recovers t.endpoint.connection ≡ false) ↔ (0 < newly_acked c segment)
+  pub expiry : (at : ℕ) (e : Established) (c : ControlBlock) → is_recovering (expired_by at e c).established ≡ false

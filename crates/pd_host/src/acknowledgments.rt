@@ -1,0 +1,128 @@
+//! What an acceptable ACK leads to.
+ghost use Rattle.std.specs.Prelude.{◌≡◌, ◌<◌, ◌^◌};
+ghost use Rattle.pd_host.specs.Acknowledgments.{step_c, limited_transmit, put_new, put_again, entry_on, led_on, FollowsQueuedOn};
+ghost use Rattle.pd_host.specs.Outcome.{Gives};
+ghost use Rattle.pd_host.specs.Packets.{data_of};
+ghost use Rattle.pd_host.specs.Sender.{with_packet};
+ghost use Rattle.pd_host.specs.Sending.{IsQueuedOn};
+
+use crate::connection::Connection;
+use crate::halts::Ending;
+use crate::outbox::Outbox;
+use crate::sender_state::State;
+use pd_recover::Then;
+use pd_seg::Span;
+
+/// Puts a segment of a connection out at a moment.
+fn put(connection: &Connection, outbox: &mut Outbox, segment: Span, now: u64) -> Result<(), Ending>
+    ensures { Gives (with_packet now (data_of connection.now segment) outbox.old) result outbox.new }
+{
+    let packet = connection.data(segment, outbox.allocator());
+    outbox.put_out(packet, now)
+}
+
+impl State {
+    /// Sends at a moment what an ACK led to.
+    pub fn respond(&mut self, next: Then, now: u64) -> Result<(), Ending>
+        requires early { now < 2 ^ 62 }
+        requires queued { FollowsQueuedOn next self.old.endpoint.connection }
+        ensures { Gives (led_on now self.old next self.old.endpoint.connection) result self.new }
+    {
+        match next {
+            Then::Ordinary => self.send(now),
+            Then::StepC => self.recover(now),
+            Then::Entry => {
+                self.enter(now)?;
+                self.recover(now)
+            }
+            Then::LimitedTransmit => self.transmit_limited(now),
+            Then::NewSegment(segment) => self.send_new(segment, now),
+            Then::FastRetransmit(segment) => {
+                self.send_again(segment, now)?;
+                self.send(now)
+            }
+            Then::Nothing => Ok(()),
+        }
+    }
+
+    /// The segment at `una` is sent again, unless its first octet is SACKed.
+    fn enter(&mut self, now: u64) -> Result<(), Ending>
+        requires early { now < 2 ^ 62 }
+        ensures { Gives (entry_on now self.old self.old.endpoint.connection) result self.new }
+    {
+        let Some(connection) = &mut self.endpoint.connection else {
+            return Ok(());
+        };
+        let segment = connection.first();
+        if segment.end <= segment.start {
+            connection.enter(segment);
+            return Ok(());
+        }
+        put(connection, &mut self.endpoint.outbox, segment, now)?;
+        connection.clock(segment, now);
+        connection.enter(segment);
+        Ok(())
+    }
+
+    fn send_new(&mut self, segment: Span, now: u64) -> Result<(), Ending>
+        requires early { now < 2 ^ 62 }
+        requires queued { IsQueuedOn segment self.old.endpoint.connection }
+        ensures { Gives (put_new now segment self.old self.old.endpoint.connection) result self.new }
+    {
+        let Some(connection) = &mut self.endpoint.connection else {
+            return Ok(());
+        };
+        put(connection, &mut self.endpoint.outbox, segment, now)?;
+        connection.send_on(segment, now)?;
+        Ok(())
+    }
+
+    fn send_again(&mut self, segment: Span, now: u64) -> Result<(), Ending>
+        requires early { now < 2 ^ 62 }
+        ensures { Gives (put_again now segment self.old self.old.endpoint.connection) result self.new }
+    {
+        let Some(connection) = &mut self.endpoint.connection else {
+            return Ok(());
+        };
+        put(connection, &mut self.endpoint.outbox, segment, now)?;
+        connection.clock(segment, now);
+        Ok(())
+    }
+
+    /// Step C: what NextSeg gives while the window has room for it.
+    fn recover(&mut self, now: u64) -> Result<(), Ending>
+        requires early { now < 2 ^ 62 }
+        ensures { Gives (step_c now self.old) result self.new }
+    {
+        let Some(connection) = &mut self.endpoint.connection else {
+            return Ok(());
+        };
+        let outbox = &mut self.endpoint.outbox;
+        let mut pipe = connection.pipe();
+        while let Some(sent) = connection.next_in_recovery(pipe) {
+            let segment = sent.segment();
+            put(connection, outbox, segment, now)?;
+            connection.sent_in_recovery(&sent, now)?;
+            pipe += segment.end - segment.start;
+        }
+        Ok(())
+    }
+
+    /// Limited transmit: new octets while the window has room for them.
+    fn transmit_limited(&mut self, now: u64) -> Result<(), Ending>
+        requires early { now < 2 ^ 62 }
+        ensures { Gives (limited_transmit now self.old) result self.new }
+    {
+        let Some(connection) = &mut self.endpoint.connection else {
+            return Ok(());
+        };
+        let outbox = &mut self.endpoint.outbox;
+        let mut pipe = connection.pipe();
+        while let Some(segment) = connection.next_limited(pipe) {
+            put(connection, outbox, segment, now)?;
+            connection.sent_limited(segment, now)?;
+            pipe += segment.end - segment.start;
+        }
+        Ok(())
+    }
+}

@@ -1,0 +1,268 @@
+//! What an acceptable ACK changes on a connection.
+ghost use Rattle.std.specs.Prelude.{◌≡◌, ◌+◌, ◌≤◌, ◌<◌, ◌^◌, false, IfOk, OnOk, IfSome};
+ghost use Rattle.pd_board.specs.Choice.{run_at};
+ghost use Rattle.pd_recover.specs.Choice.{IsSendable, segment_of};
+ghost use Rattle.pd_host.specs.Acknowledgments.{told_block, told_blocks, blocks_in, blocks_of, with_blocks, scored, with_timing, with_new_window, news_of, answering, taking, FollowsQueued, step_c_on, sent_as, noted_on, octets_of, pipe_on, limited_on, counted_on, entered_on};
+ghost use Rattle.pd_host.specs.Handshake.{looked_at};
+ghost use Rattle.pd_host.specs.Sending.{sent_on};
+
+use super::Connection;
+use crate::established::Established;
+use pd_board::Board;
+use pd_recover::{Ack, News, NextSegment, Then};
+use pd_seg::{SegOption, Segment, Span};
+use std::alloc::AllocError;
+
+/// One block more is SACKed, if all its octets were sent: whether a block told a new octet, as far as `told` says it of
+/// those before.
+fn score_block(board: &mut Board, block: Span, told: bool) -> Result<bool, AllocError>
+    ensures ok { IfOk result (λ fresh. (board.new, fresh) ≡ told_block block (board.old, told)) }
+    ensures una { board.new.una ≡ board.old.una }
+{
+    if block.start < block.end && block.end <= board.top() {
+        let fresh = board.mark(block)?;
+        return Ok(told || fresh);
+    }
+    Ok(told)
+}
+
+fn score_blocks(board: &mut Board, blocks: &[Span], told: bool) -> Result<bool, AllocError>
+    ensures ok { IfOk result (λ fresh. (board.new, fresh) ≡ told_blocks blocks.now (board.old, told)) }
+    ensures una { board.new.una ≡ board.old.una }
+{
+    let mut fresh = told;
+    for block in blocks {
+        fresh = score_block(board, *block, fresh)?;
+    }
+    Ok(fresh)
+}
+
+fn score_option(board: &mut Board, option: &SegOption, told: bool) -> Result<bool, AllocError>
+    ensures ok { IfOk result (λ fresh. (board.new, fresh) ≡ told_blocks (blocks_in option.now) (board.old, told)) }
+    ensures una { board.new.una ≡ board.old.una }
+{
+    match option {
+        SegOption::Sack(blocks) => score_blocks(board, blocks.as_slice(), told),
+        _ => Ok(told),
+    }
+}
+
+/// The blocks before the end of the options are SACKed: whether they told a new octet.
+fn score_options(board: &mut Board, options: &[SegOption]) -> Result<bool, AllocError>
+    ensures ok { IfOk result (λ fresh. (board.new, fresh) ≡ told_blocks (blocks_of (looked_at options.now)) (board.old, false)) }
+    ensures una { board.new.una ≡ board.old.una }
+{
+    let mut fresh = false;
+    for option in options {
+        if let SegOption::Eol = option {
+            return Ok(fresh);
+        }
+        fresh = score_option(board, option, fresh)?;
+    }
+    Ok(fresh)
+}
+
+impl Connection {
+    /// The number, the blocks, the timer and the window of a segment that passed all checks are taken, and congestion
+    /// control is told: what follows.
+    pub fn take(&mut self, segment: &Segment, now: u64) -> Result<Then, AllocError>
+        requires early { now < 2 ^ 62 }
+        requires known { self.old.board.una ≤ segment.now.ack }
+        requires sent { segment.now.ack ≤ self.old.board.top }
+        ensures taken { OnOk result (self.new ≡ (taking now segment.now self.old self.old.established).0) }
+        ensures next { IfOk result (λ next. next ≡ (taking now segment.now self.old self.old.established).1) }
+        ensures queued { IfOk result (λ next. FollowsQueued next self.new) }
+    {
+        let Some(before) = self.established else {
+            return Ok(Then::Nothing);
+        };
+        let acked = segment.ack - self.board.una();
+        self.board.take_ack(segment.ack);
+        let fresh = self.score(segment)?;
+        self.time(acked, before.granularity_us, now);
+        self.renew_window(segment, &before);
+        Ok(self.answer(segment, acked, fresh, &before))
+    }
+
+    /// Marks the octets of the blocks, where SACK was agreed: whether they told a new octet.
+    fn score(&mut self, segment: &Segment) -> Result<bool, AllocError>
+        ensures marked { OnOk result (self.new ≡ with_blocks segment.now self.old) }
+        ensures fresh { IfOk result (λ fresh. fresh ≡ (scored segment.now self.old).1) }
+    {
+        if !self.sack {
+            return Ok(false);
+        }
+        let fresh = score_options(&mut self.board, segment.options.as_slice())?;
+        Ok(fresh)
+    }
+
+    /// Only new octets move the timer.
+    fn time(&mut self, acked: u32, granularity_us: u64, now: u64)
+        requires early { now < 2 ^ 62 }
+        ensures { self.new ≡ with_timing now granularity_us acked self.old }
+    {
+        if acked == 0 {
+            return;
+        }
+        let una = self.board.una();
+        self.sample(now, granularity_us, una);
+        self.move_timer(now);
+    }
+
+    /// The window is taken, unless the segment is old.
+    fn renew_window(&mut self, segment: &Segment, before: &Established)
+        ensures { self.new ≡ with_new_window segment.now before.now self.old }
+    {
+        if !before.is_current(segment) {
+            return;
+        }
+        let window = self.window_in(segment);
+        let mut after = *before;
+        after.take_window(segment, window);
+        self.widest = self.widest.max(window);
+        self.established = Some(after);
+    }
+
+    /// What the blocks tell, where SACK was agreed.
+    fn news(&self, fresh: bool) -> Option<News>
+        ensures { result ≡ news_of fresh self.now }
+    {
+        if !self.sack {
+            return None;
+        }
+        let lost = fresh && self.board.is_lost(self.board.una());
+        Some(News { fresh, lost })
+    }
+
+    /// Congestion control is told what the segment acknowledged: what follows.
+    fn answer(&mut self, segment: &Segment, acked: u32, fresh: bool, before: &Established) -> Then
+        ensures told { self.new ≡ (answering segment.now acked fresh before.now self.old self.old.established).0 }
+        ensures next { result ≡ (answering segment.now acked fresh before.now self.old self.old.established).1 }
+        ensures queued { FollowsQueued result self.new }
+    {
+        let Some(mut after) = self.established else {
+            return Then::Nothing;
+        };
+        let ack = Ack {
+            smss: self.board.smss(),
+            una: self.board.una(),
+            top: self.board.top(),
+            end: self.board.end(),
+            rwnd: after.rwnd,
+            acked,
+            same_window: self.window_in(segment) == before.rwnd,
+            sack: self.news(fresh),
+        };
+        let next = after.congestion.on_ack(ack);
+        self.established = Some(after);
+        next
+    }
+
+    /// How many octets count as on the way (RFC 6675, section 4).
+    pub fn pipe(&self) -> u32
+        ensures { result ≡ pipe_on self.now self.now.established }
+    {
+        match &self.established {
+            None => 0,
+            Some(established) => self.board.pipe(established.congestion.high_rxt()),
+        }
+    }
+
+    /// The segment that recovery begins with.
+    pub fn first(&self) -> Span
+        ensures { result ≡ run_at self.now.board.una self.now.board }
+    {
+        self.board.run_at(self.board.una())
+    }
+
+    /// Recovery has begun with this segment: HighRxt and RescueRxt.
+    pub fn enter(&mut self, segment: Span)
+        ensures { self.new ≡ entered_on segment self.old self.old.established }
+    {
+        if let Some(established) = &mut self.established {
+            established.congestion.enter(segment.end);
+        }
+    }
+
+    /// The next segment of step C.
+    pub fn next_in_recovery(&self, pipe: u32) -> Option<NextSegment>
+        ensures value { result ≡ step_c_on pipe self.now self.now.established }
+        ensures sendable { IfSome result (λ sent. IsSendable self.now.board (segment_of sent)) }
+        ensures fits { IfSome result (λ sent. pipe + octets_of (segment_of sent) ≤ 2 ^ 31) }
+    {
+        let Some(established) = &self.established else {
+            return None;
+        };
+        let _range = established.congestion.cwnd();
+        established
+            .congestion
+            .step_c(&self.board, established.rwnd, pipe)
+    }
+
+    /// It was sent at a moment.
+    pub fn sent_in_recovery(&mut self, sent: &NextSegment, now: u64) -> Result<(), AllocError>
+        requires early { now < 2 ^ 62 }
+        requires sendable { IsSendable self.old.board (segment_of sent.now) }
+        ensures { OnOk result (self.new ≡ noted_on sent.now (sent_as now sent.now self.old) self.old.established) }
+    {
+        self.send_as(sent, now)?;
+        self.note(sent);
+        Ok(())
+    }
+
+    /// New octets move the sending place; octets sent again leave it.
+    fn send_as(&mut self, sent: &NextSegment, now: u64) -> Result<(), AllocError>
+        requires early { now < 2 ^ 62 }
+        requires sendable { IsSendable self.old.board (segment_of sent.now) }
+        ensures { OnOk result (self.new ≡ sent_as now sent.now self.old) }
+    {
+        match *sent {
+            NextSegment::New(segment) => self.send_on(segment, now),
+            NextSegment::Lost(segment)
+            | NextSegment::Hole(segment)
+            | NextSegment::Rescue(segment) => {
+                self.clock(segment, now);
+                Ok(())
+            }
+        }
+    }
+
+    fn note(&mut self, sent: &NextSegment)
+        ensures { self.new ≡ noted_on sent.now self.old self.old.established }
+    {
+        if let Some(established) = &mut self.established {
+            established.congestion.note(sent);
+        }
+    }
+
+    /// The next segment of limited transmit.
+    pub fn next_limited(&self, pipe: u32) -> Option<Span>
+        ensures value { result ≡ limited_on pipe self.now self.now.established }
+        ensures sendable { IfSome result (IsSendable self.now.board) }
+        ensures fits { IfSome result (λ segment. pipe + octets_of segment ≤ 2 ^ 31) }
+    {
+        let Some(established) = &self.established else {
+            return None;
+        };
+        let _range = established.congestion.cwnd();
+        established
+            .congestion
+            .limited_segment(&self.board, established.rwnd, pipe)
+    }
+
+    /// It was sent at a moment.
+    pub fn sent_limited(&mut self, segment: Span, now: u64) -> Result<(), AllocError>
+        requires early { now < 2 ^ 62 }
+        requires sendable { IsSendable self.old.board segment }
+        ensures { OnOk result (self.new ≡ counted_on (octets_of segment) (sent_on now segment self.old) self.old.established) }
+    {
+        let _range = self.board.smss();
+        self.send_on(segment, now)?;
+        if let Some(established) = &mut self.established {
+            established
+                .congestion
+                .count_limited(segment.end - segment.start);
+        }
+        Ok(())
+    }
+}

@@ -1,0 +1,38 @@
+//! What an expiry of its timer does to a connection.
+ghost use Rattle.std.specs.Prelude.{◌≡◌, ◌<◌, ◌^◌, IfOk};
+ghost use Rattle.pd_host.specs.Expiries.{segment_again, block_expired};
+
+use super::Connection;
+use pd_seg::Segment;
+use std::alloc::{AllocError, Global};
+
+impl Connection {
+    /// The moment of the next expiry, where the timer runs.
+    pub fn deadline(&self) -> Option<u64>
+        ensures { result ≡ self.now.timer.deadline }
+    {
+        self.timer.deadline()
+    }
+
+    /// The timer expires at a moment: what is sent again.
+    pub fn expire(&mut self, at: u64, alloc: Global) -> Result<Segment, AllocError>
+        requires early { at < 2 ^ 62 }
+        ensures packet { IfOk result (λ packet. packet ≡ segment_again self.old self.old.established) }
+        ensures state { IfOk result (λ _. self.new ≡ block_expired at self.old self.old.established) }
+    {
+        self.timed = None;
+        self.timer.expire(at);
+        let Some(mut established) = self.established else {
+            self.resent = true;
+            return self.syn_ack(alloc);
+        };
+        let (smss, una, top) = (self.board.smss(), self.board.una(), self.board.top());
+        established.congestion.on_timeout(smss, una, top);
+        self.established = Some(established);
+        self.board.clear_marks();
+        let segment = self.board.run_at(una);
+        let packet = self.data(segment, alloc);
+        self.board.sent(segment.end)?;
+        Ok(packet)
+    }
+}

@@ -1,0 +1,167 @@
+//! Which segment a connection sends next, and what a segment has.
+ghost use Rattle.std.specs.Prelude.{◌≡◌, ◌<◌, ◌^◌, IfSome, IfOk};
+ghost use Rattle.pd_host.specs.ControlBlock.{data_end};
+ghost use Rattle.pd_host.specs.Packets.{covers_fin, ends_data, data_of};
+ghost use Rattle.pd_host.specs.Sending.{IsQueued, window_edge, usable, unsent, sendable, new_segment, leaves_now, is_held_back, next_new, next_again, next_segment, found_on, past_sacked, sent_on};
+
+use super::Connection;
+use super::packets::{NO_FLAGS, WIDEST_FIELD};
+use crate::established::Established;
+use pd_seg::{Flags, SegOptions, Segment, Span};
+use std::alloc::{AllocError, Global};
+
+impl Connection {
+    /// The number after the last octet of data that is queued.
+    fn data_end(&self) -> u32
+        ensures { result ≡ data_end self.now }
+    {
+        if self.fin {
+            self.board.end().saturating_sub(1)
+        } else {
+            self.board.end()
+        }
+    }
+
+    fn covers_fin(&self, segment: Span) -> bool
+        ensures { result ≡ covers_fin self.now segment }
+    {
+        self.fin && segment.start < self.board.end() && self.board.end() <= segment.end
+    }
+
+    fn ends_data(&self, segment: Span) -> bool
+        ensures { result ≡ ends_data self.now segment }
+    {
+        segment.start < self.data_end() && self.data_end() <= segment.end
+    }
+
+    /// A segment with these octets of data.
+    pub fn data(&self, segment: Span, alloc: Global) -> Segment
+        ensures { result ≡ data_of self.now segment }
+    {
+        Segment {
+            flags: Flags {
+                fin: self.covers_fin(segment),
+                psh: self.ends_data(segment),
+                ack: true,
+                ..NO_FLAGS
+            },
+            start: segment.start,
+            end: segment.end.min(self.data_end()),
+            ack: self.rcv_nxt,
+            win: self.shifted_window(),
+            options: SegOptions::new(alloc),
+        }
+    }
+
+    fn window_edge(&self, established: &Established) -> u32
+        ensures { result ≡ window_edge self.now established.now }
+    {
+        self.board.una() + established.congestion.cwnd().min(established.rwnd)
+    }
+
+    /// U: how many octets from the sending place on the windows let leave.
+    fn usable(&self, established: &Established) -> u32
+        ensures { result ≡ usable self.now established.now }
+    {
+        self.window_edge(established)
+            .saturating_sub(self.board.next())
+    }
+
+    /// D: how many octets are queued from there on.
+    fn unsent(&self) -> u32
+        ensures { result ≡ unsent self.now }
+    {
+        self.board.end().saturating_sub(self.board.next())
+    }
+
+    fn sendable(&self, established: &Established) -> u32
+        ensures { result ≡ sendable self.now established.now }
+    {
+        self.unsent().min(self.usable(established))
+    }
+
+    fn new_segment(&self, established: &Established) -> Span
+        ensures value { result ≡ new_segment self.now established.now }
+        ensures queued { IsQueued result self.now }
+    {
+        let octets = self.sendable(established).min(u32::from(self.board.smss()));
+        Span {
+            start: self.board.next(),
+            end: self.board.next() + octets,
+        }
+    }
+
+    /// Whether Nagle's algorithm holds a segment that isn't full.
+    fn is_held_back(&self, established: &Established) -> bool
+        ensures { result ≡ is_held_back self.now established.now }
+    {
+        established.nagle
+            && self.board.una() < self.board.top()
+            && !self.covers_fin(self.new_segment(established))
+    }
+
+    fn leaves_now(&self, established: &Established) -> bool
+        ensures { result ≡ leaves_now self.now established.now }
+    {
+        let octets = self.sendable(established);
+        let is_full = octets >= u32::from(self.board.smss());
+        let is_all = self.unsent() <= self.usable(established);
+        let is_half_window = u64::from(octets) * 2 >= u64::from(self.widest);
+        is_full || ((is_all || is_half_window) && !self.is_held_back(established))
+    }
+
+    fn next_new(&self, established: &Established) -> Option<Span>
+        ensures value { result ≡ next_new self.now established.now }
+        ensures queued { IfSome result (λ segment. IsQueued segment self.now) }
+    {
+        if self.sendable(established) > 0 && self.leaves_now(established) {
+            Some(self.new_segment(established))
+        } else {
+            None
+        }
+    }
+
+    fn next_again(&self, established: &Established) -> Option<Span>
+        ensures value { result ≡ next_again self.now established.now }
+        ensures queued { IfSome result (λ segment. IsQueued segment self.now) }
+    {
+        let segment = self.board.run_at(self.board.next());
+        if segment.end <= self.window_edge(established) {
+            Some(segment)
+        } else {
+            None
+        }
+    }
+
+    /// The segment that ordinary sending sends next.
+    pub fn next_segment(&self) -> Option<Span>
+        ensures value { result ≡ found_on self.now self.now.established }
+        ensures queued { IfSome result (λ segment. IsQueued segment self.now) }
+    {
+        let Some(established) = &self.established else {
+            return None;
+        };
+        if self.board.next() < self.board.top() {
+            self.next_again(established)
+        } else {
+            self.next_new(established)
+        }
+    }
+
+    /// The sending place moves past SACKed octets.
+    pub fn skip_sacked(&mut self)
+        ensures { self.new ≡ past_sacked self.old }
+    {
+        self.board.skip_marked();
+    }
+
+    /// A segment was sent from the sending place at a moment.
+    pub fn send_on(&mut self, segment: Span, now: u64) -> Result<(), AllocError>
+        requires early { now < 2 ^ 62 }
+        requires queued { IsQueued segment self.old }
+        ensures { IfOk result (λ done. self.new ≡ sent_on now segment self.old) }
+    {
+        self.clock(segment, now);
+        self.board.sent(segment.end)
+    }
+}

@@ -1,0 +1,85 @@
+//! The timer of a connection, and the segment whose round trip is measured.
+ghost use Rattle.std.specs.Prelude.{◌≡◌, ◌<◌, ◌^◌};
+ghost use Rattle.pd_host.specs.Timing.{overlaps, timed_after, clocked, with_sample, with_timer_moved, with_timer_settled};
+
+use super::Connection;
+use crate::timings::Timing;
+use pd_seg::Span;
+
+fn overlaps(a: Span, b: Span) -> bool
+    ensures { result ≡ overlaps a b }
+{
+    a.start < b.end && b.start < a.end
+}
+
+/// The segment that is timed after another one was sent at a moment.
+fn timed_after(now: u64, segment: Span, top: u32, timed: Option<Timing>) -> Option<Timing>
+    ensures { result ≡ timed_after now segment top timed }
+{
+    match timed {
+        None => {
+            if top <= segment.start {
+                Some(Timing {
+                    segment,
+                    sent_at: now,
+                })
+            } else {
+                None
+            }
+        }
+        Some(timing) => {
+            if overlaps(timing.segment, segment) {
+                None
+            } else {
+                Some(timing)
+            }
+        }
+    }
+}
+
+impl Connection {
+    /// A segment was sent at a moment.
+    pub fn clock(&mut self, segment: Span, now: u64)
+        requires early { now < 2 ^ 62 }
+        ensures { self.new ≡ clocked now segment self.old }
+    {
+        self.timed = timed_after(now, segment, self.board.top(), self.timed);
+        self.timer.start(now);
+    }
+
+    /// A sample is taken, if the timed segment lies below this ack number.
+    pub fn sample(&mut self, now: u64, granularity_us: u64, ack: u32)
+        requires early { now < 2 ^ 62 }
+        ensures { self.new ≡ with_sample now granularity_us ack self.old }
+    {
+        if let Some(timing) = self.timed {
+            if timing.segment.end <= ack {
+                self.timer
+                    .sample(now.saturating_sub(timing.sent_at), granularity_us);
+                self.timed = None;
+            }
+        }
+    }
+
+    /// The timer starts anew, or stops where all that was sent is acknowledged.
+    pub fn move_timer(&mut self, now: u64)
+        requires early { now < 2 ^ 62 }
+        ensures { self.new ≡ with_timer_moved now self.old }
+    {
+        if self.board.una() == self.board.top() {
+            self.timer.stop();
+        } else {
+            self.timer.restart(now);
+        }
+    }
+
+    /// The timer at the end of the handshake.
+    pub fn settle_timer(&mut self)
+        ensures { self.new ≡ with_timer_settled self.old }
+    {
+        if self.resent {
+            self.timer.reinitialize();
+        }
+        self.timer.stop();
+    }
+}

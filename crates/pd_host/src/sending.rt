@@ -1,0 +1,59 @@
+//! Ordinary sending.
+ghost use Rattle.std.specs.Prelude.{◌≡◌, ◌<◌, ◌^◌, IfSome};
+ghost use Rattle.pd_host.specs.Outcome.{Gives};
+ghost use Rattle.pd_host.specs.Sending.{IsQueuedOn, found, ready, sent_next, ordinary};
+
+use crate::halts::Ending;
+use crate::sender_state::State;
+use pd_seg::Span;
+
+impl State {
+    /// Sends at a moment what the windows and Nagle's algorithm let leave.
+    pub fn send(&mut self, now: u64) -> Result<(), Ending>
+        requires early { now < 2 ^ 62 }
+        ensures { Gives (ordinary now self.old) result self.new }
+    {
+        self.skip_sacked();
+        while let Some(segment) = self.next_segment() {
+            self.send_next(segment, now)?;
+        }
+        Ok(())
+    }
+
+    /// The sending place moves past SACKed octets.
+    fn skip_sacked(&mut self)
+        ensures { self.new ≡ ready self.old.endpoint.connection self.old }
+    {
+        if let Some(connection) = &mut self.endpoint.connection {
+            connection.skip_sacked();
+        }
+    }
+
+    /// The segment that leaves next.
+    fn next_segment(&self) -> Option<Span>
+        ensures value { result ≡ found self.now.endpoint.connection }
+        ensures queued { IfSome result (λ segment. IsQueuedOn segment self.now.endpoint.connection) }
+    {
+        match &self.endpoint.connection {
+            None => None,
+            Some(connection) => connection.next_segment(),
+        }
+    }
+
+    /// It leaves at a moment.
+    fn send_next(&mut self, segment: Span, now: u64) -> Result<(), Ending>
+        requires early { now < 2 ^ 62 }
+        requires queued { IsQueuedOn segment self.old.endpoint.connection }
+        ensures { Gives (sent_next now segment self.old.endpoint.connection self.old) result self.new }
+    {
+        let Some(connection) = &mut self.endpoint.connection else {
+            return Ok(());
+        };
+        let outbox = &mut self.endpoint.outbox;
+        let packet = connection.data(segment, outbox.allocator());
+        outbox.put_out(packet, now)?;
+        connection.send_on(segment, now)?;
+        connection.skip_sacked();
+        Ok(())
+    }
+}

@@ -1,0 +1,181 @@
+-- How much a step queues.
+use Rattle.std.proofs.Common.{◌≡◌, ℕ, ◌+◌, ◌≤◌, ◌==◌, Bool, true, false, ◌&&◌, if◌then◌else◌, Option, Some, None, List, [], ◌∷◌, length, slice_get, Result, Ok, Err, refl, sym, ap, ◌∙◌, arith}
+use Rattle.std.proofs.lemmas.Bool.Decides.{nat_tests}
+use Rattle.pd_script.specs.declared.calls.Argument.{Argument}
+use Rattle.pd_script.specs.declared.calls.Argument.TheVariants.{Int, Element, Constant as Word}
+use Rattle.pd_script.specs.declared.calls.Call.{Call}
+use Rattle.pd_script.specs.declared.calls.Constant.TheVariants.{SockStream, SolSocket, SoReuseaddr, TcpNodelay, FSetfl}
+use Rattle.pd_script.specs.declared.calls.Function.{Function}
+use Rattle.pd_script.specs.declared.calls.Function.TheVariants.{Socket as SocketCall, Bind as BindCall, Listen as ListenCall, Accept as AcceptCall, Setsockopt as SetsockoptCall, Fcntl as FcntlCall, Write as WriteCall, Close as CloseCall, Unknown as UnknownCall}
+use Rattle.pd_script.specs.declared.packets.Packet.{Packet}
+use Rattle.pd_script.specs.declared.script_events.Action.{Action}
+use Rattle.pd_script.specs.declared.script_events.Action.TheVariants.{Inbound, Outbound, Call as Calls, Command, Code}
+use Rattle.pd_script.specs.declared.script_events.Event.{Event}
+use Rattle.pd_seg.specs.declared.answers.Answer.{Answer}
+use Rattle.pd_seg.specs.declared.segments.Sent.{Sent}
+use Rattle.pd_host.specs.Arrivals.{arrived}
+use Rattle.pd_host.specs.Calls.{called}
+use Rattle.pd_host.specs.Expiries.{advanced, deadline_of}
+use Rattle.pd_host.specs.Growth.{asked_by}
+use Rattle.pd_host.specs.Requests.{is_tcp, is_tcp_level, no_delay, socket_request, option_request, flags_request, address_request, listen_request, write_request, close_request, request_in, request_of}
+use Rattle.pd_host.specs.Sender.{queued_to, without_oldest}
+use Rattle.pd_host.specs.declared.halts.Halt.{Halt}
+use Rattle.pd_host.specs.declared.requests.Operation.TheVariants.{Bind, Accept, NoDelay}
+use Rattle.pd_host.specs.declared.requests.Request.TheVariants.{Socket, On}
+use Rattle.pd_host.specs.declared.sender_state.State.{State}
+use Rattle.pd_match.specs.Calls.{result_mismatch}
+use Rattle.pd_match.specs.Packets.{mismatch}
+use Rattle.pd_run.specs.Inbound.{segment_in}
+use Rattle.pd_run.specs.Laws.{SenderIsLawful}
+use Rattle.pd_run.specs.Limits.{is_write, is_count_over, is_action_over}
+use Rattle.pd_run.specs.Step.{Running, on_step, with_state, acts_at, acted, arrives, on_arrival, answers, on_answer, on_expiry, expires, awaited, taken, performed, step}
+use Rattle.pd_run.specs.Times.{moments_of, base_after, is_in_reach}
+use Rattle.pd_run.specs.declared.verdicts.Verdict.{Verdict}
+use Rattle.pd_run.proofs.Bounds.{given, agreed, both, action_within, in_reach, step_performs, step_unlimited}
+
+-- What a call asks for
+
+-- at most what one `write` may name
+abbrev IsSmall : ℕ → Type 0
+IsSmall octets = octets ≤ 262144
+
+nothing : IsSmall 0
+nothing = omega arith
+
+one : IsSmall 1
+one = omega arith
+
+socket_asks : (arguments : List Argument) → IsSmall (asked_by (socket_request arguments))
+socket_asks (_ ∷ Word SockStream ∷ protocol ∷ []) = by_protocol (is_tcp protocol)
+  where
+    by_protocol : (b : Bool) → IsSmall (asked_by (if b then Some Socket else None))
+    by_protocol true = nothing
+    by_protocol false = nothing
+socket_asks _ = nothing
+
+no_delay_asks : (fd n : ℕ) → IsSmall (asked_by (no_delay fd n))
+no_delay_asks fd n = by_value (n == 1) (n == 0)
+  where
+    by_value : (a b : Bool) → IsSmall (asked_by (if a then Some (On fd (NoDelay true)) else if b then Some (On fd (NoDelay false)) else None))
+    by_value true b = nothing
+    by_value false true = nothing
+    by_value false false = nothing
+
+option_asks : (arguments : List Argument) → IsSmall (asked_by (option_request arguments))
+option_asks (Int fd ∷ Word SolSocket ∷ Word SoReuseaddr ∷ _ ∷ _ ∷ []) = nothing
+option_asks (Int fd ∷ Word level ∷ Word TcpNodelay ∷ Element n ∷ _ ∷ []) = by_level (is_tcp_level level)
+  where
+    by_level : (b : Bool) → IsSmall (asked_by (if b then no_delay fd n else None))
+    by_level true = no_delay_asks fd n
+    by_level false = nothing
+option_asks _ = nothing
+
+flags_ask : (arguments : List Argument) → IsSmall (asked_by (flags_request arguments))
+flags_ask (Int fd ∷ Word FSetfl ∷ _ ∷ []) = nothing
+flags_ask _ = nothing
+
+bind_asks : (arguments : List Argument) → IsSmall (asked_by (address_request Bind arguments))
+bind_asks (Int fd ∷ _ ∷ _ ∷ []) = nothing
+bind_asks _ = nothing
+
+accept_asks : (arguments : List Argument) → IsSmall (asked_by (address_request Accept arguments))
+accept_asks (Int fd ∷ _ ∷ _ ∷ []) = nothing
+accept_asks _ = nothing
+
+listen_asks : (arguments : List Argument) → IsSmall (asked_by (listen_request arguments))
+listen_asks (Int fd ∷ _ ∷ []) = nothing
+listen_asks _ = nothing
+
+close_asks : (arguments : List Argument) → IsSmall (asked_by (close_request arguments))
+close_asks (Int fd ∷ []) = one
+close_asks _ = nothing
+
+write_asks : (arguments : List Argument) → is_count_over (slice_get arguments 2) ≡ false → IsSmall (asked_by (write_request arguments))
+write_asks (Int fd ∷ _ ∷ Int n ∷ []) h = grind (arith, nat_tests)
+write_asks _ h = nothing
+
+asks : (f : Function) (arguments : List Argument) → (is_write f && is_count_over (slice_get arguments 2)) ≡ false → IsSmall (asked_by (request_in f arguments))
+asks SocketCall arguments h = socket_asks arguments
+asks BindCall arguments h = bind_asks arguments
+asks ListenCall arguments h = listen_asks arguments
+asks AcceptCall arguments h = accept_asks arguments
+asks SetsockoptCall arguments h = option_asks arguments
+asks FcntlCall arguments h = flags_ask arguments
+asks WriteCall arguments h = write_asks arguments h
+asks CloseCall arguments h = close_asks arguments
+asks UnknownCall arguments h = nothing
+
+-- What a step queues
+
+-- the number after the last octet that a run has queued
+abbrev pub end_of : Running → ℕ
+end_of r = queued_to r.host.state.endpoint.connection
+
+abbrev state_end : State → ℕ
+state_end s = queued_to s.endpoint.connection
+
+after_arrival : SenderIsLawful → (r s : Running) (e : Event) (p : Packet) (came : Result State Halt) → arrives r e p ≡ came
+    → on_arrival r e came ≡ Ok s → end_of s ≤ end_of r + 262144
+after_arrival laws r s e p (Ok t) is h =
+    let came = both (arrived (segment_in p) (acts_at r e)) (advanced (acts_at r e) r.host.state) t is in
+    let same : end_of s ≡ state_end t = ap end_of (sym (given (acted r e t) s h)) in
+    let before : state_end came.0 ≡ end_of r = laws.queued_by_expiries (acts_at r e) r.host.state came.0 came.1 in
+    let more : state_end t ≤ state_end came.0 + 1 = laws.queued_by_arrivals (segment_in p) (acts_at r e) came.0 t came.2 in
+    omega (arith, same, before, more)
+after_arrival laws r s e p (Err halt) is h = absurd cc
+
+after_call : SenderIsLawful → (r s : Running) (e : Event) (call : Call) (came : Result (State × Answer) Halt) → answers r e call ≡ came
+    → is_action_over (Calls call) ≡ false → on_answer r e call came ≡ Ok s → end_of s ≤ end_of r + 262144
+after_call laws r s e call (Ok (t, a)) is within h =
+    let came = both (called call (acts_at r e)) (advanced (acts_at r e) r.host.state) (t, a) is in
+    let same : end_of s ≡ state_end t = ap end_of (sym (agreed e.line (acted r e t) s (result_mismatch call.result a) h)) in
+    let before : state_end came.0 ≡ end_of r = laws.queued_by_expiries (acts_at r e) r.host.state came.0 came.1 in
+    let more : state_end t ≤ state_end came.0 + asked_by (request_of call) = laws.queued_by_calls call (acts_at r e) came.0 t a came.2 in
+    let few : asked_by (request_of call) ≤ 262144 = asks call.function call.arguments within in
+    omega (arith, same, before, more, few)
+after_call laws r s e call (Err halt) is within h = absurd cc
+
+after_taking : (r s : Running) (e : Event) (p : Packet) (first : Option Sent) → taken e p r first ≡ Ok s → end_of s ≡ end_of r
+after_taking r s e p None h = absurd cc
+after_taking r s e p (Some sent) h =
+    let next : Running = record r { host = without_oldest r.host; base = base_after r.base e.time sent.at } in
+    ap end_of (sym (agreed e.line next s (mismatch p (moments_of r.base e.time) sent r.tolerance) h))
+
+after_expiry : SenderIsLawful → (r s : Running) (e : Event) (at : ℕ) (came : Result State Halt) → advanced at r.host.state ≡ came
+    → on_expiry r e at came ≡ Ok s → end_of s ≡ end_of r
+after_expiry laws r s e at (Ok t) is h =
+    ap end_of (sym (given (record (with_state r t) { clock = at }) s h)) ∙ laws.queued_by_expiries at r.host.state t is
+after_expiry laws r s e at (Err halt) is h = absurd cc
+
+after_due : SenderIsLawful → (r s : Running) (e : Event) (o : Option ℕ) → expires r e o ≡ Ok s → end_of s ≡ end_of r
+after_due laws r s e None h = absurd cc
+after_due laws r s e (Some at) h =
+    after_expiry laws r s e at (advanced at r.host.state) refl
+    (in_reach (is_in_reach (moments_of r.base e.time) r.tolerance at) e.line (on_expiry r e at (advanced at r.host.state)) s h)
+
+after_wait : SenderIsLawful → (r s : Running) (e : Event) (empty : Bool) → (if empty then expires r e (deadline_of r.host.state) else Ok r) ≡ Ok s
+    → end_of s ≡ end_of r
+after_wait laws r s e true h = after_due laws r s e (deadline_of r.host.state) h
+after_wait laws r s e false h = ap end_of (sym (given r s h))
+
+after_leaving : SenderIsLawful → (r s : Running) (e : Event) (p : Packet) (came : Result Running Verdict) → awaited r e ≡ came
+    → on_step (λ q. taken e p q (slice_get q.host.state.endpoint.outbox 0)) (λ v. Err v) came ≡ Ok s
+    → end_of s ≤ end_of r + 262144
+after_leaving laws r s e p (Ok t) is h =
+    let waited : end_of t ≡ end_of r = after_wait laws r t e (length r.host.state.endpoint.outbox == 0) is in
+    let took : end_of s ≡ end_of t = after_taking t s e p (slice_get t.host.state.endpoint.outbox 0) h in
+    omega (arith, waited, took)
+after_leaving laws r s e p (Err v) is h = absurd cc
+
+after_action : SenderIsLawful → (r s : Running) (e : Event) (action : Action) → is_action_over action ≡ false → performed r e action ≡ Ok s
+    → end_of s ≤ end_of r + 262144
+after_action laws r s e (Inbound p) within h = after_arrival laws r s e p (arrives r e p) refl h
+after_action laws r s e (Outbound p) within h = after_leaving laws r s e p (awaited r e) refl h
+after_action laws r s e (Calls call) within h = after_call laws r s e call (answers r e call) refl within h
+after_action laws r s e Command within h = absurd cc
+after_action laws r s e Code within h = absurd cc
+
+-- no step queues more than one `write` may name
+pub step_queues : SenderIsLawful → (r s : Running) (e : Event) → step r e ≡ Ok s → end_of s ≤ end_of r + 262144
+step_queues laws r s e h =
+    after_action laws r s e e.action (action_within e (step_unlimited r s e h)) (step_performs r s e h)
