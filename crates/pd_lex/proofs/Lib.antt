@@ -11,5 +11,6 @@ pub mod Spelled
 pub mod Longest
 pub mod Order
 pub mod Agreement
+pub mod Behind
 pub mod KindOf
 pub mod Cut

@@ -1,15 +1,18 @@
 -- The steps of the lexer, line by line, against what is left of the text.
-use Rattle.std.proofs.Common.{◌≡◌, ℕ, ◌+◌, ◌-◌, ◌<◌, ◌≤◌, List, [], ◌∷◌, ◌++◌, length, drop, Option, Some, None, refl, ap, ◌∙◌, arith}
-use Rattle.std.proofs.lemmas.List.{drop-append-le, length-drop}
+use Rattle.std.proofs.Common.{◌≡◌, ℕ, ◌+◌, ◌-◌, ◌<◌, ◌≤◌, List, [], ◌∷◌, ◌++◌, length, take, drop, true, Option, Some, None, refl, ap, ◌∙◌, arith, length-append}
+use Rattle.std.proofs.lemmas.List.{drop-append-le, length-drop, take-append-le}
 use Rattle.pd_lex.specs.declared.token.Place.{Place}
 use Rattle.pd_lex.specs.declared.token.TokenKind.{TokenKind}
+use Rattle.pd_lex.specs.declared.token.TokenKind.TheVariants.{Str, Cmd, Code}
 use Rattle.pd_lex.specs.declared.scan.Opener.{Opener}
 use Rattle.pd_lex.specs.declared.scan.Opener.TheVariants.{Comment, Quote, Backquote, Brace}
 use Rattle.pd_lex.specs.declared.scan.Piece.TheVariants.{Blank, Whole, Open, Stray}
+use Rattle.pd_lex.specs.declared.step.Step.{Step}
 use Rattle.pd_lex.specs.declared.step.Step.TheVariants as steps
-use Rattle.pd_lex.specs.Places.{joined, line_at, octets_from, IsPlace}
-use Rattle.pd_lex.specs.Pieces.{piece, after_end, opener_len, closed, parted, front}
-use Rattle.pd_lex.specs.Scanned.{IsLeftAt, IsClosed, IsStep, closing_step}
+use Rattle.pd_lex.specs.Kinds.{stays_in_line}
+use Rattle.pd_lex.specs.Places.{joined, line_at, octets_from, between, IsPlace}
+use Rattle.pd_lex.specs.Pieces.{piece, after_end, opener_len, gap, token, closed, parted, front}
+use Rattle.pd_lex.specs.Scanned.{IsLeftAt, IsClosed, opener_kind, IsClosing, IsStep}
 use Rattle.pd_lex.proofs.InLine.{piece_in_line}
 use Rattle.pd_lex.proofs.Endings.{end_in_line, end_past_line, end_suffix, end_of_nothing}
 use Rattle.pd_lex.proofs.Rests.{octets_in_line, octets_past, further_in_line, next_line}
@@ -55,11 +58,20 @@ module _ (lines : List (List ℕ)) (p : Place) (h : IsPlace lines p) (le : p.lin
       let there = behind_piece (b ∷ s) n e fits in
       (there.place, front_is b s e ∙ rw (← is, there.left) refl)
 
-  pub step_whole : (s : List ℕ) (kind : TokenKind) (n : ℕ) → s ≡ drop p.at (line_at lines p.line) → Whole kind n ≡ piece s → 0 < length s → n ≤ length s → IsStep lines p (steps.Token kind (record { line = p.line; at = p.at + n }))
+  -- the octets of a piece of the line
+  piece_text : (s : List ℕ) (n : ℕ) → s ≡ drop p.at (line_at lines p.line) → n ≤ length s → take n s ≡ between lines p (record { line = p.line; at = p.at + n })
+  unfolding between
+  piece_text s n e fits =
+      let more = 10 ∷ joined (drop p.line lines) in
+      let whole : octets_from lines p ≡ s ++ more = octets_in_line lines p h le ∙ rw e refl in
+      let k : length (s ++ more) - length (drop n (s ++ more)) ≡ n = omega (arith, length-drop n (s ++ more), length-append s more) in
+      rw (whole, (behind_piece s n e fits).left, k, take-append-le n s more fits) refl
+
+  pub step_whole : (s : List ℕ) (kind : TokenKind) (n : ℕ) → s ≡ drop p.at (line_at lines p.line) → Whole kind n ≡ piece s → 0 < length s → n ≤ length s → let q : Place = record { line = p.line; at = p.at + n } in IsPlace lines q × (front (octets_from lines p) ≡ token kind (octets_from lines q)) × (stays_in_line kind ≡ true → q.line ≡ p.line) × (stays_in_line kind ≡ true → take n s ≡ between lines p q)
   step_whole [] kind n e is some fits = absurd (omega arith)
   step_whole (b ∷ s) kind n e is some fits =
       let there = behind_piece (b ∷ s) n e fits in
-      (there.place, front_is b s e ∙ rw (← is, there.left) refl, λ _. refl)
+      (there.place, front_is b s e ∙ rw (← is, there.left) refl, λ _. refl, λ _. piece_text (b ∷ s) n e fits)
 
   pub step_stray : (s : List ℕ) → s ≡ drop p.at (line_at lines p.line) → Stray ≡ piece s → 0 < length s → IsStep lines p steps.Stray
   step_stray [] e is some = absurd (omega arith)
@@ -75,19 +87,33 @@ module _ (lines : List (List ℕ)) (p : Place) (h : IsPlace lines p) (le : p.lin
       let there = behind_piece (b ∷ s) (opener_len o) e fits in
       front_is b s e ∙ rw (← is, there.left) refl
 
-  step_over : (o : Opener) (r : Option (List ℕ)) (q : Place) → front (octets_from lines p) ≡ closed o r → IsClosed lines r (Some q) → IsStep lines p (closing_step o q)
-  step_over o None q e c = absurd c
-  step_over Comment (Some rest) q e c = (c.place, e ∙ rw c.left refl)
-  step_over Quote (Some rest) q e c = (c.place, e ∙ rw c.left refl, λ not. absurd cc)
-  step_over Backquote (Some rest) q e c = (c.place, e ∙ rw c.left refl, λ not. absurd cc)
-  step_over Brace (Some rest) q e c = (c.place, e ∙ rw c.left refl, λ not. absurd cc)
+  over_token : (o : Opener) (kind : TokenKind) (rest : List ℕ) (q : Place) → opener_kind o ≡ Some kind → front (octets_from lines p) ≡ closed o (Some rest) → IsLeftAt lines q rest → (front (octets_from lines p) ≡ token kind (octets_from lines q)) × (stays_in_line kind ≡ true → ⊥)
+  over_token Comment kind rest q is e c = absurd cc
+  over_token Quote kind rest q is e c = let same : Str ≡ kind = cc in (e ∙ rw (c.left, ← same) refl, rw (← same) (λ not. absurd cc))
+  over_token Backquote kind rest q is e c = let same : Cmd ≡ kind = cc in (e ∙ rw (c.left, ← same) refl, rw (← same) (λ not. absurd cc))
+  over_token Brace kind rest q is e c = let same : Code ≡ kind = cc in (e ∙ rw (c.left, ← same) refl, rw (← same) (λ not. absurd cc))
+
+  over_gap : (o : Opener) (rest : List ℕ) (q : Place) → opener_kind o ≡ None → front (octets_from lines p) ≡ closed o (Some rest) → IsLeftAt lines q rest → front (octets_from lines p) ≡ gap (octets_from lines q)
+  over_gap Comment rest q is e c = e ∙ rw c.left refl
+  over_gap Quote rest q is e c = absurd cc
+  over_gap Backquote rest q is e c = absurd cc
+  over_gap Brace rest q is e c = absurd cc
+
+  step_over : (o : Opener) (r : Option (List ℕ)) (q : Place) (step : Step) → IsClosing o q step → front (octets_from lines p) ≡ closed o r → IsClosed lines r (Some q) → IsStep lines p step
+  step_over o None q step is e c = absurd c
+  step_over o (Some rest) q steps.Nothing is e c = absurd is
+  step_over o (Some rest) q (steps.Gap r) is e c = rw is.1 (c.place, over_gap o rest q is.0 e c)
+  step_over o (Some rest) q (steps.Token kind text r) is e c =
+      let over = over_token o kind rest q is.0 e c in
+      rw is.1 (c.place, over.0, λ stays. absurd (over.1 stays), λ stays. absurd (over.1 stays))
+  step_over o (Some rest) q steps.Stray is e c = absurd is
 
   step_unclosed : (o : Opener) (r : Option (List ℕ)) → front (octets_from lines p) ≡ closed o r → IsClosed lines r None → IsStep lines p steps.Stray
   step_unclosed o None e c = e
   step_unclosed o (Some rest) e c = absurd c
 
-  pub step_closed : (s : List ℕ) (o : Opener) → s ≡ drop p.at (line_at lines p.line) → Open o ≡ piece s → 0 < length s → opener_len o ≤ length s → (q : Place) → IsClosed lines (after_end o (octets_from lines (record { line = p.line; at = p.at + opener_len o }))) (Some q) → IsStep lines p (closing_step o q)
-  step_closed s o e is some fits q c = step_over o _ q (open_front s o e is some fits) c
+  pub step_closed : (s : List ℕ) (o : Opener) → s ≡ drop p.at (line_at lines p.line) → Open o ≡ piece s → 0 < length s → opener_len o ≤ length s → (q : Place) → IsClosed lines (after_end o (octets_from lines (record { line = p.line; at = p.at + opener_len o }))) (Some q) → (step : Step) → IsClosing o q step → IsStep lines p step
+  step_closed s o e is some fits q c step closing = step_over o _ q step closing (open_front s o e is some fits) c
 
   pub step_open : (s : List ℕ) (o : Opener) → s ≡ drop p.at (line_at lines p.line) → Open o ≡ piece s → 0 < length s → opener_len o ≤ length s → IsClosed lines (after_end o (octets_from lines (record { line = p.line; at = p.at + opener_len o }))) None → IsStep lines p steps.Stray
   step_open s o e is some fits c = step_unclosed o _ (open_front s o e is some fits) c

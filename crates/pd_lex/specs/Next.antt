@@ -1,10 +1,12 @@
 -- What the lexer answers at a place, in terms of spellings.
-use Rattle.std.specs.Prelude.{◌≡◌, ℕ, ◌≤◌, List, [], length, Some}
+use Rattle.std.specs.Prelude.{◌≡◌, ℕ, ◌≤◌, true, List, [], length, Some}
 use Rattle.pd_lex.specs.declared.token.Place.{Place}
 use Rattle.pd_lex.specs.declared.token.Token.{Token}
 use Rattle.pd_lex.specs.declared.token.Lexed.{Lexed}
 use Rattle.pd_lex.specs.declared.token.Lexed.TheVariants as lexed
 use Rattle.pd_lex.specs.Places.{IsPlace, octets_from, between}
+use Rattle.pd_lex.specs.Kinds.{stays_in_line}
+use Rattle.pd_lex.specs.Lexing.{lexeme_of}
 use Rattle.pd_lex.specs.Spellings.{IsLongest, IsStuck, Skips}
 
 -- behind blanks and comments the token is the longest piece, from its first place up to its last, both places of the text
@@ -34,3 +36,9 @@ abbrev pub HasLine : List (List ℕ) → Lexed → Type 0
 HasLine lines (lexed.Token t after) = (1 ≤ t.line) × (t.line ≤ length lines)
 HasLine lines lexed.End = Unit {0}
 HasLine lines (lexed.Bad line) = (1 ≤ line) × (line ≤ length lines)
+
+-- a token whose kind stays in its line has its octets
+abbrev pub HasText : List (List ℕ) → Lexed → Type 0
+HasText lines (lexed.Token t after) = stays_in_line t.kind ≡ true → t.text.now ≡ (lexeme_of lines t).text
+HasText lines lexed.End = Unit {0}
+HasText lines (lexed.Bad line) = Unit {0}

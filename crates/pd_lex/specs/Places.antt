@@ -1,8 +1,7 @@
 -- Places in a text, and what is left of the text from a place on.
 use Rattle.std.specs.Prelude.{ℕ, ◌+◌, ◌-◌, ◌≤◌, List, [], ◌∷◌, ◌++◌, length, take, drop, get_or, min, if◌then◌else◌, ◌==◌}
-use Rattle.std.specs.List.{prefix_len}
 use Rattle.pd_lex.specs.declared.token.Place.{Place}
-use Rattle.pd_lex.specs.Octets.{newline, is_inside_line}
+use Rattle.pd_lex.specs.Octets.{newline}
 
 -- line 1, octet 0
 abbrev pub first_place : Place
@@ -43,7 +42,3 @@ before s rest = take (length s - length rest) s
 -- the octets of a text from one place up to another
 unfoldable pub between : List (List ℕ) → Place → Place → List ℕ
 between lines p q = before (octets_from lines p) (octets_from lines q)
-
--- the octets before the first newline
-abbrev pub first_line : List ℕ → List ℕ
-first_line s = take (prefix_len is_inside_line s) s

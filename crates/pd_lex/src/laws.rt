@@ -1,6 +1,6 @@
 //! Laws of the tokens of texts.
 ghost use Rattle.pd_lex.specs.Agreement.{ItemsAreInOrder, FirstLinesAgree};
-ghost use Rattle.pd_lex.specs.Laws.{ItemsAreLongest, NoOthersAreLongest};
+ghost use Rattle.pd_lex.specs.Laws.{ItemsAreLongest, NoOthersAreLongest, ItemsGoOn};
 
 /// Two laws, and no work: the tokens of a text come in the order of their lines, and texts whose
 /// first lines are equal have the same tokens there.
@@ -14,4 +14,9 @@ pub fn first_lines()
 pub fn longest_pieces()
     ensures items { ItemsAreLongest }
     ensures only { NoOthersAreLongest }
+{}
+
+/// A law, and no work: the items behind a token are those from the place behind it.
+pub fn items_behind_tokens()
+    ensures { ItemsGoOn }
 {}

@@ -9,6 +9,6 @@ mod standing;
 mod step;
 mod token;
 
-pub use laws::{first_lines, longest_pieces};
+pub use laws::{first_lines, items_behind_tokens, longest_pieces};
 pub use next::next_token;
 pub use token::{Lexed, Place, Span, Token, TokenKind};

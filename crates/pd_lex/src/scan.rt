@@ -8,7 +8,7 @@ ghost use Rattle.pd_lex.specs.Scanned.{piece_len};
 use crate::token::TokenKind;
 
 /// What opens a piece that may span lines.
-#[derive(Clone, Copy, PartialEq, Eq)]
+#[derive(Clone, Copy)]
 pub enum Opener {
     /// `/*`
     Comment,
@@ -33,7 +33,7 @@ impl Opener {
 }
 
 /// The piece at the front of a line.
-#[derive(Clone, Copy, PartialEq, Eq)]
+#[derive(Clone, Copy)]
 pub enum Piece {
     /// A blank or a line comment of so many octets.
     Blank(usize),

@@ -1,11 +1,10 @@
 //! Places in a text, and what is left of their lines.
 ghost use Rattle.std.specs.Prelude.{◌≡◌, ◌≤◌, ◌<◌, ◌^◌, length, drop, IfSome, IfNone};
 ghost use Rattle.pd_text.specs.Text.{AreLines};
-ghost use Rattle.pd_lex.specs.Places.{line_at, standing, between, first_line, IsPlace};
+ghost use Rattle.pd_lex.specs.Places.{line_at, standing, IsPlace};
 
 use crate::token::Place;
 use pd_text::Lines;
-use std::cmp::Ordering;
 
 /// Where a place stands in a text; `None` past the last line.
 #[tactic(auto, unfolding(crate::specs::Places::standing))]
@@ -37,27 +36,5 @@ pub fn rest_of_line<'a>(lines: &'a Lines, place: Place) -> Option<&'a [u8]>
     match lines.line(place.line) {
         Some(line) => Some(&line[place.at..]),
         None => None,
-    }
-}
-
-/// What stands from one place up to another, if that is in the same line; else up to the line's
-/// end.
-pub fn first_part<'a>(lines: &'a Lines, from: Place, to: Place) -> &'a [u8]
-    ensures part { result.now ≡ first_line (between lines.now from to) }
-    ensures lines { AreLines lines.now }
-{
-    let Some(from) = standing_place(lines, from) else {
-        return &[];
-    };
-    let Some(rest) = rest_of_line(lines, from) else {
-        return &[];
-    };
-    let Some(to) = standing_place(lines, to) else {
-        return rest;
-    };
-    match to.line.cmp(&from.line) {
-        Ordering::Less => &[],
-        Ordering::Equal => &rest[..to.at.saturating_sub(from.at)],
-        Ordering::Greater => rest,
     }
 }

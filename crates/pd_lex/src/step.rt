@@ -2,7 +2,7 @@
 ghost use Rattle.std.specs.Prelude.{◌≡◌, ◌+◌, length};
 ghost use Rattle.pd_lex.specs.Places.{octets_from, IsPlace};
 ghost use Rattle.pd_lex.specs.Pieces.{after_end};
-ghost use Rattle.pd_lex.specs.Scanned.{IsClosed, IsStep, closing_step};
+ghost use Rattle.pd_lex.specs.Scanned.{IsClosed, IsClosing, IsStep};
 
 use crate::ending::behind_end;
 use crate::scan::{Opener, Piece, piece_at};
@@ -11,14 +11,14 @@ use crate::token::{Place, TokenKind};
 use pd_text::Lines;
 
 /// What stands at a place, and the place behind it.
-#[derive(Clone, Copy, PartialEq, Eq)]
-pub enum Step {
+#[derive(Clone, Copy)]
+pub enum Step<'a> {
     /// The end of the text.
     Nothing,
     /// A blank or a comment.
     Gap(Place),
-    /// A token.
-    Token(TokenKind, Place),
+    /// A token, with its octets if its kind stays in its line.
+    Token(TokenKind, &'a [u8], Place),
     /// Something that begins no token.
     Stray,
 }
@@ -43,19 +43,19 @@ fn place_behind_end(lines: &Lines, opener: Opener, place: Place) -> Option<Place
 }
 
 /// The step over what was opened, to the place behind its end.
-fn closed(opener: Opener, after: Place) -> Step
-    ensures { result ≡ closing_step opener after }
+fn closed<'a>(opener: Opener, after: Place) -> Step<'a>
+    ensures { IsClosing opener after result }
 {
     match opener {
         Opener::Comment => Step::Gap(after),
-        Opener::Quote => Step::Token(TokenKind::Str, after),
-        Opener::Backquote => Step::Token(TokenKind::Cmd, after),
-        Opener::Brace => Step::Token(TokenKind::Code, after),
+        Opener::Quote => Step::Token(TokenKind::Str, &[], after),
+        Opener::Backquote => Step::Token(TokenKind::Cmd, &[], after),
+        Opener::Brace => Step::Token(TokenKind::Code, &[], after),
     }
 }
 
 /// The step at a place.
-pub fn step_at(lines: &Lines, place: Place) -> Step
+pub fn step_at<'a>(lines: &'a Lines, place: Place) -> Step<'a>
     requires { IsPlace lines.now place }
     ensures { IsStep lines.now place result }
 {
@@ -71,7 +71,7 @@ pub fn step_at(lines: &Lines, place: Place) -> Step
     }
     match piece_at(rest) {
         Piece::Blank(n) => Step::Gap(Place { line, at: at + n }),
-        Piece::Whole(kind, n) => Step::Token(kind, Place { line, at: at + n }),
+        Piece::Whole(kind, n) => Step::Token(kind, &rest[..n], Place { line, at: at + n }),
         Piece::Open(opener) => {
             let inside = Place {
                 line,

@@ -5,7 +5,7 @@ use Rattle.std.proofs.lemmas.Bool.{cases_lt}
 use Rattle.pd_lex.specs.Places.{first_place}
 use Rattle.pd_lex.specs.Tokens.{Item, line_of}
 use Rattle.pd_lex.specs.Lexing.{items}
-use Rattle.pd_lex.proofs.Cut.{items_cut, one_cut}
+use Rattle.pd_lex.specs.Laws.{ItemsAreLongest, NoOthersAreLongest}
 use Rattle.pd_script.specs.declared.script_header.HeaderItem.{HeaderItem}
 use Rattle.pd_script.specs.declared.script_events.Event.{Event}
 use Rattle.pd_script.specs.declared.parsing.Parsed.{Parsed}
@@ -163,10 +163,10 @@ read_one_way ts one other h g = read_once ts one other one.fault other.fault ref
 
 -- ---- the script of a text
 
-pub script_is_so : (lines : List (List ℕ)) → IsScriptOf lines (script_of lines)
-script_is_so lines = (items lines first_place, items_cut lines, script_is_read lines)
+pub script_is_so : ItemsAreLongest → (lines : List (List ℕ)) → IsScriptOf lines (script_of lines)
+script_is_so law lines = (items lines first_place, law lines, script_is_read lines)
 
-pub no_other_script : (lines : List (List ℕ)) (other : Parsed) → IsScriptOf lines other → other ≡ script_of lines
-no_other_script lines other h =
-    let same : h.0 ≡ items lines first_place = one_cut h.1 (items_cut lines) in
+pub no_other_script : NoOthersAreLongest → (lines : List (List ℕ)) (other : Parsed) → IsScriptOf lines other → other ≡ script_of lines
+no_other_script law lines other h =
+    let same : h.0 ≡ items lines first_place = law lines h.0 h.1 in
     read_one_way (items lines first_place) other (script_of lines) (subst (λ (x : List Item). IsRead x other other.fault) same h.2) (script_is_read lines)

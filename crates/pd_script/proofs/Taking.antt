@@ -1,44 +1,102 @@
 -- A cursor that goes on by one token.
-use Rattle.std.proofs.Common.{◌≡◌, ℕ, Bool, true, false, cond, List, ◌∷◌, Some, None, Ok, Err, refl, sym}
+use Rattle.std.proofs.Common.{◌≡◌, ◌∙◌, ℕ, true, List, ◌∷◌, Option, Some, None, Ok, Err, refl, sym, ap}
+use Rattle.pd_lex.specs.declared.token.TokenKind.{TokenKind}
+use Rattle.pd_lex.specs.declared.token.TokenKind.TheVariants as kinds
 use Rattle.pd_lex.specs.declared.token.Place.{Place}
+use Rattle.pd_lex.specs.declared.token.Token.{Token}
 use Rattle.pd_lex.specs.declared.token.Lexed.{Lexed}
 use Rattle.pd_lex.specs.declared.token.Lexed.TheVariants as lexed
-use Rattle.pd_lex.specs.Tokens.{Item}
-use Rattle.pd_lex.specs.Lexing.{items, IsNext}
-use Rattle.pd_script.specs.Items.{given}
-use Rattle.pd_script.specs.Reader.{Read, one, done, ◌>>=◌}
+use Rattle.pd_lex.specs.Kinds.{stays_in_line}
+use Rattle.pd_lex.specs.Places.{between}
+use Rattle.pd_lex.specs.Tokens.{Item, lexeme}
+use Rattle.pd_lex.specs.Lexing.{items, lexeme_of}
+use Rattle.pd_lex.specs.Next.{HasText}
+use Rattle.pd_script.specs.Reader.{Read}
+use Rattle.pd_script.specs.Brackets.{pairs_after}
+use Rattle.pd_script.specs.Drafts.{longer_draft, part_by, part_at, note_part_by, note_part_at, behind_token}
+use Rattle.pd_script.specs.declared.brackets.Bracket.{Bracket}
+use Rattle.pd_script.specs.declared.drafts.Draft.{Draft}
+use Rattle.pd_script.specs.declared.drafts.Draft.TheVariants as drafts
+use Rattle.pd_script.specs.declared.drafts.Inside.{Inside}
 use Rattle.pd_script.specs.declared.stops.Stop.{Stop}
 use Rattle.pd_script.specs.declared.stops.Stop.TheVariants as stops
-use Rattle.pd_script.specs.Cursor.{left, Leaves, SkipsNote}
+use Rattle.pd_script.specs.Cursor.{left, shown, Leaves, SkipsNote}
 
--- what the lexer answers is what is left
-pub left_is : (lines : List (List ℕ)) (p : Place) (next : Lexed) → IsNext lines p next → left lines next ≡ items lines p
-left_is lines p (lexed.Token t after) h = sym h
-left_is lines p lexed.End h = sym h
-left_is lines p (lexed.Bad line) h = sym h
-
-by_test : {A : Type 0} (test : Item → Bool) (value : Item → A) (t : Item) (ts : List Item) (b : Bool) (v : A) → test t ≡ b → cond b (Some (value t)) None ≡ Some v → (one test >>= (λ x. done (value x))) (t ∷ ts) ≡ Ok (v, ts)
-by_test test value t ts true v is h = rw is (let same : value t ≡ v = cc in rw same refl)
-by_test test value t ts false v is h = absurd cc
-
-by_no_test : {A : Type 0} (test : Item → Bool) (value : Item → A) (t : Item) (ts : List Item) (b : Bool) → test t ≡ b → cond b (Some (value t)) None ≡ None → (one test >>= (λ x. done (value x))) (t ∷ ts) ≡ Err (t ∷ ts)
-by_no_test test value t ts true is h = absurd cc
-by_no_test test value t ts false is h = rw is refl
-
--- a token that is one of those is taken
-pub taken : {A : Type 0} (test : Item → Bool) (value : Item → A) (lines : List (List ℕ)) (t : Item) (after : Place) (next : Lexed) (v : A) → given test value t ≡ Some v → IsNext lines after next → (one test >>= (λ x. done (value x))) (t ∷ items lines after) ≡ Ok (v, left lines next)
-taken test value lines t after next v h n = rw (left_is lines after next n) (by_test test value t (items lines after) (test t) v refl h)
-
--- another stays where it is
-pub not_taken : {A : Type 0} (test : Item → Bool) (value : Item → A) (t : Item) (ts : List Item) → given test value t ≡ None → (one test >>= (λ x. done (value x))) (t ∷ ts) ≡ Err (t ∷ ts)
-not_taken test value t ts h = by_no_test test value t ts (test t) refl h
+-- a fault in a part is a fault of the whole
+pub err_leaves : {X Y : Type 0} (e : Stop) (rest : List Item) (part : Read X) (whole : Read Y) → Leaves {X = X} (Err e) rest part → (part ≡ Err rest → whole ≡ Err rest) → Leaves {X = Y} (Err e) rest whole
+err_leaves stops.Syntax rest part whole h f = f h
+err_leaves stops.OutOfMemory rest part whole h f = tt
 
 -- the same in a note
 pub err_skips : {X : Type 0} (Y : Type 0) (e : Stop) (rest : List Item) (part : Read X) (whole : Read (List ℕ)) → Leaves {X = X} (Err e) rest part → (part ≡ Err rest → whole ≡ Err rest) → SkipsNote {X = Y} (Err e) rest whole
 err_skips Y stops.Syntax rest part whole h f = f h
 err_skips Y stops.OutOfMemory rest part whole h f = tt
 
--- a fault in a part is a fault of the whole
-pub err_leaves : {X Y : Type 0} (e : Stop) (rest : List Item) (part : Read X) (whole : Read Y) → Leaves {X = X} (Err e) rest part → (part ≡ Err rest → whole ≡ Err rest) → Leaves {X = Y} (Err e) rest whole
-err_leaves stops.Syntax rest part whole h f = f h
-err_leaves stops.OutOfMemory rest part whole h f = tt
+-- what stands still at a fault
+pub leaves_err : {X : Type 0} (e : Stop) (rest : List Item) (read : Read X) → read ≡ Err rest → Leaves {X = X} (Err e) rest read
+leaves_err stops.Syntax rest read h = h
+leaves_err stops.OutOfMemory rest read h = tt
+
+-- what looks at the octets of a token only where its kind stays in its line
+alike : {A : Type 0} (f : Item → A) (kind : TokenKind) (s t : List ℕ) (from : Place) → (stays_in_line kind ≡ true → s ≡ t) → f (lexeme (record { kind = kinds.Str; text = s; from = from })) ≡ f (lexeme (record { kind = kinds.Str; text = t; from = from })) → f (lexeme (record { kind = kinds.Cmd; text = s; from = from })) ≡ f (lexeme (record { kind = kinds.Cmd; text = t; from = from })) → f (lexeme (record { kind = kinds.Code; text = s; from = from })) ≡ f (lexeme (record { kind = kinds.Code; text = t; from = from })) → f (lexeme (record { kind = kind; text = s; from = from })) ≡ f (lexeme (record { kind = kind; text = t; from = from }))
+alike f kinds.Int s t from h str cmd code = ap (λ (l : List ℕ). f (lexeme (record { kind = kinds.Int; text = l; from = from }))) (h refl)
+alike f kinds.Hex s t from h str cmd code = ap (λ (l : List ℕ). f (lexeme (record { kind = kinds.Hex; text = l; from = from }))) (h refl)
+alike f kinds.Word s t from h str cmd code = ap (λ (l : List ℕ). f (lexeme (record { kind = kinds.Word; text = l; from = from }))) (h refl)
+alike f kinds.Decimal s t from h str cmd code = ap (λ (l : List ℕ). f (lexeme (record { kind = kinds.Decimal; text = l; from = from }))) (h refl)
+alike f kinds.Dots s t from h str cmd code = ap (λ (l : List ℕ). f (lexeme (record { kind = kinds.Dots; text = l; from = from }))) (h refl)
+alike f kinds.Opt s t from h str cmd code = ap (λ (l : List ℕ). f (lexeme (record { kind = kinds.Opt; text = l; from = from }))) (h refl)
+alike f kinds.Str s t from h str cmd code = str
+alike f kinds.Cmd s t from h str cmd code = cmd
+alike f kinds.Code s t from h str cmd code = code
+alike f kinds.Symbol s t from h str cmd code = ap (λ (l : List ℕ). f (lexeme (record { kind = kinds.Symbol; text = l; from = from }))) (h refl)
+
+module _ (lines : List (List ℕ)) (t : Token) (h : stays_in_line t.kind ≡ true → t.text.now ≡ (lexeme_of lines t).text) where
+  pairs_alike : (most : ℕ) (pairs : List Bracket) → pairs_after most pairs (lexeme (lexeme_of lines t)) ≡ pairs_after most pairs (shown t)
+  unfolding lexeme_of
+  pairs_alike most pairs = alike (λ (i : Item). pairs_after most pairs i) t.kind (between lines t.span.from t.span.to) t.text.now t.span.from (λ stays. sym (h stays)) refl refl refl
+
+  longer_by : (d : Draft) → ((s r : List ℕ) → longer_draft d (lexeme (record { kind = kinds.Str; text = s; from = t.span.from })) ≡ longer_draft d (lexeme (record { kind = kinds.Str; text = r; from = t.span.from }))) → ((s r : List ℕ) → longer_draft d (lexeme (record { kind = kinds.Cmd; text = s; from = t.span.from })) ≡ longer_draft d (lexeme (record { kind = kinds.Cmd; text = r; from = t.span.from }))) → ((s r : List ℕ) → longer_draft d (lexeme (record { kind = kinds.Code; text = s; from = t.span.from })) ≡ longer_draft d (lexeme (record { kind = kinds.Code; text = r; from = t.span.from }))) → longer_draft d (lexeme (lexeme_of lines t)) ≡ longer_draft d (shown t)
+  unfolding lexeme_of
+  longer_by d str cmd code = alike (λ (i : Item). longer_draft d i) t.kind (between lines t.span.from t.span.to) t.text.now t.span.from (λ stays. sym (h stays)) (str _ _) (cmd _ _) (code _ _)
+
+  longer_alike : (d : Draft) → longer_draft d (lexeme (lexeme_of lines t)) ≡ longer_draft d (shown t)
+  longer_alike drafts.Empty = longer_by drafts.Empty (λ s r. refl) (λ s r. refl) (λ s r. refl)
+  longer_alike (drafts.Single a) = longer_by (drafts.Single a) (λ s r. refl) (λ s r. refl) (λ s r. refl)
+  longer_alike drafts.Opened = longer_by drafts.Opened (λ s r. refl) (λ s r. refl) (λ s r. refl)
+  longer_alike (drafts.Numbered n) = longer_by (drafts.Numbered n) (λ s r. refl) (λ s r. refl) (λ s r. refl)
+  longer_alike (drafts.Element n) = longer_by (drafts.Element n) (λ s r. refl) (λ s r. refl) (λ s r. refl)
+  longer_alike drafts.Mixed = longer_by drafts.Mixed (λ s r. refl) (λ s r. refl) (λ s r. refl)
+
+  part_token : (inside : Inside) (pairs : List Bracket) (draft : Draft) (ts : List Item) → pairs_after 16 inside.pairs (shown t) ≡ Some pairs → draft ≡ longer_draft inside.draft (shown t) → part_at inside (lexeme (lexeme_of lines t) ∷ ts) ≡ Ok (record { pairs = pairs; draft = draft }, ts)
+  part_token inside pairs draft ts p d =
+      let x : Item = lexeme (lexeme_of lines t) in
+      ap (λ (r : Option (List Bracket)). part_by inside.draft x ts r) (pairs_alike 16 inside.pairs ∙ p) ∙ ap (λ (k : Draft). made pairs k ts) (longer_alike inside.draft ∙ sym d)
+    where
+      made : List Bracket → Draft → List Item → Read Inside
+      made ps k rest = Ok (record { pairs = ps; draft = k }, rest)
+
+  part_none : (inside : Inside) (ts : List Item) → pairs_after 16 inside.pairs (shown t) ≡ None → part_at inside (lexeme (lexeme_of lines t) ∷ ts) ≡ Err (lexeme (lexeme_of lines t) ∷ ts)
+  part_none inside ts p = let x : Item = lexeme (lexeme_of lines t) in ap (λ (r : Option (List Bracket)). part_by inside.draft x ts r) (pairs_alike 16 inside.pairs ∙ p)
+
+  note_token : (open_pairs pairs : List Bracket) (ts : List Item) → pairs_after 15 open_pairs (shown t) ≡ Some pairs → note_part_at open_pairs (lexeme (lexeme_of lines t) ∷ ts) ≡ Ok (pairs, ts)
+  note_token open_pairs pairs ts p = let x : Item = lexeme (lexeme_of lines t) in ap (λ (r : Option (List Bracket)). note_part_by x ts r) (pairs_alike 15 open_pairs ∙ p)
+
+  note_none : (open_pairs : List Bracket) (ts : List Item) → pairs_after 15 open_pairs (shown t) ≡ None → note_part_at open_pairs (lexeme (lexeme_of lines t) ∷ ts) ≡ Err (lexeme (lexeme_of lines t) ∷ ts)
+  note_none open_pairs ts p = let x : Item = lexeme (lexeme_of lines t) in ap (λ (r : Option (List Bracket)). note_part_by x ts r) (pairs_alike 15 open_pairs ∙ p)
+
+-- the same for what a cursor has next
+module _ (lines : List (List ℕ)) (next : Lexed) (t : Token) (after : Place) (old : List Item) (is : next ≡ lexed.Token t after) (h : HasText lines next) (o : old ≡ left lines next) where
+  has : stays_in_line t.kind ≡ true → t.text.now ≡ (lexeme_of lines t).text
+  has = rw is at h
+
+  pub part_ok : (new : List Item) (inside : Inside) (pairs : List Bracket) (draft : Draft) → new ≡ behind_token old → pairs_after 16 inside.pairs (shown t) ≡ Some pairs → draft ≡ longer_draft inside.draft (shown t) → part_at inside old ≡ Ok (record { pairs = pairs; draft = draft }, new)
+  part_ok new inside pairs draft n p d = rw (n, o, is) (part_token lines t has inside pairs draft (items lines after) p d)
+
+  pub part_err : (inside : Inside) → pairs_after 16 inside.pairs (shown t) ≡ None → part_at inside old ≡ Err old
+  part_err inside p = rw (o, is) (part_none lines t has inside (items lines after) p)
+
+  pub note_ok : (new : List Item) (open_pairs pairs : List Bracket) → new ≡ behind_token old → pairs_after 15 open_pairs (shown t) ≡ Some pairs → note_part_at open_pairs old ≡ Ok (pairs, new)
+  note_ok new open_pairs pairs n p = rw (n, o, is) (note_token lines t has open_pairs pairs (items lines after) p)
+
+  pub note_err : (open_pairs : List Bracket) → pairs_after 15 open_pairs (shown t) ≡ None → note_part_at open_pairs old ≡ Err old
+  note_err open_pairs p = rw (o, is) (note_none lines t has open_pairs (items lines after) p)

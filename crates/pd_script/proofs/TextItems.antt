@@ -1,17 +1,15 @@
 -- The items of a text: tokens, and then the end or a bad place, each in a line of the text.
-use Rattle.std.proofs.Common.{◌≡◌, ℕ, zero, suc, ◌≤◌, ◌<◌, Bool, true, false, cond, List, [], ◌∷◌, ◌++◌, length, max, Option, Some, None, Ok, Err, refl, sym, ap, subst, ◌∙◌, arith, inl, inr}
-use Rattle.std.proofs.lemmas.Bool.{cases_lt}
-use Rattle.std.specs.Prelude.{All, ◌⊎◌}
+use Rattle.std.proofs.Common.{◌≡◌, ℕ, zero, suc, ◌≤◌, Bool, true, false, cond, List, [], ◌∷◌, ◌++◌, length, max, Option, Some, None, Ok, Err, refl, sym, ap, subst, ◌∙◌, arith, inl, inr}
+use Rattle.std.specs.Prelude.{All}
 use Rattle.std.specs.List.{list_all}
 use Rattle.std.proofs.lemmas.List.Elements.{All-nil, All-cons}
 use Rattle.pd_text.specs.Text.{is_line}
 use Rattle.pd_lex.specs.declared.token.Place.{Place}
-use Rattle.pd_lex.specs.Places.{IsPlace, first_place, standing, octets_from, place_after, before}
+use Rattle.pd_lex.specs.Places.{first_place, standing, octets_from, place_after, before}
 use Rattle.pd_lex.specs.Pieces.{Front, nothing, gap, token, stray, front}
-use Rattle.pd_lex.specs.Tokens.{Item, line_of}
+use Rattle.pd_lex.specs.Tokens.{Item, lexeme, ending, bad, line_of}
 use Rattle.pd_lex.specs.Lexing.{followed, items_within, items}
-use Rattle.pd_lex.proofs.Rests.{advance, octets_past, standing_place}
-use Rattle.pd_lex.proofs.Fronts.{IsRest, IsRest-cut, LeavesRest, front_leaves}
+use Rattle.pd_lex.specs.Agreement.{last_line, IsInOrder, ItemsAreInOrder}
 use Rattle.pd_script.specs.declared.timing.Time.{Time}
 use Rattle.pd_script.specs.declared.timing.Time.TheVariants as times
 use Rattle.pd_script.specs.declared.script_events.Event.{Event}
@@ -55,48 +53,16 @@ pub AreLinesOf : List (List ℕ) → List Item → Type 0
 AreLinesOf lines [] = Unit {0}
 AreLinesOf lines (t ∷ ts) = IsLineOf lines (line_of t) × AreLinesOf lines ts
 
-module _ (lines : List (List ℕ)) (plain : list_all is_line lines ≡ true) where
-  abbrev within : ℕ → Place → List ℕ → List Item
-  within k p s = items_within k (max 1 (length lines)) p s
+-- items in order, and the end last, have a line of the text each
+in_order_lines : (lines : List (List ℕ)) (line : ℕ) (ts : List Item) → 1 ≤ line → IsInOrder line (max 1 (length lines)) ts → IsClosed ts → AreLinesOf lines ts
+unfolding AreLinesOf IsClosed
+in_order_lines lines line [] one h c = tt
+in_order_lines lines line (lexeme x ∷ ts) one h c = ((omega (arith, h.0), h.1), in_order_lines lines (last_line x) ts (omega (arith, h.0, h.2)) h.4 c)
+in_order_lines lines line (ending n ∷ ts) one h c = ((omega (arith, h), omega (arith, h)), rw c tt)
+in_order_lines lines line (bad n ∷ ts) one h c = ((omega (arith, h.0), h.1), rw c tt)
 
-  last_is : IsLineOf lines (max 1 (length lines))
-  last_is = (omega arith, omega arith)
-
-  here_is : (p : Place) → IsPlace lines p → p.line ≤ length lines → IsLineOf lines p.line
-  here_is p h le = (h.from_one, omega arith)
-
-  -- something stands in a line of the text
-  some_left : (p : Place) (f : Front) → front (octets_from lines p) ≡ f → (f ≡ nothing → ⊥) → p.line ≤ length lines
-  unfolding front
-  some_left p f is some = either (cases_lt (length lines) p.line)
-    where
-      either : ((length lines < p.line) ⊎ (p.line ≤ length lines)) → p.line ≤ length lines
-      either (inl lt) = absurd (some (sym is ∙ rw (octets_past lines p lt) refl))
-      either (inr le) = le
-
-  followed_lines : (k : ℕ) (p : Place) → IsPlace lines p → (f : Front) → front (octets_from lines p) ≡ f → ((q : Place) → IsPlace lines q → AreLinesOf lines (within k q (octets_from lines q))) → AreLinesOf lines (followed (λ q r. within k q r) (max 1 (length lines)) p (octets_from lines p) f)
-  unfolding AreLinesOf
-  followed_lines k p h nothing is ih = (last_is, tt)
-  followed_lines k p h (gap rest) is ih =
-      let r : IsRest (octets_from lines p) rest = subst (LeavesRest (octets_from lines p)) is (front_leaves (octets_from lines p)) in
-      let q = advance lines plain p (before (octets_from lines p) rest) rest h (IsRest-cut (octets_from lines p) rest r) in
-      subst (λ (x : List ℕ). AreLinesOf lines (within k (place_after p (before (octets_from lines p) rest)) x)) q.left (ih (place_after p (before (octets_from lines p) rest)) q.place)
-  followed_lines k p h (token kind rest) is ih =
-      let r : IsRest (octets_from lines p) rest = subst (LeavesRest (octets_from lines p)) is (front_leaves (octets_from lines p)) in
-      let q = advance lines plain p (before (octets_from lines p) rest) rest h (IsRest-cut (octets_from lines p) rest r) in
-      (here_is p h (some_left p (token kind rest) is (λ e. cc)), subst (λ (x : List ℕ). AreLinesOf lines (within k (place_after p (before (octets_from lines p) rest)) x)) q.left (ih (place_after p (before (octets_from lines p) rest)) q.place))
-  followed_lines k p h stray is ih = (here_is p h (some_left p stray is (λ e. cc)), tt)
-
-  within_lines : (k : ℕ) (p : Place) → IsPlace lines p → AreLinesOf lines (within k p (octets_from lines p))
-  unfolding items_within AreLinesOf
-  within_lines zero p h = (last_is, tt)
-  within_lines (suc k) p h = followed_lines k p h (front (octets_from lines p)) refl (within_lines k)
-
-  pub items_lines : AreLinesOf lines (items lines first_place)
-  unfolding items
-  items_lines =
-      let h : IsPlace lines first_place = record { from_one = omega arith; within = omega arith; at = omega arith } in
-      rw (standing_place lines first_place h) (within_lines (length (octets_from lines first_place)) first_place h)
+pub items_lines : ItemsAreInOrder → (lines : List (List ℕ)) → list_all is_line lines ≡ true → AreLinesOf lines (items lines first_place)
+items_lines law lines plain = in_order_lines lines 1 (items lines first_place) (omega arith) (law lines first_place plain) (items_closed lines first_place)
 
 -- ---- lines of events and of the fault
 
@@ -184,8 +150,8 @@ pub script_is_read : (lines : List (List ℕ)) → IsRead (items lines first_pla
 unfolding script_of
 script_is_read lines = script_read (items lines first_place) (items_closed lines first_place)
 
-pub script_has_lines : (lines : List (List ℕ)) → list_all is_line lines ≡ true → HasLines lines (script_of lines)
-script_has_lines lines plain = lines_by lines (items lines first_place) (script_of lines) (script_of lines).fault refl (script_is_read lines) (items_lines lines plain)
+pub script_has_lines : ItemsAreInOrder → (lines : List (List ℕ)) → list_all is_line lines ≡ true → HasLines lines (script_of lines)
+script_has_lines law lines plain = lines_by lines (items lines first_place) (script_of lines) (script_of lines).fault refl (script_is_read lines) (items_lines law lines plain)
 
 pub script_is_short : (lines : List (List ℕ)) → length (script_of lines).events ≤ 4096
 unfolding script_of script_in

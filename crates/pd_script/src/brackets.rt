@@ -1,21 +1,19 @@
 //! Pairs of brackets.
 ghost use Rattle.std.specs.Prelude.{◌≡◌, ◌<◌, ◌≤◌, [], ◌∷◌, length, Some, None, IfSome, IfNone, OnOk, OnErr, nat_eq, ◌==◌};
-ghost use Rattle.pd_lex.specs.Tokens.{lexeme};
-ghost use Rattle.pd_lex.specs.Lexing.{lexeme_of};
 ghost use Rattle.pd_script.specs.Brackets.{opened_by, is_closing, closing_octet, pairs_after};
+ghost use Rattle.pd_script.specs.Cursor.{shown};
 
 use crate::stops::Stop;
-use crate::token_tests::is_symbol;
+use crate::tokens::is_symbol;
 use arrayvec::ArrayVec;
 use pd_lex::Token;
-use pd_text::Lines;
 use std::marker::Model;
 
 /// The greatest number of pairs inside one another.
 pub const MAX_DEPTH: usize = 16;
 
 /// A pair of brackets.
-#[derive(Clone, Copy, Default, PartialEq, Eq)]
+#[derive(Clone, Copy, Default)]
 pub enum Bracket {
     #[default]
     Round,
@@ -38,24 +36,24 @@ impl Bracket {
 }
 
 /// The pair that a token opens.
-fn opened_by(lines: &Lines, token: &Token) -> Option<Bracket>
-    ensures { result ≡ opened_by (lexeme (lexeme_of lines.now token.now)) }
+fn opened_by(token: &Token) -> Option<Bracket>
+    ensures { result ≡ opened_by (shown token.now) }
 {
-    if is_symbol(lines, token, b'(') {
+    if is_symbol(token, b'(') {
         Some(Bracket::Round)
-    } else if is_symbol(lines, token, b'[') {
+    } else if is_symbol(token, b'[') {
         Some(Bracket::Square)
-    } else if is_symbol(lines, token, b'{') {
+    } else if is_symbol(token, b'{') {
         Some(Bracket::Curly)
     } else {
         None
     }
 }
 
-fn is_closing(lines: &Lines, token: &Token) -> bool
-    ensures { result ≡ is_closing (lexeme (lexeme_of lines.now token.now)) }
+fn is_closing(token: &Token) -> bool
+    ensures { result ≡ is_closing (shown token.now) }
 {
-    is_symbol(lines, token, b')') || is_symbol(lines, token, b']') || is_symbol(lines, token, b'}')
+    is_symbol(token, b')') || is_symbol(token, b']') || is_symbol(token, b'}')
 }
 
 /// The pairs that are open, the innermost first; at most 16.
@@ -109,22 +107,22 @@ impl OpenPairs {
     }
 
     /// Goes over a token, where at most so many pairs may be open.
-    pub fn pass(&mut self, lines: &Lines, token: &Token, most: usize) -> Result<(), Stop>
+    pub fn pass(&mut self, token: &Token, most: usize) -> Result<(), Stop>
         requires { most ≤ 16 }
-        ensures ok { OnOk result (pairs_after most self.old (lexeme (lexeme_of lines.now token.now)) ≡ Some self.new) }
-        ensures err { OnErr result (pairs_after most self.old (lexeme (lexeme_of lines.now token.now)) ≡ None) }
+        ensures ok { OnOk result (pairs_after most self.old (shown token.now) ≡ Some self.new) }
+        ensures err { OnErr result (pairs_after most self.old (shown token.now) ≡ None) }
         ensures syntax { OnErr result (result ≡ Err Stop.Syntax) }
     {
-        if let Some(bracket) = opened_by(lines, token) {
+        if let Some(bracket) = opened_by(token) {
             if self.len() >= most {
                 return Err(Stop::Syntax);
             }
             self.push(bracket);
-        } else if is_closing(lines, token) {
+        } else if is_closing(token) {
             let Some(bracket) = self.pop() else {
                 return Err(Stop::Syntax);
             };
-            if !is_symbol(lines, token, bracket.closing_octet()) {
+            if !is_symbol(token, bracket.closing_octet()) {
                 return Err(Stop::Syntax);
             }
         }

@@ -13,7 +13,7 @@ pub struct Call {
 }
 
 /// The name of a call.
-#[derive(Clone, Copy, Debug, PartialEq, Eq)]
+#[derive(Clone, Copy)]
 pub enum Function {
     Socket,
     Bind,
@@ -43,7 +43,7 @@ impl Model for Arguments {
 }
 
 /// An argument of a call.
-#[derive(Clone, Copy, PartialEq, Eq)]
+#[derive(Clone, Copy)]
 pub enum Argument {
     /// A whole number in digits; one above the greatest `u64` stands as that.
     Int(u64),
@@ -56,7 +56,7 @@ pub enum Argument {
 }
 
 /// A word that stands as an argument.
-#[derive(Clone, Copy, PartialEq, Eq)]
+#[derive(Clone, Copy)]
 pub enum Constant {
     SockStream,
     IpprotoTcp,
@@ -70,7 +70,7 @@ pub enum Constant {
 }
 
 /// The result that a script expects of a call, its number at most 4,294,967,295.
-#[derive(Clone, Copy, Debug, PartialEq, Eq)]
+#[derive(Clone, Copy)]
 pub enum Outcome {
     Int(u32),
     Hex(u32),
@@ -79,7 +79,7 @@ pub enum Outcome {
 }
 
 /// The name of an error.
-#[derive(Clone, Copy, Debug, PartialEq, Eq)]
+#[derive(Clone, Copy)]
 pub enum ErrorName {
     Ebadf,
     Einval,

@@ -1,55 +1,56 @@
 //! A cursor over the tokens of a text.
-ghost use Rattle.std.specs.Prelude.{◌≡◌, Ok, Err, IfSome, IfNone};
-ghost use Rattle.pd_lex.specs.Places.{first_place};
+ghost use Rattle.std.specs.Prelude.{◌≡◌, unwrap_or};
+ghost use Rattle.pd_lex.specs.Tokens.{line_of};
 ghost use Rattle.pd_lex.specs.Lexing.{items};
-ghost use Rattle.pd_script.specs.Items.{is_int, is_named, is_hex, is_dots, is_command, is_code, is_word, is_symbol, is_end, starts_event, goes_on, next_is};
+ghost use Rattle.pd_script.specs.Items.{is_int, is_named, is_hex, is_num, is_num_from, is_dots, is_command, is_code, is_word, is_symbol, is_int_from, is_int_of, is_flags, is_option, is_header, is_end, starts_event, next_is, next_given, text_of};
+ghost use Rattle.pd_script.specs.Header.{header_item};
+ghost use Rattle.pd_script.specs.Values.{number, hex_number, microseconds, function_named, error_named, flags_of, option_named};
 ghost use Rattle.pd_script.specs.Drafts.{part_at, note_part_at, behind_token};
-ghost use Rattle.pd_script.specs.TokenReading.{symbol_at, int_at, dots_at};
-ghost use Rattle.pd_script.specs.PacketReading.{int_from_at, int_of_at, named_at, letters_at, option_name_at};
-ghost use Rattle.pd_script.specs.Reading.{next_line, header_item_at, hex_at, num_at, num_from_at, command_at, code_at, function_at, error_at};
-ghost use Rattle.pd_script.specs.Cursor.{Leaves};
+ghost use Rattle.pd_script.specs.Reading.{next_line};
+ghost use Rattle.pd_script.specs.Cursor.{Leaves, Takes};
 
 use crate::brackets::{MAX_DEPTH, OpenPairs};
 use crate::calls::{ErrorName, Function};
 use crate::drafts::Inside;
-use crate::names::OptionName;
-use crate::packets::Flags;
+use crate::names::{OptionName, error_named, function_named, option_named};
+use crate::numbers::{GREATEST, TIME_LIMIT, hex_number, microseconds, number};
+use crate::packets::{Flags, are_flags};
 use crate::script_events::Action;
-use crate::script_header::HeaderItem;
+use crate::script_header::{HeaderItem, HeaderKind};
 use crate::stops::Stop;
-use crate::token_tests::{
-    code_of, command_of, error_of, flags_of, function_of, header_item_of, hex_of, int_equal_of,
-    int_from_of, int_of, is_code, is_command, is_dots, is_hex, is_int, is_named, is_num, is_symbol,
-    is_word, num_from_of, num_of, option_of, symbol_line,
-};
-use pd_lex::{Lexed, Place, next_token};
+use pd_lex::{Lexed, Place, TokenKind, next_token};
 use pd_text::Lines;
 use std::marker::Model;
 
-/// A text from its next token on.
+/// A text from a place on, with its next token.
 #[derive(Drop)]
 pub struct Cursor<'a> {
     lines: &'a Lines,
-    next: Lexed,
+    place: Place,
+    next: Lexed<'a>,
 }
 
 impl<'a> Model for Cursor<'a> {
     ghost use Rattle.std.specs.Prelude.{List};
     ghost use Rattle.pd_lex.specs.Tokens.{Item};
-    ghost use Rattle.pd_script.specs.Cursor.{left};
+    ghost use Rattle.pd_script.specs.Cursor.{left, IsNextAt};
 
     ghost Value = { List Item };
 
     ghost view = { λ c. left c.lines.now c.next };
+
+    ghost invariant = { λ c. IsNextAt c.lines.now c.place c.next };
 }
 
 impl<'a> Cursor<'a> {
-    pub fn new(lines: &'a Lines) -> Cursor<'a>
-        ensures { result ≡ items lines.now first_place }
+    /// A cursor at this place of a text.
+    pub fn at(lines: &'a Lines, place: Place) -> Cursor<'a>
+        ensures { result ≡ items lines.now place }
     {
         Cursor {
             lines,
-            next: next_token(lines, Place::first()),
+            place,
+            next: next_token(lines, place),
         }
     }
 
@@ -71,29 +72,134 @@ impl<'a> Cursor<'a> {
         matches!(self.next, Lexed::End)
     }
 
+    /// Goes over a token.
+    pub fn take(&mut self)
+        ensures { self.new ≡ behind_token self.old }
+    {
+        if let Lexed::Token(_, after) = self.next {
+            self.place = after;
+            self.next = next_token(self.lines, after);
+        }
+    }
+
+    /// Takes the next token, if it was found to be what is wanted.
+    pub fn take_found<T>(&mut self, found: Option<T>) -> Result<T, Stop>
+        ensures { Takes found result self.new self.old }
+    {
+        match found {
+            Some(value) => {
+                self.take();
+                Ok(value)
+            }
+            None => Err(Stop::Syntax),
+        }
+    }
+}
+
+/// What the next token is.
+impl<'a> Cursor<'a> {
+    /// The symbol of this octet.
+    #[tactic(auto, unfolding(pd_lex::specs::Lexing::lexeme_of))]
     pub fn is_symbol(&self, octet: u8) -> bool
         ensures { result ≡ next_is (is_symbol octet) self.now }
     {
         match &self.next {
-            Lexed::Token(token, _) => is_symbol(self.lines, token, octet),
+            Lexed::Token(token, _) => {
+                matches!(token.kind, TokenKind::Symbol) && token.text == [octet].as_slice()
+            },
             _ => false,
         }
     }
 
+    /// An Int of at most 4,294,967,295.
+    #[tactic(auto, unfolding(pd_lex::specs::Lexing::lexeme_of))]
     pub fn is_int(&self) -> bool
         ensures { result ≡ next_is is_int self.now }
     {
         match &self.next {
-            Lexed::Token(token, _) => is_int(self.lines, token),
+            Lexed::Token(token, _) => {
+                matches!(token.kind, TokenKind::Int) && number(token.text) <= GREATEST
+            },
             _ => false,
         }
     }
 
+    /// A Hex of at most 4,294,967,295.
+    #[tactic(auto, unfolding(pd_lex::specs::Lexing::lexeme_of))]
     pub fn is_hex(&self) -> bool
         ensures { result ≡ next_is is_hex self.now }
     {
         match &self.next {
-            Lexed::Token(token, _) => is_hex(self.lines, token),
+            Lexed::Token(token, _) => {
+                matches!(token.kind, TokenKind::Hex) && hex_number(token.text) <= GREATEST
+            },
+            _ => false,
+        }
+    }
+
+    /// An Int or a Decimal below 4,294,967,296 seconds.
+    #[tactic(auto, unfolding(pd_lex::specs::Lexing::lexeme_of))]
+    pub fn is_num(&self) -> bool
+        ensures { result ≡ next_is is_num self.now }
+    {
+        match &self.next {
+            Lexed::Token(token, _) => {
+                matches!(token.kind, TokenKind::Int | TokenKind::Decimal)
+                    && microseconds(token.text) < TIME_LIMIT
+            },
+            _ => false,
+        }
+    }
+
+    #[tactic(auto, unfolding(pd_lex::specs::Lexing::lexeme_of))]
+    pub fn is_word(&self) -> bool
+        ensures { result ≡ next_is is_word self.now }
+    {
+        match &self.next {
+            Lexed::Token(token, _) => matches!(token.kind, TokenKind::Word),
+            _ => false,
+        }
+    }
+
+    /// This word.
+    #[tactic(auto, unfolding(pd_lex::specs::Lexing::lexeme_of))]
+    pub fn is_named(&self, name: &[u8]) -> bool
+        ensures { result ≡ next_is (is_named name.now) self.now }
+    {
+        match &self.next {
+            Lexed::Token(token, _) => matches!(token.kind, TokenKind::Word) && token.text == name,
+            _ => false,
+        }
+    }
+
+    /// Three points.
+    #[tactic(auto, unfolding(pd_lex::specs::Lexing::lexeme_of))]
+    pub fn is_dots(&self) -> bool
+        ensures { result ≡ next_is is_dots self.now }
+    {
+        match &self.next {
+            Lexed::Token(token, _) => matches!(token.kind, TokenKind::Dots),
+            _ => false,
+        }
+    }
+
+    /// A shell command.
+    #[tactic(auto, unfolding(pd_lex::specs::Lexing::lexeme_of))]
+    pub fn is_command(&self) -> bool
+        ensures { result ≡ next_is is_command self.now }
+    {
+        match &self.next {
+            Lexed::Token(token, _) => matches!(token.kind, TokenKind::Cmd),
+            _ => false,
+        }
+    }
+
+    #[tactic(auto, unfolding(pd_lex::specs::Lexing::lexeme_of))]
+    pub fn is_code(&self) -> bool
+        ensures { result ≡ next_is is_code self.now }
+    {
+        match &self.next {
+            Lexed::Token(token, _) => matches!(token.kind, TokenKind::Code),
             _ => false,
         }
     }
@@ -102,308 +208,254 @@ impl<'a> Cursor<'a> {
     pub fn starts_event(&self) -> bool
         ensures { result ≡ next_is starts_event self.now }
     {
-        match &self.next {
-            Lexed::Token(token, _) => {
-                is_num(self.lines, token)
-                    || is_symbol(self.lines, token, b'+')
-                    || is_symbol(self.lines, token, b'*')
-            }
-            _ => false,
-        }
+        self.is_num() || self.is_symbol(b'+') || self.is_symbol(b'*')
     }
 
-    pub fn is_word(&self) -> bool
-        ensures { result ≡ next_is is_word self.now }
+    #[tactic(auto, unfolding(pd_lex::specs::Lexing::lexeme_of))]
+    pub fn next_symbol(&self, octet: u8) -> Option<usize>
+        ensures { result ≡ next_given (is_symbol octet) (λ t. line_of t) self.now }
     {
-        match &self.next {
-            Lexed::Token(token, _) => is_word(self.lines, token),
-            _ => false,
-        }
-    }
-
-    /// Takes a symbol, and answers its line.
-    pub fn symbol(&mut self, octet: u8) -> Result<usize, Stop>
-        ensures { Leaves result self.new (symbol_at octet self.old) }
-    {
-        let Lexed::Token(token, after) = self.next else {
-            return Err(Stop::Syntax);
-        };
-        let Some(line) = symbol_line(self.lines, &token, octet) else {
-            return Err(Stop::Syntax);
-        };
-        self.next = next_token(self.lines, after);
-        Ok(line)
-    }
-
-    /// Takes a whole number.
-    pub fn int(&mut self) -> Result<u32, Stop>
-        ensures { Leaves result self.new (int_at self.old) }
-    {
-        let Lexed::Token(token, after) = self.next else {
-            return Err(Stop::Syntax);
-        };
-        let Some(number) = int_of(self.lines, &token) else {
-            return Err(Stop::Syntax);
-        };
-        self.next = next_token(self.lines, after);
-        Ok(number)
-    }
-
-    /// Takes a hexadecimal number.
-    pub fn hex(&mut self) -> Result<u32, Stop>
-        ensures { Leaves result self.new (hex_at self.old) }
-    {
-        let Lexed::Token(token, after) = self.next else {
-            return Err(Stop::Syntax);
-        };
-        let Some(number) = hex_of(self.lines, &token) else {
-            return Err(Stop::Syntax);
-        };
-        self.next = next_token(self.lines, after);
-        Ok(number)
-    }
-
-    /// Takes a number of microseconds, and answers its line with it.
-    pub fn num(&mut self) -> Result<(usize, u64), Stop>
-        ensures { Leaves result self.new (num_at self.old) }
-    {
-        let Lexed::Token(token, after) = self.next else {
-            return Err(Stop::Syntax);
-        };
-        let Some(number) = num_of(self.lines, &token) else {
-            return Err(Stop::Syntax);
-        };
-        self.next = next_token(self.lines, after);
-        Ok(number)
-    }
-
-    /// Takes a number of at least so many microseconds.
-    pub fn num_from(&mut self, least: u64) -> Result<u64, Stop>
-        ensures { Leaves result self.new (num_from_at least self.old) }
-    {
-        let Lexed::Token(token, after) = self.next else {
-            return Err(Stop::Syntax);
-        };
-        let Some(microseconds) = num_from_of(self.lines, &token, least) else {
-            return Err(Stop::Syntax);
-        };
-        self.next = next_token(self.lines, after);
-        Ok(microseconds)
-    }
-
-    /// Takes three points.
-    pub fn dots(&mut self) -> Result<(), Stop>
-        ensures { Leaves result self.new (dots_at self.old) }
-    {
-        let Lexed::Token(token, after) = self.next else {
-            return Err(Stop::Syntax);
-        };
-        if !is_dots(self.lines, &token) {
-            return Err(Stop::Syntax);
-        }
-        self.next = next_token(self.lines, after);
-        Ok(())
-    }
-
-    /// Takes a shell command.
-    pub fn command(&mut self) -> Result<Action, Stop>
-        ensures { Leaves result self.new (command_at self.old) }
-    {
-        let Lexed::Token(token, after) = self.next else {
-            return Err(Stop::Syntax);
-        };
-        let Some(action) = command_of(self.lines, &token) else {
-            return Err(Stop::Syntax);
-        };
-        self.next = next_token(self.lines, after);
-        Ok(action)
-    }
-
-    /// Takes code.
-    pub fn code(&mut self) -> Result<Action, Stop>
-        ensures { Leaves result self.new (code_at self.old) }
-    {
-        let Lexed::Token(token, after) = self.next else {
-            return Err(Stop::Syntax);
-        };
-        let Some(action) = code_of(self.lines, &token) else {
-            return Err(Stop::Syntax);
-        };
-        self.next = next_token(self.lines, after);
-        Ok(action)
-    }
-
-    /// Whether three points stand here.
-    pub fn is_dots(&self) -> bool
-        ensures { result ≡ next_is is_dots self.now }
-    {
-        match &self.next {
-            Lexed::Token(token, _) => is_dots(self.lines, token),
-            _ => false,
-        }
-    }
-
-    /// Whether a shell command stands here.
-    pub fn is_command(&self) -> bool
-        ensures { result ≡ next_is is_command self.now }
-    {
-        match &self.next {
-            Lexed::Token(token, _) => is_command(self.lines, token),
-            _ => false,
-        }
-    }
-
-    /// Whether code stands here.
-    pub fn is_code(&self) -> bool
-        ensures { result ≡ next_is is_code self.now }
-    {
-        match &self.next {
-            Lexed::Token(token, _) => is_code(self.lines, token),
-            _ => false,
-        }
-    }
-
-    /// Takes a whole number that is at least another.
-    pub fn int_from(&mut self, least: u32) -> Result<u32, Stop>
-        ensures { Leaves result self.new (int_from_at least self.old) }
-    {
-        let Lexed::Token(token, after) = self.next else {
-            return Err(Stop::Syntax);
-        };
-        let Some(number) = int_from_of(self.lines, &token, least) else {
-            return Err(Stop::Syntax);
-        };
-        self.next = next_token(self.lines, after);
-        Ok(number)
-    }
-
-    /// Takes a whole number that is just this one.
-    pub fn int_equal(&mut self, wanted: u32) -> Result<u32, Stop>
-        ensures { Leaves result self.new (int_of_at wanted self.old) }
-    {
-        let Lexed::Token(token, after) = self.next else {
-            return Err(Stop::Syntax);
-        };
-        let Some(number) = int_equal_of(self.lines, &token, wanted) else {
-            return Err(Stop::Syntax);
-        };
-        self.next = next_token(self.lines, after);
-        Ok(number)
-    }
-
-    /// Takes this word.
-    pub fn named(&mut self, name: &[u8]) -> Result<(), Stop>
-        ensures { Leaves result self.new (named_at name.now self.old) }
-    {
-        let Lexed::Token(token, after) = self.next else {
-            return Err(Stop::Syntax);
-        };
-        if !is_named(self.lines, &token, name) {
-            return Err(Stop::Syntax);
-        }
-        self.next = next_token(self.lines, after);
-        Ok(())
-    }
-
-    /// Takes the letters of flags.
-    pub fn letters(&mut self) -> Result<Flags, Stop>
-        ensures { Leaves result self.new (letters_at self.old) }
-    {
-        let Lexed::Token(token, after) = self.next else {
-            return Err(Stop::Syntax);
-        };
-        let Some(flags) = flags_of(self.lines, &token) else {
-            return Err(Stop::Syntax);
-        };
-        self.next = next_token(self.lines, after);
-        Ok(flags)
-    }
-
-    /// Takes the name of a TCP option.
-    pub fn option_name(&mut self) -> Result<OptionName, Stop>
-        ensures { Leaves result self.new (option_name_at self.old) }
-    {
-        let Lexed::Token(token, after) = self.next else {
-            return Err(Stop::Syntax);
-        };
-        let Some(option) = option_of(self.lines, &token) else {
-            return Err(Stop::Syntax);
-        };
-        self.next = next_token(self.lines, after);
-        Ok(option)
-    }
-
-    /// Whether this word stands here.
-    pub fn is_named(&self, name: &[u8]) -> bool
-        ensures { result ≡ next_is (is_named name.now) self.now }
-    {
-        match &self.next {
-            Lexed::Token(token, _) => is_named(self.lines, token, name),
-            _ => false,
-        }
-    }
-
-    /// Takes the name of a call.
-    pub fn function(&mut self) -> Result<Function, Stop>
-        ensures { Leaves result self.new (function_at self.old) }
-    {
-        let Lexed::Token(token, after) = self.next else {
-            return Err(Stop::Syntax);
-        };
-        let Some(function) = function_of(self.lines, &token) else {
-            return Err(Stop::Syntax);
-        };
-        self.next = next_token(self.lines, after);
-        Ok(function)
-    }
-
-    /// Takes the name of an error.
-    pub fn error(&mut self) -> Result<ErrorName, Stop>
-        ensures { Leaves result self.new (error_at self.old) }
-    {
-        let Lexed::Token(token, after) = self.next else {
-            return Err(Stop::Syntax);
-        };
-        let Some(name) = error_of(self.lines, &token) else {
-            return Err(Stop::Syntax);
-        };
-        self.next = next_token(self.lines, after);
-        Ok(name)
-    }
-
-    /// Takes an option or a command of the header, if one stands here.
-    pub fn header_item(&mut self) -> Option<HeaderItem>
-        ensures some { IfSome result (λ item. header_item_at self.old ≡ Ok (item, self.new)) }
-        ensures none { IfNone result (header_item_at self.old ≡ Err self.new) }
-        ensures same { IfNone result (self.new ≡ self.old) }
-    {
-        let Lexed::Token(token, after) = self.next else {
+        let Lexed::Token(token, _) = self.next else {
             return None;
         };
-        let item = header_item_of(self.lines, &token)?;
-        self.next = next_token(self.lines, after);
-        Some(item)
-    }
-
-    /// Goes over a token.
-    pub fn advance(&mut self)
-        ensures { self.new ≡ behind_token self.old }
-    {
-        if let Lexed::Token(_, after) = self.next {
-            self.next = next_token(self.lines, after);
+        if matches!(token.kind, TokenKind::Symbol) && token.text == [octet].as_slice() {
+            Some(token.line)
+        } else {
+            None
         }
     }
 
+    #[tactic(auto, unfolding(pd_lex::specs::Lexing::lexeme_of))]
+    pub fn next_int(&self) -> Option<u32>
+        ensures { result ≡ next_given is_int (λ t. number (text_of t)) self.now }
+    {
+        let Lexed::Token(token, _) = self.next else {
+            return None;
+        };
+        if !matches!(token.kind, TokenKind::Int) {
+            return None;
+        }
+        u32::try_from(number(token.text)).ok()
+    }
+
+    #[tactic(auto, unfolding(pd_lex::specs::Lexing::lexeme_of))]
+    pub fn next_int_from(&self, least: u32) -> Option<u32>
+        ensures { result ≡ next_given (is_int_from least) (λ t. number (text_of t)) self.now }
+    {
+        let Lexed::Token(token, _) = self.next else {
+            return None;
+        };
+        if !matches!(token.kind, TokenKind::Int) {
+            return None;
+        }
+        let number = u32::try_from(number(token.text)).ok()?;
+        if least <= number { Some(number) } else { None }
+    }
+
+    #[tactic(auto, unfolding(pd_lex::specs::Lexing::lexeme_of))]
+    pub fn next_int_equal(&self, wanted: u32) -> Option<u32>
+        ensures { result ≡ next_given (is_int_of wanted) (λ t. number (text_of t)) self.now }
+    {
+        let Lexed::Token(token, _) = self.next else {
+            return None;
+        };
+        if !matches!(token.kind, TokenKind::Int) {
+            return None;
+        }
+        let number = u32::try_from(number(token.text)).ok()?;
+        if number == wanted { Some(number) } else { None }
+    }
+
+    #[tactic(auto, unfolding(pd_lex::specs::Lexing::lexeme_of))]
+    pub fn next_hex(&self) -> Option<u32>
+        ensures { result ≡ next_given is_hex (λ t. hex_number (text_of t)) self.now }
+    {
+        let Lexed::Token(token, _) = self.next else {
+            return None;
+        };
+        if !matches!(token.kind, TokenKind::Hex) {
+            return None;
+        }
+        u32::try_from(hex_number(token.text)).ok()
+    }
+
+    /// The line and the microseconds of an Int or a Decimal below 4,294,967,296 seconds.
+    #[tactic(auto, unfolding(pd_lex::specs::Lexing::lexeme_of))]
+    pub fn next_num(&self) -> Option<(usize, u64)>
+        ensures { result ≡ next_given is_num (λ t. (line_of t, microseconds (text_of t))) self.now }
+    {
+        let Lexed::Token(token, _) = self.next else {
+            return None;
+        };
+        if !matches!(token.kind, TokenKind::Int | TokenKind::Decimal) {
+            return None;
+        }
+        let time = microseconds(token.text);
+        if time < TIME_LIMIT {
+            Some((token.line, time))
+        } else {
+            None
+        }
+    }
+
+    #[tactic(auto, unfolding(pd_lex::specs::Lexing::lexeme_of))]
+    pub fn next_num_from(&self, least: u64) -> Option<u64>
+        ensures { result ≡ next_given (is_num_from least) (λ t. microseconds (text_of t)) self.now }
+    {
+        let Lexed::Token(token, _) = self.next else {
+            return None;
+        };
+        if !matches!(token.kind, TokenKind::Int | TokenKind::Decimal) {
+            return None;
+        }
+        let time = microseconds(token.text);
+        if time < TIME_LIMIT && least <= time {
+            Some(time)
+        } else {
+            None
+        }
+    }
+
+    #[tactic(auto, unfolding(pd_lex::specs::Lexing::lexeme_of))]
+    pub fn next_flags(&self) -> Option<Flags>
+        ensures { result ≡ next_given is_flags (λ t. flags_of (text_of t)) self.now }
+    {
+        let Lexed::Token(token, _) = self.next else {
+            return None;
+        };
+        if matches!(token.kind, TokenKind::Word) && are_flags(token.text) {
+            Some(Flags::of_letters(token.text))
+        } else {
+            None
+        }
+    }
+
+    #[tactic(auto, unfolding(pd_lex::specs::Lexing::lexeme_of))]
+    pub fn next_option_name(&self) -> Option<OptionName>
+        ensures { result ≡ next_given is_option (λ t. unwrap_or (option_named (text_of t)) OptionName.Nop) self.now }
+    {
+        let Lexed::Token(token, _) = self.next else {
+            return None;
+        };
+        if !matches!(token.kind, TokenKind::Word) {
+            return None;
+        }
+        option_named(token.text)
+    }
+
+    #[tactic(auto, unfolding(pd_lex::specs::Lexing::lexeme_of))]
+    pub fn next_function(&self) -> Option<Function>
+        ensures { result ≡ next_given is_word (λ t. function_named (text_of t)) self.now }
+    {
+        let Lexed::Token(token, _) = self.next else {
+            return None;
+        };
+        if !matches!(token.kind, TokenKind::Word) {
+            return None;
+        }
+        Some(function_named(token.text))
+    }
+
+    #[tactic(auto, unfolding(pd_lex::specs::Lexing::lexeme_of))]
+    pub fn next_error(&self) -> Option<ErrorName>
+        ensures { result ≡ next_given is_word (λ t. error_named (text_of t)) self.now }
+    {
+        let Lexed::Token(token, _) = self.next else {
+            return None;
+        };
+        if !matches!(token.kind, TokenKind::Word) {
+            return None;
+        }
+        Some(error_named(token.text))
+    }
+
+    #[tactic(auto, unfolding(pd_lex::specs::Lexing::lexeme_of))]
+    pub fn next_dots(&self) -> Option<()>
+        ensures { result ≡ next_given is_dots (λ t. tt) self.now }
+    {
+        let Lexed::Token(token, _) = self.next else {
+            return None;
+        };
+        if matches!(token.kind, TokenKind::Dots) {
+            Some(())
+        } else {
+            None
+        }
+    }
+
+    #[tactic(auto, unfolding(pd_lex::specs::Lexing::lexeme_of))]
+    pub fn next_named(&self, name: &[u8]) -> Option<()>
+        ensures { result ≡ next_given (is_named name.now) (λ t. tt) self.now }
+    {
+        let Lexed::Token(token, _) = self.next else {
+            return None;
+        };
+        if matches!(token.kind, TokenKind::Word) && token.text == name {
+            Some(())
+        } else {
+            None
+        }
+    }
+
+    #[tactic(auto, unfolding(pd_lex::specs::Lexing::lexeme_of))]
+    pub fn next_command(&self) -> Option<Action>
+        ensures { result ≡ next_given is_command (λ t. Action.Command) self.now }
+    {
+        let Lexed::Token(token, _) = self.next else {
+            return None;
+        };
+        if matches!(token.kind, TokenKind::Cmd) {
+            Some(Action::Command)
+        } else {
+            None
+        }
+    }
+
+    #[tactic(auto, unfolding(pd_lex::specs::Lexing::lexeme_of))]
+    pub fn next_code(&self) -> Option<Action>
+        ensures { result ≡ next_given is_code (λ t. Action.Code) self.now }
+    {
+        let Lexed::Token(token, _) = self.next else {
+            return None;
+        };
+        if matches!(token.kind, TokenKind::Code) {
+            Some(Action::Code)
+        } else {
+            None
+        }
+    }
+
+    #[tactic(auto, unfolding(pd_lex::specs::Lexing::lexeme_of))]
+    pub fn next_header_item(&self) -> Option<HeaderItem>
+        ensures { result ≡ next_given is_header (λ t. header_item t) self.now }
+    {
+        let Lexed::Token(token, _) = self.next else {
+            return None;
+        };
+        let kind = match token.kind {
+            TokenKind::Opt => HeaderKind::of_option(token.text),
+            TokenKind::Cmd => HeaderKind::Command,
+            _ => return None,
+        };
+        Some(HeaderItem {
+            line: token.line,
+            kind,
+        })
+    }
+}
+
+/// Parts of arguments and notes.
+impl<'a> Cursor<'a> {
     /// Takes a token that is a part of a note.
     pub fn note_part(&mut self, pairs: OpenPairs) -> Result<OpenPairs, Stop>
         ensures { Leaves result self.new (note_part_at pairs self.old) }
     {
-        let Lexed::Token(token, after) = self.next else {
+        let Lexed::Token(token, _) = self.next else {
             return Err(Stop::Syntax);
         };
         let mut pairs = pairs;
-        pairs.pass(self.lines, &token, MAX_DEPTH - 1)?;
-        self.next = next_token(self.lines, after);
+        pairs.pass(&token, MAX_DEPTH - 1)?;
+        self.take();
         Ok(pairs)
     }
 
@@ -411,15 +463,15 @@ impl<'a> Cursor<'a> {
     pub fn part(&mut self, inside: Inside) -> Result<Inside, Stop>
         ensures { Leaves result self.new (part_at inside self.old) }
     {
-        let Lexed::Token(token, after) = self.next else {
+        let Lexed::Token(token, _) = self.next else {
             return Err(Stop::Syntax);
         };
         let Inside { mut pairs, draft } = inside;
-        pairs.pass(self.lines, &token, MAX_DEPTH)?;
-        self.next = next_token(self.lines, after);
+        pairs.pass(&token, MAX_DEPTH)?;
+        self.take();
         Ok(Inside {
             pairs,
-            draft: draft.with(self.lines, &token),
+            draft: draft.with(&token),
         })
     }
 }

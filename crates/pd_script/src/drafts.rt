@@ -5,12 +5,11 @@ use crate::brackets::OpenPairs;
 use crate::calls::Argument;
 use crate::names::constant_named;
 use crate::numbers::number;
-use crate::token_tests::{is_any_int, is_symbol, is_word};
+use crate::tokens::{is_any_int, is_symbol, is_word};
 use pd_lex::Token;
-use pd_text::Lines;
 
 /// The tokens of an argument so far.
-#[derive(Clone, Copy, PartialEq, Eq)]
+#[derive(Clone, Copy)]
 pub enum Draft {
     /// None.
     Empty,
@@ -27,19 +26,17 @@ pub enum Draft {
 }
 
 impl Draft {
-    ghost use Rattle.pd_lex.specs.Tokens.{lexeme};
-    ghost use Rattle.pd_lex.specs.Lexing.{lexeme_of};
+    ghost use Rattle.pd_script.specs.Cursor.{shown};
     ghost use Rattle.pd_script.specs.Drafts.{single_draft, longer_draft, drafted, is_empty};
 
-    #[tactic(auto, unfolding(pd_lex::specs::Lexing::lexeme_of))]
-    fn single(lines: &Lines, token: &Token) -> Draft
-        ensures { result ≡ single_draft (lexeme (lexeme_of lines.now token.now)) }
+    fn single(token: &Token) -> Draft
+        ensures { result ≡ single_draft (shown token.now) }
     {
-        if is_any_int(lines, token) {
-            Draft::Single(Argument::Int(number(token.text(lines))))
-        } else if is_word(lines, token) {
-            Draft::Single(Argument::Constant(constant_named(token.text(lines))))
-        } else if is_symbol(lines, token, b'[') {
+        if is_any_int(token) {
+            Draft::Single(Argument::Int(number(token.text)))
+        } else if is_word(token) {
+            Draft::Single(Argument::Constant(constant_named(token.text)))
+        } else if is_symbol(token, b'[') {
             Draft::Opened
         } else {
             Draft::Mixed
@@ -47,14 +44,13 @@ impl Draft {
     }
 
     /// The draft with one token more.
-    #[tactic(auto, unfolding(pd_lex::specs::Lexing::lexeme_of))]
-    pub fn with(self, lines: &Lines, token: &Token) -> Draft
-        ensures { result ≡ longer_draft self (lexeme (lexeme_of lines.now token.now)) }
+    pub fn with(self, token: &Token) -> Draft
+        ensures { result ≡ longer_draft self (shown token.now) }
     {
         match self {
-            Draft::Empty => Draft::single(lines, token),
-            Draft::Opened if is_any_int(lines, token) => Draft::Numbered(number(token.text(lines))),
-            Draft::Numbered(n) if is_symbol(lines, token, b']') => Draft::Element(n),
+            Draft::Empty => Draft::single(token),
+            Draft::Opened if is_any_int(token) => Draft::Numbered(number(token.text)),
+            Draft::Numbered(n) if is_symbol(token, b']') => Draft::Element(n),
             _ => Draft::Mixed,
         }
     }

@@ -17,8 +17,9 @@ mod script_events;
 mod script_header;
 mod script_laws;
 mod stops;
+mod taken;
 mod timing;
-mod token_tests;
+mod tokens;
 
 pub use calls::{Argument, Arguments, Call, Constant, ErrorName, Function, Outcome};
 pub use packets::{Block, Blocks, Flags, OptionList, Options, Packet, PacketOption};

@@ -6,7 +6,7 @@ ghost use Rattle.pd_script.specs.Values.{function_name, function_named, named_fu
 use crate::calls::{Constant, ErrorName, Function};
 
 /// The name of a TCP option.
-#[derive(Clone, Copy, PartialEq, Eq)]
+#[derive(Clone, Copy)]
 pub enum OptionName {
     Mss,
     Wscale,

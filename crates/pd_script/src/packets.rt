@@ -1,6 +1,7 @@
 //! Packets as a script writes them.
 ghost use Rattle.std.specs.Prelude.{◌≡◌, ◌==◌, ◌||◌, [], ◌∷◌, ◌++◌, length, OnOk};
-ghost use Rattle.std.specs.List.{list_any};
+ghost use Rattle.std.specs.List.{list_any, list_all};
+ghost use Rattle.pd_script.specs.Values.{is_flag};
 
 use std::alloc::{AllocError, Global};
 use std::marker::Model;
@@ -23,7 +24,7 @@ pub struct Packet {
 }
 
 /// The flags of a packet.
-#[derive(Clone, Copy, PartialEq, Eq)]
+#[derive(Clone, Copy)]
 pub struct Flags {
     /// `S`.
     pub syn: bool,
@@ -77,6 +78,19 @@ impl Flags {
     {
         Flags { ack: true, ..self }
     }
+}
+
+fn is_flag(octet: u8) -> bool
+    ensures { result ≡ is_flag octet }
+{
+    matches!(octet, b'F' | b'S' | b'R' | b'P' | b'U' | b'E' | b'W' | b'C')
+}
+
+/// Whether the octets are letters of flags alone.
+pub fn are_flags(octets: &[u8]) -> bool
+    ensures { result ≡ list_all is_flag octets.now }
+{
+    octets.iter().all(|octet| is_flag(*octet))
 }
 
 /// The TCP options of a packet.
@@ -140,7 +154,7 @@ impl Model for Blocks {
 }
 
 /// A run of octets: the number of its first, and the number after its last.
-#[derive(Clone, Copy, PartialEq, Eq)]
+#[derive(Clone, Copy)]
 pub struct Block {
     pub left: u64,
     pub right: u64,

@@ -26,7 +26,7 @@ impl<'a> Cursor<'a> {
     {
         let mut arguments = Arguments::new(alloc);
         if self.is_symbol(b')') {
-            self.advance();
+            self.take();
             return Ok(arguments);
         }
         let mut inside = Inside::fresh();
@@ -40,10 +40,10 @@ impl<'a> Cursor<'a> {
             }
             arguments.push(inside.draft.argument())?;
             if self.is_symbol(b')') {
-                self.advance();
+                self.take();
                 return Ok(arguments);
             }
-            self.advance();
+            self.take();
             inside = Inside::fresh();
         }
     }
@@ -62,7 +62,7 @@ impl<'a> Cursor<'a> {
         let mut pairs = OpenPairs::new();
         'tokens: loop {
             if self.is_last(&pairs) {
-                self.advance();
+                self.take();
                 return Ok(());
             }
             pairs = self.note_part(pairs)?;

@@ -14,6 +14,7 @@ use crate::parsing::{Found, Parsed};
 use crate::script_events::{Event, Events};
 use crate::script_header::Header;
 use crate::stops::Stop;
+use pd_lex::{Place, first_lines, longest_pieces};
 use pd_text::Lines;
 use std::alloc::{AllocError, Global};
 
@@ -40,7 +41,7 @@ impl<'a> Cursor<'a> {
     }
 
     /// Takes an event, if what follows it may follow where so many more may come.
-    fn next_event(&mut self, alloc: Global, left: usize) -> Result<Event, Stop>
+    fn followed_event(&mut self, alloc: Global, left: usize) -> Result<Event, Stop>
         ensures { Leaves result self.new (followed (may_follow left) (event_at self.old)) }
     {
         let event = self.event(alloc)?;
@@ -71,7 +72,7 @@ impl<'a> Cursor<'a> {
             if !self.starts_event() {
                 break;
             }
-            match self.next_event(alloc, MAX_EVENTS - i - 1) {
+            match self.followed_event(alloc, MAX_EVENTS - i - 1) {
                 Ok(event) => events.push(event)?,
                 Err(Stop::Syntax) => {
                     let fault = Some(self.line());
@@ -102,6 +103,9 @@ pub fn parse(alloc: Global, lines: &Lines) -> Result<Parsed, AllocError>
     ensures limit { IfOk result (λ parsed. length parsed.events ≤ 4096) }
     ensures lines { IfOk result (λ parsed. HasLines lines.now parsed) }
 {
+    // The laws of tokens do no work: what is said of the items and their lines rests on them.
+    longest_pieces();
+    first_lines();
     let parsed = read(alloc, lines)?;
     // A look at a line tells that no line holds a newline.
     let _ = lines.line(1);
@@ -112,7 +116,7 @@ pub fn parse(alloc: Global, lines: &Lines) -> Result<Parsed, AllocError>
 fn read(alloc: Global, lines: &Lines) -> Result<Parsed, AllocError>
     ensures { IfOk result (λ parsed. parsed ≡ script_of lines.now) }
 {
-    let mut cursor = Cursor::new(lines);
+    let mut cursor = Cursor::at(lines, Place::first());
     let header = cursor.header(alloc)?;
     let Found { events, fault } = cursor.events(alloc)?;
     Ok(Parsed {

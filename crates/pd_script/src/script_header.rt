@@ -6,7 +6,7 @@ use std::alloc::{AllocError, Global};
 use std::marker::Model;
 
 /// An option or a command that stands before a script's events.
-#[derive(Clone, Copy, PartialEq, Eq)]
+#[derive(Clone, Copy)]
 pub struct HeaderItem {
     /// The line of its first octet, counted from 1.
     pub line: usize,
@@ -14,7 +14,7 @@ pub struct HeaderItem {
 }
 
 /// What a header item is.
-#[derive(Clone, Copy, Debug, PartialEq, Eq)]
+#[derive(Clone, Copy)]
 pub enum HeaderKind {
     /// `--tolerance_usecs=N` with one or more digits: at most 1,000,000 microseconds.
     Tolerance(u64),

@@ -2,7 +2,7 @@
 use std::alloc::AllocError;
 
 /// Why reading stops before the end of what is read.
-#[derive(Clone, Copy, PartialEq, Eq)]
+#[derive(Clone, Copy)]
 pub enum Stop {
     /// No script goes on with the next token.
     Syntax,

@@ -1,7 +1,7 @@
 //! The times of a script's events.
 
 /// When an event happens, in microseconds; digits after the sixth decimal were dropped.
-#[derive(Clone, Copy, Debug, PartialEq, Eq)]
+#[derive(Clone, Copy)]
 pub enum Time {
     /// `*`: at any time.
     Any,
@@ -16,7 +16,7 @@ pub enum Time {
 }
 
 /// When a blocking call comes back, in microseconds, as written behind `...`.
-#[derive(Clone, Copy, Debug, PartialEq, Eq)]
+#[derive(Clone, Copy)]
 pub enum Until {
     /// Since the start of the run.
     Absolute(u64),

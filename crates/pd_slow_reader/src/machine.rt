@@ -81,13 +81,14 @@ impl State {
 
     /// The state that has these parts to come first.
     fn with(&self, way: &[Part]) -> Result<State, AllocError> {
-        let parts = self.pending.len().saturating_add(way.len());
-        let mut pending = Vec::with_capacity(*self.pending.allocator(), parts)?;
+        let mut pending = Vec::new(*self.pending.allocator());
         for part in self.pending.as_slice() {
             pending.push(*part)?;
         }
-        for part in way.iter().rev() {
-            pending.push(*part)?;
+        for back in 1..=way.len() {
+            if let Some(part) = way.get(way.len().wrapping_sub(back)) {
+                pending.push(*part)?;
+            }
         }
         Ok(State {
             pending,

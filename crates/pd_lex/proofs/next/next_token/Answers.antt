@@ -13,7 +13,7 @@ skips_to : (s t : List ℕ) → s ≡ t → Skips s t
 skips_to s t e = rw e here
 
 pub returns-in_default : goal.returns-in_default
-returns-in_default c = record { next = items_past c.args.lines.now c.standing_place.ensures.lines c.args.place c.in_default.ensures.none; cut = skips_to _ _ (octets_past c.args.lines.now c.args.place c.in_default.ensures.none); line = tt }
+returns-in_default c = record { next = items_past c.args.lines.now c.standing_place.ensures.lines c.args.place c.in_default.ensures.none; cut = skips_to _ _ (octets_past c.args.lines.now c.args.place c.in_default.ensures.none); line = tt; text = tt }
 
 pub gaps-init : goal.gaps-init
 gaps-init c = record {
@@ -38,6 +38,7 @@ returns-in-Token c = record {
   next = c.gaps.invariant.same ∙ items_at_token c.args.lines.now c.standing_place.ensures.lines c.gaps.here c.in-Token.after c.in-Token.kind c.gaps.invariant.place c.in-Token.ensures.0 c.in-Token.ensures.1;
   cut = record { skipped = c.gaps.invariant.skipped; longest = longest_token (octets_from c.args.lines.now c.gaps.here) (octets_from c.args.lines.now c.in-Token.after) c.in-Token.kind c.in-Token.ensures.1; from = c.gaps.invariant.place; to = refl; behind = c.in-Token.ensures.0 };
   line = token_line c.args.lines.now c.standing_place.ensures.lines c.gaps.here c.in-Token.after c.in-Token.kind c.gaps.invariant.place c.in-Token.ensures.1;
+  text = c.in-Token.ensures.3;
 }
 
 pub returns-in-Nothing : goal.returns-in-Nothing
@@ -45,6 +46,7 @@ returns-in-Nothing c = record {
   next = c.gaps.invariant.same ∙ items_at_end c.args.lines.now c.standing_place.ensures.lines c.gaps.here c.gaps.invariant.place c.in-Nothing.ensures;
   cut = rw c.in-Nothing.ensures at c.gaps.invariant.skipped;
   line = tt;
+  text = tt;
 }
 
 pub returns-in-Stray : goal.returns-in-Stray
@@ -52,4 +54,5 @@ returns-in-Stray c = record {
   next = c.gaps.invariant.same ∙ items_at_stray c.args.lines.now c.standing_place.ensures.lines c.gaps.here c.gaps.invariant.place c.in-Stray.ensures;
   cut = record { at = c.gaps.here; skipped = c.gaps.invariant.skipped; stuck = stuck_at (octets_from c.args.lines.now c.gaps.here) c.in-Stray.ensures; place = c.gaps.invariant.place; line_is = refl };
   line = stuck_line c.args.lines.now c.standing_place.ensures.lines c.gaps.here c.gaps.invariant.place (stuck_at (octets_from c.args.lines.now c.gaps.here) c.in-Stray.ensures);
+  text = tt;
 }

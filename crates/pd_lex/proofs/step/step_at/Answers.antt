@@ -29,7 +29,7 @@ returns-in-Whole c =
 
 pub returns-in-Some-place_behind_end : goal.returns-in-Some-place_behind_end
 returns-in-Some-place_behind_end c =
-    rw c.closed.ensures (step_closed c.args.lines.now c.args.place c.requires c.in-Some.ensures.line c.in-Some.rest.now c.in-Open.opener c.in-Some.ensures.rest c.in-Open.ensures.piece (some_left (length c.in-Some.rest.now) c.if-is_empty.ensures) c.in-Open.ensures.within c.in-Some-place_behind_end.after (rw c.len.ensures at c.in-Some-place_behind_end.ensures))
+    step_closed c.args.lines.now c.args.place c.requires c.in-Some.ensures.line c.in-Some.rest.now c.in-Open.opener c.in-Some.ensures.rest c.in-Open.ensures.piece (some_left (length c.in-Some.rest.now) c.if-is_empty.ensures) c.in-Open.ensures.within c.in-Some-place_behind_end.after (rw c.len.ensures at c.in-Some-place_behind_end.ensures) c.closed.result c.closed.ensures
 
 pub returns-in-None : goal.returns-in-None
 returns-in-None c =

@@ -7,10 +7,10 @@ use Rattle.pd_script.proofs.OneScript.{script_is_so}
 use Rattle.pd_script.proofs.read_script.parse.Goals as goal
 
 pub returns-clause-read : goal.returns-clause-read
-returns-clause-read c = let lines = c.args.lines.now in subst (λ (p : Parsed). IsScriptOf lines p) (sym c.in_ok-parsed.ensures) (script_is_so lines)
+returns-clause-read c = let lines = c.args.lines.now in subst (λ (p : Parsed). IsScriptOf lines p) (sym c.in_ok-parsed.ensures) (script_is_so c.longest_pieces.ensures.items lines)
 
 pub returns-clause-limit : goal.returns-clause-limit
 returns-clause-limit c = subst (λ (p : Parsed). length p.events ≤ 4096) (sym c.in_ok-parsed.ensures) (script_is_short c.args.lines.now)
 
 pub returns-clause-lines : goal.returns-clause-lines
-returns-clause-lines c = let lines = c.args.lines.now in subst (λ (p : Parsed). HasLines lines p) (sym c.in_ok-parsed.ensures) (script_has_lines lines c.line.ensures.lines)
+returns-clause-lines c = let lines = c.args.lines.now in subst (λ (p : Parsed). HasLines lines p) (sym c.in_ok-parsed.ensures) (script_has_lines c.first_lines.ensures.order lines c.line.ensures.lines)

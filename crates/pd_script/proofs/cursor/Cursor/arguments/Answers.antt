@@ -10,7 +10,7 @@ use Rattle.pd_script.proofs.Taking.{err_leaves}
 use Rattle.pd_script.proofs.cursor.Cursor.arguments.Goals as goal
 
 pub returns-then-is_symbol : goal.returns-then-is_symbol
-returns-then-is_symbol c = rw (c.new-arguments.ensures, c.advance.ensures) (no_arguments c.args.self.now (sym c.is_symbol.ensures ∙ c.if-is_symbol.true))
+returns-then-is_symbol c = rw (c.new-arguments.ensures, c.take.ensures) (no_arguments c.args.self.now (sym c.is_symbol.ensures ∙ c.if-is_symbol.true))
 
 pub tokens-init : goal.tokens-init
 tokens-init c =
@@ -39,7 +39,7 @@ returns-then-is_symbol-2 c =
     let stop : is_between c.tokens.inside c.tokens.self ≡ true = cc (c.is_between.ensures, c.if-not-is_between.false) in
     let some : is_empty c.tokens.inside.draft ≡ false = cc (c.is_empty.ensures, c.if-is_empty.false) in
     let closing : next_is (is_symbol 41) c.tokens.self ≡ true = cc (c.is_symbol-in-tokens.ensures, c.if-is_symbol-2.true) in
-    rw (c.in_ok-push.ensures, c.argument.ensures, c.advance-then-is_symbol-2.ensures) (sym c.tokens.invariant ∙ ap (λ (r : Read (List Argument)). onto c.tokens.arguments r) (last_ends c.tokens.inside c.tokens.self stop some closing))
+    rw (c.in_ok-push.ensures, c.argument.ensures, c.take-then-is_symbol-2.ensures) (sym c.tokens.invariant ∙ ap (λ (r : Read (List Argument)). onto c.tokens.arguments r) (last_ends c.tokens.inside c.tokens.self stop some closing))
 
 pub tokens-preserved : goal.tokens-preserved
 tokens-preserved c =
@@ -47,4 +47,4 @@ tokens-preserved c =
     let some : is_empty c.tokens.inside.draft ≡ false = cc (c.is_empty.ensures, c.if-is_empty.false) in
     let comma : next_is (is_symbol 41) c.tokens.self ≡ false = cc (c.is_symbol-in-tokens.ensures, c.if-is_symbol-2.false) in
     let P = comma_parts c.tokens.inside c.tokens.self stop some comma in
-    rw (c.in_ok-push.ensures, c.argument.ensures, c.advance-in-tokens.ensures, c.fresh-inside-in-tokens.ensures) (onto-append c.tokens.arguments (drafted c.tokens.inside.draft ∷ []) _ ∙ ap (λ (r : Read (List Argument)). onto c.tokens.arguments r) (sym P.0) ∙ c.tokens.invariant)
+    rw (c.in_ok-push.ensures, c.argument.ensures, c.take-in-tokens.ensures, c.fresh-inside-in-tokens.ensures) (onto-append c.tokens.arguments (drafted c.tokens.inside.draft ∷ []) _ ∙ ap (λ (r : Read (List Argument)). onto c.tokens.arguments r) (sym P.0) ∙ c.tokens.invariant)

@@ -9,19 +9,19 @@ use Rattle.pd_script.proofs.cursor.Cursor.events.Goals as goal
 pub returns-in-Err-Syntax : goal.returns-in-Err-Syntax
 returns-in-Err-Syntax c =
     let m = 4096 - c.events.i - 1 in
-    let got = rw (c.in-Err-Syntax.is, c.in-Err-Syntax.field-0-is) at c.next_event.ensures in
+    let got = rw (c.in-Err-Syntax.is, c.in-Err-Syntax.field-0-is) at c.followed_event.ensures in
     let start : next_is starts_event c.events.self ≡ true = cc (c.starts_event.ensures, c.if-not-starts_event.false) in
-    let step = found_step (4096 - c.events.i) m c.events.self (Err c.next_event.new.self) (omega arith) start got in
-    rw c.line.ensures (sym (in_front-none c.events.events (Some (next_line c.next_event.new.self))) ∙ (rw step at c.events.invariant))
+    let step = found_step (4096 - c.events.i) m c.events.self (Err c.followed_event.new.self) (omega arith) start got in
+    rw c.line.ensures (sym (in_front-none c.events.events (Some (next_line c.followed_event.new.self))) ∙ (rw step at c.events.invariant))
 
 pub events-preserved : goal.events-preserved
 events-preserved c =
     let m = 4096 - c.events.i - 1 in
-    let got = rw c.in-Ok.is at c.next_event.ensures in
+    let got = rw c.in-Ok.is at c.followed_event.ensures in
     let start : next_is starts_event c.events.self ≡ true = cc (c.starts_event.ensures, c.if-not-starts_event.false) in
-    let step = found_step (4096 - c.events.i) m c.events.self (Ok (c.in-Ok.event, c.next_event.new.self)) (omega arith) start got in
+    let step = found_step (4096 - c.events.i) m c.events.self (Ok (c.in-Ok.event, c.followed_event.new.self)) (omega arith) start got in
     let less : 4096 - (c.events.i + 1) ≡ m = omega arith in
-    rw (c.in_ok-push-in-Ok.ensures, less) (in_front-append c.events.events c.in-Ok.event (found_in m c.next_event.new.self) ∙ (rw step at c.events.invariant))
+    rw (c.in_ok-push-in-Ok.ensures, less) (in_front-append c.events.events c.in-Ok.event (found_in m c.followed_event.new.self) ∙ (rw step at c.events.invariant))
 
 pub returns : goal.returns
 returns c =

@@ -9,7 +9,7 @@ use Rattle.pd_script.proofs.cursor.Cursor.note_inside.Goals as goal
 pub returns-then-is_last : goal.returns-then-is_last
 returns-then-is_last c =
     let last : is_last c.tokens.pairs c.tokens.self ≡ true = cc (c.is_last.ensures, c.if-is_last.true) in
-    rw c.advance.ensures (sym c.tokens.invariant ∙ note_ends c.tokens.pairs c.tokens.self last)
+    rw c.take.ensures (sym c.tokens.invariant ∙ note_ends c.tokens.pairs c.tokens.self last)
 
 pub returns-in_err-pairs : goal.returns-in_err-pairs
 returns-in_err-pairs c =

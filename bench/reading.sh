@@ -1,0 +1,54 @@
+#!/bin/sh
+# Measures how scripts are read, as the built program takes them: long argument lists, and scripts of 60 events.
+# Tells octets per second, and where valgrind is there the instructions an octet, which don't vary with the load.
+#
+#   bench/reading.sh [OCTETS]      about 1,000,000 octets of each if nothing is said
+set -eu
+top=$(cd "$(dirname "$0")/.." && pwd)
+program=$top/crates/pdregress/out/pdregress
+octets=${1:-1000000}
+work=$(mktemp -d)
+trap 'rm -rf "$work"' EXIT
+[ -x "$program" ] || "$top/pdregress" </dev/null >/dev/null
+
+# Each script is 60 lines of one call, whose arguments are brackets within brackets.
+awk -v octets="$octets" 'BEGIN {
+    call = "0 socket("
+    for (a = 1; a <= 80; a++)
+        call = call "[a,(b,{c})],"
+    call = call "x) = 3"
+    for (s = 1; said < octets; s++) {
+        print "add arguments" s, 60
+        for (e = 1; e <= 60; e++)
+            print call
+        said += 60 * (length(call) + 1)
+    }
+}' >"$work/arguments"
+
+# Each script opens, binds and then listens on the descriptor again and again.
+awk -v octets="$octets" 'BEGIN {
+    for (s = 1; said < octets; s++) {
+        print "add events" s, 60
+        print "0 socket(..., SOCK_STREAM, IPPROTO_TCP) = 3"
+        print "+0 bind(3, ..., ...) = 0"
+        for (e = 3; e <= 60; e++) {
+            line = sprintf("+0.%03d listen(3, %d) = 0", (s * 7 + e * 13) % 1000, e)
+            print line
+            said += length(line) + 1
+        }
+    }
+}' >"$work/events"
+
+for input in arguments events; do
+    count=$(wc -c <"$work/$input")
+    begin=$(date +%s%N)
+    "$program" <"$work/$input" >/dev/null
+    end=$(date +%s%N)
+    awk -v input="$input" -v octets="$count" -v ns="$((end - begin))" 'BEGIN {
+        s = ns / 1e9
+        printf "%s: %d octets in %.3f s, %.0f octets/s\n", input, octets, s, octets / s
+    }'
+    command -v valgrind >/dev/null || continue
+    valgrind --tool=callgrind --callgrind-out-file=/dev/null "$program" <"$work/$input" 2>"$work/said" >/dev/null
+    awk -v input="$input" -v octets="$count" '/Collected/ { printf "%s: %.0f instructions an octet\n", input, $NF / octets }' "$work/said"
+done

@@ -1,0 +1,26 @@
+//! What a token is by itself.
+ghost use Rattle.std.specs.Prelude.{◌≡◌};
+ghost use Rattle.pd_script.specs.Items.{is_any_int, is_word, is_symbol};
+ghost use Rattle.pd_script.specs.Cursor.{shown};
+
+use pd_lex::{Token, TokenKind};
+
+/// An Int of any size.
+pub fn is_any_int(token: &Token) -> bool
+    ensures { result ≡ is_any_int (shown token.now) }
+{
+    matches!(token.kind, TokenKind::Int)
+}
+
+pub fn is_word(token: &Token) -> bool
+    ensures { result ≡ is_word (shown token.now) }
+{
+    matches!(token.kind, TokenKind::Word)
+}
+
+/// The symbol of this octet.
+pub fn is_symbol(token: &Token, octet: u8) -> bool
+    ensures { result ≡ is_symbol octet (shown token.now) }
+{
+    matches!(token.kind, TokenKind::Symbol) && token.text == [octet].as_slice()
+}
