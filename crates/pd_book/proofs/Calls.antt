@@ -127,7 +127,7 @@ start_kept opening past past' current kept kept' tasks tasks' count count' cap c
     rw (p, ais, k, hs, n, num, whole) (start_replays opening past current kept tasks count cap cap' j.name j.text r h big few)
 
 -- an end leaves fewer jobs
-fewer : (j : ℕ) (tasks : List Task) (h : Task) → find (λ (x : Task). j == x.number) tasks ≡ Some h → length (without j tasks) < length tasks
+pub fewer : (j : ℕ) (tasks : List Task) (h : Task) → find (λ (x : Task). j == x.number) tasks ≡ Some h → length (without j tasks) < length tasks
 fewer j [] h e = absurd cc
 fewer j (x ∷ tasks) h e = go (j == x.number) e (fewer j tasks h) (no_more tasks)
   where

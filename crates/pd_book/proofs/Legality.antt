@@ -1,32 +1,29 @@
 -- Calls that aren't refused, and turns of settling, keep a story legal.
-use Rattle.std.proofs.Common.{◌≡◌, ℕ, ◌==◌, ◌+◌, ◌<◌, ◌≤◌, List, [], ◌∷◌, ◌++◌, length, find, Option, Some, None, is_none, Bool, true, false, not, cond, unwrap_or, refl, ap, sym, subst, ◌∙◌, arith}
+use Rattle.std.proofs.Common.{◌≡◌, ℕ, ◌==◌, ◌+◌, ◌≤◌, List, [], ◌∷◌, length, Option, Some, None, is_none, Bool, true, false, not, cond, unwrap_or, refl, ap, sym, subst, ◌∙◌, arith}
 use Rattle.std.specs.Prelude.{nat_le}
 use Rattle.std.specs.Option.{option_map}
 use Rattle.std.proofs.lemmas.Bool.{leb-false}
 use Rattle.std.proofs.lemmas.Bool.Decides.{Decides-eqb}
-use Rattle.pd_text.specs.Text.{AreLines}
 use Rattle.pd_text.specs.Name.{is_valid_name}
 use Rattle.pd_text.specs.Edit.{edit_refusal as fault_of_edit}
-use Rattle.pd_text.specs.declared.faults.TextFault.{TextFault}
-use Rattle.pd_text.specs.declared.line_edit.LineEdit.{LineEdit}
 use Rattle.pd_settings.specs.Settings.{replaced}
 use Rattle.pd_settings.specs.Keys.{key_named}
 use Rattle.pd_settings.specs.declared.fields.Settings.{Settings}
 use Rattle.pd_settings.specs.declared.keys.Key.{Key}
-use Rattle.pd_settings.specs.declared.values.Value.{Value}
 use Rattle.pd_book.specs.declared.act.Act.{Act}
-use Rattle.pd_book.specs.declared.act.Act.TheVariants.{Add, Edit, Remove, Set, Start, Finish, Abandon}
-use Rattle.pd_book.specs.declared.act.Ruling.{Ruling}
+use Rattle.pd_book.specs.declared.act.Act.TheVariants.{Add, Edit, Remove, Set, Start}
 use Rattle.pd_book.specs.declared.faults.BookFault.{BookFault}
-use Rattle.pd_book.specs.declared.faults.BookFault.TheVariants.{BadName, NameTaken, TooManyScripts, NoSuchScript, UnknownKey, BadValue, HistoryFull}
+use Rattle.pd_book.specs.declared.faults.BookFault.TheVariants.{BadName, NameTaken, TooManyScripts, NoSuchScript, BadValue}
 use Rattle.pd_book.specs.declared.task.Task.{Task}
-use Rattle.pd_book.specs.Acts.{Named, texts, present, text_of, stands, now, started, jobs, job, next, ruling}
-use Rattle.pd_book.specs.Legal.{IsText, May, HasRoom, Legal}
+use Rattle.pd_book.specs.Acts.{Named, texts, present, text_of, stands, now, started, jobs, job, next}
+use Rattle.pd_book.specs.Legal.{May, HasRoom, Legal}
 use Rattle.pd_book.specs.Story.{Story}
 use Rattle.pd_book.specs.Faults.{of_text}
-use Rattle.pd_book.specs.Refusals.{taken_room, full, or_else, name_refusal, add_refusal, text_refusal, edit_refusal, absence, remove_refusal, value_refusal, set_refusal, start_refusal, next_job}
+use Rattle.pd_book.specs.Refusals.{taken_room, full, or_else, name_refusal, text_refusal, absence, value_refusal, start_refusal, next_job}
 use Rattle.pd_book.specs.Accepted.{AddsAreLegal, EditsAreLegal, RemovesAreLegal, SetsAreLegal}
-use Rattle.pd_book.specs.Turns.{turned, after_turn, IsAtRest, TurnsAreLegal}
+use Rattle.pd_book.specs.Turns.{turned, after_turn, IsAtRest, StartsAreOutstanding, TurnsAreLegal}
+use Rattle.pd_book.proofs.Searches.{find_last}
+use Rattle.pd_book.proofs.Numbers.{job_number}
 use Rattle.pd_book.proofs.Calls.{has_room, no_fault}
 use Rattle.pd_book.proofs.Replayed.{next_text}
 
@@ -97,6 +94,23 @@ job_from P story task h f = go (next story.past) refl h
     go : (o : Option Named) → next story.past ≡ o → option_map (task_for story) o ≡ Some task → P task
     go None e k = absurd cc
     go (Some script) e k = subst P (some_same (task_for story script) task k) (f script e)
+
+-- the job is outstanding then
+pub starts_outstanding : (story : Story) → Legal story.opening story.past → StartsAreOutstanding story
+starts_outstanding story l task h = job_from (λ (t : Task). job story.opening (Start t.number t.name ∷ story.past) t.number ≡ Some t) story task h begun
+  where
+    begun : (script : Named) → next story.past ≡ Some script → job story.opening (Start (started story.past + 1) script.0 ∷ story.past) (started story.past + 1) ≡ Some (task_for story script)
+    begun script e = go (job story.opening story.past (started story.past + 1)) refl
+      where
+        text : text_of story.past script.0 ≡ script.1
+        text = next_text story.opening story.past script.0 script.1 l e
+
+        own : ((started story.past + 1) == (started story.past + 1)) ≡ true
+        own = (Decides-eqb (started story.past + 1) (started story.past + 1)).1 refl
+
+        go : (r : Option Task) → job story.opening story.past (started story.past + 1) ≡ r → job story.opening (Start (started story.past + 1) script.0 ∷ story.past) (started story.past + 1) ≡ Some (task_for story script)
+        go (Some t) q = let small = (job_number story.opening story.past (started story.past + 1) t l q).1 in absurd (omega (arith, small))
+        go None q = find_last (λ (x : Task). (started story.past + 1) == x.number) (jobs story.opening story.past) _ q ∙ rw (own, text) refl
 
 one_job : (story : Story) (script : Named) → IsAtRest story → next story.past ≡ Some script → jobs story.opening (Start (started story.past + 1) script.0 ∷ story.past) ≡ task_for story script ∷ []
 one_job story script q e =

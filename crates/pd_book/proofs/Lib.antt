@@ -1,6 +1,5 @@
 -- The lemmas of the book.
 pub mod Searches
-pub mod Pending
 pub mod Named
 pub mod Retained
 pub mod Faithful

@@ -1,14 +1,12 @@
 -- Settling comes to its end, and leaves what it says.
-use Rattle.std.proofs.Common.{◌≡◌, ℕ, ◌+◌, ◌<◌, ◌≤◌, List, [], ◌∷◌, Option, Some, None, Result, Ok, Err, refl, ap, sym, subst, ◌∙◌, arith, suc, zero}
-use Rattle.pd_settings.specs.declared.fields.Settings.{Settings}
-use Rattle.pd_book.specs.declared.act.Act.{Act}
+use Rattle.std.proofs.Common.{◌≡◌, ℕ, ◌+◌, ◌≤◌, Option, Some, None, Result, Ok, Err, refl, ap, subst, arith, suc, zero}
 use Rattle.pd_book.specs.declared.faults.BookFault.{BookFault}
 use Rattle.pd_book.specs.declared.task.Task.{Task}
-use Rattle.pd_book.specs.Acts.{Named, texts, now, next}
-use Rattle.pd_book.specs.Report.{Shown, shown, scratch, owed}
+use Rattle.pd_book.specs.Acts.{next}
+use Rattle.pd_book.specs.Report.{owed}
 use Rattle.pd_book.specs.Story.{Story}
 use Rattle.pd_book.specs.Refusals.{next_job, start_refusal}
-use Rattle.pd_book.specs.Turns.{after_turn, turn, settled_in, settled, IsAtRest, TurnsSuffice, IsSettled, SettlesAll}
+use Rattle.pd_book.specs.Turns.{after_turn, turn, settled_in, IsAtRest, TurnsSuffice, IsSettled, SettlesAll}
 use Rattle.pd_book.proofs.Legality.{turns_legal}
 use Rattle.pd_book.proofs.Rows.{none_pending}
 use Rattle.pd_book.proofs.Splits.{from_scratch}

@@ -160,27 +160,46 @@ still_stands opening (Abandon i ∷ xs) older j n l s = still_stands opening xs 
 
 -- ---- answered, by positions
 
+-- a finish in front of a start
+between : (past later ends mid older : List Act) (start finish : Act) → past ≡ later ++ start ∷ older → later ≡ ends ++ finish ∷ mid → past ≡ ends ++ finish ∷ (mid ++ start ∷ older)
+between past later ends mid older start finish e f = e ∙ (ap (λ (xs : List Act). xs ++ start ∷ older) f ∙ append_assoc ends (finish ∷ mid) (start ∷ older))
+
+-- a start among the acts since a change, in all acts
+behind : (past front rest later earlier : List Act) (start : Act) → past ≡ front ++ rest → front ≡ later ++ start ∷ earlier → past ≡ later ++ start ∷ (earlier ++ rest)
+behind past front rest later earlier start e f = e ∙ (ap (λ (xs : List Act). xs ++ rest) f ∙ append_assoc later (start ∷ earlier) rest)
+
+-- the acts on both sides of one leave the script as it was, where all do
+parted_same : (n : List ℕ) (xs ys zs : List Act) (act : Act) → xs ≡ ys ++ act ∷ zs → AllByRecursion (Same n) xs → AllByRecursion (Same n) ys × AllByRecursion (Same n) zs
+parted_same n xs ys zs act e h =
+    let split : AllByRecursion (Same n) (ys ++ act ∷ zs) = subst (λ (acts : List Act). AllByRecursion (Same n) acts) e h in
+    (all_front (Same n) ys (act ∷ zs) split, (all_back (Same n) ys (act ∷ zs) split).1)
+
+-- a finished job's finish stands behind its start
+finished_behind : (opening : Settings) (past later older : List Act) (j : ℕ) (n : List ℕ) → past ≡ later ++ Start j n ∷ older → Legal opening past → finished past j ≡ true → finished later j ≡ true
+finished_behind opening past later older j n e l h =
+    finished_later opening later older j n (legal_before opening later (Start j n ∷ older) (subst (λ (xs : List Act). Legal opening xs) e l)) (subst (λ (xs : List Act). finished xs j ≡ true) e h)
+
 answered_split : (opening : Settings) (past : List Act) (n : List ℕ) → Legal opening past → reached past n ≡ true → AnsweredSinceChange n past
-answered_split opening past n l h =
-    let p = parted n past in
-    let b = begun (finished past) n (since n past) h in
-    let older : List Act = b.earlier ++ p.rest in
-    let whole : past ≡ b.later ++ Start b.number n ∷ older =
-    p.split ∙ (ap (λ (xs : List Act). xs ++ p.rest) b.split ∙ append_assoc b.later (Start b.number n ∷ b.earlier) p.rest) in
-    let begins : Legal opening (Start b.number n ∷ older) = legal_before opening b.later (Start b.number n ∷ older) (subst (λ (xs : List Act). Legal opening xs) whole l) in
-    let ends : finished b.later b.number ≡ true = finished_later opening b.later older b.number n begins (subst (λ (xs : List Act). finished xs b.number ≡ true) whole b.passes) in
-    let d = done b.number b.later ends in
-    let same : AllByRecursion (Same n) (b.later ++ Start b.number n ∷ b.earlier) = subst (λ (xs : List Act). AllByRecursion (Same n) xs) b.split p.same in
-    let front : AllByRecursion (Same n) (d.later ++ Finish b.number d.ruled ∷ d.earlier) = subst (λ (xs : List Act). AllByRecursion (Same n) xs) d.split (all_front (Same n) b.later (Start b.number n ∷ b.earlier) same) in record {
-      number = b.number;
-      ruled = d.ruled;
-      later = d.later;
-      between = d.earlier;
-      earlier = older;
-      split = whole ∙ (ap (λ (xs : List Act). xs ++ Start b.number n ∷ older) d.split ∙ append_assoc d.later (Finish b.number d.ruled ∷ d.earlier) (Start b.number n ∷ older));
-      later_unchanged = All-from_recursion (Same n) d.later (all_front (Same n) d.later (Finish b.number d.ruled ∷ d.earlier) front);
-      between_unchanged = All-from_recursion (Same n) d.earlier (all_back (Same n) d.later (Finish b.number d.ruled ∷ d.earlier) front).1;
-    }
+answered_split opening past n l h = starting (parted n past) (begun (finished past) n (since n past) h)
+  where
+    finishing : (j : ℕ) (later older : List Act) → past ≡ later ++ Start j n ∷ older → AllByRecursion (Same n) later → Done j later → AnsweredSinceChange n past
+    finishing j later older whole same d =
+        let sides = parted_same n later d.later d.earlier (Finish j d.ruled) d.split same in record {
+          number = j;
+          ruled = d.ruled;
+          later = d.later;
+          between = d.earlier;
+          earlier = older;
+          split = between past later d.later d.earlier older (Start j n) (Finish j d.ruled) whole d.split;
+          later_unchanged = All-from_recursion (Same n) d.later sides.0;
+          between_unchanged = All-from_recursion (Same n) d.earlier sides.1;
+        }
+
+    starting : Parted n past → Begun (finished past) n (since n past) → AnsweredSinceChange n past
+    starting p b =
+        let whole = behind past (since n past) p.rest b.later b.earlier (Start b.number n) p.split b.split in
+        let same = parted_same n (since n past) b.later b.earlier (Start b.number n) b.split p.same in
+        finishing b.number b.later (b.earlier ++ p.rest) whole same.0 (done b.number b.later (finished_behind opening past b.later (b.earlier ++ p.rest) b.number n whole l b.passes))
 
 split_answered : (past : List Act) (n : List ℕ) → AnsweredSinceChange n past → reached past n ≡ true
 split_answered past n a =
@@ -280,7 +299,7 @@ taken opening past l j task open_task = (there, back)
         let same : AllByRecursion (Same n) (b.later ++ Start b.number n ∷ b.earlier) = subst (λ (xs : List Act). AllByRecursion (Same n) xs) b.split p.same in record {
           later = b.later;
           earlier = b.earlier ++ p.rest;
-          split = p.split ∙ (ap (λ (xs : List Act). xs ++ p.rest) b.split ∙ (append_assoc b.later (Start b.number n ∷ b.earlier) p.rest ∙ ap (λ (i : ℕ). b.later ++ Start i n ∷ (b.earlier ++ p.rest)) num));
+          split = behind past (since n past) p.rest b.later b.earlier (Start b.number n) p.split b.split ∙ ap (λ (i : ℕ). b.later ++ Start i n ∷ (b.earlier ++ p.rest)) num;
           later_unchanged = All-from_recursion (Same n) b.later (all_front (Same n) b.later (Start b.number n ∷ b.earlier) same);
         }
 

@@ -1,7 +1,7 @@
 -- A start and its finish leave one row fewer pending.
-use Rattle.std.proofs.Common.{◌≡◌, ℕ, ◌==◌, ◌+◌, ◌<◌, ◌≤◌, List, [], ◌∷◌, ◌++◌, map, filter, find, Option, Some, None, is_some, is_none, Bool, true, false, not, ◌&&◌, ◌||◌, cond, refl, ap, sym, subst, ◌∙◌, arith}
+use Rattle.std.proofs.Common.{◌≡◌, ℕ, ◌==◌, ◌+◌, ◌<◌, List, [], ◌∷◌, ◌++◌, map, filter, find, Option, Some, None, is_some, is_none, Bool, true, false, not, ◌&&◌, ◌||◌, cond, refl, ap, sym, ◌∙◌, arith}
 use Rattle.std.specs.Option.{option_map}
-use Rattle.std.specs.List.{AllByRecursion, list_any, count_by}
+use Rattle.std.specs.List.{AllByRecursion, list_any}
 use Rattle.std.specs.Map.{lookup, values_of}
 use Rattle.std.specs.Str.{bytes_eq}
 use Rattle.std.proofs.lemmas.List.Folds.{list_any-append}
@@ -10,19 +10,16 @@ use Rattle.std.proofs.lemmas.Bool.Decides.{Decides-eqb}
 use Rattle.pd_text.specs.Edit.{edited}
 use Rattle.pd_text.specs.declared.line_edit.LineEdit.{LineEdit}
 use Rattle.pd_settings.specs.declared.fields.Settings.{Settings}
-use Rattle.pd_run.specs.declared.verdicts.Verdict.{Verdict}
 use Rattle.pd_run.specs.Run.{verdict_of}
 use Rattle.pd_book.specs.declared.act.Act.{Act}
 use Rattle.pd_book.specs.declared.act.Act.TheVariants.{Add, Edit, Remove, Set, Start, Finish, Abandon}
 use Rattle.pd_book.specs.declared.act.Ruling.{Ruling}
-use Rattle.pd_book.specs.declared.row.Row.{Row}
 use Rattle.pd_book.specs.declared.script.State.{State}
 use Rattle.pd_book.specs.declared.script.State.TheVariants.{Pending, Running, Answered}
 use Rattle.pd_book.specs.declared.task.Task.{Task}
 use Rattle.pd_book.specs.Acts.{Named, edited_at, texts, stands, now, since, starts, finished, started, answered, busy, waits, next, jobs, job, ruling}
 use Rattle.pd_book.specs.Report.{row, shown, owed}
 use Rattle.pd_book.specs.Legal.{Legal}
-use Rattle.pd_book.specs.Refusals.{next_job}
 use Rattle.pd_book.specs.Kept.{Entry, is_pending, pending_state, verdict_in}
 use Rattle.pd_book.specs.Replay.{scripts_of}
 use Rattle.pd_book.specs.Turns.{turned, TurnsSettle, NoneOwedWhenNoneWaits}
@@ -32,7 +29,7 @@ use Rattle.pd_book.proofs.Stretches.{NoStart, up, both, or_left}
 use Rattle.pd_book.proofs.Standing.{Stands, At, reached}
 use Rattle.pd_book.proofs.Replayed.{standing, next_kept, found_stands, both_left}
 use Rattle.pd_book.proofs.Rows.{tally, tallied, pending_row, pending_script, owed_kept}
-use Rattle.pd_book.proofs.Splits.{Parted, parted}
+use Rattle.pd_book.proofs.Splits.{parted}
 
 -- ---- names of scripts differ
 

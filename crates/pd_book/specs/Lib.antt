@@ -12,6 +12,7 @@ pub mod Faults
 pub mod Refusals
 pub mod Headline
 pub mod Accepted
+pub mod Given
 pub mod Turns
 pub mod Kept
 pub mod Replay

@@ -1,5 +1,6 @@
--- What a book is to its callers.
+-- What a book and a job are to their callers.
 use Rattle.std.specs.Prelude.{List, ◌∷◌, Option, Some, None}
+use Rattle.std.specs.Option.{option_map}
 use Rattle.pd_settings.specs.declared.fields.Settings.{Settings}
 use Rattle.pd_book.specs.declared.act.Act.{Act}
 use Rattle.pd_book.specs.declared.act.Act.TheVariants.{Start}
@@ -9,6 +10,18 @@ use Rattle.pd_book.specs.declared.task.Task.{Task}
 pub record Story : Type 0 where
   pub opening : Settings
   pub past : List Act
+
+-- what a book is: its story; what it keeps to answer sooner stands beside that
+pub record Contents : Type 0 where
+  pub story : Story
+
+-- what a job is: its task; what is kept to run it sooner stands beside that
+pub record Handed : Type 0 where
+  pub task : Task
+
+-- the task of a job, if one was handed out
+abbrev pub handed_task : Option Handed → Option Task
+handed_task job = option_map (λ (handed : Handed). handed.task) job
 
 -- the story with one more act
 abbrev pub told : Story → Act → Story

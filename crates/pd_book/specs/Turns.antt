@@ -5,7 +5,7 @@ use Rattle.pd_book.specs.declared.act.Act.{Act}
 use Rattle.pd_book.specs.declared.act.Act.TheVariants.{Start, Finish}
 use Rattle.pd_book.specs.declared.faults.BookFault.{BookFault}
 use Rattle.pd_book.specs.declared.task.Task.{Task}
-use Rattle.pd_book.specs.Acts.{texts, now, jobs, next, ruling}
+use Rattle.pd_book.specs.Acts.{texts, now, jobs, job, next, ruling}
 use Rattle.pd_book.specs.Legal.{Legal}
 use Rattle.pd_book.specs.Report.{shown, scratch, owed}
 use Rattle.pd_book.specs.Story.{Story}
@@ -46,6 +46,11 @@ abbrev pub TurnsSettle : Settings → List Act → Type 0
 TurnsSettle opening past =
     (task : Task) → jobs opening past ≡ [] → next_job (record { opening = opening; past = past }) ≡ Some task
     → (owed opening (turned past task) + 1 ≡ owed opening past) × (jobs opening (turned past task) ≡ [])
+
+-- a job that a start hands out is the outstanding one of its number
+abbrev pub StartsAreOutstanding : Story → Type 0
+StartsAreOutstanding story =
+    (task : Task) → next_job story ≡ Some task → job story.opening (Start task.number task.name ∷ story.past) task.number ≡ Some task
 
 -- where no job is outstanding and no script waits, no row is pending
 abbrev pub NoneOwedWhenNoneWaits : Settings → List Act → Type 0

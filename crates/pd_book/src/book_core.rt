@@ -6,11 +6,12 @@ ghost use Rattle.std.specs.Str.{bytes_eq};
 ghost use Rattle.pd_text.specs.Edit.{edited};
 ghost use Rattle.pd_text.specs.Text.{AreLines};
 ghost use Rattle.pd_settings.specs.Keys.{key_named};
-ghost use Rattle.pd_book.specs.Acts.{texts, present, text_of, stands, next, job, ruling};
+ghost use Rattle.pd_book.specs.Acts.{texts, present, text_of, stands, next, started, jobs, job, fresh, ruling};
 ghost use Rattle.pd_book.specs.Legal.{Legal};
 ghost use Rattle.pd_book.specs.Report.{shown, owed};
 ghost use Rattle.pd_book.specs.Headline.{CurrentWhenAnswered, RowsAreScripts, VerdictsAreRuns, ScratchWhenAllAnswered, RowsAreOfScratch};
-ghost use Rattle.pd_book.specs.Story.{told, told_start};
+ghost use Rattle.pd_book.specs.Story.{told, told_start, handed_task};
+ghost use Rattle.pd_book.specs.Given.{GivesAdd, GivesEdit, GivesRemove, GivesSet, GivesStart, GivesFinish, GivesAbandon};
 ghost use Rattle.pd_book.specs.Replay.{IsReady};
 ghost use Rattle.pd_book.specs.Refusals.{full, add_refusal, text_refusal, edit_refusal, remove_refusal, set_refusal, start_refusal, next_job, fault_of, finish_fault};
 
@@ -18,9 +19,8 @@ use crate::act::{Act, Ruling};
 use crate::done::Done;
 use crate::faults::{BookFault, FinishFault};
 use crate::job::Job;
-use crate::recording::{Prepared, keep_abandon, keep_finish, keep_start, record, shared, task_of};
+use crate::recording::{Prepared, Records, record, task_of};
 use crate::report::Report;
-use crate::scripts::Scripts;
 use crate::task::Task;
 use pd_settings::{Key, Settings, Value};
 use pd_text::{LineEdit, Lines, Name, Text, TextFault};
@@ -39,54 +39,50 @@ const MAX_SCRIPTS: usize = 1_024;
 pub struct Book {
     opening: Settings,
     settings: Settings,
-    scripts: Scripts,
-    acts: Vec<Act>,
-    tasks: Vec<Task>,
     numbers: u64,
+    records: Records,
 }
 
 impl Model for Book {
     ghost use Rattle.std.specs.Prelude.{reverse, vec_capacity};
-    ghost use Rattle.pd_book.specs.Story.{Story};
+    ghost use Rattle.pd_book.specs.Story.{Contents};
     ghost use Rattle.pd_book.specs.Replay.{IsReplay};
 
-    ghost Value = { Story };
+    ghost Value = { Contents };
 
-    ghost view = { λ b. record { opening = b.opening; past = reverse b.acts.items } };
+    ghost view = { λ b. record { story = record { opening = b.opening; past = reverse b.records.acts.items } } };
 
-    ghost invariant = { λ b. IsReplay b.opening (reverse b.acts.items) b.settings b.scripts b.tasks.items b.numbers
-        (vec_capacity b.acts) };
+    ghost invariant = { λ b. IsReplay b.opening (reverse b.records.acts.items) b.settings b.records.scripts b.records.tasks.items b.numbers
+        (vec_capacity b.records.acts) };
 }
 
 impl Book {
     /// A book without scripts under these settings. `_cache` is the number of tracks to keep: none is kept yet.
     pub fn new(alloc: Global, _cache: usize, settings: Settings) -> Book
-        ensures { result ≡ record { opening = settings; past = [] } }
+        ensures { result.story ≡ record { opening = settings; past = [] } }
     {
         Book {
             opening: settings,
             settings,
-            scripts: Scripts::new(alloc),
-            acts: Vec::new(alloc),
-            tasks: Vec::new(alloc),
             numbers: 0,
+            records: Records::new(alloc),
         }
     }
 
     /// The accepted calls, the oldest first.
     pub fn history(&self) -> &[Act]
-        ensures acts { reverse result.now ≡ self.now.past }
-        ensures legal { Legal self.now.opening self.now.past }
+        ensures acts { reverse result.now ≡ self.now.story.past }
+        ensures legal { Legal self.now.story.opening self.now.story.past }
     {
-        self.acts.as_slice()
+        self.records.acts.as_slice()
     }
 
     /// Why there is no room for `more` acts and jobs.
     fn full(&self, more: usize) -> Option<BookFault>
         requires { more ≤ 2 }
-        ensures { result ≡ full more self.now }
+        ensures { result ≡ full more self.now.story }
     {
-        if self.acts.len() + self.tasks.len() + more <= MAX_ACTS {
+        if self.records.acts.len() + self.records.tasks.len() + more <= MAX_ACTS {
             None
         } else {
             Some(BookFault::HistoryFull)
@@ -95,16 +91,16 @@ impl Book {
 
     /// Whether a script of this name stands.
     fn stands(&self, name: &Name) -> bool
-        ensures { result ≡ stands self.now.past name.now }
+        ensures { result ≡ stands self.now.story.past name.now }
     {
-        self.scripts.contains(name)
+        self.records.scripts.contains(name)
     }
 
     /// How many scripts stand.
     fn count(&self) -> usize
-        ensures { result ≡ length (texts self.now.past) }
+        ensures { result ≡ length (texts self.now.story.past) }
     {
-        self.scripts.len()
+        self.records.scripts.len()
     }
 
     /// Adds a script behind the others.
@@ -112,9 +108,37 @@ impl Book {
     /// # Errors
     /// `BadName`, `NameTaken`, `TooManyScripts` or `HistoryFull`, the first that applies; else `OutOfMemory`.
     pub fn add(&mut self, name: Name, lines: Lines) -> Result<(), BookFault>
-        ensures ok { OnOk result (self.new ≡ told self.old (Act.Add name lines)) }
-        ensures allowed { OnOk result (add_refusal self.old name ≡ None) }
-        ensures err { IfErr result (λ e. e ≡ fault_of (add_refusal self.old name)) }
+        ensures gives { GivesAdd self.old.story name lines result self.new.story }
+        ensures ok { OnOk result (self.new.story ≡ told self.old.story (Act.Add name lines)) }
+        ensures allowed { OnOk result (add_refusal self.old.story name ≡ None) }
+        ensures err { IfErr result (λ e. e ≡ fault_of (add_refusal self.old.story name)) }
+        ensures same { OnErr result (self.new ≡ self.old) }
+    {
+        match Text::new(*self.records.acts.allocator(), lines) {
+            Ok(text) => self.add_text(name, Some(text)),
+            Err(_) => self.add_text(name, None),
+        }
+    }
+
+    /// Adds a script, the text of which others keep too.
+    ///
+    /// # Errors
+    /// As for `add`.
+    pub fn add_shared(&mut self, name: Name, text: Text) -> Result<(), BookFault>
+        ensures gives { GivesAdd self.old.story name text result self.new.story }
+        ensures ok { OnOk result (self.new.story ≡ told self.old.story (Act.Add name text)) }
+        ensures allowed { OnOk result (add_refusal self.old.story name ≡ None) }
+        ensures err { IfErr result (λ e. e ≡ fault_of (add_refusal self.old.story name)) }
+        ensures same { OnErr result (self.new ≡ self.old) }
+    {
+        self.add_text(name, Some(text))
+    }
+
+    /// Adds a script of this text; `None` for want of memory.
+    fn add_text(&mut self, name: Name, text: Option<Text>) -> Result<(), BookFault>
+        ensures ok { OnOk result (IsSomeAnd text (λ text. self.new.story ≡ told self.old.story (Act.Add name text))) }
+        ensures allowed { OnOk result (add_refusal self.old.story name ≡ None) }
+        ensures err { IfErr result (λ e. e ≡ fault_of (add_refusal self.old.story name)) }
         ensures same { OnErr result (self.new ≡ self.old) }
     {
         if !name.is_valid() {
@@ -129,11 +153,14 @@ impl Book {
         if let Some(fault) = self.full(1) {
             return Err(fault);
         }
-        self.acts.reserve(self.tasks.len() + 1)?;
-        let text = shared(*self.acts.allocator(), lines)?;
+        let Some(text) = text else {
+            return Err(BookFault::OutOfMemory);
+        };
+        let _first = text.lines().line(1);
+        self.records.acts.reserve(self.records.tasks.len() + 1)?;
         let act = Act::Add(name.copy()?, text.share()?);
-        self.scripts.add(name, text)?;
-        record(&mut self.acts, act);
+        self.records.scripts.add(name, text)?;
+        record(&mut self.records.acts, act);
         Ok(())
     }
 
@@ -142,9 +169,10 @@ impl Book {
     /// # Errors
     /// `UnknownKey`, `BadValue` or `HistoryFull`, the first that applies; else `OutOfMemory`.
     pub fn set(&mut self, key: &[u8], value: Value) -> Result<(), BookFault>
-        ensures ok { OnOk result (IsSomeAnd (key_named key.now) (λ key. self.new ≡ told self.old (Act.Set key value))) }
-        ensures allowed { OnOk result (set_refusal self.old key.now value ≡ None) }
-        ensures err { IfErr result (λ e. e ≡ fault_of (set_refusal self.old key.now value)) }
+        ensures gives { GivesSet self.old.story key.now value result self.new.story }
+        ensures ok { OnOk result (IsSomeAnd (key_named key.now) (λ key. self.new.story ≡ told self.old.story (Act.Set key value))) }
+        ensures allowed { OnOk result (set_refusal self.old.story key.now value ≡ None) }
+        ensures err { IfErr result (λ e. e ≡ fault_of (set_refusal self.old.story key.now value)) }
         ensures same { OnErr result (self.new ≡ self.old) }
     {
         let Some(key) = Key::named(key) else {
@@ -156,18 +184,18 @@ impl Book {
         if let Some(fault) = self.full(1) {
             return Err(fault);
         }
-        self.acts.reserve(self.tasks.len() + 1)?;
+        self.records.acts.reserve(self.records.tasks.len() + 1)?;
         self.settings = settings;
-        self.scripts.clear();
-        record(&mut self.acts, Act::Set(key, value));
+        self.records.scripts.clear();
+        record(&mut self.records.acts, Act::Set(key, value));
         Ok(())
     }
 
     /// The text of a script after an edit; `None` for want of memory.
     fn edited(&self, name: &Name, edit: &LineEdit) -> Result<Option<Lines>, BookFault>
-        ensures ok { IfOk result (λ lines. IfSome lines (λ lines. lines ≡ edited (text_of self.now.past name.now) edit.now)) }
-        ensures allowed { OnOk result (text_refusal (present self.now.past name.now) edit.now ≡ None) }
-        ensures err { IfErr result (λ e. text_refusal (present self.now.past name.now) edit.now ≡ Some e) }
+        ensures ok { IfOk result (λ lines. IfSome lines (λ lines. lines ≡ edited (text_of self.now.story.past name.now) edit.now)) }
+        ensures allowed { OnOk result (text_refusal (present self.now.story.past name.now) edit.now ≡ None) }
+        ensures err { IfErr result (λ e. text_refusal (present self.now.story.past name.now) edit.now ≡ Some e) }
         ensures lines { AreLines edit.now.insert }
     {
         let _lines = edit.insert.as_slice();
@@ -184,9 +212,9 @@ impl Book {
 
     /// The present text of a script.
     fn text(&self, name: &Name) -> Option<&Text>
-        ensures { option_copied result ≡ present self.now.past name.now }
+        ensures { option_copied result ≡ present self.now.story.past name.now }
     {
-        self.scripts.text(name)
+        self.records.scripts.text(name)
     }
 
     /// Edits the text of a script, which has changed then, also where no octet differs.
@@ -194,9 +222,10 @@ impl Book {
     /// # Errors
     /// `NoSuchScript`, `BadRange`, `TooLarge` or `HistoryFull`, the first that applies; else `OutOfMemory`.
     pub fn edit(&mut self, name: &Name, edit: &LineEdit) -> Result<(), BookFault>
-        ensures ok { OnOk result (self.new ≡ told self.old (Act.Edit name.now edit.now)) }
-        ensures allowed { OnOk result (edit_refusal self.old name.now edit.now ≡ None) }
-        ensures err { IfErr result (λ e. e ≡ fault_of (edit_refusal self.old name.now edit.now)) }
+        ensures gives { GivesEdit self.old.story name.now edit.now result self.new.story }
+        ensures ok { OnOk result (self.new.story ≡ told self.old.story (Act.Edit name.now edit.now)) }
+        ensures allowed { OnOk result (edit_refusal self.old.story name.now edit.now ≡ None) }
+        ensures err { IfErr result (λ e. e ≡ fault_of (edit_refusal self.old.story name.now edit.now)) }
         ensures same { OnErr result (self.new ≡ self.old) }
     {
         let edited = self.edited(name, edit)?;
@@ -206,11 +235,11 @@ impl Book {
         let Some(lines) = edited else {
             return Err(BookFault::OutOfMemory);
         };
-        self.acts.reserve(self.tasks.len() + 1)?;
-        let text = Text::new(*self.acts.allocator(), lines)?;
+        self.records.acts.reserve(self.records.tasks.len() + 1)?;
+        let text = Text::new(*self.records.acts.allocator(), lines)?;
         let act = Act::Edit(name.copy()?, edit.copy()?);
-        self.scripts.rewrite(name, text);
-        record(&mut self.acts, act);
+        self.records.scripts.rewrite(name, text);
+        record(&mut self.records.acts, act);
         Ok(())
     }
 
@@ -219,9 +248,10 @@ impl Book {
     /// # Errors
     /// `NoSuchScript` or `HistoryFull`, the first that applies; else `OutOfMemory`.
     pub fn remove(&mut self, name: &Name) -> Result<(), BookFault>
-        ensures ok { OnOk result (self.new ≡ told self.old (Act.Remove name.now)) }
-        ensures allowed { OnOk result (remove_refusal self.old name.now ≡ None) }
-        ensures err { IfErr result (λ e. e ≡ fault_of (remove_refusal self.old name.now)) }
+        ensures gives { GivesRemove self.old.story name.now result self.new.story }
+        ensures ok { OnOk result (self.new.story ≡ told self.old.story (Act.Remove name.now)) }
+        ensures allowed { OnOk result (remove_refusal self.old.story name.now ≡ None) }
+        ensures err { IfErr result (λ e. e ≡ fault_of (remove_refusal self.old.story name.now)) }
         ensures same { OnErr result (self.new ≡ self.old) }
     {
         if !self.stands(name) {
@@ -230,30 +260,47 @@ impl Book {
         if let Some(fault) = self.full(1) {
             return Err(fault);
         }
-        self.acts.reserve(self.tasks.len() + 1)?;
+        self.records.acts.reserve(self.records.tasks.len() + 1)?;
         let act = Act::Remove(name.copy()?);
-        self.scripts.remove(name);
-        record(&mut self.acts, act);
+        self.records.scripts.remove(name);
+        record(&mut self.records.acts, act);
         Ok(())
     }
 
     /// The first script that waits.
     fn waiting(&self) -> Option<(&Name, &Text)>
-        ensures { option_map deref_pair result ≡ next self.now.past }
+        ensures { option_map deref_pair result ≡ next self.now.story.past }
     {
-        match self.scripts.first_pending() {
+        match self.records.scripts.first_pending() {
             Some((name, script)) => Some((name, &script.text)),
             None => None,
         }
     }
 
+    /// The name of the script that the next start is for, if one waits.
+    pub fn next_name(&self) -> Option<&Name>
+        ensures { option_copied result ≡ option_map (λ script. script.0) (next self.now.story.past) }
+    {
+        match self.waiting() {
+            Some((name, _)) => Some(name),
+            None => None,
+        }
+    }
+
+    /// The number that the next job gets.
+    pub fn next_number(&self) -> u64
+        ensures { result ≡ started self.now.story.past + 1 }
+    {
+        self.numbers + 1
+    }
+
     /// What a start hands out, keeps and records.
     fn prepare(&self) -> Result<Option<Prepared>, BookFault>
-        ensures none { IfOk result (λ p. p ≡ None → next self.now.past ≡ None) }
-        ensures some { IfOk result (λ p. IfSome p (λ p. IsReady self.now.opening self.now.past p.job p.task p.act)) }
-        ensures room { IfOk result (λ p. IfSome p (λ _. full 2 self.now ≡ None)) }
-        ensures err { IfErr result (λ e. e ≡ fault_of (start_refusal self.now)) }
-        ensures waits { OnErr result (IsSome (next self.now.past)) }
+        ensures none { IfOk result (λ p. p ≡ None → next self.now.story.past ≡ None) }
+        ensures some { IfOk result (λ p. IfSome p (λ p. IsReady self.now.story.opening self.now.story.past p.job.task p.task p.act)) }
+        ensures room { IfOk result (λ p. IfSome p (λ _. full 2 self.now.story ≡ None)) }
+        ensures err { IfErr result (λ e. e ≡ fault_of (start_refusal self.now.story)) }
+        ensures waits { OnErr result (IsSome (next self.now.story.past)) }
     {
         let Some((name, text)) = self.waiting() else {
             return Ok(None);
@@ -262,7 +309,7 @@ impl Book {
             return Err(fault);
         }
         let task = Task {
-            number: self.numbers + 1,
+            number: self.next_number(),
             name: name.copy()?,
             text: text.share()?,
             settings: self.settings,
@@ -279,36 +326,59 @@ impl Book {
     /// Where there is such a script alone: `HistoryFull` without room for the act and the job's end, else
     /// `OutOfMemory`.
     pub fn start(&mut self) -> Result<Option<Job>, BookFault>
-        ensures job { IfOk result (λ job. job ≡ next_job self.old) }
-        ensures ok { IfOk result (λ job. self.new ≡ told_start self.old job) }
-        ensures allowed { OnOk result (start_refusal self.old ≡ None) }
-        ensures err { IfErr result (λ e. e ≡ fault_of (start_refusal self.old)) }
-        ensures waits { OnErr result (IsSome (next self.old.past)) }
+        ensures gives { GivesStart self.old.story result self.new.story }
+        ensures job { IfOk result (λ job. handed_task job ≡ next_job self.old.story) }
+        ensures ok { IfOk result (λ job. self.new.story ≡ told_start self.old.story (handed_task job)) }
+        ensures allowed { OnOk result (start_refusal self.old.story ≡ None) }
+        ensures err { IfErr result (λ e. e ≡ fault_of (start_refusal self.old.story)) }
+        ensures waits { OnErr result (IsSome (next self.old.story.past)) }
         ensures same { OnErr result (self.new ≡ self.old) }
     {
         let Some(prepared) = self.prepare()? else {
             return Ok(None);
         };
-        self.acts.reserve(self.tasks.len() + 2)?;
-        self.tasks.reserve(1)?;
+        self.records.acts.reserve(self.records.tasks.len() + 2)?;
+        self.records.tasks.reserve(1)?;
         self.numbers = prepared.job.number();
-        let job = keep_start(&mut self.acts, &mut self.tasks, &mut self.scripts, prepared);
-        Ok(Some(job))
+        Ok(Some(self.records.start(prepared)))
     }
 
     /// The outstanding job of this number.
     fn outstanding(&self, number: u64) -> Option<&Task>
-        ensures { option_copied result ≡ job self.now.opening self.now.past number }
+        ensures { option_copied result ≡ job self.now.story.opening self.now.story.past number }
     {
-        task_of(self.tasks.as_slice(), number)
+        task_of(self.records.tasks.as_slice(), number)
+    }
+
+    /// How many jobs are outstanding.
+    pub fn outstanding_count(&self) -> usize
+        ensures count { result ≡ length (jobs self.now.story.opening self.now.story.past) }
+        ensures few { result ≤ 65536 }
+    {
+        self.records.tasks.len()
+    }
+
+    /// Whether a job of this number is outstanding.
+    pub fn is_outstanding(&self, number: u64) -> bool
+        ensures { result ≡ is_some (job self.now.story.opening self.now.story.past number) }
+    {
+        self.outstanding(number).is_some()
+    }
+
+    /// Whether the script of an outstanding job stands unchanged since the job's start.
+    fn is_fresh(&self, done: &Done) -> bool
+        requires { job self.now.story.opening self.now.story.past done.now.number ≡ Some done.now }
+        ensures { result ≡ fresh self.now.story.past done.now }
+    {
+        self.records.scripts.runs(done.name(), done.number())
     }
 
     /// What a finish of this job is.
     fn ruling(&self, done: &Done) -> Ruling
-        requires { job self.now.opening self.now.past done.now.number ≡ Some done.now }
-        ensures { result ≡ ruling self.now.past done.now }
+        requires { job self.now.story.opening self.now.story.past done.now.number ≡ Some done.now }
+        ensures { result ≡ ruling self.now.story.past done.now }
     {
-        if self.scripts.runs(done.name(), done.number()) {
+        if self.is_fresh(done) {
             Ruling::Taken
         } else {
             Ruling::Stale
@@ -322,11 +392,12 @@ impl Book {
     /// # Errors
     /// `NoSuchJob`, else `Foreign`, which leaves the job outstanding. It takes no memory.
     pub fn finish(&mut self, done: &Done) -> Result<Ruling, FinishFault>
-        ensures own { OnOk result (job self.old.opening self.old.past done.now.number ≡ Some done.now) }
-        ensures ruling { IfOk result (λ r. r ≡ ruling self.old.past done.now) }
-        ensures ok { IfOk result (λ r. self.new ≡ told self.old (Act.Finish done.now.number r)) }
-        ensures foreign { OnErr result (job self.old.opening self.old.past done.now.number ≢ Some done.now) }
-        ensures err { IfErr result (λ e. e ≡ finish_fault (job self.old.opening self.old.past done.now.number)) }
+        ensures gives { GivesFinish self.old.story done.now result self.new.story }
+        ensures own { OnOk result (job self.old.story.opening self.old.story.past done.now.number ≡ Some done.now) }
+        ensures ruling { IfOk result (λ r. r ≡ ruling self.old.story.past done.now) }
+        ensures ok { IfOk result (λ r. self.new.story ≡ told self.old.story (Act.Finish done.now.number r)) }
+        ensures foreign { OnErr result (job self.old.story.opening self.old.story.past done.now.number ≢ Some done.now) }
+        ensures err { IfErr result (λ e. e ≡ finish_fault (job self.old.story.opening self.old.story.past done.now.number)) }
         ensures same { OnErr result (self.new ≡ self.old) }
     {
         let Some(task) = self.outstanding(done.number()) else {
@@ -336,13 +407,7 @@ impl Book {
             return Err(FinishFault::Foreign);
         }
         let ruling = self.ruling(done);
-        keep_finish(
-            &mut self.acts,
-            &mut self.tasks,
-            &mut self.scripts,
-            done,
-            ruling,
-        );
+        self.records.finish(done, ruling);
         Ok(ruling)
     }
 
@@ -351,36 +416,36 @@ impl Book {
     /// # Errors
     /// `NoSuchJob`. It takes no memory.
     pub fn abandon(&mut self, number: u64) -> Result<(), FinishFault>
-        ensures outstanding { OnOk result (IsSome (job self.old.opening self.old.past number)) }
-        ensures ok { OnOk result (self.new ≡ told self.old (Act.Abandon number)) }
+        ensures gives { GivesAbandon self.old.story number result self.new.story }
+        ensures outstanding { OnOk result (IsSome (job self.old.story.opening self.old.story.past number)) }
+        ensures ok { OnOk result (self.new.story ≡ told self.old.story (Act.Abandon number)) }
         ensures err { IfErr result (λ e. e ≡ FinishFault.NoSuchJob) }
-        ensures none { OnErr result (job self.old.opening self.old.past number ≡ None) }
+        ensures none { OnErr result (job self.old.story.opening self.old.story.past number ≡ None) }
         ensures same { OnErr result (self.new ≡ self.old) }
     {
-        let Some(task) = task_of(self.tasks.as_slice(), number) else {
+        let Some(_task) = self.outstanding(number) else {
             return Err(FinishFault::NoSuchJob);
         };
-        self.scripts.give_up(task);
-        keep_abandon(&mut self.acts, &mut self.tasks, number);
+        self.records.abandon(number);
         Ok(())
     }
 
     /// What the scripts that are kept show.
     fn report(&self) -> Result<Report, AllocError>
-        ensures { IfOk result (λ report. report ≡ shown self.now.opening self.now.past) }
+        ensures { IfOk result (λ report. report ≡ shown self.now.story.opening self.now.story.past) }
     {
-        let rows = self.scripts.rows(*self.acts.allocator())?;
+        let rows = self.records.scripts.rows(*self.records.acts.allocator())?;
         Ok(Report::new(self.settings, rows))
     }
 
     /// The report as it stands.
     pub fn show(&self) -> Result<Report, AllocError>
-        ensures shown { IfOk result (λ report. report ≡ shown self.now.opening self.now.past) }
-        ensures current { IfOk result (λ report. CurrentWhenAnswered self.now.past report) }
-        ensures scripts { IfOk result (λ report. RowsAreScripts self.now.past report) }
-        ensures verdicts { IfOk result (λ report. VerdictsAreRuns self.now.opening self.now.past report) }
-        ensures scratch { IfOk result (λ report. ScratchWhenAllAnswered self.now.opening self.now.past report) }
-        ensures rows { IfOk result (λ report. RowsAreOfScratch self.now.opening self.now.past report) }
+        ensures shown { IfOk result (λ report. report ≡ shown self.now.story.opening self.now.story.past) }
+        ensures current { IfOk result (λ report. CurrentWhenAnswered self.now.story.past report) }
+        ensures scripts { IfOk result (λ report. RowsAreScripts self.now.story.past report) }
+        ensures verdicts { IfOk result (λ report. VerdictsAreRuns self.now.story.opening self.now.story.past report) }
+        ensures scratch { IfOk result (λ report. ScratchWhenAllAnswered self.now.story.opening self.now.story.past report) }
+        ensures rows { IfOk result (λ report. RowsAreOfScratch self.now.story.opening self.now.story.past report) }
     {
         let _acts = self.history();
         self.report()
@@ -388,8 +453,8 @@ impl Book {
 
     /// How many rows of the report are pending.
     pub fn owed(&self) -> usize
-        ensures { result ≡ owed self.now.opening self.now.past }
+        ensures { result ≡ owed self.now.story.opening self.now.story.past }
     {
-        self.scripts.owed()
+        self.records.scripts.owed()
     }
 }

@@ -74,7 +74,7 @@ impl Done {
 }
 
 /// A job that ended without a verdict, for want of memory.
-#[derive(Clone, Copy, Debug, PartialEq, Eq)]
+#[derive(Clone, Copy, PartialEq, Eq)]
 pub struct Unfinished {
     /// The job's number.
     pub number: u64,
@@ -84,9 +84,9 @@ pub struct Unfinished {
 /// stop's included, and has room for 4,096.
 pub fn run_job<S: Stepper>(alloc: Global, job: Job, stepper: &mut S) -> Result<Done, Unfinished>
     requires room { S.counted stepper.old + 4096 < 2 ^ 64 }
-    ensures done { IfOk result (λ done. done ≡ job) }
-    ensures steps { OnOk result (S.counted stepper.new ≡ S.counted stepper.old + stepped_of job.text job.settings) }
-    ensures unfinished { IfErr result (λ unfinished. unfinished.number ≡ job.number) }
+    ensures done { IfOk result (λ done. done ≡ job.task) }
+    ensures steps { OnOk result (S.counted stepper.new ≡ S.counted stepper.old + stepped_of job.task.text job.task.settings) }
+    ensures unfinished { IfErr result (λ unfinished. unfinished.number ≡ job.task.number) }
 {
     let task = job.into_task();
     match run_with(alloc, task.text.lines(), &task.settings, stepper) {

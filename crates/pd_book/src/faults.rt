@@ -1,48 +1,98 @@
 //! Why a book refuses a call.
+ghost use Rattle.std.specs.Prelude.{◌≡◌};
+ghost use Rattle.pd_book.specs.Faults.{fault_text, finish_fault_text};
+
+use pd_settings::SettingsFault;
 use pd_text::TextFault;
 use std::alloc::AllocError;
+use std::fmt;
 use thiserror::Error;
 
 /// Why a change of a book or a start is refused.
 #[derive(Clone, Copy, Debug, PartialEq, Eq, Error)]
 pub enum BookFault {
     /// An edit begins or ends outside the text.
-    #[error("1 BadRange")]
     BadRange,
     /// An edit would leave more than 4,096 lines or 65,536 octets.
-    #[error("2 TooLarge")]
     TooLarge,
-    #[error("3 UnknownKey")]
     UnknownKey,
     /// A value of another kind than the setting's, or outside its range.
-    #[error("4 BadValue")]
     BadValue,
     /// A name must have 1 to 64 letters, digits, `_`, `-` and `.`.
-    #[error("5 BadName")]
     BadName,
-    #[error("6 NameTaken")]
     NameTaken,
-    #[error("7 NoSuchScript")]
     NoSuchScript,
     /// There are 1,024 scripts.
-    #[error("8 TooManyScripts")]
     TooManyScripts,
     /// The recorded acts and the outstanding jobs leave no room, of 65,536.
-    #[error("11 HistoryFull")]
     HistoryFull,
-    #[error("19 OutOfMemory")]
     OutOfMemory,
 }
 
-/// Why a result or an abandonment is refused. Neither takes memory.
+/// Why a result or an abandonment is refused. A book takes no memory for either; who notes more than a book does may
+/// want it.
 #[derive(Clone, Copy, Debug, PartialEq, Eq, Error)]
 pub enum FinishFault {
     /// No outstanding job has this number.
-    #[error("9 NoSuchJob")]
     NoSuchJob,
     /// The outstanding job of this number has another name, text or settings.
-    #[error("10 Foreign")]
     Foreign,
+    OutOfMemory,
+}
+
+impl BookFault {
+    /// Its number and its name, as they are printed.
+    pub fn text(self) -> &'static str
+        ensures { result.now ≡ fault_text self }
+    {
+        match self {
+            BookFault::BadRange => TextFault::BadRange.text(),
+            BookFault::TooLarge => TextFault::TooLarge.text(),
+            BookFault::UnknownKey => SettingsFault::UnknownKey.text(),
+            BookFault::BadValue => SettingsFault::BadValue.text(),
+            BookFault::BadName => "5 BadName",
+            BookFault::NameTaken => "6 NameTaken",
+            BookFault::NoSuchScript => "7 NoSuchScript",
+            BookFault::TooManyScripts => "8 TooManyScripts",
+            BookFault::HistoryFull => "11 HistoryFull",
+            BookFault::OutOfMemory => TextFault::OutOfMemory.text(),
+        }
+    }
+}
+
+impl fmt::Display for BookFault {
+    ghost use Rattle.std.specs.Prelude.{Some};
+    ghost use Rattle.pd_book.specs.Faults.{fault_text};
+
+    ghost output = { λ fault. Some (fault_text fault) };
+
+    fn fmt<W: fmt::Write>(&self, f: &mut fmt::Formatter<W>) -> fmt::Result {
+        f.write_str(self.text())
+    }
+}
+
+impl FinishFault {
+    /// Its number and its name, as they are printed.
+    pub fn text(self) -> &'static str
+        ensures { result.now ≡ finish_fault_text self }
+    {
+        match self {
+            FinishFault::NoSuchJob => "9 NoSuchJob",
+            FinishFault::Foreign => "10 Foreign",
+            FinishFault::OutOfMemory => TextFault::OutOfMemory.text(),
+        }
+    }
+}
+
+impl fmt::Display for FinishFault {
+    ghost use Rattle.std.specs.Prelude.{Some};
+    ghost use Rattle.pd_book.specs.Faults.{finish_fault_text};
+
+    ghost output = { λ fault. Some (finish_fault_text fault) };
+
+    fn fmt<W: fmt::Write>(&self, f: &mut fmt::Formatter<W>) -> fmt::Result {
+        f.write_str(self.text())
+    }
 }
 
 impl From<AllocError> for BookFault {
@@ -68,5 +118,16 @@ impl From<TextFault> for BookFault {
             TextFault::TooLarge => BookFault::TooLarge,
             TextFault::OutOfMemory => BookFault::OutOfMemory,
         }
+    }
+}
+
+impl From<AllocError> for FinishFault {
+    ghost use Rattle.std.specs.Prelude.{◌≡◌};
+    ghost use Rattle.pd_book.specs.declared.faults.FinishFault.TheVariants.{OutOfMemory};
+
+    ghost from_gives = { λ _ e. e ≡ OutOfMemory };
+
+    fn from(_error: AllocError) -> FinishFault {
+        FinishFault::OutOfMemory
     }
 }

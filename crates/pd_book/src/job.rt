@@ -13,18 +13,18 @@ pub struct Job {
 }
 
 impl Model for Job {
-    ghost use Rattle.pd_book.specs.declared.task.Task.{Task};
+    ghost use Rattle.pd_book.specs.Story.{Handed};
 
-    ghost Value = { Task };
+    ghost Value = { Handed };
 
-    ghost view = { λ j. j.task };
+    ghost view = { λ j. record { task = j.task } };
 }
 
 impl Job {
     /// A job made outside a book. Its result is taken as that of an outstanding job that agrees with it in number, name,
     /// text and settings.
     pub fn new(number: u64, name: Name, text: Text, settings: Settings) -> Job
-        ensures { result ≡ record { number = number; name = name; text = text; settings = settings } }
+        ensures { result.task ≡ record { number = number; name = name; text = text; settings = settings } }
     {
         Job {
             task: Task {
@@ -38,13 +38,13 @@ impl Job {
 
     /// The job of this task.
     pub(crate) fn of(task: Task) -> Job
-        ensures { result ≡ task }
+        ensures { result.task ≡ task }
     {
         Job { task }
     }
 
     pub(crate) fn into_task(self) -> Task
-        ensures { result ≡ self }
+        ensures { result ≡ self.task }
     {
         let Job { task } = self;
         task
@@ -52,28 +52,28 @@ impl Job {
 
     /// Its number, in a book from 1 on.
     pub fn number(&self) -> u64
-        ensures { result ≡ self.now.number }
+        ensures { result ≡ self.now.task.number }
     {
         self.task.number
     }
 
     /// The name of its script.
     pub fn name(&self) -> &Name
-        ensures { result.now ≡ self.now.name }
+        ensures { result.now ≡ self.now.task.name }
     {
         &self.task.name
     }
 
     /// The text to be run.
     pub fn text(&self) -> &Text
-        ensures { result.now ≡ self.now.text }
+        ensures { result.now ≡ self.now.task.text }
     {
         &self.task.text
     }
 
     /// The settings to run it under.
     pub fn settings(&self) -> Settings
-        ensures { result ≡ self.now.settings }
+        ensures { result ≡ self.now.task.settings }
     {
         self.task.settings
     }

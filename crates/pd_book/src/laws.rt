@@ -6,7 +6,7 @@ ghost use Rattle.pd_book.specs.Legal.{Legal};
 ghost use Rattle.pd_book.specs.Report.{shown};
 ghost use Rattle.pd_book.specs.Story.{Story};
 ghost use Rattle.pd_book.specs.Accepted.{AddsAreLegal, EditsAreLegal, RemovesAreLegal, SetsAreLegal};
-ghost use Rattle.pd_book.specs.Turns.{IsAtRest, TurnsSettle, NoneOwedWhenNoneWaits, TurnsAreLegal, TurnsSuffice, SettlesAll};
+ghost use Rattle.pd_book.specs.Turns.{IsAtRest, StartsAreOutstanding, TurnsSettle, NoneOwedWhenNoneWaits, TurnsAreLegal, TurnsSuffice, SettlesAll};
 ghost use Rattle.pd_book.specs.Headline.{CurrentWhenAnswered, RowsAreScripts, VerdictsAreRuns, ScratchWhenAllAnswered, RowsAreOfScratch, NoneOwedWhenAllAnswered, TakenWhenUnchanged};
 
 /// After any list of accepted calls, in any order, a script is shown with a verdict exactly when a job
@@ -33,8 +33,10 @@ pub fn accepting()
 
 /// Starts and finishes by turns, with no other job between, come to an end: each turn leaves one row fewer
 /// pending and a legal story, where no script waits none is pending, and a settling that isn't refused a start
-/// leaves the report from scratch of the same scripts and settings. More turns give nothing more.
+/// leaves the report from scratch of the same scripts and settings. More turns give nothing more. A job that is handed
+/// out is outstanding then.
 pub fn settling()
+    ensures starts { (story : Story) → Legal story.opening story.past → StartsAreOutstanding story }
     ensures turns { (opening : Settings) → (past : List Act) → Legal opening past → TurnsSettle opening past }
     ensures end { (opening : Settings) → (past : List Act) → Legal opening past → NoneOwedWhenNoneWaits opening past }
     ensures legal { (story : Story) → IsAtRest story → TurnsAreLegal story }

@@ -1,8 +1,7 @@
-//! What a call leaves in the lists of a book, for which there is room.
-ghost use Rattle.std.specs.Prelude.{◌≡◌, ◌≤◌, ◌<◌, ◌==◌, ◌++◌, ◌∷◌, [], reverse, find, filter, not, Some, IfOk, option_copied, vec_len, vec_capacity};
+//! What a book keeps, and what a call leaves in it, for which there is room.
+ghost use Rattle.std.specs.Prelude.{◌≡◌, ◌≤◌, ◌<◌, ◌==◌, ◌++◌, ◌∷◌, [], reverse, find, filter, not, Some, option_copied, vec_len, vec_capacity};
 ghost use Rattle.std.specs.Str.{bytes_eq};
 ghost use Rattle.pd_book.specs.Acts.{without};
-ghost use Rattle.pd_book.specs.Legal.{IsText};
 ghost use Rattle.pd_book.specs.Kept.{with_state};
 ghost use Rattle.pd_book.specs.Replay.{settle, give_up};
 
@@ -12,17 +11,7 @@ use crate::job::Job;
 use crate::script::State;
 use crate::scripts::Scripts;
 use crate::task::Task;
-use pd_text::{Lines, Text};
-use std::alloc::{AllocError, Global};
-
-/// A text that owners share.
-pub fn shared(alloc: Global, lines: Lines) -> Result<Text, AllocError>
-    ensures text { IfOk result (λ text. text ≡ lines) }
-    ensures fits { IsText lines }
-{
-    let _first = lines.line(1);
-    Text::new(alloc, lines)
-}
+use std::alloc::Global;
 
 /// A job to hand out, its task to keep and its act to record.
 #[derive(Drop)]
@@ -30,6 +19,77 @@ pub struct Prepared {
     pub job: Job,
     pub task: Task,
     pub act: Act,
+}
+
+/// What a book keeps: the acts, the oldest first, the tasks of the outstanding jobs, and the scripts.
+#[derive(Drop)]
+pub struct Records {
+    pub acts: Vec<Act>,
+    pub tasks: Vec<Task>,
+    pub scripts: Scripts,
+}
+
+impl Records {
+    pub fn new(alloc: Global) -> Records
+        ensures acts { result.acts.items ≡ [] }
+        ensures tasks { result.tasks.items ≡ [] }
+        ensures scripts { result.scripts ≡ [] }
+    {
+        Records {
+            acts: Vec::new(alloc),
+            tasks: Vec::new(alloc),
+            scripts: Scripts::new(alloc),
+        }
+    }
+
+    /// Keeps what a start leaves, and hands out its job.
+    pub fn start(&mut self, prepared: Prepared) -> Job
+        requires act_room { vec_len self.old.acts < vec_capacity self.old.acts }
+        requires job_room { vec_len self.old.tasks < vec_capacity self.old.tasks }
+        ensures job { result ≡ prepared.job }
+        ensures past { reverse self.new.acts.items ≡ prepared.act ∷ reverse self.old.acts.items }
+        ensures capacity { vec_capacity self.old.acts ≤ vec_capacity self.new.acts }
+        ensures tasks { self.new.tasks.items ≡ self.old.tasks.items ++ prepared.task ∷ [] }
+        ensures scripts { self.new.scripts ≡ with_state (bytes_eq prepared.job.task.name) (State.Running prepared.job.task.number) self.old.scripts }
+    {
+        let Prepared { job, task, act } = prepared;
+        self.scripts
+            .set_state(job.name(), State::Running(job.number()));
+        hold(&mut self.tasks, task);
+        record(&mut self.acts, act);
+        job
+    }
+
+    /// Keeps what a finish leaves.
+    pub fn finish(&mut self, done: &Done, ruling: Ruling)
+        requires { vec_len self.old.acts < vec_capacity self.old.acts }
+        ensures past { reverse self.new.acts.items ≡ Act.Finish done.now.number ruling ∷ reverse self.old.acts.items }
+        ensures capacity { vec_capacity self.old.acts ≤ vec_capacity self.new.acts }
+        ensures tasks { self.new.tasks.items ≡ without done.now.number self.old.tasks.items }
+        ensures scripts { self.new.scripts ≡ settle ruling (Some done.now) self.old.scripts }
+    {
+        if let Ruling::Taken = ruling {
+            self.scripts
+                .set_state(done.name(), State::Answered(done.verdict()));
+        }
+        drop_task(&mut self.tasks, done.number());
+        record(&mut self.acts, Act::Finish(done.number(), ruling));
+    }
+
+    /// Keeps what an abandonment leaves.
+    pub fn abandon(&mut self, number: u64)
+        requires { vec_len self.old.acts < vec_capacity self.old.acts }
+        ensures past { reverse self.new.acts.items ≡ Act.Abandon number ∷ reverse self.old.acts.items }
+        ensures capacity { vec_capacity self.old.acts ≤ vec_capacity self.new.acts }
+        ensures tasks { self.new.tasks.items ≡ without number self.old.tasks.items }
+        ensures scripts { self.new.scripts ≡ give_up (find (λ task. number == task.number) self.old.tasks.items) self.old.scripts }
+    {
+        if let Some(task) = task_of(self.tasks.as_slice(), number) {
+            self.scripts.give_up(task);
+        }
+        drop_task(&mut self.tasks, number);
+        record(&mut self.acts, Act::Abandon(number));
+    }
 }
 
 /// Adds an act.
@@ -60,58 +120,4 @@ fn drop_task(tasks: &mut Vec<Task>, number: u64)
     ensures { tasks.new.items ≡ without number tasks.old.items }
 {
     tasks.retain(|task| number != task.number);
-}
-
-/// Keeps what a start leaves, and hands out its job.
-pub fn keep_start(
-    acts: &mut Vec<Act>,
-    tasks: &mut Vec<Task>,
-    scripts: &mut Scripts,
-    prepared: Prepared,
-) -> Job
-    requires act_room { vec_len acts.old < vec_capacity acts.old }
-    requires job_room { vec_len tasks.old < vec_capacity tasks.old }
-    ensures job { result ≡ prepared.job }
-    ensures past { reverse acts.new.items ≡ prepared.act ∷ reverse acts.old.items }
-    ensures capacity { vec_capacity acts.old ≤ vec_capacity acts.new }
-    ensures tasks { tasks.new.items ≡ tasks.old.items ++ prepared.task ∷ [] }
-    ensures scripts { scripts.new ≡ with_state (bytes_eq prepared.job.name) (State.Running prepared.job.number) scripts.old }
-{
-    let Prepared { job, task, act } = prepared;
-    scripts.set_state(job.name(), State::Running(job.number()));
-    hold(tasks, task);
-    record(acts, act);
-    job
-}
-
-/// Keeps what a finish leaves.
-pub fn keep_finish(
-    acts: &mut Vec<Act>,
-    tasks: &mut Vec<Task>,
-    scripts: &mut Scripts,
-    done: &Done,
-    ruling: Ruling,
-)
-    requires { vec_len acts.old < vec_capacity acts.old }
-    ensures past { reverse acts.new.items ≡ Act.Finish done.now.number ruling ∷ reverse acts.old.items }
-    ensures capacity { vec_capacity acts.old ≤ vec_capacity acts.new }
-    ensures tasks { tasks.new.items ≡ without done.now.number tasks.old.items }
-    ensures scripts { scripts.new ≡ settle ruling (Some done.now) scripts.old }
-{
-    if let Ruling::Taken = ruling {
-        scripts.set_state(done.name(), State::Answered(done.verdict()));
-    }
-    drop_task(tasks, done.number());
-    record(acts, Act::Finish(done.number(), ruling));
-}
-
-/// Keeps what an abandonment leaves.
-pub fn keep_abandon(acts: &mut Vec<Act>, tasks: &mut Vec<Task>, number: u64)
-    requires { vec_len acts.old < vec_capacity acts.old }
-    ensures past { reverse acts.new.items ≡ Act.Abandon number ∷ reverse acts.old.items }
-    ensures capacity { vec_capacity acts.old ≤ vec_capacity acts.new }
-    ensures tasks { tasks.new.items ≡ without number tasks.old.items }
-{
-    drop_task(tasks, number);
-    record(acts, Act::Abandon(number));
 }

@@ -106,14 +106,9 @@ impl Scripts {
     pub fn first_pending(&self) -> Option<(&Name, &Script)>
         ensures { option_map deref_pair result ≡ find is_pending self.now }
     {
-        for i in 0..self.by_name.len() {
-            if let Some((name, script)) = self.by_name.get_index(i) {
-                if script.state.is_pending() {
-                    return Some((name, script));
-                }
-            }
-        }
-        None
+        self.by_name
+            .iter()
+            .find(|(_, script)| script.state.is_pending())
     }
 
     fn state(&self, name: &Name) -> Option<State>
@@ -141,11 +136,7 @@ impl Scripts {
     {
         let mut rows = Vec::new(alloc);
         for (name, script) in self.by_name.iter() {
-            rows.push(Row {
-                name: name.copy()?,
-                text: script.text.share()?,
-                verdict: script.state.verdict(),
-            })?;
+            rows.push(row_of(name, script)?)?;
         }
         Ok(rows)
     }
@@ -189,10 +180,20 @@ impl Scripts {
     pub fn clear(&mut self)
         ensures { self.new ≡ all_pending self.old }
     {
-        for i in 0..self.by_name.len() {
-            if let Some(script) = self.by_name.get_index_mut(i) {
-                script.state = State::Pending;
-            }
-        }
+        self.by_name.retain(|_, script| {
+            script.state = State::Pending;
+            true
+        });
     }
+}
+
+/// The row of a script.
+fn row_of(name: &Name, script: &Script) -> Result<Row, AllocError>
+    ensures { IfOk result (λ row. row ≡ kept_row (name.now, script.now)) }
+{
+    Ok(Row {
+        name: name.copy()?,
+        text: script.text.share()?,
+        verdict: script.state.verdict(),
+    })
 }

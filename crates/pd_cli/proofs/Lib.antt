@@ -2,7 +2,6 @@
 pub mod Chains
 mod Rows
 pub mod SettingsText
-pub mod Counts
 pub mod Cuts
 pub mod Digits
 pub mod Ending

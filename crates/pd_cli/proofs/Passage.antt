@@ -1,5 +1,5 @@
 -- The stories that serving goes through.
-use Rattle.std.proofs.Common.{◌≡◌, ℕ, ◌+◌, ◌-◌, ◌≤◌, ◌==◌, nat_le, Bool, true, false, not, ◌&&◌, List, [], ◌∷◌, ◌++◌, length, take, Option, Some, None, option_map, Result, Ok, Err, IsTrue, All, cond, refl, sym, ap, subst, ◌∙◌, arith, suc, zero, slice_index}
+use Rattle.std.proofs.Common.{◌≡◌, ℕ, ◌-◌, ◌==◌, nat_le, Bool, true, false, not, ◌&&◌, List, [], ◌∷◌, ◌++◌, length, take, Option, Some, None, option_map, Result, Ok, Err, cond, refl, sym, ap, subst, ◌∙◌, arith, suc, zero, slice_index}
 use Rattle.std.specs.List.{list_all, slice_split, onto_first}
 use Rattle.std.specs.Str.Lines.{lines, lines_of_parts, strip_carriage_return}
 use Rattle.std.proofs.lemmas.Bool.{leb-true}
@@ -7,25 +7,22 @@ use Rattle.std.proofs.lemmas.List.Splits.{slice_split_at, slice_split-cons_no}
 use Rattle.pd_text.specs.Text.{is_line, AreLines, FitsText, fits_text, octets_of}
 use Rattle.pd_text.specs.declared.line_edit.LineEdit.{LineEdit}
 use Rattle.pd_settings.specs.Keys.{key_named}
-use Rattle.pd_settings.specs.declared.fields.Settings.{Settings}
 use Rattle.pd_settings.specs.declared.keys.Key.{Key}
 use Rattle.pd_settings.specs.declared.values.Value.{Value}
 use Rattle.pd_book.specs.declared.act.Act.{Act}
 use Rattle.pd_book.specs.declared.act.Act.TheVariants as act
 use Rattle.pd_book.specs.declared.faults.BookFault.{BookFault}
 use Rattle.pd_book.specs.declared.faults.BookFault.TheVariants as book
-use Rattle.pd_book.specs.Acts.{texts, now}
 use Rattle.pd_book.specs.Legal.{IsText, Legal}
 use Rattle.pd_book.specs.Accepted.{AddsAreLegal, EditsAreLegal, RemovesAreLegal, SetsAreLegal}
 use Rattle.pd_book.specs.Story.{Story, told}
-use Rattle.pd_book.specs.Report.{Shown, scratch}
 use Rattle.pd_book.specs.Turns.{settled, IsAtRest, IsSettled, SettlesAll}
 use Rattle.pd_book.specs.Refusals.{add_refusal, edit_refusal, remove_refusal, set_refusal}
 use Rattle.pd_cli.specs.Report.{rendered}
 use Rattle.pd_cli.specs.Requests.{request_of}
-use Rattle.pd_cli.specs.Commands.{Item, does, stops, fitted, edit_of, with_lines, items_at, items, commands}
-use Rattle.pd_cli.specs.Output.{report, acted, reported, effect, ahead, follow, outcome, output}
-use Rattle.pd_cli.specs.Laws.{behind, then_done, done_by, Reaches, OutputGoesOn, StoriesAreLegal, SettlesPrintScratch}
+use Rattle.pd_cli.specs.Commands.{Item, does, stops, fitted, edit_of, with_lines, items_at, items}
+use Rattle.pd_cli.specs.Output.{report, acted, reported, effect, ahead, follow, outcome}
+use Rattle.pd_cli.specs.Laws.{behind, then_done, done_by, OutputGoesOn, StoriesAreLegal, SettlesPrintScratch}
 use Rattle.pd_cli.specs.declared.requests.Request.{Request}
 use Rattle.pd_cli.specs.declared.requests.Request.TheVariants as asks
 use Rattle.pd_cli.specs.declared.command.Command.{Command}

@@ -1,8 +1,8 @@
 -- Small inputs by the definitions.
-use Rattle.std.proofs.Common.{◌≡◌, ℕ, List, [], ◌∷◌, ◌++◌, Ok, Err, true, false, codes, refl}
+use Rattle.std.proofs.Common.{◌≡◌, ℕ, List, [], ◌++◌, Ok, Err, true, codes, refl}
 use Rattle.std.specs.Fmt.{digits}
 use Rattle.pd_settings.specs.Settings.{defaults}
-use Rattle.pd_cli.specs.Output.{Session, output}
+use Rattle.pd_cli.specs.Output.{output}
 use Rattle.pd_cli.specs.declared.faults.ServeFault.TheVariants.{BadCommand, Truncated}
 
 abbrev of_one : List ℕ

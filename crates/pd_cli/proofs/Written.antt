@@ -1,5 +1,5 @@
 -- What was written so far, and what is still to come.
-use Rattle.std.proofs.Common.{◌≡◌, ℕ, Bool, List, [], ◌∷◌, ◌++◌, Option, Some, None, option_map, Result, Ok, Err, refl, sym, ap, subst, ◌∙◌, append_assoc, append-nil, IfSome, IfErr, IsErrAnd, OnOk, OnErr, take, drop, suc, zero}
+use Rattle.std.proofs.Common.{◌≡◌, ℕ, Bool, List, [], ◌∷◌, ◌++◌, Option, Some, None, option_map, Result, Ok, Err, refl, sym, ap, subst, ◌∙◌, append_assoc, append-nil, IfSome, IfErr, IsErrAnd, OnOk, OnErr, take, drop}
 use Rattle.std.proofs.lemmas.List.{take-append-drop}
 use Rattle.std.specs.Io.KnownBytes.{Appends}
 use Rattle.pd_settings.specs.declared.fields.Settings.{Settings}
@@ -9,11 +9,9 @@ use Rattle.pd_book.specs.declared.act.Act.{Act}
 use Rattle.pd_book.specs.declared.act.Act.TheVariants as act
 use Rattle.pd_book.specs.declared.faults.BookFault.{BookFault}
 use Rattle.pd_book.specs.declared.faults.BookFault.TheVariants as book
-use Rattle.pd_book.specs.declared.task.Task.{Task}
 use Rattle.pd_book.specs.Story.{Story, told}
-use Rattle.pd_book.specs.Report.{owed}
-use Rattle.pd_book.specs.Turns.{turn, after_turn, settled, settled_in}
-use Rattle.pd_book.specs.Refusals.{add_refusal, edit_refusal, remove_refusal, set_refusal, start_refusal, next_job}
+use Rattle.pd_book.specs.Turns.{settled, SettlesAll}
+use Rattle.pd_book.specs.Refusals.{add_refusal, edit_refusal, remove_refusal, set_refusal}
 use Rattle.pd_cli.specs.Input.{IfKnown, to_come}
 use Rattle.pd_cli.specs.Report.{rendered}
 use Rattle.pd_cli.specs.Commands.{Item, does, stops, commands}
@@ -24,7 +22,6 @@ use Rattle.pd_cli.specs.declared.command.Command.{Command}
 use Rattle.pd_cli.specs.declared.command.Command.TheVariants.{Add, Edit, Remove, Set, Show, Settle}
 use Rattle.pd_cli.specs.declared.faults.ServeFault.{ServeFault}
 use Rattle.pd_cli.specs.declared.faults.ServeFault.TheVariants.{HistoryFull, BadCommand, Truncated, Read, Write, OutOfMemory}
-use Rattle.pd_cli.proofs.Counts.{quiet_turned}
 use Rattle.pd_cli.proofs.Known.{appends_then, known_then, fact_before}
 
 -- no job is outstanding after a command
@@ -35,16 +32,6 @@ got d (Err e) = d
 
 pub ok_same : {A E : Type 0} (a b : A) → ◌≡◌ {A = Result A E} (Ok a) (Ok b) → a ≡ b
 ok_same {A = A} {E = E} a b e = ap (λ (r : Result A E). got a r) e
-
-quiet_turn : (story new : Story) (o : Option Task) (refusal : Option BookFault) (rest : Story → Result Story BookFault) → next_job story ≡ o → IsQuiet story
-    → ((task : Task) → IsQuiet (after_turn story task) → rest (after_turn story task) ≡ Ok new → IsQuiet new) → turn story o refusal rest ≡ Ok new → IsQuiet new
-quiet_turn story new None refusal rest n q f e = subst IsQuiet (ok_same story new e) q
-quiet_turn story new (Some task) (Some fault) rest n q f e = absurd cc
-quiet_turn story new (Some task) None rest n q f e = f task (quiet_turned story task q n) e
-
-quiet_settled : (turns : ℕ) (story new : Story) → IsQuiet story → settled_in turns story ≡ Ok new → IsQuiet new
-quiet_settled zero story new q e = subst IsQuiet (ok_same story new e) q
-quiet_settled (suc turns) story new q e = quiet_turn story new (next_job story) (start_refusal story) (λ next. settled_in turns next) refl q (λ task h k. quiet_settled turns (after_turn story task) new h k) e
 
 quiet_acted : (story new : Story) (refusal : Option BookFault) (a : Option Act) (octets : List ℕ) → IsQuiet story → IfSome a (λ x. IsQuiet (told story x)) → acted story refusal a ≡ (octets, new) → IsQuiet new
 quiet_acted story new (Some fault) a octets q h e = subst IsQuiet (ap (λ (p : List ℕ × Story). p.1) e) q
@@ -59,15 +46,15 @@ pub quiet_reported : (r : Result Story BookFault) (octets : List ℕ) (new : Sto
 quiet_reported (Ok story) octets new e = ap (λ (s : Story). Ok s) (ap (λ (p : List ℕ × Story). p.1) (ok_same (rendered (report story), story) (octets, new) e))
 quiet_reported (Err fault) octets new e = absurd cc
 
-pub quiet_after : (story new : Story) (command : Command) (octets : List ℕ) → IsQuiet story → effect story command ≡ Ok (octets, new) → IsQuiet new
-quiet_after story new (Add name None) octets q e = quiet_acted story new (Some book.TooLarge) None octets q tt (ok_same _ _ e)
-quiet_after story new (Add name (Some text)) octets q e = quiet_acted story new (add_refusal story name) (Some (act.Add name text)) octets q q (ok_same _ _ e)
-quiet_after story new (Edit name None) octets q e = quiet_acted story new (Some book.TooLarge) None octets q tt (ok_same _ _ e)
-quiet_after story new (Edit name (Some edit)) octets q e = quiet_acted story new (edit_refusal story name edit) (Some (act.Edit name edit)) octets q q (ok_same _ _ e)
-quiet_after story new (Remove name) octets q e = quiet_acted story new (remove_refusal story name) (Some (act.Remove name)) octets q q (ok_same _ _ e)
-quiet_after story new (Set key value) octets q e = quiet_acted story new (set_refusal story key value) (option_map (λ k. act.Set k value) (key_named key)) octets q (quiet_set story value (key_named key) q) (ok_same _ _ e)
-quiet_after story new Show octets q e = subst IsQuiet (ap (λ (p : List ℕ × Story). p.1) (ok_same (rendered (report story), story) (octets, new) e)) q
-quiet_after story new Settle octets q e = quiet_settled (owed story.opening story.past) story new q (quiet_reported (settled story) octets new e)
+pub quiet_after : (story new : Story) (command : Command) (octets : List ℕ) → IsQuiet story → SettlesAll story → effect story command ≡ Ok (octets, new) → IsQuiet new
+quiet_after story new (Add name None) octets q law e = quiet_acted story new (Some book.TooLarge) None octets q tt (ok_same _ _ e)
+quiet_after story new (Add name (Some text)) octets q law e = quiet_acted story new (add_refusal story name) (Some (act.Add name text)) octets q q (ok_same _ _ e)
+quiet_after story new (Edit name None) octets q law e = quiet_acted story new (Some book.TooLarge) None octets q tt (ok_same _ _ e)
+quiet_after story new (Edit name (Some edit)) octets q law e = quiet_acted story new (edit_refusal story name edit) (Some (act.Edit name edit)) octets q q (ok_same _ _ e)
+quiet_after story new (Remove name) octets q law e = quiet_acted story new (remove_refusal story name) (Some (act.Remove name)) octets q q (ok_same _ _ e)
+quiet_after story new (Set key value) octets q law e = quiet_acted story new (set_refusal story key value) (option_map (λ k. act.Set k value) (key_named key)) octets q (quiet_set story value (key_named key) q) (ok_same _ _ e)
+quiet_after story new Show octets q law e = subst IsQuiet (ap (λ (p : List ℕ × Story). p.1) (ok_same (rendered (report story), story) (octets, new) e)) q
+quiet_after story new Settle octets q law e = (law new (quiet_reported (settled story) octets new e)).rest.none
 
 -- one command
 

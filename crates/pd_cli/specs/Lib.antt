@@ -9,6 +9,7 @@ pub mod ProgramFaults
 pub mod ProgramWords
 pub mod Report
 pub mod Requests
+pub mod ServeFaults
 pub mod Steps
 pub mod TakenLines
 pub mod Taking

@@ -9,6 +9,7 @@ use Rattle.pd_book.specs.declared.act.Act.TheVariants as act
 use Rattle.pd_book.specs.declared.faults.BookFault.{BookFault}
 use Rattle.pd_book.specs.declared.faults.BookFault.TheVariants as book
 use Rattle.pd_book.specs.declared.row.Row.{Row}
+use Rattle.pd_book.specs.Faults.{fault_text}
 use Rattle.pd_book.specs.Story.{Story, told}
 use Rattle.pd_book.specs.Turns.{settled}
 use Rattle.pd_book.specs.Report.{Shown, shown}
@@ -21,22 +22,9 @@ use Rattle.pd_cli.specs.declared.rendering.Class.TheVariants as class
 use Rattle.pd_cli.specs.declared.faults.ServeFault.{ServeFault}
 use Rattle.pd_cli.specs.declared.faults.ServeFault.TheVariants.{HistoryFull, BadCommand, Truncated, Read, Write, OutOfMemory}
 
--- the number and the name of a refusal
-abbrev pub refusal_name : BookFault → List ℕ
-refusal_name book.BadRange = codes "1 BadRange"
-refusal_name book.TooLarge = codes "2 TooLarge"
-refusal_name book.UnknownKey = codes "3 UnknownKey"
-refusal_name book.BadValue = codes "4 BadValue"
-refusal_name book.BadName = codes "5 BadName"
-refusal_name book.NameTaken = codes "6 NameTaken"
-refusal_name book.NoSuchScript = codes "7 NoSuchScript"
-refusal_name book.TooManyScripts = codes "8 TooManyScripts"
-refusal_name book.HistoryFull = codes "11 HistoryFull"
-refusal_name book.OutOfMemory = codes "19 OutOfMemory"
-
 -- the line that a refused act prints
 abbrev pub refused : BookFault → List ℕ
-refused fault = codes "refused " ++ refusal_name fault ++ codes "\n"
+refused fault = codes "refused " ++ fault_text fault ++ codes "\n"
 
 -- the report as it stands after a story
 abbrev pub report : Story → Shown

@@ -14,13 +14,13 @@ use Rattle.pd_cli.specs.declared.program_faults.ProgramFault.{ProgramFault}
 use Rattle.pd_cli.specs.declared.program_faults.ProgramFault.TheVariants.{NotToml, Serving}
 
 -- the answer for the settings of a document
-abbrev pub chosen : Result Settings SettingsFault → Result Settings ProgramFault
-chosen (Ok settings) = Ok settings
-chosen (Err fault) = Err (of_settings fault)
+abbrev pub in_document : Result Settings SettingsFault → Result Settings ProgramFault
+in_document (Ok settings) = Ok settings
+in_document (Err fault) = Err (of_settings fault)
 
 abbrev pub settings_of : Option Members → Result Settings ProgramFault
 settings_of None = Err NotToml
-settings_of (Some entries) = chosen (from_table_of entries)
+settings_of (Some entries) = in_document (from_table_of entries)
 
 -- the settings of a TOML text, or the fault of that text
 abbrev pub settings_in : List ℕ → Result Settings ProgramFault

@@ -2,7 +2,7 @@
 use Rattle.std.specs.Prelude.{ℕ, List, ◌++◌, codes}
 use Rattle.pd_settings.specs.declared.faults.SettingsFault.{SettingsFault}
 use Rattle.pd_settings.specs.declared.faults.SettingsFault.TheVariants as settings
-use Rattle.pd_cli.specs.declared.faults.ServeFault.TheVariants.{HistoryFull, BadCommand, Truncated, Read, Write, OutOfMemory}
+use Rattle.pd_cli.specs.ServeFaults.{serve_fault_text}
 use Rattle.pd_cli.specs.declared.program_faults.ProgramFault.{ProgramFault}
 use Rattle.pd_cli.specs.declared.program_faults.ProgramFault.TheVariants.{UnknownKey, BadValue, NotToml, Serving}
 
@@ -12,17 +12,16 @@ of_settings settings.UnknownKey = UnknownKey
 of_settings settings.BadValue = BadValue
 
 -- the number and the name of a fault
-abbrev pub fault_name : ProgramFault → List ℕ
-fault_name UnknownKey = codes "3 UnknownKey"
-fault_name BadValue = codes "4 BadValue"
-fault_name NotToml = codes "20 NotToml"
-fault_name (Serving HistoryFull) = codes "11 HistoryFull"
-fault_name (Serving BadCommand) = codes "15 BadCommand"
-fault_name (Serving Truncated) = codes "16 Truncated"
-fault_name (Serving Read) = codes "17 Read"
-fault_name (Serving Write) = codes "18 Write"
-fault_name (Serving OutOfMemory) = codes "19 OutOfMemory"
+abbrev pub fault_text : ProgramFault → List ℕ
+fault_text UnknownKey = codes "3 UnknownKey"
+fault_text BadValue = codes "4 BadValue"
+fault_text NotToml = codes "20 NotToml"
+fault_text (Serving fault) = serve_fault_text fault
 
--- the line on standard error
+-- the line on standard error that says this
+abbrev pub line_of : List ℕ → List ℕ
+line_of text = codes "pdregress: " ++ text ++ codes "\n"
+
+-- the line of a fault
 abbrev pub fault_line : ProgramFault → List ℕ
-fault_line fault = codes "pdregress: " ++ fault_name fault ++ codes "\n"
+fault_line fault = line_of (fault_text fault)

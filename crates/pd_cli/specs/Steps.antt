@@ -1,9 +1,10 @@
 -- The steps of serving; cited by private contracts alone.
-use Rattle.std.specs.Prelude.{◌≡◌, ◌≢◌, ℕ, Bool, true, false, List, [], ◌++◌, Some, None, Result, Ok, Err}
+use Rattle.std.specs.Prelude.{◌≡◌, ◌≢◌, ◌+◌, ◌<◌, ℕ, Bool, true, false, List, [], ◌++◌, Some, None, Result, Ok, Err}
 use Rattle.pd_book.specs.declared.faults.BookFault.{BookFault}
 use Rattle.pd_book.specs.declared.faults.BookFault.TheVariants as book
 use Rattle.pd_book.specs.declared.task.Task.{Task}
 use Rattle.pd_book.specs.Acts.{jobs}
+use Rattle.pd_book.specs.Report.{owed}
 use Rattle.pd_book.specs.Story.{Story}
 use Rattle.pd_book.specs.Refusals.{next_job, start_refusal}
 use Rattle.pd_book.specs.Turns.{after_turn, settled}
@@ -22,11 +23,14 @@ RepliesTo (Err fault) octets = (octets ≡ refused fault) × (fault ≢ book.Out
 abbrev pub IsQuiet : Story → Type 0
 IsQuiet story = jobs story.opening story.past ≡ []
 
--- one turn of settling: whether there was a job
+-- one turn of settling: whether there was a job; then less is owed, and no job is outstanding
 abbrev pub Turns : Result Bool ServeFault → Story → Story → Type 0
-Turns (Ok true) old new = (task : Task) × (next_job old ≡ Some task) × (start_refusal old ≡ None) × (new ≡ after_turn old task)
+Turns (Ok true) old new =
+    (task : Task) × (next_job old ≡ Some task) × (start_refusal old ≡ None) × (new ≡ after_turn old task)
+    × (owed new.opening new.past + 1 ≡ owed old.opening old.past) × IsQuiet new
 Turns (Ok false) old new = (next_job old ≡ None) × (new ≡ old)
-Turns (Err HistoryFull) old new = (task : Task) × (next_job old ≡ Some task) × (start_refusal old ≡ Some book.HistoryFull)
+Turns (Err HistoryFull) old new =
+    (task : Task) × (next_job old ≡ Some task) × (start_refusal old ≡ Some book.HistoryFull) × (0 < owed old.opening old.past)
 Turns (Err OutOfMemory) old new = Unit {0}
 Turns (Err Read) old new = ⊥
 Turns (Err Write) old new = ⊥

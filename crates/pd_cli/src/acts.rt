@@ -1,11 +1,10 @@
 //! The acts of a book as commands, and what they print.
 ghost use Rattle.std.specs.Prelude.{◌≡◌, Ok, IfOk, IfErr};
-ghost use Rattle.pd_cli.specs.Output.{refusal_name, effect};
+ghost use Rattle.pd_cli.specs.Output.{effect};
 ghost use Rattle.pd_cli.specs.Steps.{RepliesTo};
 
 use crate::command::Command;
 use crate::faults::ServeFault;
-use crate::requests::Word;
 use pd_book::{Book, BookFault};
 use pd_settings::Value;
 use pd_text::{LineEdit, Lines, Name};
@@ -18,7 +17,7 @@ pub fn add(
     name: Name,
     text: Option<Lines>,
 ) -> Result<Vec<u8>, ServeFault>
-    ensures reply { IfOk result (λ octets. effect book.old (Command.Add name text) ≡ Ok (octets.items, book.new)) }
+    ensures reply { IfOk result (λ octets. effect book.old.story (Command.Add name text) ≡ Ok (octets.items, book.new.story)) }
     ensures only { IfErr result (λ fault. fault ≡ ServeFault.OutOfMemory) }
 {
     match text {
@@ -34,7 +33,7 @@ pub fn edit(
     name: &Name,
     edit: Option<LineEdit>,
 ) -> Result<Vec<u8>, ServeFault>
-    ensures reply { IfOk result (λ octets. effect book.old (Command.Edit name.now edit) ≡ Ok (octets.items, book.new)) }
+    ensures reply { IfOk result (λ octets. effect book.old.story (Command.Edit name.now edit) ≡ Ok (octets.items, book.new.story)) }
     ensures only { IfErr result (λ fault. fault ≡ ServeFault.OutOfMemory) }
 {
     match edit {
@@ -45,15 +44,15 @@ pub fn edit(
 
 /// Removes a script, and gives what this prints.
 pub fn remove(alloc: Global, book: &mut Book, name: &Name) -> Result<Vec<u8>, ServeFault>
-    ensures reply { IfOk result (λ octets. effect book.old (Command.Remove name.now) ≡ Ok (octets.items, book.new)) }
+    ensures reply { IfOk result (λ octets. effect book.old.story (Command.Remove name.now) ≡ Ok (octets.items, book.new.story)) }
     ensures only { IfErr result (λ fault. fault ≡ ServeFault.OutOfMemory) }
 {
     reply(alloc, book.remove(name))
 }
 
 /// Sets a setting, and gives what this prints.
-pub fn set(alloc: Global, book: &mut Book, key: &Word, value: Value) -> Result<Vec<u8>, ServeFault>
-    ensures reply { IfOk result (λ octets. effect book.old (Command.Set key.now value) ≡ Ok (octets.items, book.new)) }
+pub fn set(alloc: Global, book: &mut Book, key: &Name, value: Value) -> Result<Vec<u8>, ServeFault>
+    ensures reply { IfOk result (λ octets. effect book.old.story (Command.Set key.now value) ≡ Ok (octets.items, book.new.story)) }
     ensures only { IfErr result (λ fault. fault ≡ ServeFault.OutOfMemory) }
 {
     reply(alloc, book.set(key.as_slice(), value))
@@ -70,27 +69,9 @@ fn reply(alloc: Global, answer: Result<(), BookFault>) -> Result<Vec<u8>, ServeF
         Err(BookFault::OutOfMemory) => Err(ServeFault::OutOfMemory),
         Err(fault) => {
             out.extend_from_slice(b"refused ")?;
-            out.extend_from_slice(refusal_name(fault))?;
+            out.extend_from_slice(fault.text().as_bytes())?;
             out.extend_from_slice(b"\n")?;
             Ok(out)
         }
-    }
-}
-
-/// The number and the name of a refusal.
-fn refusal_name(fault: BookFault) -> &'static [u8]
-    ensures { result.now ≡ refusal_name fault }
-{
-    match fault {
-        BookFault::BadRange => b"1 BadRange",
-        BookFault::TooLarge => b"2 TooLarge",
-        BookFault::UnknownKey => b"3 UnknownKey",
-        BookFault::BadValue => b"4 BadValue",
-        BookFault::BadName => b"5 BadName",
-        BookFault::NameTaken => b"6 NameTaken",
-        BookFault::NoSuchScript => b"7 NoSuchScript",
-        BookFault::TooManyScripts => b"8 TooManyScripts",
-        BookFault::HistoryFull => b"11 HistoryFull",
-        BookFault::OutOfMemory => b"19 OutOfMemory",
     }
 }

@@ -8,7 +8,7 @@ ghost use Rattle.pd_cli.specs.Taking.{TakesLines, LinesFault, AsksLine, HasReque
 use crate::faults::ServeFault;
 use crate::gathered::Gathered;
 use crate::intake::{Intake, Taken};
-use crate::requests::{Request, Word};
+use crate::requests::Request;
 use pd_settings::Value;
 use pd_text::{LineEdit, LineList, Lines, MAX_OCTETS, Name};
 use std::alloc::{AllocError, Global};
@@ -20,7 +20,7 @@ pub enum Command {
     Add(Name, Option<Lines>),
     Edit(Name, Option<LineEdit>),
     Remove(Name),
-    Set(Word, Value),
+    Set(Name, Value),
     Show,
     Settle,
 }

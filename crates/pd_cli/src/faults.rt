@@ -1,27 +1,53 @@
-//! Why the program stops.
+//! Why serving stops.
+ghost use Rattle.std.specs.Prelude.{◌≡◌};
+ghost use Rattle.pd_cli.specs.ServeFaults.{serve_fault_text};
+
+use pd_book::BookFault;
 use std::alloc::AllocError;
+use std::fmt;
 use thiserror::Error;
 
 /// Why serving stops before the end of its input.
 #[derive(Clone, Copy, Debug, PartialEq, Eq, Error)]
 pub enum ServeFault {
     /// A job is owed and the history has no room for its start and its end.
-    #[error("11 HistoryFull")]
     HistoryFull,
     /// A line asks for no command, or is longer than 256 octets.
-    #[error("15 BadCommand")]
     BadCommand,
     /// The input ends inside the lines of a command.
-    #[error("16 Truncated")]
     Truncated,
     /// A read failed, or all 1,048,576 reads were made.
-    #[error("17 Read")]
     Read,
     /// A write failed, or took no octet.
-    #[error("18 Write")]
     Write,
-    #[error("19 OutOfMemory")]
     OutOfMemory,
+}
+
+impl ServeFault {
+    /// Its number and its name, as they are printed.
+    pub fn text(self) -> &'static str
+        ensures { result.now ≡ serve_fault_text self }
+    {
+        match self {
+            ServeFault::HistoryFull => BookFault::HistoryFull.text(),
+            ServeFault::BadCommand => "15 BadCommand",
+            ServeFault::Truncated => "16 Truncated",
+            ServeFault::Read => "17 Read",
+            ServeFault::Write => "18 Write",
+            ServeFault::OutOfMemory => BookFault::OutOfMemory.text(),
+        }
+    }
+}
+
+impl fmt::Display for ServeFault {
+    ghost use Rattle.std.specs.Prelude.{Some};
+    ghost use Rattle.pd_cli.specs.ServeFaults.{serve_fault_text};
+
+    ghost output = { λ fault. Some (serve_fault_text fault) };
+
+    fn fmt<W: fmt::Write>(&self, f: &mut fmt::Formatter<W>) -> fmt::Result {
+        f.write_str(self.text())
+    }
 }
 
 impl From<AllocError> for ServeFault {

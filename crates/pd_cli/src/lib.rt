@@ -26,5 +26,5 @@ pub use laws::reports;
 pub use program_faults::ProgramFault;
 pub use rendering::render;
 pub use serving::serve_alone;
-pub use whole_program::{fail, program, run};
+pub use whole_program::{fail, run, run_alone};
 pub use word_options::options;

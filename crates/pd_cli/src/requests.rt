@@ -7,41 +7,9 @@ use crate::numbers::{count, value};
 use pd_settings::Value;
 use pd_text::Name;
 use std::alloc::{AllocError, Global};
-use std::marker::Model;
 
 /// The greatest length of a command's line, in octets.
 const MAX_COMMAND: usize = 256;
-
-/// A word of a command, as written.
-#[derive(Drop)]
-pub struct Word {
-    octets: Vec<u8>,
-}
-
-impl Model for Word {
-    ghost use Rattle.std.specs.Prelude.{List, ℕ};
-
-    ghost Value = { List ℕ };
-
-    ghost view = { λ w. w.octets.items };
-}
-
-impl Word {
-    /// A word of its own with these octets.
-    pub fn new(alloc: Global, octets: &[u8]) -> Result<Word, AllocError>
-        ensures { IfOk result (λ word. word ≡ octets.now) }
-    {
-        let mut own = Vec::new(alloc);
-        own.extend_from_slice(octets)?;
-        Ok(Word { octets: own })
-    }
-
-    pub fn as_slice(&self) -> &[u8]
-        ensures { result.now ≡ self.now }
-    {
-        self.octets.as_slice()
-    }
-}
 
 /// What a line asks for. A count is the number of lines that follow.
 #[derive(Drop)]
@@ -54,7 +22,7 @@ pub enum Request {
     /// The name, the first line, how many lines are removed, and the count.
     Edit(Name, usize, usize, usize),
     Remove(Name),
-    Set(Word, Value),
+    Set(Name, Value),
     Show,
     Settle,
 }
@@ -139,7 +107,7 @@ impl Request {
         ensures { IfOk result (λ request. request ≡ sets (map (λ w. w.now) words.now)) }
     {
         match words {
-            [key, word] => Ok(Request::Set(Word::new(alloc, key)?, value(word))),
+            [key, word] => Ok(Request::Set(name_of(alloc, key)?, value(word))),
             _ => Ok(Request::Bad),
         }
     }

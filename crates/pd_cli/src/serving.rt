@@ -8,7 +8,7 @@ use crate::acts::{add, edit, remove, set};
 use crate::command::{Command, next_command};
 use crate::faults::ServeFault;
 use crate::intake::Intake;
-use crate::settling::{settle_and_show, show};
+use crate::settling::{at_rest, settle_and_show, show};
 use crate::writing::put_all;
 use pd_book::Book;
 use pd_settings::Settings;
@@ -34,6 +34,7 @@ pub fn serve_alone<R: Read, W: Write>(
     let mut intake = Intake::new(alloc);
     let mut book = Book::new(alloc, cache, settings);
     loop {
+        at_rest(&book);
         match next_command(alloc, &mut intake, reader)? {
             Some(command) => serve_command(alloc, &mut book, command, writer)?,
             None => return serve_end(alloc, &mut book, writer),
@@ -48,9 +49,9 @@ fn serve_command<W: Write>(
     command: Command,
     writer: &mut W,
 ) -> Result<(), ServeFault>
-    requires { IsQuiet book.old }
+    requires { IsQuiet book.old.story }
     ensures { let before = W.contents writer.old in
-        (octets : List ℕ) × Appends before (W.contents writer.new) octets × Does result book.old command book.new octets }
+        (octets : List ℕ) × Appends before (W.contents writer.new) octets × Does result book.old.story command book.new.story octets }
 {
     let reply = reply_to(alloc, book, command)?;
     put_all(writer, reply.as_slice())
@@ -58,9 +59,9 @@ fn serve_command<W: Write>(
 
 /// Settles at the end of the input, and writes the last report.
 fn serve_end<W: Write>(alloc: Global, book: &mut Book, writer: &mut W) -> Result<bool, ServeFault>
-    requires { IsQuiet book.old }
+    requires { IsQuiet book.old.story }
     ensures { let before = W.contents writer.old in
-        (octets : List ℕ) × Appends before (W.contents writer.new) octets × Ends result book.old book.new octets }
+        (octets : List ℕ) × Appends before (W.contents writer.new) octets × Ends result book.old.story book.new.story octets }
 {
     let (octets, passed) = settle_and_show(alloc, book)?;
     put_all(writer, octets.as_slice())?;
@@ -69,9 +70,9 @@ fn serve_end<W: Write>(alloc: Global, book: &mut Book, writer: &mut W) -> Result
 
 /// Does one command, and gives what it prints.
 fn reply_to(alloc: Global, book: &mut Book, command: Command) -> Result<Vec<u8>, ServeFault>
-    requires { IsQuiet book.old }
-    ensures ok { IfOk result (λ reply. effect book.old command ≡ Ok (reply.items, book.new)) }
-    ensures err { IfErr result (λ fault. Fails fault book.old command) }
+    requires { IsQuiet book.old.story }
+    ensures ok { IfOk result (λ reply. effect book.old.story command ≡ Ok (reply.items, book.new.story)) }
+    ensures err { IfErr result (λ fault. Fails fault book.old.story command) }
 {
     match command {
         Command::Add(name, text) => add(alloc, book, name, text),

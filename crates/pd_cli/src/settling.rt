@@ -1,5 +1,6 @@
 //! Settling: starts and their finishes by turns, until nothing is owed.
 ghost use Rattle.std.specs.Prelude.{◌≡◌, Ok, IfOk, IfErr};
+ghost use Rattle.pd_book.specs.Turns.{TurnsSettle, StartsAreOutstanding, SettlesAll};
 ghost use Rattle.pd_cli.specs.Report.{rendered};
 ghost use Rattle.pd_cli.specs.Output.{effect, report, all_pass};
 ghost use Rattle.pd_cli.specs.Steps.{IsQuiet, Turns, SettlesTo, Fails};
@@ -7,15 +8,27 @@ ghost use Rattle.pd_cli.specs.Steps.{IsQuiet, Turns, SettlesTo, Fails};
 use crate::command::Command;
 use crate::faults::ServeFault;
 use crate::rendering::{Class, render};
-use pd_book::{Book, BookFault, Report, run_job};
+use pd_book::{Book, BookFault, Report, run_job, settling};
 use pd_run::Plain;
 use std::alloc::{AllocError, Global};
 
+/// What the book's laws say of settling it; the function does nothing.
+pub fn at_rest(book: &Book)
+    requires { IsQuiet book.now.story }
+    ensures turns { TurnsSettle book.now.story.opening book.now.story.past }
+    ensures starts { StartsAreOutstanding book.now.story }
+    ensures settles { SettlesAll book.now.story }
+{
+    let _acts = book.history();
+    settling();
+}
+
 /// Starts and finishes one job; false says that nothing is owed.
 fn turn(alloc: Global, book: &mut Book) -> Result<bool, ServeFault>
-    requires { IsQuiet book.old }
-    ensures { Turns result book.old book.new }
+    requires { IsQuiet book.old.story }
+    ensures { Turns result book.old.story book.new.story }
 {
+    at_rest(book);
     let job = match book.start() {
         Ok(Some(job)) => job,
         Ok(None) => return Ok(false),
@@ -34,8 +47,8 @@ fn turn(alloc: Global, book: &mut Book) -> Result<bool, ServeFault>
 
 /// Settles a book.
 fn settle(alloc: Global, book: &mut Book) -> Result<(), ServeFault>
-    requires { IsQuiet book.old }
-    ensures { SettlesTo result book.old book.new }
+    requires { IsQuiet book.old.story }
+    ensures { SettlesTo result book.old.story book.new.story }
 {
     while turn(alloc, book)? {}
     Ok(())
@@ -43,8 +56,8 @@ fn settle(alloc: Global, book: &mut Book) -> Result<(), ServeFault>
 
 /// The octets of the report as it stands, and whether each of its rows passes.
 pub fn show(alloc: Global, book: &Book) -> Result<(Vec<u8>, bool), AllocError>
-    ensures octets { IfOk result (λ shown. shown.0.items ≡ rendered (report book.now)) }
-    ensures passed { IfOk result (λ shown. shown.1 ≡ all_pass (report book.now)) }
+    ensures octets { IfOk result (λ shown. shown.0.items ≡ rendered (report book.now.story)) }
+    ensures passed { IfOk result (λ shown. shown.1 ≡ all_pass (report book.now.story)) }
 {
     let report = book.show()?;
     let octets = render(alloc, &report)?;
@@ -53,10 +66,10 @@ pub fn show(alloc: Global, book: &Book) -> Result<(Vec<u8>, bool), AllocError>
 
 /// Settles a book, and gives its report as `show` does.
 pub fn settle_and_show(alloc: Global, book: &mut Book) -> Result<(Vec<u8>, bool), ServeFault>
-    requires { IsQuiet book.old }
-    ensures octets { IfOk result (λ shown. effect book.old Command.Settle ≡ Ok (shown.0.items, book.new)) }
-    ensures passed { IfOk result (λ shown. shown.1 ≡ all_pass (report book.new)) }
-    ensures err { IfErr result (λ fault. Fails fault book.old Command.Settle) }
+    requires { IsQuiet book.old.story }
+    ensures octets { IfOk result (λ shown. effect book.old.story Command.Settle ≡ Ok (shown.0.items, book.new.story)) }
+    ensures passed { IfOk result (λ shown. shown.1 ≡ all_pass (report book.new.story)) }
+    ensures err { IfErr result (λ fault. Fails fault book.old.story Command.Settle) }
 {
     settle(alloc, book)?;
     Ok(show(alloc, book)?)

@@ -1,8 +1,8 @@
 //! The whole program, over words, a reader and two writers.
-ghost use Rattle.std.specs.Prelude.{◌≡◌, ◌≢◌, ◌⊎◌, ℕ, Bool, true, List, [], Ok, Err, IfOk, IfErr, IfSome, map};
+ghost use Rattle.std.specs.Prelude.{◌≡◌, ◌≢◌, ◌⊎◌, ℕ, List, [], Ok, Err, IfOk, IfErr, IfSome, map};
 ghost use Rattle.std.specs.Io.KnownBytes.{Appends};
 ghost use Rattle.clap.specs.Words.{kind_of};
-ghost use Rattle.pd_cli.specs.ProgramFaults.{fault_line};
+ghost use Rattle.pd_cli.specs.ProgramFaults.{fault_line, line_of};
 ghost use Rattle.pd_cli.specs.ProgramWords.{settings_text, word_faults};
 ghost use Rattle.pd_cli.specs.Program.{settings_in, Runs, status_of, Says, Refuses, Finishes};
 
@@ -40,29 +40,14 @@ pub fn run<S: AsStr, R: Read, W: Write, E: Write>(
     ensures refused { word_faults (map S.text words.now) ≢ [] → Refuses result (W.contents out.old) (W.contents out.new) }
 {
     match options(alloc, words) {
-        Ok(options) => finish(alloc, options.settings, reader, out, err),
+        Ok(options) => run_alone(alloc, options.settings, reader, out, err),
         Err(error) => refuse(alloc, &error, err),
     }
 }
 
-/// The status of `run`.
-pub fn program<S: AsStr, R: Read, W: Write, E: Write>(
-    alloc: Global,
-    words: &[S],
-    reader: &mut R,
-    out: &mut W,
-    err: &mut E,
-) -> u8
-    ensures taken { let words = map S.text words.now in
-        let input = R.remaining reader.old in
-        word_faults words ≡ [] → (told : Bool) × Finishes (record { status = result; told = told }) (settings_text words) input (W.contents out.old) (W.contents out.new) (E.contents err.old) (E.contents err.new) }
-    ensures refused { word_faults (map S.text words.now) ≢ [] → Refuses (record { status = result; told = true }) (W.contents out.old) (W.contents out.new) }
-{
-    run(alloc, words, reader, out, err).status
-}
-
-/// Runs the program with the settings of a TOML text: it serves the input, or says why it doesn't.
-fn finish<R: Read, W: Write, E: Write>(
+/// Runs the program without workers, with the settings of a TOML text: it serves the input, or says why it doesn't. It
+/// starts no thread.
+pub fn run_alone<R: Read, W: Write, E: Write>(
     alloc: Global,
     text: &str,
     reader: &mut R,
@@ -89,7 +74,7 @@ fn refuse<E: Write>(alloc: Global, error: &Error, err: &mut E) -> Exit
 {
     if error.kind() != ErrorKind::OutOfMemory {
         if let Ok(text) = format!(in alloc; "{error}") {
-            let told = put_all(err, text.as_bytes()).is_ok();
+            let told = say(err, text.as_bytes());
             return Exit {
                 status: FAULT,
                 told,
@@ -104,11 +89,31 @@ pub fn fail<E: Write>(err: &mut E, fault: ProgramFault) -> Exit
     ensures status { result.status ≡ 2 }
     ensures said { Says result.told (E.contents err.old) (E.contents err.new) (fault_line fault) }
 {
-    let told = put_all(err, fault_line(fault)).is_ok();
+    let told = say_line(err, fault.text());
     Exit {
         status: FAULT,
         told,
     }
+}
+
+/// Says octets; false where the writer didn't take all.
+fn say<E: Write>(err: &mut E, octets: &[u8]) -> bool
+    ensures { Says result (E.contents err.old) (E.contents err.new) octets.now }
+{
+    put_all(err, octets).is_ok()
+}
+
+/// Says the line of a fault.
+fn say_line<E: Write>(err: &mut E, text: &str) -> bool
+    ensures { Says result (E.contents err.old) (E.contents err.new) (line_of text.now) }
+{
+    if !say(err, b"pdregress: ") {
+        return false;
+    }
+    if !say(err, text.as_bytes()) {
+        return false;
+    }
+    say(err, b"\n")
 }
 
 /// The status at the end of the input.
@@ -145,24 +150,5 @@ fn settings_of(alloc: Global, text: &str) -> Result<Settings, ProgramFault>
         } else {
             ProgramFault::NotToml
         }),
-    }
-}
-
-/// The line of a fault.
-fn fault_line(fault: ProgramFault) -> &'static [u8]
-    ensures { result.now ≡ fault_line fault }
-{
-    match fault {
-        ProgramFault::UnknownKey => b"pdregress: 3 UnknownKey\n",
-        ProgramFault::BadValue => b"pdregress: 4 BadValue\n",
-        ProgramFault::NotToml => b"pdregress: 20 NotToml\n",
-        ProgramFault::Serving(fault) => match fault {
-            ServeFault::HistoryFull => b"pdregress: 11 HistoryFull\n",
-            ServeFault::BadCommand => b"pdregress: 15 BadCommand\n",
-            ServeFault::Truncated => b"pdregress: 16 Truncated\n",
-            ServeFault::Read => b"pdregress: 17 Read\n",
-            ServeFault::Write => b"pdregress: 18 Write\n",
-            ServeFault::OutOfMemory => b"pdregress: 19 OutOfMemory\n",
-        },
     }
 }

@@ -1,7 +1,7 @@
 //! The program's words, read by `clap`.
 ghost use Rattle.std.specs.Prelude.{◌≡◌, ◌≢◌, ◌⊎◌, [], IfOk, IfErr, map};
-ghost use Rattle.clap.specs.Words.{kind_of};
-ghost use Rattle.pd_cli.specs.ProgramWords.{settings_text, word_faults};
+ghost use Rattle.clap.specs.Words.{app_of, kind_of};
+ghost use Rattle.pd_cli.specs.ProgramWords.{pdregress, settings_text, word_faults};
 
 use crate::chosen::Options;
 use clap::error::ErrorKind;
@@ -41,18 +41,27 @@ pub fn options<'a, S: AsStr>(alloc: Global, words: &'a [S]) -> Result<Options<'a
     ensures taken { IfOk result (λ _. word_faults (map S.text words.entry.now) ≡ []) }
     ensures refused { IfErr result (λ error. (kind_of error ≡ ErrorKind.OutOfMemory) ⊎ (word_faults (map S.text words.entry.now) ≢ [])) }
 {
+    let matches = command(alloc)?.try_get_matches_from(words)?;
+    Ok(Options {
+        settings: matches.get_str("settings").unwrap_or(""),
+    })
+}
+
+/// What the program's words may be.
+fn command<'a>(alloc: Global) -> Result<Command<'a>, Error>
+    ensures words { IfOk result (λ command. app_of command ≡ pdregress) }
+    ensures memory { IfErr result (λ error. kind_of error ≡ ErrorKind.OutOfMemory) }
+{
     let settings = Arg::new(alloc, "settings")
         .long("settings")
         .value_name("TEXT")
         .help("Settings at the start, as a TOML text")
         .default_value("")
         .action(ArgAction::Set);
-    let command = Command::new(alloc, "pdregress")
-        .arg(settings)?
-        .about(ABOUT)
-        .after_help(COMMANDS);
-    let matches = command.try_get_matches_from(words)?;
-    Ok(Options {
-        settings: matches.get_str("settings").unwrap_or(""),
-    })
+    Ok(
+        Command::new(alloc, "pdregress")
+            .arg(settings)?
+            .about(ABOUT)
+            .after_help(COMMANDS),
+    )
 }

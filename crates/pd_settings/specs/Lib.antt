@@ -1,4 +1,5 @@
 -- The definitions that the contracts cite.
+pub mod Faults
 pub mod Keys
 pub mod Settings
 pub mod Change

@@ -5,7 +5,7 @@ ghost use Rattle.pd_settings.specs.Keys.{key_named, name_of, domain_of};
 use crate::domains::Domain;
 
 /// One of the settings.
-#[derive(Clone, Copy, Debug, PartialEq, Eq)]
+#[derive(Clone, Copy, PartialEq, Eq)]
 pub enum Key {
     Mss,
     Sack,

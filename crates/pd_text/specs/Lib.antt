@@ -1,5 +1,6 @@
--- The definitions of texts, edits and names.
+-- The definitions of texts, edits, names and refusals.
 pub mod Text
 pub mod Edit
+pub mod Faults
 pub mod Room
 pub mod Name

@@ -1,18 +1,43 @@
 //! Why a text or an edit of one is refused.
+ghost use Rattle.std.specs.Prelude.{◌≡◌};
+ghost use Rattle.pd_text.specs.Faults.{fault_text};
+
 use std::alloc::AllocError;
+use std::fmt;
 use thiserror::Error;
 
 /// Why a list of lines is no text, or an edit doesn't apply to one.
 #[derive(Clone, Copy, Debug, PartialEq, Eq, Error)]
 pub enum TextFault {
     /// The edit begins or ends outside the text.
-    #[error("1 BadRange")]
     BadRange,
     /// The text has more than 4,096 lines or 65,536 octets.
-    #[error("2 TooLarge")]
     TooLarge,
-    #[error("19 OutOfMemory")]
     OutOfMemory,
+}
+
+impl TextFault {
+    /// Its number and its name, as they are printed.
+    pub fn text(self) -> &'static str
+        ensures { result.now ≡ fault_text self }
+    {
+        match self {
+            TextFault::BadRange => "1 BadRange",
+            TextFault::TooLarge => "2 TooLarge",
+            TextFault::OutOfMemory => "19 OutOfMemory",
+        }
+    }
+}
+
+impl fmt::Display for TextFault {
+    ghost use Rattle.std.specs.Prelude.{Some};
+    ghost use Rattle.pd_text.specs.Faults.{fault_text};
+
+    ghost output = { λ fault. Some (fault_text fault) };
+
+    fn fmt<W: fmt::Write>(&self, f: &mut fmt::Formatter<W>) -> fmt::Result {
+        f.write_str(self.text())
+    }
 }
 
 impl From<AllocError> for TextFault {

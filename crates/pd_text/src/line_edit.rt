@@ -1,5 +1,5 @@
 //! Edits of texts.
-ghost use Rattle.std.specs.Prelude.{◌≡◌, IfOk};
+ghost use Rattle.std.specs.Prelude.{◌≡◌, ◌↔◌, IfOk, IsTrue};
 
 use crate::line_list::LineList;
 use std::alloc::AllocError;
@@ -13,6 +13,13 @@ pub struct LineEdit {
 }
 
 impl LineEdit {
+    /// Whether both are the same edit.
+    pub fn is_same(&self, other: &LineEdit) -> bool
+        ensures { IsTrue result ↔ (self.now ≡ other.now) }
+    {
+        self.from == other.from && self.remove == other.remove && self.insert.is_same(&other.insert)
+    }
+
     /// An equal edit of its own.
     pub fn copy(&self) -> Result<LineEdit, AllocError>
         ensures { IfOk result (λ edit. edit ≡ self.now) }

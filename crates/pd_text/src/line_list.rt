@@ -1,5 +1,5 @@
 //! Lists of lines, of any length.
-ghost use Rattle.std.specs.Prelude.{◌≡◌, ◌++◌, length, IfOk, OnOk};
+ghost use Rattle.std.specs.Prelude.{◌≡◌, ◌++◌, ◌↔◌, length, IfOk, OnOk, IsTrue};
 ghost use Rattle.pd_text.specs.Text.{lists_of, AreLines};
 
 use std::alloc::AllocError;
@@ -44,6 +44,13 @@ impl LineList {
         ensures { result ≡ length self.now }
     {
         self.lines.len()
+    }
+
+    /// Whether both have the same lines.
+    pub fn is_same(&self, other: &LineList) -> bool
+        ensures { IsTrue result ↔ (self.now ≡ other.now) }
+    {
+        self.lines == other.lines
     }
 
     /// The lines themselves; takes no memory.

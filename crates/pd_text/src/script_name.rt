@@ -7,7 +7,7 @@ use std::alloc::AllocError;
 use std::hash::{Hash, Hasher};
 use std::marker::Model;
 
-/// The name of a script, or what was given as one: any octets.
+/// The name of a script or of a setting, or what was given as one: any octets.
 #[derive(Drop)]
 pub struct Name {
     octets: Vec<u8>,

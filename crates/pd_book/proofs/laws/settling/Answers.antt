@@ -1,8 +1,11 @@
 -- Settling by turns comes to an end.
-use Rattle.pd_book.proofs.Legality.{turns_legal}
+use Rattle.pd_book.proofs.Legality.{starts_outstanding, turns_legal}
 use Rattle.pd_book.proofs.Settlement.{turns_suffice, settles_all}
 use Rattle.pd_book.proofs.Turns.{turns_settle, none_owed}
 use Rattle.pd_book.proofs.laws.settling.Goals as goal
+
+pub returns-clause-starts : goal.returns-clause-starts
+returns-clause-starts c = starts_outstanding
 
 pub returns-clause-turns : goal.returns-clause-turns
 returns-clause-turns c = turns_settle

@@ -1,4 +1,5 @@
-use Rattle.std.proofs.Common.{◌+◌, ◌∙◌, arith}
+use Rattle.std.proofs.Common.{ℕ, List, [], ◌∷◌, ◌++◌, option_and_then, ◌+◌, ◌∙◌, arith}
+use Rattle.pd_cli.specs.Commands.{fitted}
 use Rattle.pd_cli.specs.Input.{to_come}
 use Rattle.pd_cli.specs.TakenLines.{TakesLine}
 use Rattle.pd_cli.specs.Taking.{TakesLines, LinesFault}
@@ -27,7 +28,7 @@ loop-turn-preserved g c =
       so_far =
           elim c.match-branch-2.branch [
             | in-Whole+in_ok-add-in-Whole w ↦ known_then far (TakesLine 65536 (Whole w.in-Whole.line)) next old mid new
-                (λ x y z s t. so_whole c.loop-turn._turn c.loop-turn.gathered c.match-branch-2.gathered w.in-Whole.line.items x y z (w.gathered-is ∙ w.in_ok-add-in-Whole.ensures) s t) c.loop-turn.invariant.so_far (rw w.in-Whole.is at c.in_ok-line.ensures.line)
+                (λ x y z s t. so_whole c.loop-turn._turn c.loop-turn.gathered c.match-branch-2.gathered w.in-Whole.line.items x y z (◌∙◌ {c = option_and_then (λ (texts : List (List ℕ)). fitted (texts ++ w.in-Whole.line.items ∷ [])) c.loop-turn.gathered} w.gathered-is w.in_ok-add-in-Whole.ensures) s t) c.loop-turn.invariant.so_far (rw w.in-Whole.is at c.in_ok-line.ensures.line)
             | in-Long w ↦ known_then far (TakesLine 65536 Long) next old mid new
                 (λ x y z s t. so_long c.loop-turn._turn c.loop-turn.gathered c.match-branch-2.gathered x y z (w.gathered-is ∙ w.add_long.ensures) s t) c.loop-turn.invariant.so_far (rw w.in-Long.is at c.in_ok-line.ensures.line)
           ];

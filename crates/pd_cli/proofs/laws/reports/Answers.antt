@@ -1,6 +1,6 @@
 -- The reports of serving are those of the book's laws.
 use Rattle.std.proofs.Common.{refl}
-use Rattle.pd_cli.proofs.Passage.{BookLaws, output_goes_on, stories_legal, settles_scratch}
+use Rattle.pd_cli.proofs.Passage.{output_goes_on, stories_legal, settles_scratch}
 use Rattle.pd_cli.proofs.laws.reports.Goals as goal
 
 pub returns-clause-output : goal.returns-clause-output

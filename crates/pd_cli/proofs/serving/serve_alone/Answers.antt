@@ -4,13 +4,13 @@ use Rattle.pd_cli.proofs.serving.serve_alone.Goals as goal
 
 pub loop-book-init : goal.loop-book-init
 loop-book-init g c = record {
-  quiet = quiet_first c.args.settings c.new-book.result c.new-book.ensures;
-  served = served_first c.args.settings c.new-book.result c.new-intake.result (g.W.Write.contents c.args.writer.now) (g.R.Read.remaining c.args.reader.now) c.new-book.ensures c.new-intake.ensures;
+  quiet = quiet_first c.args.settings c.new-book.result.story c.new-book.ensures;
+  served = served_first c.args.settings c.new-book.result.story c.new-intake.result (g.W.Write.contents c.args.writer.now) (g.R.Read.remaining c.args.reader.now) c.new-book.ensures c.new-intake.ensures;
 }
 
 pub returns-in_err-command : goal.returns-in_err-command
 returns-in_err-command g c =
-    served_fault c.args.settings c.from_residual.result c.in_err-command.field-0.0 c.loop-book.book (g.W.Write.contents c.args.writer.now) (g.W.Write.contents c.loop-book.writer) (g.R.Read.remaining c.args.reader.now) (to_come c.loop-book.intake (g.R.Read.remaining c.loop-book.reader))
+    served_fault c.args.settings c.from_residual.result c.in_err-command.field-0.0 c.loop-book.book.story (g.W.Write.contents c.args.writer.now) (g.W.Write.contents c.loop-book.writer) (g.R.Read.remaining c.args.reader.now) (to_come c.loop-book.intake (g.R.Read.remaining c.loop-book.reader))
     c.from_residual.ensures.1 c.loop-book.invariant.served c.in_err-command.ensures.err
 
 pub returns-in_err-serve_command-in-Some : goal.returns-in_err-serve_command-in-Some
@@ -19,7 +19,7 @@ returns-in_err-serve_command-in-Some g c =
     let u = to_come c.loop-book.intake (g.R.Read.remaining c.loop-book.reader) in
     let v = to_come c.next_command.new.intake (g.R.Read.remaining c.next_command.new.reader) in
     let some = rw c.in-Some.is at c.in_ok-command.ensures.command in
-    served_out c.args.settings c.from_residual-in_err-serve_command-in-Some.result c.in_err-serve_command-in-Some.field-0.0 c.loop-book.book c.serve_command.new.book c.in-Some.command d.0 (g.W.Write.contents c.args.writer.now) (g.W.Write.contents c.loop-book.writer) (g.W.Write.contents c.serve_command.new.writer) (g.R.Read.remaining c.args.reader.now) u
+    served_out c.args.settings c.from_residual-in_err-serve_command-in-Some.result c.in_err-serve_command-in-Some.field-0.0 c.loop-book.book.story c.serve_command.new.book.story c.in-Some.command d.0 (g.W.Write.contents c.args.writer.now) (g.W.Write.contents c.loop-book.writer) (g.W.Write.contents c.serve_command.new.writer) (g.R.Read.remaining c.args.reader.now) u
     c.from_residual-in_err-serve_command-in-Some.ensures.1 c.loop-book.invariant.served (next_some c.in-Some.command u v some) d.1 d.2
 
 pub returns-in-None : goal.returns-in-None
@@ -28,7 +28,7 @@ returns-in-None g c =
     let u = to_come c.loop-book.intake (g.R.Read.remaining c.loop-book.reader) in
     let v = to_come c.next_command.new.intake (g.R.Read.remaining c.next_command.new.reader) in
     let none = rw c.in-None.is at c.in_ok-command.ensures.command in
-    served_end c.args.settings c.serve_end.result c.loop-book.book c.serve_end.new.book d.0 (g.W.Write.contents c.args.writer.now) (g.W.Write.contents c.loop-book.writer) (g.W.Write.contents c.serve_end.new.writer) (g.R.Read.remaining c.args.reader.now) u c.loop-book.invariant.served (next_none u v none) d.1 d.2
+    served_end c.args.settings c.serve_end.result c.loop-book.book.story c.serve_end.new.book.story d.0 (g.W.Write.contents c.args.writer.now) (g.W.Write.contents c.loop-book.writer) (g.W.Write.contents c.serve_end.new.writer) (g.R.Read.remaining c.args.reader.now) u c.loop-book.invariant.served (next_none u v none) d.1 d.2
 
 pub loop-book-preserved : goal.loop-book-preserved
 loop-book-preserved g c =
@@ -37,6 +37,6 @@ loop-book-preserved g c =
     let v = to_come c.next_command.new.intake (g.R.Read.remaining c.next_command.new.reader) in
     let some = rw c.in-Some.is at c.in_ok-command.ensures.command in
     record {
-      quiet = quiet_after c.loop-book.book c.serve_command.new.book c.in-Some.command d.0 c.loop-book.invariant.quiet d.2;
-      served = served_more c.args.settings c.loop-book.book c.serve_command.new.book c.in-Some.command d.0 (g.W.Write.contents c.args.writer.now) (g.W.Write.contents c.loop-book.writer) (g.W.Write.contents c.serve_command.new.writer) (g.R.Read.remaining c.args.reader.now) u v c.loop-book.invariant.served some d.1 d.2;
+      quiet = quiet_after c.loop-book.book.story c.serve_command.new.book.story c.in-Some.command d.0 c.loop-book.invariant.quiet c.at_rest.ensures.settles d.2;
+      served = served_more c.args.settings c.loop-book.book.story c.serve_command.new.book.story c.in-Some.command d.0 (g.W.Write.contents c.args.writer.now) (g.W.Write.contents c.loop-book.writer) (g.W.Write.contents c.serve_command.new.writer) (g.R.Read.remaining c.args.reader.now) u v c.loop-book.invariant.served some d.1 d.2;
     }

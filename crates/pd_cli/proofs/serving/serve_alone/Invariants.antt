@@ -4,7 +4,7 @@ use Rattle.pd_cli.proofs.Written.{Served}
 use Rattle.pd_cli.proofs.serving.serve_alone.Given as goal
 
 abbrev pub invariant-loop-book : goal.invariant-loop-book
-invariant-loop-book g l = record { quiet : IsQuiet l.book; served : Served l.fn.settings l.book (g.W.Write.contents l.initial.writer) (g.W.Write.contents l.writer) (g.R.Read.remaining l.initial.reader) (to_come l.intake (g.R.Read.remaining l.reader)) }
+invariant-loop-book g l = record { quiet : IsQuiet l.book.story; served : Served l.fn.settings l.book.story (g.W.Write.contents l.initial.writer) (g.W.Write.contents l.writer) (g.R.Read.remaining l.initial.reader) (to_come l.intake (g.R.Read.remaining l.reader)) }
 
 abbrev pub decreases-loop-book : goal.decreases-loop-book
 decreases-loop-book g l = work_left l.intake

@@ -4,7 +4,7 @@ use Rattle.pd_cli.proofs.Settled.{GoesOn}
 use Rattle.pd_cli.proofs.settling.settle.Given as goal
 
 abbrev pub invariant-loop : goal.invariant-loop
-invariant-loop l = record { quiet : IsQuiet l.book; goes_on : GoesOn l.initial.book l.book }
+invariant-loop l = record { quiet : IsQuiet l.book.story; goes_on : GoesOn l.initial.book.story l.book.story }
 
 abbrev pub decreases-loop : goal.decreases-loop
-decreases-loop l = owed l.book.opening l.book.past
+decreases-loop l = owed l.book.story.opening l.book.story.past

@@ -7,8 +7,8 @@ use Rattle.pd_cli.proofs.whole_program.run.Goals as goal
 
 pub returns-in-Ok-clause-taken : goal.returns-in-Ok-clause-taken
 returns-in-Ok-clause-taken g c = λ e.
-    subst (λ (t : List ℕ). Finishes c.finish.result t (g.R.Read.remaining c.args.reader.now) (g.W.Write.contents c.args.out.now) (g.W.Write.contents c.finish.new.out) (g.E.Write.contents c.args.err.now) (g.E.Write.contents c.finish.new.err))
-    c.in-Ok.ensures.chosen c.finish.ensures
+    subst (λ (t : List ℕ). Finishes c.run_alone.result t (g.R.Read.remaining c.args.reader.now) (g.W.Write.contents c.args.out.now) (g.W.Write.contents c.run_alone.new.out) (g.E.Write.contents c.args.err.now) (g.E.Write.contents c.run_alone.new.err))
+    c.in-Ok.ensures.chosen c.run_alone.ensures
 
 pub returns-in-Ok-clause-refused : goal.returns-in-Ok-clause-refused
 returns-in-Ok-clause-refused g c = λ n. absurd (n c.in-Ok.ensures.taken)

@@ -6,13 +6,13 @@ use Rattle.pd_book.specs.declared.row.Row.{Row}
 use Rattle.pd_book.specs.Acts.{now}
 use Rattle.pd_book.specs.Report.{Shown, IsRunUnder, shown}
 use Rattle.pd_book.specs.Kept.{Entry, kept_row}
-use Rattle.pd_book.specs.Story.{Story}
+use Rattle.pd_book.specs.Story.{Contents}
 use Rattle.pd_book.proofs.Rows.{rows_kept, rows_run}
 use Rattle.pd_book.proofs.book_core.Book.report.Goals as goal
 
 pub new-requires : goal.new-requires
 new-requires c =
-    let past = reverse c.self.inside.acts.items in
+    let past = reverse c.self.inside.records.acts.items in
     let opening = c.self.inside.opening in
     let rows : c.in_ok-rows.rows.items ≡ (shown opening past).rows =
     c.in_ok-rows.ensures ∙ (ap (λ (es : List Entry). map kept_row es) c.self.invariant.scripts ∙ sym (rows_kept opening past c.self.invariant.legal)) in
@@ -21,10 +21,10 @@ new-requires c =
 
 pub returns : goal.returns
 returns c =
-    let past = reverse c.self.inside.acts.items in
+    let past = reverse c.self.inside.records.acts.items in
     let opening = c.self.inside.opening in
     let rows : c.in_ok-rows.rows.items ≡ (shown opening past).rows =
     c.in_ok-rows.ensures ∙ (ap (λ (es : List Entry). map kept_row es) c.self.invariant.scripts ∙ sym (rows_kept opening past c.self.invariant.legal)) in
     let under : Settings → List Row → Shown = λ s rs. record { settings = s; rows = rs } in
     c.new.ensures ∙ (ap (under c.self.inside.settings) rows ∙ (ap (λ (s : Settings). under s (shown opening past).rows) c.self.invariant.settings
-    ∙ ap (λ (x : Story). shown x.opening x.past) c.self.view_is))
+    ∙ ap (λ (x : Contents). shown x.story.opening x.story.past) c.self.view_is))

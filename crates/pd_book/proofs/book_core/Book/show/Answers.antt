@@ -1,6 +1,6 @@
 -- What holds of what a legal history shows.
 use Rattle.std.proofs.Common.{◌≡◌, Result, Ok, Err, IfOk, sym, subst}
-use Rattle.pd_book.specs.Report.{Shown, shown}
+use Rattle.pd_book.specs.Report.{Shown}
 use Rattle.pd_book.proofs.Rows.{rows_run}
 use Rattle.pd_book.proofs.Splits.{current, rows_are_scripts, rows_of_scratch, from_scratch}
 use Rattle.pd_book.proofs.book_core.Book.show.Goals as goal
@@ -11,16 +11,16 @@ fact_of P value (Ok x) e h = subst P (sym e) h
 fact_of P value (Err x) e h = tt
 
 pub returns-clause-current : goal.returns-clause-current
-returns-clause-current c = fact_of _ _ c.report.result c.report.ensures (current c.args.self.now.opening c.args.self.now.past c.history-acts.ensures.legal)
+returns-clause-current c = fact_of _ _ c.report.result c.report.ensures (current c.args.self.now.story.opening c.args.self.now.story.past c.history-acts.ensures.legal)
 
 pub returns-clause-scripts : goal.returns-clause-scripts
-returns-clause-scripts c = fact_of _ _ c.report.result c.report.ensures (rows_are_scripts c.args.self.now.opening c.args.self.now.past)
+returns-clause-scripts c = fact_of _ _ c.report.result c.report.ensures (rows_are_scripts c.args.self.now.story.opening c.args.self.now.story.past)
 
 pub returns-clause-verdicts : goal.returns-clause-verdicts
-returns-clause-verdicts c = fact_of _ _ c.report.result c.report.ensures (rows_run c.args.self.now.opening c.args.self.now.past)
+returns-clause-verdicts c = fact_of _ _ c.report.result c.report.ensures (rows_run c.args.self.now.story.opening c.args.self.now.story.past)
 
 pub returns-clause-scratch : goal.returns-clause-scratch
-returns-clause-scratch c = fact_of _ _ c.report.result c.report.ensures (from_scratch c.args.self.now.opening c.args.self.now.past)
+returns-clause-scratch c = fact_of _ _ c.report.result c.report.ensures (from_scratch c.args.self.now.story.opening c.args.self.now.story.past)
 
 pub returns-clause-rows : goal.returns-clause-rows
-returns-clause-rows c = fact_of _ _ c.report.result c.report.ensures (rows_of_scratch c.args.self.now.opening c.args.self.now.past)
+returns-clause-rows c = fact_of _ _ c.report.result c.report.ensures (rows_of_scratch c.args.self.now.story.opening c.args.self.now.story.past)

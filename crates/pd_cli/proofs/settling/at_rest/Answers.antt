@@ -1,0 +1,10 @@
+use Rattle.pd_cli.proofs.settling.at_rest.Goals as goal
+
+pub returns-clause-turns : goal.returns-clause-turns
+returns-clause-turns c = c.settling.ensures.turns c.args.book.now.story.opening c.args.book.now.story.past c.history-acts.ensures.legal
+
+pub returns-clause-starts : goal.returns-clause-starts
+returns-clause-starts c = c.settling.ensures.starts c.args.book.now.story c.history-acts.ensures.legal
+
+pub returns-clause-settles : goal.returns-clause-settles
+returns-clause-settles c = c.settling.ensures.settles c.args.book.now.story (record { legal = c.history-acts.ensures.legal; none = c.requires })
