@@ -1,0 +1,4 @@
+-- The definitions of the desk: what a closing says to its seats.
+pub use Rattle.pd_seat.specs.Seats
+pub use Rattle.pd_seat.specs.Closing
+pub mod Desk

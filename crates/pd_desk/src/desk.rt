@@ -1,0 +1,199 @@
+//! The desk: a book under one lock, at which several callers have seats.
+ghost use Rattle.std.specs.Prelude.{◌≡◌, ◌≢◌, ◌≤◌, true, IfOk, IfErr, IfSome, IfNone, OnOk, OnErr, IsSomeAnd, Err};
+ghost use Rattle.pd_settings.specs.Keys.{key_named};
+ghost use Rattle.pd_seat.specs.Seats.{new_seats, with_act, is_unended, IsShown};
+ghost use Rattle.pd_seat.specs.Closing.{ClosesNotAt};
+ghost use Rattle.pd_desk.specs.Desk.{IsClosed};
+
+use pd_book::{Act, Book, BookFault, Done, FinishFault, Job, Report, Ruling};
+use pd_seat::{CloseFault, Held, Seat, ShowFault};
+use pd_settings::{Settings, Value};
+use pd_text::{LineEdit, Lines, Name};
+use std::alloc::{AllocError, Global};
+use std::sync::{Condvar, Mutex, Wait};
+
+/// What lies under the lock: what callers share, for how many workers the desk was opened, how many entered and left,
+/// and whether it is shut.
+#[derive(Drop)]
+struct Room {
+    held: Held,
+    workers: usize,
+    entered: usize,
+    left: usize,
+    is_shut: bool,
+}
+
+/// A book under one lock. The order in which the lock is taken is the order of the acts.
+#[derive(Drop)]
+pub struct Desk {
+    room: Mutex<Room>,
+    moved: Condvar,
+}
+
+impl Desk {
+    /// A desk for so many workers, with a book without acts, and its seats.
+    pub fn open(
+        alloc: Global,
+        cache: usize,
+        settings: Settings,
+        workers: usize,
+        seats: usize,
+    ) -> Result<(Desk, Vec<Seat>), AllocError>
+        requires { 1 ≤ seats }
+        ensures { IfOk result (λ opened. opened.1.items ≡ new_seats 0 seats) }
+    {
+        let (held, made) = Held::new(alloc, cache, settings, seats)?;
+        let room = Room {
+            held,
+            workers,
+            entered: 0,
+            left: 0,
+            is_shut: false,
+        };
+        let desk = Desk {
+            room: Mutex::new(room),
+            moved: Condvar::new(),
+        };
+        Ok((desk, made))
+    }
+
+    /// Adds a script behind the others.
+    pub fn add<R: Wait>(
+        &self,
+        rt: &R,
+        seat: &mut Seat,
+        name: Name,
+        lines: Lines,
+    ) -> Result<(), BookFault>
+        ensures records { OnOk result (seat.new ≡ with_act seat.old (Act.Add name lines)) }
+        ensures refuses { OnErr result (seat.new ≡ seat.old) }
+    {
+        let reply = self.room.lock(rt).held.add(seat, name, lines);
+        self.moved.notify_all();
+        reply
+    }
+
+    /// Edits the text of a script.
+    pub fn edit<R: Wait>(
+        &self,
+        rt: &R,
+        seat: &mut Seat,
+        name: &Name,
+        edit: &LineEdit,
+    ) -> Result<(), BookFault>
+        ensures records { OnOk result (seat.new ≡ with_act seat.old (Act.Edit name.now edit.now)) }
+        ensures refuses { OnErr result (seat.new ≡ seat.old) }
+    {
+        let reply = self.room.lock(rt).held.edit(seat, name, edit);
+        self.moved.notify_all();
+        reply
+    }
+
+    /// Takes a script out.
+    pub fn remove<R: Wait>(&self, rt: &R, seat: &mut Seat, name: &Name) -> Result<(), BookFault>
+        ensures records { OnOk result (seat.new ≡ with_act seat.old (Act.Remove name.now)) }
+        ensures refuses { OnErr result (seat.new ≡ seat.old) }
+    {
+        let reply = self.room.lock(rt).held.remove(seat, name);
+        self.moved.notify_all();
+        reply
+    }
+
+    /// Sets a setting.
+    pub fn set<R: Wait>(
+        &self,
+        rt: &R,
+        seat: &mut Seat,
+        key: &[u8],
+        value: Value,
+    ) -> Result<(), BookFault>
+        ensures records { OnOk result (IsSomeAnd (key_named key.now) (λ key. seat.new ≡ with_act seat.old (Act.Set key value))) }
+        ensures refuses { OnErr result (seat.new ≡ seat.old) }
+    {
+        let reply = self.room.lock(rt).held.set(seat, key, value);
+        self.moved.notify_all();
+        reply
+    }
+
+    /// Hands out the job of the first script that waits; `None` where none waits.
+    pub fn start<R: Wait>(&self, rt: &R, seat: &mut Seat) -> Result<Option<Job>, BookFault>
+        ensures records { IfOk result (λ given. IfSome given (λ job. seat.new ≡ with_act seat.old (Act.Start job.task.number job.task.name))) }
+        ensures none { IfOk result (λ given. IfNone given (seat.new ≡ seat.old)) }
+        ensures refuses { OnErr result (seat.new ≡ seat.old) }
+    {
+        let reply = self.room.lock(rt).held.start(seat);
+        self.moved.notify_all();
+        reply
+    }
+
+    /// Takes the result of an outstanding job.
+    pub fn finish<R: Wait>(
+        &self,
+        rt: &R,
+        seat: &mut Seat,
+        done: &Done,
+    ) -> Result<Ruling, FinishFault>
+        ensures records { IfOk result (λ ruling. seat.new ≡ with_act seat.old (Act.Finish done.now.number ruling)) }
+        ensures room { is_unended seat.old.own done.now.number ≡ true → result ≢ Err FinishFault.OutOfMemory }
+        ensures refuses { OnErr result (seat.new ≡ seat.old) }
+    {
+        let reply = self.room.lock(rt).held.finish(seat, done);
+        self.moved.notify_all();
+        reply
+    }
+
+    /// Gives up an outstanding job.
+    pub fn abandon<R: Wait>(&self, rt: &R, seat: &mut Seat, number: u64) -> Result<(), FinishFault>
+        ensures records { OnOk result (seat.new ≡ with_act seat.old (Act.Abandon number)) }
+        ensures room { is_unended seat.old.own number ≡ true → result ≢ Err FinishFault.OutOfMemory }
+        ensures refuses { OnErr result (seat.new ≡ seat.old) }
+    {
+        let reply = self.room.lock(rt).held.abandon(seat, number);
+        self.moved.notify_all();
+        reply
+    }
+
+    /// The report as it stands, of a history that agrees with the seat.
+    pub fn show<R: Wait>(&self, rt: &R, seat: &mut Seat) -> Result<Report, ShowFault>
+        ensures is_shown { IfOk result (λ report. IsShown seat.old report seat.new) }
+        ensures refuses { OnErr result (seat.new ≡ seat.old) }
+    {
+        self.room.lock(rt).held.show(seat)
+    }
+
+    /// The book, in which each seat's acts stand once, in its order, and no others. It takes no memory.
+    ///
+    /// # Errors
+    /// `MissingSeat`, which hands back all, else `Differs`, which hands back the book.
+    pub fn close(self, seats: Vec<Seat>) -> Result<Book, CloseFault<Desk>>
+        ensures ok { IfOk result (IsClosed seats.items) }
+        ensures err { IfErr result (ClosesNotAt seats.items) }
+    {
+        let Desk { room, moved } = self;
+        let Room {
+            held,
+            workers,
+            entered,
+            left,
+            is_shut,
+        } = room.into_inner();
+        match held.close(seats) {
+            Ok(book) => Ok(book),
+            Err(CloseFault::MissingSeat(held, seats)) => {
+                let room = Room {
+                    held,
+                    workers,
+                    entered,
+                    left,
+                    is_shut,
+                };
+                let desk = Desk {
+                    room: Mutex::new(room),
+                    moved,
+                };
+                Err(CloseFault::MissingSeat(desk, seats))
+            }
+            Err(CloseFault::Differs(book)) => Err(CloseFault::Differs(book)),
+        }
+    }
+}

@@ -1,0 +1,96 @@
+-- Acts with the numbers of the seats that made them. The newest act stands first.
+use Rattle.std.specs.Prelude.{ℕ, zero, suc, ◌≡◌, ◌≢◌, ◌<◌, ◌≤◌, ◌==◌, Bool, not, List, [], ◌∷◌, ◌++◌, length, filter, if◌then◌else◌, All, count_by, Result, MatchResult}
+use Rattle.std.specs.List.{list_any}
+use Rattle.pd_settings.specs.declared.fields.Settings.{Settings}
+use Rattle.pd_book.specs.declared.act.Act.{Act}
+use Rattle.pd_book.specs.declared.act.Act.TheVariants.{Start, Finish, Abandon}
+use Rattle.pd_book.specs.Legal.{Legal}
+use Rattle.pd_book.specs.Report.{Shown, shown}
+use Rattle.pd_book.specs.Story.{Contents, told}
+
+-- a book, the seat that made each of its acts, and how many seats there are
+pub record Noted : Type 0 where
+  pub seats : ℕ
+  pub book : Contents
+  pub notes : List ℕ
+
+-- a seat: its number, the acts that it made, and the length of the longest history of which it was shown a report
+pub record SeatView : Type 0 where
+  pub number : ℕ
+  pub own : List Act
+  pub longest : ℕ
+
+-- a seat that made no act
+abbrev pub new_seat : ℕ → SeatView
+new_seat number = record { number = number; own = []; longest = 0 }
+
+-- seats that made no act, numbered from this number on
+abbrev pub new_seats : ℕ → ℕ → List SeatView
+new_seats number zero = []
+new_seats number (suc more) = new_seat number ∷ new_seats (suc number) more
+
+-- a book without acts, and so many seats
+pub record IsNew (settings : Settings) (count : ℕ) (held : Noted) : Type 0 where
+  pub seats : held.seats ≡ count
+  pub story : held.book.story ≡ record { opening = settings; past = [] }
+  pub notes : held.notes ≡ []
+
+-- the acts noted with this number
+abbrev pub made_by : ℕ → List ℕ → List Act → List Act
+made_by number [] acts = []
+made_by number (note ∷ notes) [] = []
+made_by number (note ∷ notes) (act ∷ older) = if note == number then act ∷ made_by number notes older else made_by number notes older
+
+-- the seat with one act more
+abbrev pub with_act : SeatView → Act → SeatView
+with_act seat act = record { number = seat.number; own = act ∷ seat.own; longest = seat.longest }
+
+-- the act was recorded, noted with the seat's number, and is the seat's last; nothing else was
+pub record Records (held : Noted) (seat : SeatView) (act : Act) (held' : Noted) (seat' : SeatView) : Type 0 where
+  pub story : held'.book.story ≡ told held.book.story act
+  pub notes : held'.notes ≡ seat.number ∷ held.notes
+  pub seats : held'.seats ≡ held.seats
+  pub own : seat' ≡ with_act seat act
+
+-- P, unless the reply is want of memory
+abbrev pub Unless : {T Fault : Type 0} → Fault → Result T Fault → Type 0 → Type 0
+Unless want reply P = MatchResult reply (λ _. P) (λ fault. fault ≢ want → P)
+
+-- the jobs that these acts start and don't end, the newest last
+abbrev pub unended : List Act → List ℕ
+unended [] = []
+unended (Start number name ∷ older) = unended older ++ number ∷ []
+unended (Finish number ruling ∷ older) = filter (λ (job : ℕ). not (job == number)) (unended older)
+unended (Abandon number ∷ older) = filter (λ (job : ℕ). not (job == number)) (unended older)
+unended (_ ∷ older) = unended older
+
+-- these acts started the job and didn't end it
+abbrev pub is_unended : List Act → ℕ → Bool
+is_unended acts number = list_any (λ (job : ℕ). job == number) (unended acts)
+
+-- the acts noted with the seat's number are its own, and the history is no shorter than one of which it was shown a report
+pub record Agrees (held : Noted) (seat : SeatView) : Type 0 where
+  pub own : made_by seat.number held.notes held.book.story.past ≡ seat.own
+  pub longest : seat.longest ≤ length held.book.story.past
+
+-- the report of a legal history, each act of which has a note, that agrees with the seat; the seat remembers its length
+pub record IsShownFrom (held : Noted) (seat : SeatView) (report : Shown) (seat' : SeatView) : Type 0 where
+  pub legal : Legal held.book.story.opening held.book.story.past
+  pub noted : length held.notes ≡ length held.book.story.past
+  pub agrees : Agrees held seat
+  pub rows : report ≡ shown held.book.story.opening held.book.story.past
+  pub remembered : seat' ≡ record { number = seat.number; own = seat.own; longest = length held.book.story.past }
+
+-- the same, of some history
+abbrev pub IsShown : SeatView → Shown → SeatView → Type 0
+IsShown seat report seat' = (held : Noted) × IsShownFrom held seat report seat'
+
+-- the seats' numbers are 0 to the last, each once
+pub record EachOnce (count : ℕ) (seats : List SeatView) : Type 0 where
+  pub all : length seats ≡ count
+  pub each : (number : ℕ) → number < count → count_by (λ (seat : SeatView). seat.number == number) seats ≡ 1
+
+-- each act is noted with one of the numbers, and the acts noted with a seat's number are the seat's own
+pub record Accounts (held : Noted) (seats : List SeatView) : Type 0 where
+  pub notes : All (λ note. note < held.seats) held.notes
+  pub own : All (λ (seat : SeatView). made_by seat.number held.notes held.book.story.past ≡ seat.own) seats

@@ -1,0 +1,268 @@
+//! What callers share: a book, and the seat that made each of its acts.
+ghost use Rattle.std.specs.Prelude.{◌≡◌, ◌≢◌, ◌↔◌, ◌≤◌, true, [], is_some, option_map, IsTrue, IfOk, IfSome, IfNone, OnOk, OnErr, IsSomeAnd, Err, None};
+ghost use Rattle.pd_settings.specs.Keys.{key_named};
+ghost use Rattle.pd_book.specs.Acts.{next, job};
+ghost use Rattle.pd_book.specs.Refusals.{next_job};
+ghost use Rattle.pd_book.specs.Report.{shown, owed};
+ghost use Rattle.pd_book.specs.Given.{GivesAdd, GivesEdit, GivesRemove, GivesSet, GivesStart, GivesFinish, GivesAbandon};
+ghost use Rattle.pd_seat.specs.Seats.{new_seats, IsNew, Records, Unless, is_unended, Agrees, IsShown, IsShownFrom};
+
+use crate::comparing::is_own;
+use crate::faults::ShowFault;
+use crate::recording::{drop_job, make_room, note, record};
+use crate::seat::Seat;
+use pd_book::{Act, Book, BookFault, Done, FinishFault, Job, Report, Ruling};
+use pd_settings::{Key, Settings, Value};
+use pd_text::{LineEdit, Lines, Name, Text};
+use std::alloc::{AllocError, Global};
+use std::marker::Model;
+
+/// A book, and the number of the seat that made each act. Want of memory apart, each call that takes a seat answers as
+/// the book does, and `show` only where the history agrees with the seat; an act that is recorded is noted with the
+/// seat's number and is then the seat's last. A refused call changes nothing.
+#[derive(Drop)]
+pub struct Held {
+    pub(crate) book: Book,
+    pub(crate) notes: Vec<usize>,
+    pub(crate) seats: usize,
+}
+
+impl Model for Held {
+    ghost use Rattle.std.specs.Prelude.{reverse, vec_capacity};
+    ghost use Rattle.pd_seat.specs.Seats.{Noted};
+    ghost use Rattle.pd_seat.specs.Kept.{IsNoted};
+
+    ghost Value = { Noted };
+
+    ghost view = { λ h. record { seats = h.seats; book = h.book; notes = reverse h.notes.items } };
+
+    ghost invariant = { λ h. IsNoted h.book h.notes.items (vec_capacity h.notes) };
+}
+
+impl Held {
+    /// A book without acts, as `Book::new` gives it, and seats 0 to the last.
+    pub fn new(
+        alloc: Global,
+        cache: usize,
+        settings: Settings,
+        seats: usize,
+    ) -> Result<(Held, Vec<Seat>), AllocError>
+        requires { 1 ≤ seats }
+        ensures held { IfOk result (λ opened. IsNew settings seats opened.0) }
+        ensures seats { IfOk result (λ opened. opened.1.items ≡ new_seats 0 seats) }
+    {
+        let mut made = Vec::with_capacity(alloc, seats)?;
+        for number in 0..seats {
+            made.push_reserved(Seat::new(alloc, number));
+        }
+        let held = Held {
+            book: Book::new(alloc, cache, settings),
+            notes: Vec::new(alloc),
+            seats,
+        };
+        Ok((held, made))
+    }
+
+    /// Adds a script behind the others.
+    ///
+    /// # Errors
+    /// `OutOfMemory` for what is noted, else the book's.
+    pub fn add(&mut self, seat: &mut Seat, name: Name, lines: Lines) -> Result<(), BookFault>
+        ensures gives { Unless BookFault.OutOfMemory result (GivesAdd self.old.book.story name lines result self.new.book.story) }
+        ensures records { OnOk result (Records self.old seat.old (Act.Add name lines) self.new seat.new) }
+        ensures refuses { OnErr result ((self.new ≡ self.old) × (seat.new ≡ seat.old)) }
+    {
+        self.notes.reserve(self.book.outstanding_count() + 1)?;
+        seat.own.reserve(seat.open_jobs.len() + 1)?;
+        let text = Text::new(*self.notes.allocator(), lines)?;
+        let act = Act::Add(name.copy()?, text.share()?);
+        self.book.add_shared(name, text)?;
+        let _acts = self.book.history();
+        note(&mut self.notes, seat.number);
+        record(&mut seat.own, act);
+        Ok(())
+    }
+
+    /// Edits the text of a script.
+    ///
+    /// # Errors
+    /// `OutOfMemory` for what is noted, else the book's.
+    pub fn edit(&mut self, seat: &mut Seat, name: &Name, edit: &LineEdit) -> Result<(), BookFault>
+        ensures gives { Unless BookFault.OutOfMemory result (GivesEdit self.old.book.story name.now edit.now result self.new.book.story) }
+        ensures records { OnOk result (Records self.old seat.old (Act.Edit name.now edit.now) self.new seat.new) }
+        ensures refuses { OnErr result ((self.new ≡ self.old) × (seat.new ≡ seat.old)) }
+    {
+        self.notes.reserve(self.book.outstanding_count() + 1)?;
+        seat.own.reserve(seat.open_jobs.len() + 1)?;
+        let act = Act::Edit(name.copy()?, edit.copy()?);
+        self.book.edit(name, edit)?;
+        let _acts = self.book.history();
+        note(&mut self.notes, seat.number);
+        record(&mut seat.own, act);
+        Ok(())
+    }
+
+    /// Takes a script out.
+    ///
+    /// # Errors
+    /// `OutOfMemory` for what is noted, else the book's.
+    pub fn remove(&mut self, seat: &mut Seat, name: &Name) -> Result<(), BookFault>
+        ensures gives { Unless BookFault.OutOfMemory result (GivesRemove self.old.book.story name.now result self.new.book.story) }
+        ensures records { OnOk result (Records self.old seat.old (Act.Remove name.now) self.new seat.new) }
+        ensures refuses { OnErr result ((self.new ≡ self.old) × (seat.new ≡ seat.old)) }
+    {
+        self.notes.reserve(self.book.outstanding_count() + 1)?;
+        seat.own.reserve(seat.open_jobs.len() + 1)?;
+        let act = Act::Remove(name.copy()?);
+        self.book.remove(name)?;
+        let _acts = self.book.history();
+        note(&mut self.notes, seat.number);
+        record(&mut seat.own, act);
+        Ok(())
+    }
+
+    /// Sets a setting.
+    ///
+    /// # Errors
+    /// `OutOfMemory` for what is noted, else the book's.
+    pub fn set(&mut self, seat: &mut Seat, key: &[u8], value: Value) -> Result<(), BookFault>
+        ensures gives { Unless BookFault.OutOfMemory result (GivesSet self.old.book.story key.now value result self.new.book.story) }
+        ensures records { OnOk result (IsSomeAnd (key_named key.now) (λ key. Records self.old seat.old (Act.Set key value) self.new seat.new)) }
+        ensures refuses { OnErr result ((self.new ≡ self.old) × (seat.new ≡ seat.old)) }
+    {
+        self.notes.reserve(self.book.outstanding_count() + 1)?;
+        seat.own.reserve(seat.open_jobs.len() + 1)?;
+        self.book.set(key, value)?;
+        let Some(key) = Key::named(key) else {
+            return Ok(());
+        };
+        let _acts = self.book.history();
+        note(&mut self.notes, seat.number);
+        record(&mut seat.own, Act::Set(key, value));
+        Ok(())
+    }
+
+    /// The act of the job that a start hands out, if a script waits.
+    fn next_start(&self) -> Result<Option<Act>, AllocError>
+        ensures { IfOk result (λ act. act ≡ option_map (λ task. Act.Start task.number task.name) (next_job self.now.book.story)) }
+    {
+        let Some(name) = self.book.next_name() else {
+            return Ok(None);
+        };
+        Ok(Some(Act::Start(self.book.next_number(), name.copy()?)))
+    }
+
+    /// Hands out the job of the first script that waits, with room for its end; `None`, which records nothing, where none
+    /// waits.
+    ///
+    /// # Errors
+    /// `OutOfMemory` for what is noted, also where no script waits, else the book's.
+    pub fn start(&mut self, seat: &mut Seat) -> Result<Option<Job>, BookFault>
+        ensures gives { Unless BookFault.OutOfMemory result (GivesStart self.old.book.story result self.new.book.story) }
+        ensures records { IfOk result (λ given. IfSome given (λ job. Records self.old seat.old (Act.Start job.task.number job.task.name) self.new seat.new)) }
+        ensures none { IfOk result (λ given. IfNone given ((self.new ≡ self.old) × (seat.new ≡ seat.old))) }
+        ensures refuses { OnErr result ((self.new ≡ self.old) × (seat.new ≡ seat.old)) }
+    {
+        self.notes.reserve(self.book.outstanding_count() + 2)?;
+        seat.own.reserve(seat.open_jobs.len() + 2)?;
+        seat.open_jobs.reserve(1)?;
+        let act = self.next_start()?;
+        let Some(job) = self.book.start()? else {
+            return Ok(None);
+        };
+        let _acts = self.book.history();
+        if let Some(act) = act {
+            note(&mut self.notes, seat.number);
+            record(&mut seat.own, act);
+            seat.open_jobs.push_reserved(job.number());
+        }
+        Ok(Some(job))
+    }
+
+    /// Takes the result of an outstanding job.
+    ///
+    /// # Errors
+    /// `NoSuchJob`, else `OutOfMemory` where another seat started the job, else `Foreign`.
+    pub fn finish(&mut self, seat: &mut Seat, done: &Done) -> Result<Ruling, FinishFault>
+        ensures gives { Unless FinishFault.OutOfMemory result (GivesFinish self.old.book.story done.now result self.new.book.story) }
+        ensures records { IfOk result (λ ruling. Records self.old seat.old (Act.Finish done.now.number ruling) self.new seat.new) }
+        ensures none { (result ≡ Err FinishFault.NoSuchJob) ↔ (job self.old.book.story.opening self.old.book.story.past done.now.number ≡ None) }
+        ensures room { is_unended seat.old.own done.now.number ≡ true → result ≢ Err FinishFault.OutOfMemory }
+        ensures refuses { OnErr result ((self.new ≡ self.old) × (seat.new ≡ seat.old)) }
+    {
+        if !self.book.is_outstanding(done.number()) {
+            return Err(FinishFault::NoSuchJob);
+        }
+        make_room(&mut seat.own, seat.open_jobs.as_slice(), done.number())?;
+        let ruling = self.book.finish(done)?;
+        let _acts = self.book.history();
+        note(&mut self.notes, seat.number);
+        record(&mut seat.own, Act::Finish(done.number(), ruling));
+        drop_job(&mut seat.open_jobs, done.number());
+        Ok(ruling)
+    }
+
+    /// Gives up an outstanding job.
+    ///
+    /// # Errors
+    /// `NoSuchJob`, else `OutOfMemory` where another seat started the job.
+    pub fn abandon(&mut self, seat: &mut Seat, number: u64) -> Result<(), FinishFault>
+        ensures gives { Unless FinishFault.OutOfMemory result (GivesAbandon self.old.book.story number result self.new.book.story) }
+        ensures records { OnOk result (Records self.old seat.old (Act.Abandon number) self.new seat.new) }
+        ensures none { (result ≡ Err FinishFault.NoSuchJob) ↔ (job self.old.book.story.opening self.old.book.story.past number ≡ None) }
+        ensures room { is_unended seat.old.own number ≡ true → result ≢ Err FinishFault.OutOfMemory }
+        ensures refuses { OnErr result ((self.new ≡ self.old) × (seat.new ≡ seat.old)) }
+    {
+        if !self.book.is_outstanding(number) {
+            return Err(FinishFault::NoSuchJob);
+        }
+        make_room(&mut seat.own, seat.open_jobs.as_slice(), number)?;
+        self.book.abandon(number)?;
+        let _acts = self.book.history();
+        note(&mut self.notes, seat.number);
+        record(&mut seat.own, Act::Abandon(number));
+        drop_job(&mut seat.open_jobs, number);
+        Ok(())
+    }
+
+    /// The report as it stands, of a history that agrees with the seat.
+    ///
+    /// # Errors
+    /// `Differs`, else `OutOfMemory`.
+    pub fn show(&self, seat: &mut Seat) -> Result<Report, ShowFault>
+        ensures report { IfOk result (λ report. report ≡ shown self.now.book.story.opening self.now.book.story.past) }
+        ensures shown_from { IfOk result (λ report. IsShownFrom self.now seat.old report seat.new) }
+        ensures is_shown { IfOk result (λ report. IsShown seat.old report seat.new) }
+        ensures differs { (result ≡ Err ShowFault.Differs) ↔ ¬ Agrees self.now seat.old }
+        ensures refuses { OnErr result (seat.new ≡ seat.old) }
+    {
+        if !self.agrees(seat) {
+            return Err(ShowFault::Differs);
+        }
+        let report = self.book.show()?;
+        seat.longest = self.notes.len();
+        Ok(report)
+    }
+
+    /// Whether the acts noted with the seat's number are its own, and the history is no shorter than one of which it was
+    /// shown a report.
+    fn agrees(&self, seat: &Seat) -> bool
+        ensures { IsTrue result ↔ Agrees self.now seat.now }
+    {
+        seat.longest <= self.notes.len() && is_own(seat, self.notes.as_slice(), self.book.history())
+    }
+
+    /// How many rows of the report are pending.
+    pub fn owed(&self) -> usize
+        ensures { result ≡ owed self.now.book.story.opening self.now.book.story.past }
+    {
+        self.book.owed()
+    }
+
+    /// Whether a script waits for a start.
+    pub fn has_waiting(&self) -> bool
+        ensures { result ≡ is_some (next self.now.book.story.past) }
+    {
+        self.book.next_name().is_some()
+    }
+}

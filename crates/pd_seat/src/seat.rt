@@ -1,0 +1,57 @@
+//! Seats: who makes the calls.
+ghost use Rattle.std.specs.Prelude.{◌≡◌, [], reverse};
+ghost use Rattle.pd_seat.specs.Seats.{new_seat};
+
+use pd_book::Act;
+use std::alloc::Global;
+use std::marker::Model;
+
+/// One who makes calls: its number, the acts that it made, and the length of the longest history of which it was shown a
+/// report. The calls of a `Held` alone change it.
+#[derive(Drop)]
+pub struct Seat {
+    pub(crate) number: usize,
+    pub(crate) own: Vec<Act>,
+    pub(crate) open_jobs: Vec<u64>,
+    pub(crate) longest: usize,
+}
+
+impl Model for Seat {
+    ghost use Rattle.std.specs.Prelude.{reverse, vec_capacity};
+    ghost use Rattle.pd_seat.specs.Seats.{SeatView};
+    ghost use Rattle.pd_seat.specs.Kept.{IsSeat};
+
+    ghost Value = { SeatView };
+
+    ghost view = { λ s. record { number = s.number; own = reverse s.own.items; longest = s.longest } };
+
+    ghost invariant = { λ s. IsSeat s.own.items s.open_jobs.items (vec_capacity s.own) };
+}
+
+impl Seat {
+    /// A seat that made no act.
+    pub(crate) fn new(alloc: Global, number: usize) -> Seat
+        ensures { result ≡ new_seat number }
+    {
+        Seat {
+            number,
+            own: Vec::new(alloc),
+            open_jobs: Vec::new(alloc),
+            longest: 0,
+        }
+    }
+
+    /// Its number, from 0.
+    pub fn number(&self) -> usize
+        ensures { result ≡ self.now.number }
+    {
+        self.number
+    }
+
+    /// The acts that it made, the oldest first.
+    pub fn acts(&self) -> &[Act]
+        ensures { reverse result.now ≡ self.now.own }
+    {
+        self.own.as_slice()
+    }
+}
