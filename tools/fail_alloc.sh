@@ -2,8 +2,8 @@
 # Refuses each allocation in turn, one a run, the numbers going up until a run meets no refusal:
 #   - of the built program, for each input of examples/ and for those named on the command line. It says so by status 2
 #     and a fault, and what it wrote is a prefix of what it writes with memory; or the refusal made no difference.
-#   - of the program pd_book_trials and of the check `memory` of pd_streams (`rt run` leaves them in out/), which let a
-#     first want of memory pass and make the call again.
+#   - of the program pd_book_trials, and of pd_cases on its file memory.cases (`rt run` leaves them in out/), which let
+#     a first want of memory pass and make the call again.
 # Outside the gate: needs a C compiler.
 #
 #   tools/fail_alloc.sh [INPUT..]
@@ -71,12 +71,16 @@ for input in "$@"; do
     try_program "$input" "$program"
 done
 input=/dev/null
-streams=$top/crates/pd_streams/out/pd_streams
-if [ -x "$streams" ]; then
-    try_program "pd_streams memory" "$streams" memory
-    grep -q '^memory: 1 runs, 0 wrong$' "$work/whole" || complain "pd_streams memory: fails with memory"
+cases=$top/crates/pd_cases/out/pd_cases
+if [ -x "$cases" ]; then
+    echo memory.cases >"$work/files"
+    input=$work/files
+    cd "$top/crates/pd_cases/data"
+    try_program "pd_cases memory.cases" "$cases"
+    grep -q ' 1 runs, 0 wrong$' "$work/whole" || complain "pd_cases memory.cases: fails with memory"
+    input=/dev/null
 else
-    complain "pd_streams memory: not built, so not tried"
+    complain "pd_cases memory.cases: not built, so not tried"
 fi
 trials=$top/crates/pd_book_trials/out/pd_book_trials
 if [ -x "$trials" ]; then

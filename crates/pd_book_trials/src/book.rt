@@ -1,5 +1,7 @@
 //! Stories of a book and of the parts below it.
-mod answers;
+pub mod answers;
 mod shelf;
 pub mod story;
-mod tasks;
+pub mod tasks;
+
+pub use tasks::{LISTEN, job_of};

@@ -1,14 +1,16 @@
-//! Tries a book and the parts below it: tells the stories of the input, makes random lists of calls and compares them with
-//! a plain replay, and refuses memory. With the word `memory` it does the last alone.
+//! Tries a book, alone and as seats share it, and the parts below it: tells the stories of the input, makes random lists of
+//! calls and compares them with a plain replay, and refuses memory. With the word `memory` it does the last alone.
 #![tactic(auto)]
 
 mod book;
 mod memory;
 mod parts;
+mod plain;
 mod random;
+mod saying;
+mod seats;
 mod stories;
 
-use crate::book::story::Story;
 use crate::memory::check_memory;
 use crate::random::make_lists;
 use crate::stories::tell;
@@ -25,8 +27,8 @@ fn main(rt: HostRuntime) -> ExitCode {
     match tried {
         Ok(true) => ExitCode::SUCCESS,
         Ok(false) => ExitCode::FAILURE,
-        Err(error) => {
-            let _ = eprintln!(rt; "not tried: {error}");
+        Err(_) => {
+            let _ = rt.eprint("not tried: the input or the output failed, or there is no memory\n");
             ExitCode::FAILURE
         }
     }
@@ -44,7 +46,7 @@ fn words(rt: &(impl Env + AllocGlobal)) -> io::Result<usize> {
 
 /// Whether all that was tried agrees.
 fn try_all(rt: &(impl Input + Print + AllocGlobal)) -> io::Result<bool> {
-    let is_told = tell(rt, &mut Story::new(rt.alloc()))?;
+    let is_told = tell(rt)?;
     let is_replayed = make_lists(rt)?;
     let is_kept = check_memory(rt)?;
     Ok(is_told && is_replayed && is_kept)

@@ -17,11 +17,11 @@ pub fn check_memory(rt: &(impl Print + AllocGlobal)) -> io::Result<bool> {
     let parts = check_parts(rt.alloc());
     match book.and(parts) {
         Ok(()) => {
-            println!(rt; "a book and its parts without memory are as they were")?;
+            rt.print("a book and its parts without memory are as they were\n")?;
             Ok(true)
         }
         Err(stop) => {
-            println!(rt; "{stop}")?;
+            rt.print(stop.words())?;
             Ok(false)
         }
     }

@@ -15,7 +15,8 @@ mod trial;
 use self::counts::Counts;
 use self::dice::Dice;
 use self::trial::Trial;
-use std::alloc::AllocError;
+use crate::saying::{decimal, print};
+use std::alloc::{AllocError, Global};
 use std::io;
 
 const LISTS: u64 = 1_000;
@@ -24,27 +25,47 @@ const CALLS: u64 = 24;
 
 /// Makes the lists and prints the counts; whether nothing differed.
 pub fn make_lists(rt: &(impl Print + AllocGlobal)) -> io::Result<bool> {
+    let alloc = rt.alloc();
     let mut dice = Dice::new(20_261_122);
-    let mut counts = Counts::new(rt.alloc());
+    let mut counts = Counts::new(alloc);
     let mut differing = 0u64;
     for list in 1..=LISTS {
-        if let Some(difference) = make_list(rt, &mut dice, &mut counts)? {
-            println!(rt; "list {list}: {difference} differs")?;
+        if let Some(difference) = make_list(alloc, &mut dice, &mut counts)? {
+            let list = decimal(alloc, list)?;
+            print(
+                rt,
+                &["list ", list.as_str(), ": ", difference, " differs\n"],
+            )?;
             differing = differing.wrapping_add(1);
         }
     }
-    println!(rt; "{LISTS} lists of {CALLS} calls, {differing} differ")?;
-    counts.print(rt)?;
+    print_lists(rt, alloc, differing)?;
+    counts.print(rt, alloc)?;
     Ok(differing == 0)
+}
+
+fn print_lists(rt: &impl Print, alloc: Global, differing: u64) -> io::Result<()> {
+    let lists = decimal(alloc, LISTS)?;
+    let calls = decimal(alloc, CALLS)?;
+    let differing = decimal(alloc, differing)?;
+    let pieces = [
+        lists.as_str(),
+        " lists of ",
+        calls.as_str(),
+        " calls, ",
+        differing.as_str(),
+        " differ\n",
+    ];
+    print(rt, &pieces)
 }
 
 /// Makes one list of calls, and tells what differed first.
 fn make_list(
-    rt: &impl AllocGlobal,
+    alloc: Global,
     dice: &mut Dice,
     counts: &mut Counts,
 ) -> Result<Option<&'static str>, AllocError> {
-    let mut trial = Trial::new(rt.alloc());
+    let mut trial = Trial::new(alloc);
     for _call in 0..CALLS {
         if let Some(difference) = trial.make(dice, counts)? {
             return Ok(Some(difference));

@@ -10,5 +10,5 @@ mod words;
 
 pub use faults::StoryFault;
 pub use making::{edit, name, text};
-pub use telling::{Teller, tell};
-pub use words::Words;
+pub use telling::tell;
+pub use words::{Words, halves};

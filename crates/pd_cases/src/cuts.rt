@@ -1,8 +1,9 @@
 //! Tables of cuts: a text that grows octet by octet, and its verdict at each.
-use crate::rows::{Row, compare_report};
-use crate::scripts::added;
+use crate::pieces::{add, decimal, halves, joined};
+use crate::rows::Row;
+use crate::scripts::{added, compare_report};
+use crate::tally::Tally;
 use crate::unread::Unread;
-use pd_in_memory::Tally;
 use std::alloc::Global;
 
 /// The lines of the text before the row to come, and the number of its line.
@@ -10,7 +11,7 @@ use std::alloc::Global;
 pub struct Cuts {
     alloc: Global,
     text: Vec<u8>,
-    line: usize,
+    line: u64,
 }
 
 impl Cuts {
@@ -25,24 +26,35 @@ impl Cuts {
     /// Compares the verdict behind each octet of a row `VERDICT | LINE`. Where a text that ends there isn't read, from
     /// a `$` to a `^`, it is a fault of this line.
     pub fn take(&mut self, tally: &mut Tally, row: Row<'_>) -> Result<(), Unread> {
-        let halves = row.text.split_once(" | ");
-        let (whole, octets) = halves.ok_or(Unread::Because("a row has a verdict and a |"))?;
-        let cut = format!(in self.alloc; "syntax {}", self.line)?;
+        let Some((whole, octets)) = halves(row.text, " | ") else {
+            return Err(Unread::Because("a row has a verdict and a |"));
+        };
+        let line = decimal(self.alloc, self.line)?;
+        let cut = joined(self.alloc, &["syntax ", line.as_str()])?;
         let mut is_read = true;
         for octet in octets.bytes() {
             match octet {
                 b'^' => is_read = true,
                 b'$' => is_read = false,
-                _ => {
-                    let verdict = if is_read { whole } else { cut.as_str() };
-                    self.text.extend_from_slice(&[octet])?;
-                    let input = added(self.alloc, self.text.as_slice())?;
-                    compare_report(self.alloc, tally, verdict, input.as_slice(), row)?;
-                }
+                _ if is_read => self.grow(tally, whole, octet, row)?,
+                _ => self.grow(tally, cut.as_str(), octet, row)?,
             }
         }
-        self.text.extend_from_slice(b"\n")?;
         self.line = self.line.saturating_add(1);
-        Ok(())
+        Ok(add(&mut self.text, b"\n")?)
+    }
+
+    /// Adds an octet to the text and compares its verdict.
+    fn grow(
+        &mut self,
+        tally: &mut Tally,
+        verdict: &str,
+        octet: u8,
+        row: Row<'_>,
+    ) -> Result<(), Unread> {
+        add(&mut self.text, &[octet])?;
+        let input = added(self.alloc, self.text.as_slice())?;
+        let row = row.at(self.text.len() as u64);
+        compare_report(self.alloc, tally, verdict, input.as_slice(), row)
     }
 }

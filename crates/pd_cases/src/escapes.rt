@@ -1,5 +1,6 @@
 //! Octets written as text: `\n`, `\r`, `\t`, `\\`, `\x` with two hexadecimal digits, and `\<3 ..\>` for three times
 //! what stands between.
+use crate::pieces::add;
 use crate::unread::Unread;
 use std::alloc::Global;
 
@@ -57,7 +58,7 @@ impl Unescaper {
                 let second = digit(octet, 16)?;
                 self.put(first.wrapping_mul(16).wrapping_add(second))
             }
-            State::Times(times) => self.counted(times, octet),
+            State::Times(times) => self.count(times, octet),
         }
     }
 
@@ -82,10 +83,9 @@ impl Unescaper {
     }
 
     /// An octet of the number of a repetition: a digit, or the space behind it.
-    fn counted(&mut self, times: usize, octet: u8) -> Result<State, Unread> {
+    fn count(&mut self, times: usize, octet: u8) -> Result<State, Unread> {
         if octet != b' ' {
-            let digit = usize::from(digit(octet, 10)?);
-            return Ok(State::Times(times.saturating_mul(10).saturating_add(digit)));
+            return Ok(State::Times(counted(times, octet)?));
         }
         if self.repetition.is_some() {
             return Err(Unread::Because("a repetition stands in another"));
@@ -96,16 +96,35 @@ impl Unescaper {
     }
 
     fn repeat(&mut self) -> Result<State, Unread> {
-        let repetition = self.repetition.take();
-        let repetition = repetition.ok_or(Unread::Because("no repetition is open"))?;
-        let mut piece: Vec<u8> = Vec::new(self.alloc);
-        piece.extend_from_slice(self.octets.as_slice().get(repetition.from..).unwrap_or(b""))?;
+        let Some(repetition) = self.repetition.take() else {
+            return Err(Unread::Because("no repetition is open"));
+        };
+        let mut piece = Vec::new(self.alloc);
+        add(
+            &mut piece,
+            self.octets.get(repetition.from..).unwrap_or(b""),
+        )?;
         self.octets.truncate(repetition.from);
         for _ in 0..repetition.times {
-            self.octets.extend_from_slice(piece.as_slice())?;
+            add(&mut self.octets, piece.as_slice())?;
         }
         Ok(State::Plain)
     }
+}
+
+/// The number that decimal digits write; 0 where there are none.
+pub fn number_of(text: &str) -> Result<usize, Unread> {
+    let mut number = 0usize;
+    for octet in text.bytes() {
+        number = counted(number, octet)?;
+    }
+    Ok(number)
+}
+
+/// A number with one more digit.
+fn counted(number: usize, octet: u8) -> Result<usize, Unread> {
+    let digit = usize::from(digit(octet, 10)?);
+    Ok(number.saturating_mul(10).saturating_add(digit))
 }
 
 fn digit(octet: u8, base: u8) -> Result<u8, Unread> {

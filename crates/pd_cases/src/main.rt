@@ -2,15 +2,25 @@
 //! files, one a line.
 #![tactic(auto)]
 
+mod checks;
 mod cuts;
+mod ends;
 mod escapes;
+mod failing;
+mod memory;
+mod names;
 mod octets;
+mod pieces;
 mod rows;
+mod said;
 mod scripts;
 mod settings;
+mod stored;
 mod stories;
+mod streams;
 mod suite;
 mod tables;
+mod tally;
 mod unread;
 
 use crate::suite::Suite;

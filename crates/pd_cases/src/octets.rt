@@ -1,9 +1,10 @@
 //! Tables of places: each octet but the newline at one place of a text.
 use crate::escapes::unescape;
-use crate::rows::{Row, compare_report};
-use crate::scripts::added;
+use crate::pieces::{add, halves, word};
+use crate::rows::Row;
+use crate::scripts::{added, compare_report};
+use crate::tally::Tally;
 use crate::unread::Unread;
-use pd_in_memory::Tally;
 use std::alloc::{AllocError, Global};
 
 /// The place whose lines are being read.
@@ -20,7 +21,7 @@ impl<'a> Places<'a> {
 
     /// Takes a line: `=` begins a place, which ends the one before, and others are its exceptions.
     pub fn take(&mut self, tally: &mut Tally, row: Row<'a>) -> Result<(), Unread> {
-        let (mark, rest) = row.text.split_once(' ').unwrap_or((row.text, ""));
+        let (mark, rest) = word(row.text);
         if mark == "=" {
             self.end(tally)?;
             self.place = Some(Place::of(self.alloc, row, rest)?);
@@ -58,15 +59,19 @@ struct Place<'a> {
 impl<'a> Place<'a> {
     /// The place of a row `= VERDICT: TEXT`, in which `@` is the octet.
     fn of(alloc: Global, row: Row<'a>, rest: &'a str) -> Result<Place<'a>, Unread> {
-        let halves = rest.split_once(": ");
-        let (most, text) = halves.ok_or(Unread::Because("a place has a verdict"))?;
-        let halves = text.split_once('@');
-        let (front, back) = halves.ok_or(Unread::Because("a place has an @"))?;
+        let Some((most, text)) = halves(rest, ": ") else {
+            return Err(Unread::Because("a place has a verdict"));
+        };
+        let Some((front, back)) = halves(text, "@") else {
+            return Err(Unread::Because("a place has an @"));
+        };
+        let front = unescape(alloc, front)?;
+        let back = unescape(alloc, back)?;
         Ok(Place {
             alloc,
             row,
-            front: unescape(alloc, front)?,
-            back: unescape(alloc, back)?,
+            front,
+            back,
             most,
             strange: "",
             excepted: "",
@@ -77,15 +82,21 @@ impl<'a> Place<'a> {
     /// Takes a row `- VERDICT: OCTETS`, the verdict with these octets, or `* VERDICT`, that with strange ones.
     fn except(&mut self, mark: &str, rest: &'a str) -> Result<(), Unread> {
         match mark {
-            "*" => self.strange = rest,
-            "-" => {
-                let halves = rest.split_once(": ");
-                let (verdict, octets) = halves.ok_or(Unread::Because("an exception has octets"))?;
-                self.excepted = verdict;
-                self.octets = unescape(self.alloc, octets)?;
+            "*" => {
+                self.strange = rest;
+                Ok(())
             }
-            _ => return Err(Unread::Because("a line of a place begins with = - or *")),
+            "-" => self.except_octets(rest),
+            _ => Err(Unread::Because("a line of a place begins with = - or *")),
         }
+    }
+
+    fn except_octets(&mut self, rest: &'a str) -> Result<(), Unread> {
+        let Some((verdict, octets)) = halves(rest, ": ") else {
+            return Err(Unread::Because("an exception has octets"));
+        };
+        self.excepted = verdict;
+        self.octets = unescape(self.alloc, octets)?;
         Ok(())
     }
 
@@ -103,9 +114,9 @@ impl<'a> Place<'a> {
 
     fn input(&self, octet: u8) -> Result<Vec<u8>, AllocError> {
         let mut text = Vec::new(self.alloc);
-        text.extend_from_slice(self.front.as_slice())?;
-        text.extend_from_slice(&[octet])?;
-        text.extend_from_slice(self.back.as_slice())?;
+        add(&mut text, self.front.as_slice())?;
+        add(&mut text, &[octet])?;
+        add(&mut text, self.back.as_slice())?;
         added(self.alloc, text.as_slice())
     }
 
@@ -113,18 +124,21 @@ impl<'a> Place<'a> {
     fn check(&self, tally: &mut Tally) -> Result<(), Unread> {
         for octet in 0..=255u8 {
             if octet != b'\n' {
-                let input = self.input(octet)?;
-                let told = format!(in self.alloc; "octet {octet} at {}", self.row.text)?;
-                let row = self.row.of(told.as_str());
-                compare_report(
-                    self.alloc,
-                    tally,
-                    self.verdict(octet),
-                    input.as_slice(),
-                    row,
-                )?;
+                self.check_octet(tally, octet)?;
             }
         }
         Ok(())
+    }
+
+    fn check_octet(&self, tally: &mut Tally, octet: u8) -> Result<(), Unread> {
+        let input = self.input(octet)?;
+        let row = self.row.at(u64::from(octet));
+        compare_report(
+            self.alloc,
+            tally,
+            self.verdict(octet),
+            input.as_slice(),
+            row,
+        )
     }
 }

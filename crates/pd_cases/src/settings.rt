@@ -1,45 +1,58 @@
 //! Tables of settings, of words that are refused and of lines that are no commands.
 use crate::escapes::unescape;
-use crate::rows::{Row, compare};
+use crate::pieces::{add, halves, joined};
+use crate::rows::Row;
+use crate::said::{Wanted, run};
+use crate::tally::Tally;
 use crate::unread::Unread;
-use pd_in_memory::{Tally, Wanted, run};
-use std::alloc::Global;
+use std::alloc::{AllocError, Global};
 
 const NOTHING: &str = "total 0 pass 0 fail 0 syntax 0 unsupported 0 limit 0 pending 0\n";
 
 /// Compares what is said of a row `REFUSAL: KEY VALUE`, with `ok` where it is taken: set by a command, and by the
 /// program's word.
 pub fn check_setting(alloc: Global, tally: &mut Tally, row: Row<'_>) -> Result<(), Unread> {
-    let halves = row.text.split_once(": ");
-    let (refusal, setting) = halves.ok_or(Unread::Because("a row has a colon behind its refusal"))?;
-    let halves = setting.split_once(' ');
-    let (key, value) = halves.ok_or(Unread::Because("a setting has a value"))?;
-    let input = format!(in alloc; "set {setting}\n")?;
-    let text = format!(in alloc; "{key} = {value}")?;
+    let Some((refusal, setting)) = halves(row.text, ": ") else {
+        return Err(Unread::Because("a row has a colon behind its refusal"));
+    };
+    let Some((key, value)) = halves(setting, " ") else {
+        return Err(Unread::Because("a setting has a value"));
+    };
+    let command = joined(alloc, &["set ", setting, "\n"])?;
+    let text = joined(alloc, &[key, " = ", value])?;
     let words = ["--settings", text.as_str()];
     if refusal == "ok" {
-        let wanted = Wanted {
-            output: NOTHING.as_bytes(),
-            errors: b"",
-            status: 0,
-        };
-        compare(alloc, tally, &[], input.as_bytes(), wanted, row)?;
-        return compare(alloc, tally, &words, b"", wanted, row);
+        check_taken(tally, command.as_bytes(), &words, row)?;
+    } else {
+        check_refused(alloc, tally, command.as_bytes(), &words, refusal, row)?;
     }
-    let output = format!(in alloc; "refused {refusal}\n{NOTHING}")?;
-    let wanted = Wanted {
-        output: output.as_bytes(),
-        errors: b"",
-        status: 0,
-    };
-    compare(alloc, tally, &[], input.as_bytes(), wanted, row)?;
-    let errors = format!(in alloc; "pdregress: {refusal}\n")?;
-    let wanted = Wanted {
-        output: b"",
-        errors: errors.as_bytes(),
-        status: 2,
-    };
-    compare(alloc, tally, &words, b"", wanted, row)
+    Ok(())
+}
+
+fn check_taken(
+    tally: &mut Tally,
+    command: &[u8],
+    words: &[&str],
+    row: Row<'_>,
+) -> Result<(), AllocError> {
+    let wanted = Wanted::new(NOTHING.as_bytes(), b"", 0);
+    tally.run(&[], command, wanted, row)?;
+    tally.run(words, b"", wanted, row)
+}
+
+fn check_refused(
+    alloc: Global,
+    tally: &mut Tally,
+    command: &[u8],
+    words: &[&str],
+    refusal: &str,
+    row: Row<'_>,
+) -> Result<(), AllocError> {
+    let output = joined(alloc, &["refused ", refusal, "\n", NOTHING])?;
+    let wanted = Wanted::new(output.as_bytes(), b"", 0);
+    tally.run(&[], command, wanted, row)?;
+    let errors = joined(alloc, &["pdregress: ", refusal, "\n"])?;
+    tally.run(words, b"", Wanted::new(b"", errors.as_bytes(), 2), row)
 }
 
 /// Checks that the words of a row are refused, with a text, before anything is read.
@@ -47,21 +60,16 @@ pub fn check_words(alloc: Global, tally: &mut Tally, row: Row<'_>) -> Result<(),
     let words: Vec<&str> = row.text.split(' ').collect(alloc)?;
     let said = run(alloc, words.as_slice(), b"add a 0\n")?;
     let is_refused = said.status == 2 && said.output.is_empty() && !said.errors.is_empty();
-    let place = row.place(alloc)?;
-    tally.check(is_refused && said.reads == 0, place.as_str())?;
-    Ok(())
+    Ok(tally.check(is_refused && said.reads == 0, row)?)
 }
 
 /// Checks that the line of a row is no command: it stops the run.
 pub fn check_command(alloc: Global, tally: &mut Tally, row: Row<'_>) -> Result<(), Unread> {
-    let mut input: Vec<u8> = Vec::new(alloc);
-    input.extend_from_slice(b"show\n")?;
-    input.extend_from_slice(unescape(alloc, row.text)?.as_slice())?;
-    input.extend_from_slice(b"\nshow\n")?;
-    let wanted = Wanted {
-        output: NOTHING.as_bytes(),
-        errors: b"pdregress: 15 BadCommand\n",
-        status: 2,
-    };
-    compare(alloc, tally, &[], input.as_slice(), wanted, row)
+    let line = unescape(alloc, row.text)?;
+    let mut input = Vec::new(alloc);
+    add(&mut input, b"show\n")?;
+    add(&mut input, line.as_slice())?;
+    add(&mut input, b"\nshow\n")?;
+    let wanted = Wanted::new(NOTHING.as_bytes(), b"pdregress: 15 BadCommand\n", 2);
+    Ok(tally.run(&[], input.as_slice(), wanted, row)?)
 }

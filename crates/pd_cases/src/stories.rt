@@ -1,15 +1,17 @@
 //! Tables of stories: a run of the program each, its words, its input, what it writes and its status, line by line.
 use crate::escapes::unescape;
-use crate::rows::{Row, compare};
+use crate::pieces::{add, add_line, word};
+use crate::rows::Row;
+use crate::said::Wanted;
+use crate::tally::Tally;
 use crate::unread::Unread;
-use pd_in_memory::{Tally, Wanted};
 use std::alloc::{AllocError, Global};
 
 /// A run to come, and what it is to say.
 #[derive(Drop)]
-pub struct Story {
+pub struct Story<'a> {
     alloc: Global,
-    title: String,
+    title: &'a str,
     words: Vec<String>,
     input: Vec<u8>,
     output: Vec<u8>,
@@ -18,11 +20,11 @@ pub struct Story {
     pub is_begun: bool,
 }
 
-impl Story {
-    pub fn new(alloc: Global) -> Story {
+impl<'a> Story<'a> {
+    pub fn new(alloc: Global) -> Story<'a> {
         Story {
             alloc,
-            title: String::new(alloc),
+            title: "",
             words: Vec::new(alloc),
             input: Vec::new(alloc),
             output: Vec::new(alloc),
@@ -31,14 +33,13 @@ impl Story {
         }
     }
 
-    pub fn entitle(&mut self, title: &str) -> Result<(), AllocError> {
-        self.title.clear();
-        self.title.push_str(title)
+    pub fn entitle(&mut self, title: &'a str) {
+        self.title = title;
     }
 
     /// Takes a line: a mark, a space and its octets. The mark `=` ends the story, and the next one begins.
     pub fn take(&mut self, tally: &mut Tally, row: Row<'_>) -> Result<(), Unread> {
-        let (mark, rest) = row.text.split_once(' ').unwrap_or((row.text, ""));
+        let (mark, rest) = word(row.text);
         if mark == "=" {
             self.check(tally, status_of(rest)?, row)?;
             *self = Story::new(self.alloc);
@@ -47,14 +48,20 @@ impl Story {
         self.is_begun = true;
         let octets = unescape(self.alloc, rest)?;
         match mark {
-            "$" => self.add_word(octets)?,
-            "<" => add_line(&mut self.input, octets.as_slice())?,
-            "~" => self.input.extend_from_slice(octets.as_slice())?,
-            ">" => add_line(&mut self.output, octets.as_slice())?,
-            "!" => add_line(&mut self.errors, octets.as_slice())?,
-            _ => return Err(Unread::Because("a line of a story begins with $ < ~ > ! or =")),
+            "$" => self.add_word(octets),
+            _ => self.add_octets(mark, octets.as_slice()),
         }
-        Ok(())
+    }
+
+    fn add_octets(&mut self, mark: &str, octets: &[u8]) -> Result<(), Unread> {
+        let added = match mark {
+            "<" => add_line(&mut self.input, octets),
+            "~" => add(&mut self.input, octets),
+            ">" => add_line(&mut self.output, octets),
+            "!" => add_line(&mut self.errors, octets),
+            _ => return Err(Unread::Because("a line of a story begins with $ < ~ > ! or =")),
+        };
+        Ok(added?)
     }
 
     fn add_word(&mut self, octets: Vec<u8>) -> Result<(), Unread> {
@@ -68,25 +75,17 @@ impl Story {
     }
 
     /// Runs the program and compares what it says.
-    fn check(&self, tally: &mut Tally, status: u8, row: Row<'_>) -> Result<(), Unread> {
-        let words: Vec<&str> = self
-            .words
-            .iter()
-            .map(|word| word.as_str())
-            .collect(self.alloc)?;
-        let wanted = Wanted {
-            output: self.output.as_slice(),
-            errors: self.errors.as_slice(),
-            status,
-        };
-        let row = row.of(self.title.as_str());
-        compare(
-            self.alloc,
-            tally,
+    fn check(&self, tally: &mut Tally, status: u8, row: Row<'_>) -> Result<(), AllocError> {
+        let mut words: Vec<&str> = Vec::new(self.alloc);
+        for word in self.words.iter() {
+            words.push(word.as_str())?;
+        }
+        let wanted = Wanted::new(self.output.as_slice(), self.errors.as_slice(), status);
+        tally.run(
             words.as_slice(),
             self.input.as_slice(),
             wanted,
-            row,
+            row.of(self.title),
         )
     }
 }
@@ -98,10 +97,4 @@ fn status_of(text: &str) -> Result<u8, Unread> {
         "2" => Ok(2),
         _ => Err(Unread::Because("a status is 0, 1 or 2")),
     }
-}
-
-/// Adds a line and its newline.
-pub fn add_line(octets: &mut Vec<u8>, line: &[u8]) -> Result<(), AllocError> {
-    octets.extend_from_slice(line)?;
-    octets.extend_from_slice(b"\n")
 }

@@ -1,8 +1,9 @@
 //! Files of cases: tables with a heading each, and the openings that tables name.
+use crate::pieces::{add, decimal, halves, joined};
 use crate::rows::Row;
 use crate::tables::{Kind, Table};
+use crate::tally::Tally;
 use crate::unread::Unread;
-use pd_in_memory::Tally;
 use std::alloc::{AllocError, Global};
 
 /// The first lines of scripts, under a name.
@@ -37,17 +38,9 @@ impl Suite {
     pub fn take_file(&mut self, file: &str, text: &str) -> Result<(), AllocError> {
         let tables_before = self.tables;
         let mut table: Option<Table<'_>> = None;
-        let mut row = Row {
-            file,
-            line: 0,
-            text: "",
-        };
+        let mut row = Row::new(file, 0, "");
         for line in text.lines() {
-            row = Row {
-                file,
-                line: row.line.saturating_add(1),
-                text: line,
-            };
+            row = Row::new(file, row.line.saturating_add(1), line);
             if line.starts_with('[') {
                 self.end_table(table.take())?;
                 table = self.begin_table(row)?;
@@ -66,14 +59,24 @@ impl Suite {
     /// Tells how many tables, rows and runs there were, and how many were wrong.
     pub fn end(&mut self) -> Result<(), AllocError> {
         if self.tables == 0 {
-            self.tally.complain("standard input", "no file is named")?;
+            let row = Row::new("standard input", 0, "");
+            self.tally.complain(row, "no file is named")?;
         }
-        let Suite { tables, rows, .. } = self;
-        let Tally { runs, wrong, .. } = &self.tally;
-        let line = format!(in self.alloc;
-            "total: {tables} tables, {rows} rows, {runs} runs, {wrong} wrong"
-        )?;
-        self.tally.tell(line.as_str())
+        let tables = decimal(self.alloc, self.tables)?;
+        let rows = decimal(self.alloc, self.rows)?;
+        let runs = decimal(self.alloc, self.tally.runs)?;
+        let wrong = decimal(self.alloc, self.tally.wrong)?;
+        self.tally.tell(&[
+            "total: ",
+            tables.as_str(),
+            " tables, ",
+            rows.as_str(),
+            " rows, ",
+            runs.as_str(),
+            " runs, ",
+            wrong.as_str(),
+            " wrong\n",
+        ])
     }
 
     /// Tells why a row wasn't read.
@@ -81,10 +84,7 @@ impl Suite {
         match read {
             Ok(()) => Ok(()),
             Err(Unread::NoMemory) => Err(AllocError),
-            Err(Unread::Because(why)) => {
-                let place = row.place(self.alloc)?;
-                self.tally.complain(place.as_str(), why)
-            }
+            Err(Unread::Because(why)) => self.tally.complain(row, why),
         }
     }
 
@@ -100,10 +100,13 @@ impl Suite {
 
     /// The table of a heading `[NAME] KIND` or `[NAME] KIND behind OPENING`.
     fn table_of<'a>(&self, heading: Row<'a>) -> Result<Table<'a>, Unread> {
-        let halves = heading.text.split_once("] ");
-        let (name, rest) = halves.ok_or(Unread::Because("a heading is [NAME] KIND"))?;
-        let (kind, opening) = rest.split_once(" behind ").unwrap_or((rest, ""));
-        let kind = Kind::of(self.alloc, kind).ok_or(Unread::Because("there is no such kind"))?;
+        let Some((name, rest)) = halves(heading.text, "] ") else {
+            return Err(Unread::Because("a heading is [NAME] KIND"));
+        };
+        let (kind, opening) = halves(rest, " behind ").unwrap_or((rest, ""));
+        let Some(kind) = Kind::of(self.alloc, kind) else {
+            return Err(Unread::Because("there is no such kind"));
+        };
         let may_open = matches!(kind, Kind::Scripts | Kind::Opening);
         if !may_open && rest.contains(" behind ") {
             return Err(Unread::Because("only scripts and openings stand behind one"));
@@ -120,13 +123,13 @@ impl Suite {
 
     /// The text of the opening of this name; of the empty name none.
     fn front_of(&self, name: &str) -> Result<Vec<u8>, Unread> {
-        let mut front: Vec<u8> = Vec::new(self.alloc);
+        let mut front = Vec::new(self.alloc);
         if name.is_empty() {
             return Ok(front);
         }
         for opening in self.openings.iter() {
             if opening.name.as_str() == name {
-                front.extend_from_slice(opening.text.as_slice())?;
+                add(&mut front, opening.text.as_slice())?;
                 return Ok(front);
             }
         }
@@ -141,7 +144,10 @@ impl Suite {
             None => Err(Unread::Because("a row stands in a table")),
             Some(table) => match comment {
                 None => table.take(self.alloc, &mut self.tally, row),
-                Some(title) => table.entitle(title.strip_prefix(' ').unwrap_or(title)),
+                Some(title) => {
+                    table.entitle(title.strip_prefix(' ').unwrap_or(title));
+                    Ok(())
+                }
             },
         }
     }
@@ -157,31 +163,35 @@ impl Suite {
         if let Kind::Opening = table.kind {
             return self.add_opening(table);
         }
+        self.rows = self.rows.saturating_add(table.rows);
+        self.tell_table(&table)
+    }
+
+    fn tell_table(&mut self, table: &Table<'_>) -> Result<(), AllocError> {
+        let rows = decimal(self.alloc, table.rows)?;
         let runs = self.tally.runs.saturating_sub(table.runs_before);
-        let Table {
-            heading,
-            name,
-            rows,
-            ..
-        } = table;
-        self.rows = self.rows.saturating_add(rows);
-        let line = format!(in self.alloc; "{} {name}: {rows} rows, {runs} runs", heading.file)?;
-        self.tally.tell(line.as_str())
+        let runs = decimal(self.alloc, runs)?;
+        self.tally.tell(&[
+            table.heading.file,
+            " ",
+            table.name,
+            ": ",
+            rows.as_str(),
+            " rows, ",
+            runs.as_str(),
+            " runs\n",
+        ])
     }
 
     fn add_opening(&mut self, table: Table<'_>) -> Result<(), AllocError> {
-        let is_taken = self
-            .openings
-            .iter()
-            .any(|opening| opening.name.as_str() == table.name);
-        if is_taken {
-            return self.complain(
-                Err(Unread::Because("an opening has this name")),
-                table.heading,
-            );
+        for opening in self.openings.iter() {
+            if opening.name.as_str() == table.name {
+                let unread = Unread::Because("an opening has this name");
+                return self.complain(Err(unread), table.heading);
+            }
         }
         let opening = Opening {
-            name: String::from_str(self.alloc, table.name)?,
+            name: joined(self.alloc, &[table.name])?,
             text: table.front,
         };
         self.openings.push(opening)?;

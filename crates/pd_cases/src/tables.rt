@@ -1,13 +1,15 @@
 //! Tables: what their rows are, and how each row is checked.
+use crate::checks::check;
 use crate::cuts::Cuts;
 use crate::escapes::unescape;
 use crate::octets::Places;
+use crate::pieces::{add, add_line, word};
 use crate::rows::Row;
 use crate::scripts::check_script;
 use crate::settings::{check_command, check_setting, check_words};
-use crate::stories::{Story, add_line};
+use crate::stories::Story;
+use crate::tally::Tally;
 use crate::unread::Unread;
-use pd_in_memory::Tally;
 use std::alloc::Global;
 
 /// What the rows of a table are, and what stands of one that isn't whole.
@@ -15,12 +17,13 @@ use std::alloc::Global;
 pub enum Kind<'a> {
     Opening,
     Scripts,
-    Stories(Story),
+    Stories(Story<'a>),
     Octets(Places<'a>),
     Cuts(Cuts),
     Settings,
     BadWords,
     BadCommands,
+    Checks,
 }
 
 impl<'a> Kind<'a> {
@@ -34,6 +37,7 @@ impl<'a> Kind<'a> {
             "settings" => Some(Kind::Settings),
             "bad words" => Some(Kind::BadWords),
             "bad commands" => Some(Kind::BadCommands),
+            "checks" => Some(Kind::Checks),
             _ => None,
         }
     }
@@ -54,11 +58,10 @@ pub struct Table<'a> {
 
 impl<'a> Table<'a> {
     /// Takes a comment: a story has it for its title.
-    pub fn entitle(&mut self, title: &str) -> Result<(), Unread> {
+    pub fn entitle(&mut self, title: &'a str) {
         if let Kind::Stories(story) = &mut self.kind {
-            story.entitle(title)?;
+            story.entitle(title);
         }
-        Ok(())
     }
 
     /// Checks a row, or takes a line of one.
@@ -75,6 +78,7 @@ impl<'a> Table<'a> {
             Kind::Settings => check_setting(alloc, tally, row),
             Kind::BadWords => check_words(alloc, tally, row),
             Kind::BadCommands => check_command(alloc, tally, row),
+            Kind::Checks => check(alloc, tally, row),
         }
     }
 
@@ -104,12 +108,12 @@ impl<'a> Table<'a> {
 
 /// Adds a line `< OCTETS` of an opening, or octets without a newline, `~ OCTETS`.
 fn add_opened(alloc: Global, text: &mut Vec<u8>, line: &str) -> Result<(), Unread> {
-    let (mark, rest) = line.split_once(' ').unwrap_or((line, ""));
+    let (mark, rest) = word(line);
     let octets = unescape(alloc, rest)?;
-    match mark {
-        "<" => add_line(text, octets.as_slice())?,
-        "~" => text.extend_from_slice(octets.as_slice())?,
+    let added = match mark {
+        "<" => add_line(text, octets.as_slice()),
+        "~" => add(text, octets.as_slice()),
         _ => return Err(Unread::Because("a line of an opening begins with < or ~")),
-    }
-    Ok(())
+    };
+    Ok(added?)
 }

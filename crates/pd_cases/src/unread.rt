@@ -1,7 +1,7 @@
 //! Why a line of a file of cases isn't read.
 use std::alloc::AllocError;
 
-#[derive(Clone, Copy, Debug, PartialEq, Eq)]
+#[derive(Clone, Copy)]
 pub enum Unread {
     /// The line isn't written as its table wants it, and this is why.
     Because(&'static str),

@@ -1,17 +1,20 @@
-//! The calls of a story: on a book, between it and another, and on the parts below it.
-use crate::book::answers::ok;
+//! The calls of a story: on a book, between it and another, on a book that seats share, and on the parts below.
 use crate::book::shelf::Shelf;
 use crate::parts::desk::Parts;
-use crate::stories::{StoryFault, Teller, Words};
+use crate::saying::owned;
+use crate::seats::bench::Bench;
+use crate::stories::{StoryFault, Words, halves};
 use std::alloc::Global;
 use std::mem;
 
-/// A book that a story tells of, another, and a text and settings below any book.
+/// A book that a story tells of, another, two that seats share, and a text and settings below any book.
 #[derive(Drop)]
 pub struct Story {
     alloc: Global,
     book: Shelf,
     other: Shelf,
+    bench: Bench,
+    other_bench: Bench,
     parts: Option<Parts>,
 }
 
@@ -21,6 +24,8 @@ impl Story {
             alloc,
             book: Shelf::new(alloc),
             other: Shelf::new(alloc),
+            bench: Bench::new(alloc),
+            other_bench: Bench::new(alloc),
             parts: Parts::new(alloc).ok(),
         }
     }
@@ -33,7 +38,7 @@ impl Story {
                 return Ok(said);
             }
         }
-        ok(self.alloc)
+        Ok(owned(self.alloc, "ok")?)
     }
 
     /// Makes a call once.
@@ -51,8 +56,8 @@ impl Story {
     fn answer_of_jobs(&mut self, word: &str, mut words: Words<'_>) -> Result<String, StoryFault> {
         match word {
             "start" => self.book.start(),
-            "run" => self.book.run(words.size()?),
-            "finish" => self.book.finish(words.size()?),
+            "run" => self.book.run(words.number()? as usize),
+            "finish" => self.book.finish(words.number()? as usize),
             "give" => self.book.give(words),
             "abandon" => self.book.abandon(words.number()?),
             _ => self.answer_of_shelves(word, words),
@@ -66,7 +71,7 @@ impl Story {
     ) -> Result<String, StoryFault> {
         match word {
             "fill" => self.book.fill(words.number()?),
-            "carry" => self.carry(words.size()?),
+            "carry" => self.carry(words.number()? as usize),
             "swap" => self.swap(),
             _ => self.answer_of_looks(word, words),
         }
@@ -80,7 +85,7 @@ impl Story {
     /// Goes on with the other book.
     fn swap(&mut self) -> Result<String, StoryFault> {
         mem::swap(&mut self.book, &mut self.other);
-        ok(self.alloc)
+        Ok(owned(self.alloc, "ok")?)
     }
 
     fn answer_of_looks(&mut self, word: &str, words: Words<'_>) -> Result<String, StoryFault> {
@@ -90,8 +95,28 @@ impl Story {
             "tolerance" => self.book.tolerance(),
             "acts" => self.book.acts(),
             "history" => self.book.history(),
+            _ => self.answer_of_seats(word, words),
+        }
+    }
+
+    fn answer_of_seats(&mut self, word: &str, mut words: Words<'_>) -> Result<String, StoryFault> {
+        match word {
+            "seats" => self.bench.open(words.number()? as usize),
+            "seat" => self.bench.answer(words),
+            "all-owed" => self.bench.owed(),
+            "leave" => self.bench.leave(words.number()? as usize),
+            "call-back" => self.bench.call_back(words.number()? as usize),
+            "trade" => self.bench.trade(&mut self.other_bench),
+            "other-bench" => self.switch(),
+            "close" => self.bench.close(),
             _ => self.answer_of_parts(word, words),
         }
+    }
+
+    /// Goes on with the other book that seats share.
+    fn switch(&mut self) -> Result<String, StoryFault> {
+        mem::swap(&mut self.bench, &mut self.other_bench);
+        Ok(owned(self.alloc, "ok")?)
     }
 
     fn answer_of_parts(&mut self, word: &str, words: Words<'_>) -> Result<String, StoryFault> {
@@ -100,17 +125,15 @@ impl Story {
             None => Err(StoryFault::OutOfMemory),
         }
     }
-}
 
-impl Teller for Story {
-    fn begin(&mut self) -> Result<(), StoryFault> {
+    /// Begins a story, from nothing.
+    pub fn begin(&mut self) {
         *self = Story::new(self.alloc);
-        Ok(())
     }
 
-    /// `N times` before a call makes it so often.
-    fn answer(&mut self, call: &str) -> Result<String, StoryFault> {
-        match call.split_once(" times ") {
+    /// Makes a call and gives its answer; `N times` before a call makes it so often.
+    pub fn answer(&mut self, call: &str) -> Result<String, StoryFault> {
+        match halves(call, " times ") {
             Some((count, call)) => self.repeat(Words::new(count).number()?, call),
             None => self.once(call),
         }

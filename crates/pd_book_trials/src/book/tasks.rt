@@ -1,8 +1,7 @@
 //! Jobs that a book gave, their results, and results from elsewhere.
+use crate::plain::{Ran, run, tolerated};
 use crate::stories::{StoryFault, Words, name};
-use pd_book::{Done, Job, run_job};
-use pd_run::{Plain, Stepper};
-use pd_settings::{Settings, Value};
+use pd_book::{Done, Job};
 use pd_text::{Lines, Text};
 use std::alloc::{AllocError, Global};
 
@@ -25,7 +24,7 @@ impl Task {
     pub fn run(&mut self, alloc: Global) -> Result<u64, StoryFault> {
         match self.job.take() {
             Some(job) => {
-                let (done, steps) = stepped(alloc, job)?;
+                let Ran { done, steps } = ran(alloc, job)?;
                 self.done = Some(done);
                 Ok(steps)
             }
@@ -42,11 +41,9 @@ impl Task {
     }
 }
 
-/// Runs a job and tells how many steps it took.
-fn stepped(alloc: Global, job: Job) -> Result<(Done, u64), StoryFault> {
-    let mut stepper = Plain::new();
-    match run_job(alloc, job, &mut stepper) {
-        Ok(done) => Ok((done, stepper.count())),
+fn ran(alloc: Global, job: Job) -> Result<Ran, StoryFault> {
+    match run(alloc, job) {
+        Ok(ran) => Ok(ran),
         Err(_) => Err(StoryFault::OutOfMemory),
     }
 }
@@ -59,28 +56,24 @@ pub fn foreign(
     tolerance: u64,
     lines: Lines,
 ) -> Result<Done, StoryFault> {
-    let job = made(alloc, number, script, tolerated(tolerance)?, lines)?;
-    Ok(stepped(alloc, job)?.0)
+    let job = job_of(alloc, number, script, tolerance, lines)?;
+    Ok(ran(alloc, job)?.done)
 }
 
-fn made(
+/// A job that no book handed out.
+pub fn job_of(
     alloc: Global,
     number: u64,
     script: &[u8],
-    settings: Settings,
+    tolerance: u64,
     lines: Lines,
 ) -> Result<Job, AllocError> {
     let name = name(alloc, script)?;
-    Ok(Job::new(number, name, Text::new(alloc, lines)?, settings))
+    let text = Text::new(alloc, lines)?;
+    Ok(Job::new(number, name, text, tolerated(tolerance)))
 }
 
-fn tolerated(tolerance: u64) -> Result<Settings, StoryFault> {
-    Settings::new()
-        .with(b"tolerance_us", Value::Number(tolerance))
-        .or(Err(StoryFault::NotANumber))
-}
-
-const LISTEN: &str =
+pub const LISTEN: &str =
     "0 socket(..., SOCK_STREAM, IPPROTO_TCP) = 3 | +0 bind(3, ..., ...) = 0 | +0 listen(3, 1) = 0";
 
 const FAILS: &str =

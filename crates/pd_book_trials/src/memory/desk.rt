@@ -1,9 +1,10 @@
 //! A book that is taken through steps, each made again where it found no memory.
-use crate::memory::making::{Change, make, run};
+use crate::memory::making::{Change, make};
 use crate::memory::stop::{Stop, must};
-use pd_book::{Book, BookFault, Done, Job, Ruling};
+use crate::plain::{Ledger, rows_of, run};
+use crate::saying::{is_shown, ruling_name};
+use pd_book::{BookFault, Done, Job, Ruling};
 use pd_run::Verdict;
-use pd_settings::Settings;
 use std::alloc::{AllocError, Global};
 
 /// What is done with a book, and what is to come of it.
@@ -39,7 +40,7 @@ pub const STEPS: [Step; 14] = [
 #[derive(Drop)]
 pub struct Desk {
     alloc: Global,
-    book: Book,
+    book: Ledger,
     done: Option<Done>,
 }
 
@@ -47,7 +48,7 @@ impl Desk {
     pub fn new(alloc: Global) -> Desk {
         Desk {
             alloc,
-            book: Book::new(alloc, 64, Settings::new()),
+            book: Ledger::new(alloc, 64),
             done: None,
         }
     }
@@ -63,31 +64,24 @@ impl Desk {
 
     /// Makes a change, and again where it found no memory.
     fn make_again(&mut self, change: Change) -> Result<(), Stop> {
-        let (acts, owed) = self.counts();
-        if self.make(change) == Err(BookFault::OutOfMemory) {
+        let acts = self.book.history().len();
+        let owed = self.book.owed();
+        if let Err(BookFault::OutOfMemory) = make(self.alloc, &mut self.book, change) {
             self.check_counts(acts, owed)?;
-            let again = self.make(change);
-            must(again.is_ok(), "a change that is made again is refused")?;
+            let again = make(self.alloc, &mut self.book, change);
+            must(again.is_ok(), "a change that is made again is refused\n")?;
         }
         must(
-            self.counts().0 == acts.wrapping_add(1),
-            "a change isn't recorded",
+            self.book.history().len() == acts.wrapping_add(1),
+            "a change isn't recorded\n",
         )
     }
 
-    fn make(&mut self, change: Change) -> Result<(), BookFault> {
-        make(self.alloc, &mut self.book, change)
-    }
-
-    /// How many acts are recorded, and how many verdicts are owed.
-    fn counts(&self) -> (usize, usize) {
-        (self.book.history().len(), self.book.owed())
-    }
-
+    /// Whether as many acts are recorded, and as many verdicts owed.
     fn check_counts(&self, acts: usize, owed: usize) -> Result<(), Stop> {
         must(
-            self.counts() == (acts, owed),
-            "a book without memory isn't as it was",
+            self.book.history().len() == acts && self.book.owed() == owed,
+            "a book without memory isn't as it was\n",
         )
     }
 
@@ -96,11 +90,11 @@ impl Desk {
         for _attempt in 0..3 {
             if let Some(job) = self.start()? {
                 match run(self.alloc, job) {
-                    Ok(done) => {
-                        self.done = Some(done);
+                    Ok(ran) => {
+                        self.done = Some(ran.done);
                         return Ok(());
                     }
-                    Err(unfinished) => self.abandon(unfinished.number)?,
+                    Err(number) => self.abandon(number)?,
                 }
             }
         }
@@ -109,55 +103,51 @@ impl Desk {
 
     /// The next job; none where there is no memory.
     fn start(&mut self) -> Result<Option<Job>, Stop> {
-        let (acts, owed) = self.counts();
-        match self.next_job() {
+        let acts = self.book.history().len();
+        let owed = self.book.owed();
+        match self.book.start() {
             Ok(Some(job)) => Ok(Some(job)),
-            Ok(None) => Err(Stop::Differs("no job is owed")),
-            Err(fault) => {
-                must(fault == BookFault::OutOfMemory, "a start is refused")?;
+            Ok(None) => Err(Stop::Differs("no job is owed\n")),
+            Err(BookFault::OutOfMemory) => {
                 self.check_counts(acts, owed)?;
                 Ok(None)
             }
+            Err(_) => Err(Stop::Differs("a start is refused\n")),
         }
-    }
-
-    fn next_job(&mut self) -> Result<Option<Job>, BookFault> {
-        self.book.start()
     }
 
     fn abandon(&mut self, number: u64) -> Result<(), Stop> {
-        must(self.book.abandon(number).is_ok(), "a job isn't given up")
+        must(self.book.abandon(number).is_ok(), "a job isn't given up\n")
     }
 
-    fn finish(&mut self, ruling: Ruling) -> Result<(), Stop> {
-        match self.done.take() {
-            Some(done) => self.finish_with(&done, ruling),
-            None => Err(Stop::Differs("no job was run")),
+    fn finish(&mut self, wanted: Ruling) -> Result<(), Stop> {
+        let Some(done) = self.done.take() else {
+            return Err(Stop::Differs("no job was run\n"));
+        };
+        match self.book.finish(&done) {
+            Ok(ruling) => must(
+                ruling_name(ruling) == ruling_name(wanted),
+                "a result is ruled otherwise\n",
+            ),
+            Err(_) => Err(Stop::Differs("a result is refused\n")),
         }
-    }
-
-    fn finish_with(&mut self, done: &Done, ruling: Ruling) -> Result<(), Stop> {
-        must(
-            self.book.finish(done) == Ok(ruling),
-            "a result is ruled otherwise",
-        )
     }
 
     /// Compares what is shown of the one script.
     fn check_shown(&self, wanted: Option<Verdict>) -> Result<(), Stop> {
-        let shown = match self.shown() {
-            Ok(shown) => shown,
-            Err(_) => self.shown().or(Err(Stop::OutOfMemory))?,
+        let is_shown = match self.shows(wanted) {
+            Ok(is_shown) => is_shown,
+            Err(_) => self.shows(wanted).or(Err(Stop::OutOfMemory))?,
         };
-        must(shown == Some(wanted), "a report is another one")
+        must(is_shown, "a report is another one\n")
     }
 
-    /// The verdict of the one row of the report, if it has one row.
-    fn shown(&self) -> Result<Option<Option<Verdict>>, AllocError> {
+    /// Whether the report has one row, with this verdict.
+    fn shows(&self, wanted: Option<Verdict>) -> Result<bool, AllocError> {
         let report = self.book.show()?;
-        Ok(match report.rows() {
-            [row] => Some(row.verdict),
-            _ => None,
+        Ok(match rows_of(&report) {
+            [row] => is_shown(row.verdict, wanted),
+            _ => false,
         })
     }
 }

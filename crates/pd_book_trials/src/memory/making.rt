@@ -1,7 +1,8 @@
-//! Changes of a book that has the script `a`, and runs of its jobs.
+//! Changes of a book that has the script `a`.
+use crate::book::LISTEN;
+use crate::plain::Ledger;
 use crate::stories::{edit, name, text};
-use pd_book::{Book, BookFault, Done, Job, Unfinished, run_job};
-use pd_run::Plain;
+use pd_book::BookFault;
 use pd_settings::Value;
 use std::alloc::Global;
 
@@ -14,10 +15,7 @@ pub enum Change {
     RemoveSecond,
 }
 
-const LISTEN: &str =
-    "0 socket(..., SOCK_STREAM, IPPROTO_TCP) = 3 | +0 bind(3, ..., ...) = 0 | +0 listen(3, 1) = 0";
-
-pub fn make(alloc: Global, book: &mut Book, change: Change) -> Result<(), BookFault> {
+pub fn make(alloc: Global, book: &mut Ledger, change: Change) -> Result<(), BookFault> {
     match change {
         Change::Add => add(alloc, book, b"a", LISTEN),
         Change::Edit => edit_last_line(alloc, book),
@@ -27,20 +25,16 @@ pub fn make(alloc: Global, book: &mut Book, change: Change) -> Result<(), BookFa
     }
 }
 
-fn add(alloc: Global, book: &mut Book, script: &[u8], written: &str) -> Result<(), BookFault> {
+fn add(alloc: Global, book: &mut Ledger, script: &[u8], written: &str) -> Result<(), BookFault> {
     let name = name(alloc, script)?;
     book.add(name, text(alloc, written)?)
 }
 
-fn edit_last_line(alloc: Global, book: &mut Book) -> Result<(), BookFault> {
+fn edit_last_line(alloc: Global, book: &mut Ledger) -> Result<(), BookFault> {
     let same = edit(alloc, 3, 1, Some(b"+0 listen(3, 1) = 0"))?;
     book.edit(&name(alloc, b"a")?, &same)
 }
 
-fn remove(alloc: Global, book: &mut Book, script: &[u8]) -> Result<(), BookFault> {
+fn remove(alloc: Global, book: &mut Ledger, script: &[u8]) -> Result<(), BookFault> {
     book.remove(&name(alloc, script)?)
-}
-
-pub fn run(alloc: Global, job: Job) -> Result<Done, Unfinished> {
-    run_job(alloc, job, &mut Plain::new())
 }

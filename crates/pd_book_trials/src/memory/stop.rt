@@ -1,5 +1,4 @@
 //! Why the checks end early.
-use std::fmt;
 
 /// Why the checks end early.
 #[derive(Clone, Copy)]
@@ -10,11 +9,11 @@ pub enum Stop {
     Differs(&'static str),
 }
 
-impl fmt::Display for Stop {
-    fn fmt<W: fmt::Write>(&self, f: &mut fmt::Formatter<W>) -> fmt::Result {
+impl Stop {
+    pub fn words(self) -> &'static str {
         match self {
-            Stop::OutOfMemory => f.write_str("want of memory again"),
-            Stop::Differs(what) => f.write_str(what),
+            Stop::OutOfMemory => "want of memory again\n",
+            Stop::Differs(what) => what,
         }
     }
 }

@@ -1,7 +1,9 @@
 //! The text and the settings that a story is at, and the calls that it makes.
 use crate::parts::scripts::{events, fault, header, run, tokens};
-use crate::parts::settings::{both, default, get, key, replace, toml};
-use crate::parts::texts::{edited, line, name, same};
+use crate::parts::settings::{both, default, get, key, refusal, replace, toml};
+use crate::parts::texts::{edited, line, longest, name, refusals, same};
+use crate::plain::with;
+use crate::saying::{decimal, owned};
 use crate::stories::{StoryFault, Words, text};
 use pd_settings::Settings;
 use pd_text::{Lines, TextFault};
@@ -25,18 +27,18 @@ impl Parts {
 
     fn set_text(&mut self, written: &str) -> Result<String, StoryFault> {
         self.lines = text(self.alloc, written)?;
-        Ok(self.lines.len().to_string(self.alloc)?)
+        Ok(decimal(self.alloc, self.lines.len() as u64)?)
     }
 
     /// Sets a setting.
     fn with(&mut self, mut words: Words<'_>) -> Result<String, StoryFault> {
         let key = words.word();
-        match self.settings.with(key.as_bytes(), words.value()) {
+        match with(&self.settings, key.as_bytes(), words.value()) {
             Ok(settings) => {
                 self.settings = settings;
-                Ok(String::from_str(self.alloc, "ok")?)
+                Ok(owned(self.alloc, "ok")?)
             }
-            Err(fault) => Ok(fault.to_string(self.alloc)?),
+            Err(fault) => Ok(refusal(self.alloc, fault)?),
         }
     }
 
@@ -46,6 +48,8 @@ impl Parts {
             "line" => line(self.alloc, &self.lines, words),
             "same" => same(self.alloc, &self.lines, words),
             "name" => name(self.alloc, words),
+            "longest" => longest(self.alloc),
+            "refusals" => refusals(self.alloc),
             _ => self.answer_of_settings(word, words),
         }
     }

@@ -1,4 +1,6 @@
 //! Calls of settings.
+use crate::plain::with;
+use crate::saying::{decimal, joined, owned};
 use crate::stories::{StoryFault, Words};
 use pd_settings::{Key, Settings, SettingsFault, Value};
 use std::alloc::{AllocError, Global};
@@ -13,10 +15,14 @@ pub fn get(alloc: Global, settings: &Settings, name: &str) -> Result<String, Sto
 
 fn value_of(alloc: Global, settings: &Settings, key: Key) -> Result<String, AllocError> {
     match key {
-        Key::Sack => settings.sack.to_string(alloc),
-        Key::Nagle => settings.nagle.to_string(alloc),
-        _ => number_of(settings, key).to_string(alloc),
+        Key::Sack => owned(alloc, truth(settings.sack)),
+        Key::Nagle => owned(alloc, truth(settings.nagle)),
+        _ => decimal(alloc, number_of(settings, key)),
     }
+}
+
+fn truth(holds: bool) -> &'static str {
+    if holds { "true" } else { "false" }
 }
 
 fn number_of(settings: &Settings, key: Key) -> u64 {
@@ -36,7 +42,7 @@ fn number_of(settings: &Settings, key: Key) -> u64 {
 
 /// Whether the settings are the defaults.
 pub fn default(alloc: Global, settings: &Settings) -> Result<String, StoryFault> {
-    Ok(settings.is_same(&Settings::new()).to_string(alloc)?)
+    Ok(owned(alloc, truth(settings.is_same(&Settings::new())))?)
 }
 
 /// Whether a key takes a value.
@@ -52,13 +58,17 @@ pub fn replace(
         Some(_) => "taken",
         None => "refused",
     };
-    Ok(String::from_str(alloc, said)?)
+    Ok(owned(alloc, said)?)
 }
 
-/// The key of a name.
+/// Which key has this name.
 pub fn key(alloc: Global, name: &str) -> Result<String, StoryFault> {
-    let key = Key::named(name.as_bytes());
-    Ok(format!(in alloc; "{key:?}")?)
+    let said = match Key::named(name.as_bytes()) {
+        Some(Key::RcvWnd) => "Some(RcvWnd)",
+        Some(_) => "Some",
+        None => "None",
+    };
+    Ok(owned(alloc, said)?)
 }
 
 /// What one setting is after it is set, by itself and by a table; where the two differ, both.
@@ -66,13 +76,14 @@ pub fn both(alloc: Global, mut words: Words<'_>) -> Result<String, StoryFault> {
     let name = words.word();
     let written = words.rest();
     let value = Words::new(written).value();
-    let by_value = after(alloc, name, Settings::new().with(name.as_bytes(), value))?;
-    let table = format!(in alloc; "{name} = {written}")?;
+    let by_value = after(alloc, name, with(&Settings::new(), name.as_bytes(), value))?;
+    let table = joined(alloc, &[name, " = ", written])?;
     let by_table = after(alloc, name, from_text(alloc, table.as_str())?)?;
     if by_value.as_str() == by_table.as_str() {
         return Ok(by_value);
     }
-    Ok(format!(in alloc; "{by_value}, by a table {by_table}")?)
+    let pieces = [by_value.as_str(), ", by a table ", by_table.as_str()];
+    Ok(joined(alloc, &pieces)?)
 }
 
 fn after(
@@ -82,8 +93,13 @@ fn after(
 ) -> Result<String, StoryFault> {
     match answer {
         Ok(settings) => get(alloc, &settings, name),
-        Err(fault) => Ok(fault.to_string(alloc)?),
+        Err(fault) => Ok(refusal(alloc, fault)?),
     }
+}
+
+/// A refusal as it is written.
+pub fn refusal(alloc: Global, fault: SettingsFault) -> Result<String, AllocError> {
+    fault.to_string(alloc)
 }
 
 fn from_text(alloc: Global, text: &str) -> Result<Result<Settings, SettingsFault>, StoryFault> {
@@ -97,8 +113,8 @@ fn from_text(alloc: Global, text: &str) -> Result<Result<Settings, SettingsFault
 pub fn toml(alloc: Global, settings: &Settings, written: &str) -> Result<String, StoryFault> {
     let text = written.replace(alloc, " | ", "\n")?;
     match from_text(alloc, text.as_str())? {
-        Ok(read) => Ok(String::from_str(alloc, same_said(&read, settings))?),
-        Err(fault) => Ok(fault.to_string(alloc)?),
+        Ok(read) => Ok(owned(alloc, same_said(&read, settings))?),
+        Err(fault) => Ok(refusal(alloc, fault)?),
     }
 }
 

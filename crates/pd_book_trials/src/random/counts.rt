@@ -1,7 +1,7 @@
 //! How many calls of each kind were answered in each way.
 use crate::random::answers::Answer;
 use crate::random::calls::Call;
-use pd_book::{BookFault, FinishFault, Ruling};
+use crate::saying::{decimal, print};
 use std::alloc::{AllocError, Global};
 use std::io;
 
@@ -28,7 +28,7 @@ impl Counts {
     /// Counts a call and its answer.
     pub fn add(&mut self, call: &Call, answer: Answer) -> Result<(), AllocError> {
         let kind = kind_name(call);
-        let answer = answer_name(answer);
+        let answer = answer.name();
         for count in self.counts.iter_mut() {
             if count.kind == kind && count.answer == answer {
                 count.calls = count.calls.wrapping_add(1);
@@ -43,9 +43,13 @@ impl Counts {
         Ok(())
     }
 
-    pub fn print(&self, rt: &impl Print) -> io::Result<()> {
+    pub fn print(&self, rt: &impl Print, alloc: Global) -> io::Result<()> {
         for count in self.counts.iter() {
-            println!(rt; "{} {} {}", count.kind, count.answer, count.calls)?;
+            let calls = decimal(alloc, count.calls)?;
+            print(
+                rt,
+                &[count.kind, " ", count.answer, " ", calls.as_str(), "\n"],
+            )?;
         }
         Ok(())
     }
@@ -61,30 +65,5 @@ fn kind_name(call: &Call) -> &'static str {
         Call::Finish(_) => "finish",
         Call::Foreign(..) => "finish of a foreign job",
         Call::Abandon(_) => "abandon",
-    }
-}
-
-fn answer_name(answer: Answer) -> &'static str {
-    match answer {
-        Answer::Done => "ok",
-        Answer::Refused(fault) => fault_name(fault),
-        Answer::Job(..) => "a job",
-        Answer::NoJob => "none",
-        Answer::Ruled(Ruling::Taken) => "Taken",
-        Answer::Ruled(Ruling::Stale) => "Stale",
-        Answer::NotEnded(FinishFault::NoSuchJob) => "NoSuchJob",
-        Answer::NotEnded(FinishFault::Foreign) => "Foreign",
-        Answer::NoResult => "not made",
-    }
-}
-
-fn fault_name(fault: BookFault) -> &'static str {
-    match fault {
-        BookFault::BadRange => "BadRange",
-        BookFault::UnknownKey => "UnknownKey",
-        BookFault::BadValue => "BadValue",
-        BookFault::NameTaken => "NameTaken",
-        BookFault::NoSuchScript => "NoSuchScript",
-        _ => "another refusal",
     }
 }

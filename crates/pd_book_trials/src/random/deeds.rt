@@ -65,10 +65,12 @@ impl Deeds {
 
     /// After how many deeds a script had its last change.
     fn last_change(&self, script: u8) -> usize {
-        let mut last = 0;
-        for (i, deed) in self.list.iter().enumerate() {
+        let mut last = 0usize;
+        let mut number = 0usize;
+        for deed in self.list.iter() {
+            number = number.wrapping_add(1);
             if deed.changes(script) {
-                last = i.wrapping_add(1);
+                last = number;
             }
         }
         last
@@ -87,10 +89,12 @@ impl Deeds {
 
     /// After how many deeds a job was started, and its script.
     fn start(&self, job: u64) -> Option<(usize, u8)> {
-        for (i, deed) in self.list.iter().enumerate() {
+        let mut count = 0usize;
+        for deed in self.list.iter() {
+            count = count.wrapping_add(1);
             if let Deed::Start(number, script) = deed {
                 if *number == job {
-                    return Some((i.wrapping_add(1), *script));
+                    return Some((count, *script));
                 }
             }
         }
@@ -113,7 +117,7 @@ impl Deeds {
         let change = self.last_change(script);
         for job in 1..=self.started() {
             if let Some((start, name)) = self.start(job) {
-                if name == script && start > change && self.job(job) == state {
+                if name == script && start > change && self.job(job).is(state) {
                     return true;
                 }
             }
@@ -133,13 +137,19 @@ impl Deeds {
 }
 
 /// How a job stands.
-#[derive(Clone, Copy, PartialEq, Eq)]
+#[derive(Clone, Copy)]
 pub enum JobState {
     /// No job has this number.
     Unknown,
     Outstanding,
     Finished,
     Abandoned,
+}
+
+impl JobState {
+    pub fn is(self, state: JobState) -> bool {
+        self as u8 == state as u8
+    }
 }
 
 impl Deed {
@@ -177,8 +187,9 @@ fn edit_text(texts: &mut Vec<(u8, Vec<u8>)>, script: u8, change: Change) -> Resu
 fn edited(alloc: Global, text: &[u8], change: Change) -> Result<Vec<u8>, AllocError> {
     let behind = change.from.saturating_add(change.remove);
     let mut after = Vec::new(alloc);
-    for (i, kind) in text.iter().enumerate() {
-        let number = i.wrapping_add(1);
+    let mut number = 0usize;
+    for kind in text {
+        number = number.wrapping_add(1);
         if number == change.from {
             add(&mut after, change.line)?;
         }

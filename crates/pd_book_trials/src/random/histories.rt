@@ -8,9 +8,11 @@ use pd_text::{LineEdit, Name};
 use std::alloc::{AllocError, Global};
 
 pub fn is_history(alloc: Global, acts: &[Act], deeds: &[Deed]) -> Result<bool, AllocError> {
-    for (act, deed) in acts.iter().zip(deeds.iter()) {
-        if !is_act(alloc, act, deed)? {
-            return Ok(false);
+    for number in 0..acts.len() {
+        if let (Some(act), Some(deed)) = (acts.get(number), deeds.get(number)) {
+            if !is_act(alloc, act, deed)? {
+                return Ok(false);
+            }
         }
     }
     Ok(acts.len() == deeds.len())
@@ -37,7 +39,7 @@ fn is_plain_act(act: &Act, deed: &Deed) -> bool {
     match (act, deed) {
         (Act::Set(_, Value::Number(value)), Deed::Set(set)) => *value == *set,
         (Act::Finish(number, ruling), Deed::Finish(job, is_taken)) => {
-            *number == *job && (*ruling == Ruling::Taken) == *is_taken
+            *number == *job && matches!(ruling, Ruling::Taken) == *is_taken
         }
         (Act::Abandon(number), Deed::Abandon(job)) => *number == *job,
         _ => false,

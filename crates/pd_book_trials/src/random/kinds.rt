@@ -32,9 +32,11 @@ fn stop(kind: u8, line: usize) -> Option<Verdict> {
 
 /// The line of the first line of a kind, counted from 1.
 fn first_of(kinds: &[u8], wanted: u8) -> Option<usize> {
-    for (i, kind) in kinds.iter().enumerate() {
+    let mut line = 0usize;
+    for kind in kinds {
+        line = line.wrapping_add(1);
         if *kind == wanted {
-            return Some(i.wrapping_add(1));
+            return Some(line);
         }
     }
     None
@@ -46,8 +48,10 @@ pub fn verdict_of(kinds: &[u8]) -> Verdict {
         return Verdict::Syntax(line);
     }
     let mut events = 0usize;
-    for (i, kind) in kinds.iter().enumerate() {
-        if let Some(verdict) = stop(*kind, i.wrapping_add(1)) {
+    let mut line = 0usize;
+    for kind in kinds {
+        line = line.wrapping_add(1);
+        if let Some(verdict) = stop(*kind, line) {
             return verdict;
         }
         if *kind == 0 {

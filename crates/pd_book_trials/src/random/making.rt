@@ -1,16 +1,21 @@
 //! Names, texts, settings and results of jobs as a book takes them.
+use crate::book::job_of;
+use crate::plain::{applied, run};
 use crate::random::calls::{Change, Foreign};
 use crate::random::kinds::line;
 use crate::stories::{edit, name};
-use pd_book::{Done, Job, Unfinished, run_job};
-use pd_run::Plain;
-use pd_settings::{Settings, Value};
+use pd_book::{Done, Job};
 use pd_text::{LineEdit, Lines, Name, Text, TextFault};
 use std::alloc::{AllocError, Global};
 
+/// The octets of a script's name.
+fn octets_of(script: u8) -> [u8; 2] {
+    [b's', script.wrapping_add(b'0')]
+}
+
 /// The name of a script.
 pub fn script_name(alloc: Global, script: u8) -> Result<Name, AllocError> {
-    name(alloc, &[b's', script.wrapping_add(b'0')])
+    name(alloc, &octets_of(script))
 }
 
 /// The text of lines of these kinds.
@@ -22,23 +27,18 @@ fn made_text(alloc: Global, kinds: &[u8]) -> Result<Lines, TextFault> {
     let mut text = Lines::new(Vec::new(alloc))?;
     for kind in kinds {
         let behind = edit(alloc, text.len() + 1, 0, Some(line(*kind)))?;
-        text = text.apply(&behind)?;
+        text = applied(&text, &behind)?;
     }
     Ok(text)
 }
 
 /// An edit as a book takes it.
 pub fn edit_of(alloc: Global, change: Change) -> Result<LineEdit, AllocError> {
-    edit(alloc, change.from, change.remove, change.line.map(line))
-}
-
-/// The settings with this tolerance; the defaults where it is too large.
-pub fn tolerated(value: u64) -> Settings {
-    let defaults = Settings::new();
-    match defaults.with(b"tolerance_us", Value::Number(value)) {
-        Ok(settings) => settings,
-        Err(_) => defaults,
-    }
+    let line = match change.line {
+        Some(kind) => Some(line(kind)),
+        None => None,
+    };
+    edit(alloc, change.from, change.remove, line)
 }
 
 /// Whether a text has the lines of these kinds.
@@ -48,11 +48,10 @@ pub fn has_lines(alloc: Global, text: &Text, kinds: &[u8]) -> Result<bool, Alloc
 
 /// Runs a job.
 pub fn ran(alloc: Global, job: Job) -> Result<Done, AllocError> {
-    run(alloc, job).or(Err(AllocError))
-}
-
-fn run(alloc: Global, job: Job) -> Result<Done, Unfinished> {
-    run_job(alloc, job, &mut Plain::new())
+    match run(alloc, job) {
+        Ok(ran) => Ok(ran.done),
+        Err(_) => Err(AllocError),
+    }
 }
 
 /// The result of a job that no book gave, where the tolerance is this one: of another text, settings or name.
@@ -78,7 +77,6 @@ fn made(
     kinds: &[u8],
     tolerance: u64,
 ) -> Result<Job, AllocError> {
-    let name = script_name(alloc, script)?;
-    let text = Text::new(alloc, text_of(alloc, kinds)?)?;
-    Ok(Job::new(number, name, text, tolerated(tolerance)))
+    let lines = text_of(alloc, kinds)?;
+    job_of(alloc, number, &octets_of(script), tolerance, lines)
 }

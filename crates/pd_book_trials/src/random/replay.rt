@@ -80,7 +80,7 @@ impl Deeds {
 
     /// This answer, if the job is outstanding.
     fn end_answer(&self, job: u64, answer: Answer) -> Answer {
-        if self.job(job) == JobState::Outstanding {
+        if self.job(job).is(JobState::Outstanding) {
             answer
         } else {
             Answer::NotEnded(FinishFault::NoSuchJob)
@@ -112,7 +112,7 @@ pub fn deed(call: Call, answer: Answer) -> Option<Deed> {
         (Call::Set(_, value), Answer::Done) => Some(Deed::Set(value)),
         (Call::Start, Answer::Job(job, script)) => Some(Deed::Start(job, script)),
         (Call::Finish(job), Answer::Ruled(ruling)) => {
-            Some(Deed::Finish(job, ruling == Ruling::Taken))
+            Some(Deed::Finish(job, matches!(ruling, Ruling::Taken)))
         }
         (Call::Abandon(job), Answer::Done) => Some(Deed::Abandon(job)),
         _ => None,

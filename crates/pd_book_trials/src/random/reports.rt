@@ -1,7 +1,9 @@
 //! Whether a report is the one of the deeds.
+use crate::plain::{rows_of, tolerated};
 use crate::random::deeds::{Deeds, JobState};
 use crate::random::kinds::verdict_of;
-use crate::random::making::{has_lines, script_name, tolerated};
+use crate::random::making::{has_lines, script_name};
+use crate::saying::is_shown;
 use pd_book::{Report, Row};
 use pd_run::Verdict;
 use std::alloc::{AllocError, Global};
@@ -17,17 +19,20 @@ pub fn is_report(
     if !report.settings().is_same(&tolerated(deeds.tolerance())) {
         return Ok(false);
     }
+    let rows = rows_of(report);
     let mut pending = 0usize;
-    for (row, (script, kinds)) in report.rows().iter().zip(texts.iter()) {
-        let wanted = verdict(deeds, *script, kinds.as_slice());
-        if row.verdict != wanted || !is_row(alloc, row, *script, kinds.as_slice())? {
-            return Ok(false);
-        }
-        if wanted.is_none() {
-            pending = pending.wrapping_add(1);
+    for number in 0..rows.len() {
+        if let (Some(row), Some((script, kinds))) = (rows.get(number), texts.get(number)) {
+            let wanted = verdict(deeds, *script, kinds.as_slice());
+            if !is_row(alloc, row, *script, kinds.as_slice(), wanted)? {
+                return Ok(false);
+            }
+            if wanted.is_none() {
+                pending = pending.wrapping_add(1);
+            }
         }
     }
-    Ok(report.rows().len() == texts.len() && owed == pending)
+    Ok(rows.len() == texts.len() && owed == pending)
 }
 
 /// What is shown of a script.
@@ -39,8 +44,15 @@ fn verdict(deeds: &Deeds, script: u8, kinds: &[u8]) -> Option<Verdict> {
     }
 }
 
-/// Whether a row has the script's name and text.
-fn is_row(alloc: Global, row: &Row, script: u8, kinds: &[u8]) -> Result<bool, AllocError> {
+/// Whether a row has the script's name and text, and this verdict.
+fn is_row(
+    alloc: Global,
+    row: &Row,
+    script: u8,
+    kinds: &[u8],
+    wanted: Option<Verdict>,
+) -> Result<bool, AllocError> {
     let name = script_name(alloc, script)?;
-    Ok(row.name.is_same(&name) && has_lines(alloc, &row.text, kinds)?)
+    let is_same = row.name.is_same(&name) && is_shown(row.verdict, wanted);
+    Ok(is_same && has_lines(alloc, &row.text, kinds)?)
 }

@@ -1,22 +1,23 @@
 //! A book and the replay of what it accepted.
+use crate::plain::{Ledger, tolerated};
 use crate::random::answers::Answer;
 use crate::random::calls::{Call, Change, Foreign, random_call};
 use crate::random::counts::Counts;
 use crate::random::deeds::Deeds;
 use crate::random::dice::Dice;
 use crate::random::histories::is_history;
-use crate::random::making::{edit_of, foreign, has_lines, ran, script_name, text_of, tolerated};
+use crate::random::making::{edit_of, foreign, has_lines, ran, script_name, text_of};
 use crate::random::replay::deed;
 use crate::random::reports::is_report;
-use pd_book::{Book, BookFault, Done, Job};
-use pd_settings::{Settings, Value};
+use pd_book::{Done, Job};
+use pd_settings::Value;
 use std::alloc::{AllocError, Global};
 
 /// A book, the deeds that it accepted, and a result of each job that it gave.
 #[derive(Drop)]
 pub struct Trial {
     alloc: Global,
-    book: Book,
+    book: Ledger,
     deeds: Deeds,
     results: Vec<Done>,
     /// Whether each job that it gave had the text and the settings of the replay.
@@ -27,7 +28,7 @@ impl Trial {
     pub fn new(alloc: Global) -> Trial {
         Trial {
             alloc,
-            book: Book::new(alloc, 4, Settings::new()),
+            book: Ledger::new(alloc, 4),
             deeds: Deeds::new(alloc),
             results: Vec::new(alloc),
             are_jobs_current: true,
@@ -44,7 +45,7 @@ impl Trial {
         let wanted = self.deeds.answer(self.alloc, &call)?;
         let answer = self.answer(&call)?;
         counts.add(&call, answer)?;
-        if answer != wanted {
+        if !answer.is(wanted) {
             return Ok(Some("an answer"));
         }
         self.keep(call, answer)?;
@@ -115,15 +116,11 @@ impl Trial {
     }
 
     fn start(&mut self) -> Result<Answer, AllocError> {
-        match self.started() {
+        match self.book.start() {
             Ok(Some(job)) => self.take(job),
             Ok(None) => Ok(Answer::NoJob),
             Err(fault) => Ok(Answer::Refused(fault)),
         }
-    }
-
-    fn started(&mut self) -> Result<Option<Job>, BookFault> {
-        self.book.start()
     }
 
     /// Runs a job and keeps its result.

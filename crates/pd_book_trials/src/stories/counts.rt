@@ -1,13 +1,15 @@
 //! How many stories and rows were told.
+use crate::saying::{decimal, print};
+use std::alloc::Global;
 use std::io;
 
 /// The counts of a table, and whether all rows agreed so far.
 #[derive(Drop)]
 pub struct Counts {
-    stories: u64,
-    rows: u64,
-    differing: u64,
-    agrees: bool,
+    pub stories: u64,
+    pub rows: u64,
+    pub differing: u64,
+    pub agrees: bool,
 }
 
 impl Counts {
@@ -20,35 +22,30 @@ impl Counts {
         }
     }
 
-    pub fn add_story(&mut self) {
-        self.stories = self.stories.wrapping_add(1);
-    }
-
-    pub fn add_row(&mut self) {
-        self.rows = self.rows.wrapping_add(1);
-    }
-
     pub fn add_difference(&mut self) {
         self.differing = self.differing.wrapping_add(1);
         self.agrees = false;
     }
 
     /// Prints the counts of the table that ends, if it had a row, and begins with the next one.
-    pub fn close(&mut self, rt: &impl Print) -> io::Result<()> {
+    pub fn close(&mut self, rt: &impl Print, alloc: Global) -> io::Result<()> {
         if self.rows != 0 {
-            println!(rt;
-                "{} stories, {} rows, {} differ",
-                self.stories, self.rows, self.differing
-            )?;
+            let stories = decimal(alloc, self.stories)?;
+            let rows = decimal(alloc, self.rows)?;
+            let differing = decimal(alloc, self.differing)?;
+            let pieces = [
+                stories.as_str(),
+                " stories, ",
+                rows.as_str(),
+                " rows, ",
+                differing.as_str(),
+                " differ\n",
+            ];
+            print(rt, &pieces)?;
         }
         self.stories = 0;
         self.rows = 0;
         self.differing = 0;
         Ok(())
-    }
-
-    /// Whether no row differed, in any table.
-    pub fn agrees(&self) -> bool {
-        self.agrees
     }
 }

@@ -1,27 +1,32 @@
 //! Why a call of a story can't be made.
 use pd_text::TextFault;
 use std::alloc::AllocError;
-use thiserror::Error;
 
-/// Why a call of a story can't be made. It is written in words, in the place of the answer.
-#[derive(Clone, Copy, Debug, PartialEq, Eq, Error)]
+/// Why a call of a story can't be made.
+#[derive(Clone, Copy)]
 pub enum StoryFault {
-    #[error("(a row without an answer)")]
-    NoAnswer,
-    #[error("(no such call)")]
     NoSuchCall,
-    #[error("(not a number)")]
     NotANumber,
-    #[error("(over the limits of a text)")]
     NoText,
-    #[error("(the story has no such thing)")]
     Missing,
-    #[error("(not a table)")]
     NotToml,
-    #[error("(not in letters)")]
     NotInLetters,
-    #[error("(out of memory)")]
     OutOfMemory,
+}
+
+impl StoryFault {
+    /// What is written in the place of the answer.
+    pub fn words(self) -> &'static str {
+        match self {
+            StoryFault::NoSuchCall => "(no such call)",
+            StoryFault::NotANumber => "(not a number)",
+            StoryFault::NoText => "(over the limits of a text)",
+            StoryFault::Missing => "(the story has no such thing)",
+            StoryFault::NotToml => "(not a table)",
+            StoryFault::NotInLetters => "(not in letters)",
+            StoryFault::OutOfMemory => "(out of memory)",
+        }
+    }
 }
 
 impl From<AllocError> for StoryFault {

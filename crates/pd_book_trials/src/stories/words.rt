@@ -4,7 +4,15 @@ use crate::stories::making::edit;
 use pd_settings::Value;
 use pd_text::LineEdit;
 use std::alloc::{AllocError, Global};
-use std::mem;
+
+/// What stands before the first mark and behind it.
+pub fn halves<'a>(text: &'a str, mark: &str) -> Option<(&'a str, &'a str)> {
+    text.split_once(mark)
+}
+
+fn number(word: &str) -> Option<u64> {
+    word.parse::<u64>().ok()
+}
 
 /// The words of a call that aren't read yet, parted by single blanks.
 #[derive(Drop)]
@@ -24,28 +32,16 @@ impl<'a> Words<'a> {
 
     /// The next word; empty where there is none.
     pub fn word(&mut self) -> &'a str {
-        match self.rest.split_once(' ') {
-            Some((word, rest)) => {
-                self.rest = rest;
-                word
-            }
-            None => mem::replace(&mut self.rest, ""),
-        }
+        let (word, rest) = halves(self.rest, " ").unwrap_or((self.rest, ""));
+        self.rest = rest;
+        word
     }
 
     /// The next word as a number.
     pub fn number(&mut self) -> Result<u64, StoryFault> {
-        match self.word().parse::<u64>() {
-            Ok(number) => Ok(number),
-            Err(_) => Err(StoryFault::NotANumber),
-        }
-    }
-
-    /// The next word as a number of lines or of jobs.
-    pub fn size(&mut self) -> Result<usize, StoryFault> {
-        match self.word().parse::<usize>() {
-            Ok(size) => Ok(size),
-            Err(_) => Err(StoryFault::NotANumber),
+        match number(self.word()) {
+            Some(number) => Ok(number),
+            None => Err(StoryFault::NotANumber),
         }
     }
 
@@ -63,34 +59,43 @@ impl<'a> Words<'a> {
         match self.word() {
             "true" => Value::Truth(true),
             "false" => Value::Truth(false),
-            word => match word.parse::<u64>() {
-                Ok(number) => Value::Number(number),
-                Err(_) => Value::Other,
+            word => match number(word) {
+                Some(number) => Value::Number(number),
+                None => Value::Other,
             },
         }
     }
 
     /// The other words as an edit: its first line, how many lines go, and the line that comes, if there is one.
     pub fn edit(mut self, alloc: Global) -> Result<LineEdit, StoryFault> {
-        let from = self.size()?;
-        let remove = self.size()?;
-        let made = match self.rest {
-            "" => edit(alloc, from, remove, None)?,
-            "(empty)" => edit(alloc, from, remove, Some(b""))?,
-            rest => match rest.strip_prefix("(blanks) ") {
-                Some(count) => {
-                    let line = blanks(alloc, Words::new(count).size()?)?;
-                    edit(alloc, from, remove, Some(line.as_slice()))?
-                }
-                None => edit(alloc, from, remove, Some(rest.as_bytes()))?,
-            },
-        };
-        Ok(made)
+        let from = self.number()? as usize;
+        let remove = self.number()? as usize;
+        if self.rest.is_empty() {
+            return Ok(edit(alloc, from, remove, None)?);
+        }
+        let line = self.line(alloc)?;
+        Ok(edit(alloc, from, remove, Some(line.as_slice()))?)
+    }
+
+    /// The words that are left as a line: `(empty)` is the empty one, `(blanks) N` one of so many blanks.
+    fn line(mut self, alloc: Global) -> Result<Vec<u8>, StoryFault> {
+        let whole = self.rest;
+        match self.word() {
+            "(empty)" => Ok(Vec::new(alloc)),
+            "(blanks)" => Ok(blanks(alloc, self.number()? as usize)?),
+            _ => Ok(octets(alloc, whole)?),
+        }
     }
 }
 
 fn blanks(alloc: Global, count: usize) -> Result<Vec<u8>, AllocError> {
     let mut line = Vec::new(alloc);
     line.resize(count, b' ')?;
+    Ok(line)
+}
+
+fn octets(alloc: Global, text: &str) -> Result<Vec<u8>, AllocError> {
+    let mut line = Vec::new(alloc);
+    line.extend_from_slice(text.as_bytes())?;
     Ok(line)
 }

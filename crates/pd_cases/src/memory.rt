@@ -1,0 +1,67 @@
+//! Want of memory in a run of the program: it is told, what was written is a prefix, and the next run says all. In
+//! the gate there is memory; outside it this check is run with each allocation refused in turn.
+use crate::rows::Row;
+use crate::said::run;
+use crate::tally::Tally;
+use std::alloc::{AllocError, Global};
+
+const INPUT: &[u8] = b"add a 9
+0 socket(..., SOCK_STREAM, IPPROTO_TCP) = 3
++0 bind(3, ..., ...) = 0
++0 listen(3, 1) = 0
++0.1 < S 0:0(0) win 32792 <mss 1000,sackOK,nop,nop,nop,wscale 7>
++0 > S. 0:0(0) ack 1 <mss 1460,nop,nop,sackOK,nop,wscale 7>
++0.1 < . 1:1(0) ack 2 win 257
++0 > R 2:2(0)
++0 < . 1:1(0) ack 1 win 257
++0 accept(3, ..., ...) = 4
+show
+set mss 1
+settle
+edit a 5 1 1
++0 > S. 0:0(0) ack 1
+settle
+remove a
+";
+
+const OUTPUT: &[u8] = b"a pending
+total 1 pass 0 fail 0 syntax 0 unsupported 0 limit 0 pending 1
+refused 4 BadValue
+a pass 9
+total 1 pass 1 fail 0 syntax 0 unsupported 0 limit 0 pending 0
+a fail 5 options
+total 1 pass 0 fail 1 syntax 0 unsupported 0 limit 0 pending 0
+total 0 pass 0 fail 0 syntax 0 unsupported 0 limit 0 pending 0
+";
+
+/// How a run ended.
+#[derive(Clone, Copy)]
+enum Ending {
+    Whole,
+    /// At a fault, with a prefix written.
+    Prefix,
+    Wrong,
+}
+
+/// Runs the program.
+fn attempt(alloc: Global) -> Ending {
+    let Ok(said) = run(alloc, &["--settings", "tolerance_us = 5000"], INPUT) else {
+        return Ending::Prefix;
+    };
+    if said.is_whole(OUTPUT) {
+        Ending::Whole
+    } else if said.status == 2 && said.is_prefix(OUTPUT) {
+        Ending::Prefix
+    } else {
+        Ending::Wrong
+    }
+}
+
+/// Runs the program, and once more where it found no memory.
+pub fn check_memory(alloc: Global, tally: &mut Tally, row: Row<'_>) -> Result<(), AllocError> {
+    let last = match attempt(alloc) {
+        Ending::Prefix => attempt(alloc),
+        first => first,
+    };
+    tally.check(matches!(last, Ending::Whole), row)
+}
