@@ -2,6 +2,7 @@
 //! sender that keeps its SACKed octets one by one.
 #![tactic(auto)]
 
+mod copied;
 mod counts;
 mod dice;
 mod plain_board;
@@ -9,6 +10,7 @@ mod plain_window;
 mod trial;
 mod worked;
 
+use crate::copied::is_copied;
 use crate::counts::Counts;
 use crate::dice::Dice;
 use crate::trial::Trial;
@@ -35,11 +37,14 @@ fn main(rt: HostRuntime) -> ExitCode {
 /// Whether all that was tried agrees.
 fn try_all(rt: &(impl Print + AllocGlobal)) -> io::Result<bool> {
     let is_right = is_worked(rt.alloc())?;
-    println!(rt;
-        "worked by hand: {}",
-        if is_right { "right" } else { "differs" }
-    )?;
-    Ok(make_lists(rt)? && is_right)
+    println!(rt; "a scoreboard worked out by hand: {}", said(is_right))?;
+    let is_same = is_copied(rt.alloc())?;
+    println!(rt; "a copy of a packet: {}", said(is_same))?;
+    Ok(make_lists(rt)? && is_right && is_same)
+}
+
+fn said(is_right: bool) -> &'static str {
+    if is_right { "right" } else { "differs" }
 }
 
 /// Makes the lists and prints the counts; whether nothing differed.
