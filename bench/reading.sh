@@ -42,13 +42,13 @@ awk -v octets="$octets" 'BEGIN {
 for input in arguments events; do
     count=$(wc -c <"$work/$input")
     begin=$(date +%s%N)
-    "$program" <"$work/$input" >/dev/null
+    "$program" <"$work/$input" >/dev/null || [ $? -eq 1 ]
     end=$(date +%s%N)
     awk -v input="$input" -v octets="$count" -v ns="$((end - begin))" 'BEGIN {
         s = ns / 1e9
         printf "%s: %d octets in %.3f s, %.0f octets/s\n", input, octets, s, octets / s
     }'
     command -v valgrind >/dev/null || continue
-    valgrind --tool=callgrind --callgrind-out-file=/dev/null "$program" <"$work/$input" 2>"$work/said" >/dev/null
+    valgrind --tool=callgrind --callgrind-out-file=/dev/null "$program" <"$work/$input" 2>"$work/said" >/dev/null || [ $? -eq 1 ]
     awk -v input="$input" -v octets="$count" '/Collected/ { printf "%s: %.0f instructions an octet\n", input, $NF / octets }' "$work/said"
 done
