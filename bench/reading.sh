@@ -3,13 +3,8 @@
 # Tells octets per second, and where valgrind is there the instructions an octet, which don't vary with the load.
 #
 #   bench/reading.sh [OCTETS]      about 1,000,000 octets of each if nothing is said
-set -eu
-top=$(cd "$(dirname "$0")/.." && pwd)
-program=$top/crates/pdregress/out/pdregress
+. "$(dirname "$0")/program.sh"
 octets=${1:-1000000}
-work=$(mktemp -d)
-trap 'rm -rf "$work"' EXIT
-[ -x "$program" ] || "$top/pdregress" </dev/null >/dev/null
 
 # Each script is 60 lines of one call, whose arguments are brackets within brackets.
 awk -v octets="$octets" 'BEGIN {

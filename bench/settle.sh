@@ -2,14 +2,9 @@
 # Measures a settle over generated scripts: octets and scripts per second, as the built program takes them.
 #
 #   bench/settle.sh [SCRIPTS [EVENTS]]      1,000 scripts of 60 events if nothing is said
-set -eu
-top=$(cd "$(dirname "$0")/.." && pwd)
-program=$top/crates/pdregress/out/pdregress
+. "$(dirname "$0")/program.sh"
 scripts=${1:-1000}
 events=${2:-60}
-work=$(mktemp -d)
-trap 'rm -rf "$work"' EXIT
-[ -x "$program" ] || "$top/pdregress" </dev/null >/dev/null
 
 # Each script opens, binds and then listens on the descriptor again and again, at times of its own.
 awk -v scripts="$scripts" -v events="$events" 'BEGIN {

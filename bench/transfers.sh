@@ -3,14 +3,9 @@
 # instructions of an event and the memory that the program takes beside its texts.
 #
 #   bench/transfers.sh [SCRIPTS]      1,000 scripts of 60 events if nothing is said
-set -eu
-top=$(cd "$(dirname "$0")/.." && pwd)
-program=$top/crates/pdregress/out/pdregress
+. "$(dirname "$0")/program.sh"
 scripts=${1:-1000}
 events=60
-work=$(mktemp -d)
-trap 'rm -rf "$work"' EXIT
-[ -x "$program" ] || "$top/pdregress" </dev/null >/dev/null
 
 # Each script writes 17 segments one after the other; the 6th and the 12th are sent again when the timer expires.
 awk -v scripts="$scripts" -v events="$events" 'BEGIN {
