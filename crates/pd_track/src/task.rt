@@ -1,0 +1,38 @@
+//! Tasks: what a job is to run.
+ghost use Rattle.std.specs.Prelude.{◌≡◌, ◌↔◌, IsTrue, IfOk};
+
+use pd_settings::Settings;
+use pd_text::{Name, Text};
+use std::alloc::AllocError;
+
+/// What a job is to run: the text of a script under the settings, both as at the job's start.
+#[derive(Drop)]
+pub struct Task {
+    pub number: u64,
+    pub name: Name,
+    pub text: Text,
+    pub settings: Settings,
+}
+
+impl Task {
+    pub fn is_same(&self, other: &Task) -> bool
+        ensures { IsTrue result ↔ (self.now ≡ other.now) }
+    {
+        self.number == other.number
+            && self.name.is_same(&other.name)
+            && self.settings.is_same(&other.settings)
+            && self.text.is_same(&other.text)
+    }
+
+    /// An equal task, which shares the text.
+    pub fn share(&self) -> Result<Task, AllocError>
+        ensures { IfOk result (λ task. task ≡ self.now) }
+    {
+        Ok(Task {
+            number: self.number,
+            name: self.name.copy()?,
+            text: self.text.share()?,
+            settings: self.settings,
+        })
+    }
+}
