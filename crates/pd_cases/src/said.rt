@@ -102,7 +102,7 @@ fn named<'a>(alloc: Global, words: &[&'a str]) -> Result<Vec<&'a str>, AllocErro
     Ok(all)
 }
 
-/// Runs the program on these streams and gives its status. Its promises stay in here: callers compare what was written.
+/// Runs the program without workers on these streams and gives its status. Its promises stay in here: callers compare what was written.
 fn run_on(
     alloc: Global,
     words: &[&str],
@@ -110,5 +110,8 @@ fn run_on(
     output: &mut Sink,
     errors: &mut Sink,
 ) -> u8 {
-    pd_cli::run(alloc, words, source, output, errors).status
+    match pd_cli::options(alloc, words) {
+        Ok(options) => pd_cli::run_alone(alloc, options.settings, source, output, errors).status,
+        Err(error) => pd_cli::refuse(alloc, &error, errors).status,
+    }
 }

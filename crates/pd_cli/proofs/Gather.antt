@@ -18,7 +18,7 @@ use Rattle.pd_cli.specs.declared.requests.Request.TheVariants as asks
 use Rattle.pd_cli.specs.declared.command.Command.{Command}
 use Rattle.pd_cli.specs.declared.command.Command.TheVariants as made
 use Rattle.pd_cli.specs.declared.faults.ServeFault.{ServeFault}
-use Rattle.pd_cli.specs.declared.faults.ServeFault.TheVariants.{HistoryFull, BadCommand, Truncated, Read, Write, OutOfMemory}
+use Rattle.pd_cli.specs.declared.faults.ServeFault.TheVariants.{HistoryFull, NoWorkers, Differs, BadCommand, Truncated, Read, Write, OutOfMemory}
 
 -- lines
 
@@ -126,6 +126,8 @@ fault_lines count command Truncated x y a b = a ∙ if_lt count (length (lines y
 fault_lines count command BadCommand x y a b = absurd b
 fault_lines count command Write x y a b = absurd b
 fault_lines count command HistoryFull x y a b = absurd b
+fault_lines count command NoWorkers x y a b = absurd b
+fault_lines count command Differs x y a b = absurd b
 fault_lines count command Read x y a b = tt
 fault_lines count command OutOfMemory x y a b = tt
 

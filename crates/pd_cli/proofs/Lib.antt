@@ -1,4 +1,5 @@
 -- The lemmas of the proofs.
+pub mod Beside
 pub mod Chains
 mod Rows
 pub mod SettingsText
@@ -6,8 +7,10 @@ pub mod Cuts
 pub mod Digits
 pub mod Ending
 pub mod Fronts
+pub mod Newlines
 pub mod Gather
 pub mod Known
 pub mod Written
 pub mod Settled
 pub mod Passage
+pub mod Possible

@@ -17,7 +17,7 @@ use Rattle.pd_book.specs.Turns.{after_turn, settled, settled_in, StartsAreOutsta
 use Rattle.pd_cli.specs.Output.{acted}
 use Rattle.pd_cli.specs.Steps.{RepliesTo, IsQuiet, Turns, SettlesTo}
 use Rattle.pd_cli.specs.declared.faults.ServeFault.{ServeFault}
-use Rattle.pd_cli.specs.declared.faults.ServeFault.TheVariants.{HistoryFull, BadCommand, Truncated, Read, Write, OutOfMemory}
+use Rattle.pd_cli.specs.declared.faults.ServeFault.TheVariants.{HistoryFull, NoWorkers, Differs, BadCommand, Truncated, Read, Write, OutOfMemory}
 
 -- the settling of a first story goes on from this one, with enough turns
 abbrev pub GoesOn : Story → Story → Type 0
@@ -50,6 +50,8 @@ pub goes_stop : (first story next : Story) (fault : ServeFault) → GoesOn first
 goes_stop first story next OutOfMemory g t = tt
 goes_stop first story next Read g t = absurd t
 goes_stop first story next Write g t = absurd t
+goes_stop first story next NoWorkers g t = absurd t
+goes_stop first story next Differs g t = absurd t
 goes_stop first story next BadCommand g t = absurd t
 goes_stop first story next Truncated g t = absurd t
 goes_stop first story next HistoryFull g t = go g.0 g.1 g.2

@@ -21,7 +21,7 @@ use Rattle.pd_cli.specs.Steps.{IsQuiet, Does, Ends}
 use Rattle.pd_cli.specs.declared.command.Command.{Command}
 use Rattle.pd_cli.specs.declared.command.Command.TheVariants.{Add, Edit, Remove, Set, Show, Settle}
 use Rattle.pd_cli.specs.declared.faults.ServeFault.{ServeFault}
-use Rattle.pd_cli.specs.declared.faults.ServeFault.TheVariants.{HistoryFull, BadCommand, Truncated, Read, Write, OutOfMemory}
+use Rattle.pd_cli.specs.declared.faults.ServeFault.TheVariants.{HistoryFull, NoWorkers, Differs, BadCommand, Truncated, Read, Write, OutOfMemory}
 use Rattle.pd_cli.proofs.Known.{appends_then, known_then, fact_before}
 
 -- no job is outstanding after a command
@@ -65,6 +65,8 @@ does_from (Err Write) old new command octets w w1 h k e f = (take k.0 octets, k.
 does_from (Err Read) old new command octets w w1 h k e f = absurd cc
 does_from (Err OutOfMemory) old new command octets w w1 h k e f = absurd cc
 does_from (Err HistoryFull) old new command octets w w1 h k e f = absurd cc
+does_from (Err NoWorkers) old new command octets w w1 h k e f = absurd cc
+does_from (Err Differs) old new command octets w w1 h k e f = absurd cc
 does_from (Err BadCommand) old new command octets w w1 h k e f = absurd cc
 does_from (Err Truncated) old new command octets w w1 h k e f = absurd cc
 
@@ -125,6 +127,8 @@ answers_fault settings BadCommand story octets x y h f = comes_fault settings Ba
 answers_fault settings Truncated story octets x y h f = comes_fault settings Truncated story octets x y h f
 answers_fault settings Write story octets x y h f = absurd f
 answers_fault settings HistoryFull story octets x y h f = absurd f
+answers_fault settings NoWorkers story octets x y h f = absurd f
+answers_fault settings Differs story octets x y h f = absurd f
 answers_fault settings Read story octets x y h f = comes_prefix settings story octets x y h
 answers_fault settings OutOfMemory story octets x y h f = comes_prefix settings story octets x y h
 
@@ -146,6 +150,8 @@ answers_stop settings OutOfMemory story new command octets more x y h k d =
     let all : octets ++ more ≡ octets = ap (λ (m : List ℕ). octets ++ m) d ∙ append-nil octets in
     rw all (comes_prefix settings story octets x y h)
 answers_stop settings Read story new command octets more x y h k d = absurd d
+answers_stop settings NoWorkers story new command octets more x y h k d = absurd d
+answers_stop settings Differs story new command octets more x y h k d = absurd d
 answers_stop settings BadCommand story new command octets more x y h k d = absurd d
 answers_stop settings Truncated story new command octets more x y h k d = absurd d
 

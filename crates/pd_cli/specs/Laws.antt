@@ -9,6 +9,8 @@ use Rattle.pd_book.specs.Headline.{RowsAreOfScratch}
 use Rattle.pd_cli.specs.Report.{rendered}
 use Rattle.pd_cli.specs.Commands.{Item, does, stops, commands}
 use Rattle.pd_cli.specs.Output.{report, effect, ahead, outcome, output}
+use Rattle.pd_cli.specs.Beside.{MayPrint}
+use Rattle.pd_cli.specs.declared.command.Command.{Command}
 use Rattle.pd_cli.specs.declared.command.Command.TheVariants.{Show, Settle}
 use Rattle.pd_cli.specs.declared.faults.ServeFault.{ServeFault}
 
@@ -58,3 +60,15 @@ SettlesPrintScratch =
 abbrev pub ShowsPrintPart : Type 0
 ShowsPrintPart =
     (story : Story) → (effect story Show ≡ Ok (rendered (report story), story)) × RowsAreOfScratch story.opening story.past (report story)
+
+-- both stories have the same scripts under the same settings
+abbrev pub HaveSame : Story → Story → Type 0
+HaveSame story other = (texts story.past ≡ texts other.past) × (now story.opening story.past ≡ now other.opening other.past)
+
+-- what a command prints without workers it may print beside them, after accepted commands that leave the same scripts and
+-- settings; and it leaves the same then
+abbrev pub AloneIsPossibleBeside : Type 0
+AloneIsPossibleBeside =
+    (settings : Settings) → (input octets : List ℕ) → (story : Story) → (rest : List Item) → (command : Command) → Reaches settings input octets story (does command ∷ rest)
+    → (printed : List ℕ) → (after : Story) → effect story command ≡ Ok (printed, after)
+    → (accepted : Story) → HaveSame story accepted → (next : Story) × MayPrint accepted command printed next × HaveSame after next

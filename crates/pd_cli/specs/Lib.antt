@@ -1,4 +1,6 @@
 -- The definitions of the input, the commands, the report and the output.
+pub mod Beside
+pub mod BesideSteps
 pub mod Commands
 pub mod Input
 pub mod Laws

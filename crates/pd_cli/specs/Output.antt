@@ -82,7 +82,7 @@ abbrev pub output : Settings → List ℕ → Session
 output settings input = outcome (record { opening = settings; past = [] }) (commands input)
 
 -- these octets are what a session writes and this is how it ends; where a read or a write fails,
--- or memory is refused, they are a prefix of what it writes
+-- or memory is refused, they are a prefix of what it writes; it ends with no other fault
 abbrev pub Answers : Result Bool ServeFault → List ℕ → Session → Type 0
 Answers (Ok passed) octets session = (session.written ≡ octets) × (session.end ≡ Ok passed)
 Answers (Err HistoryFull) octets session = (session.written ≡ octets) × (session.end ≡ Err HistoryFull)
@@ -91,6 +91,7 @@ Answers (Err Truncated) octets session = (session.written ≡ octets) × (sessio
 Answers (Err Read) octets session = (more : List ℕ) × (session.written ≡ octets ++ more)
 Answers (Err Write) octets session = (more : List ℕ) × (session.written ≡ octets ++ more)
 Answers (Err OutOfMemory) octets session = (more : List ℕ) × (session.written ≡ octets ++ more)
+Answers (Err fault) octets session = ⊥
 
 -- a writer got the output of an input, or where serving stopped for a read, a write or memory a prefix of it
 abbrev pub Serves : Result Bool ServeFault → Settings → Option (List ℕ) → Option (List ℕ) → Option (List ℕ) → Type 0

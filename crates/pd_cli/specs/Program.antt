@@ -1,15 +1,18 @@
 -- What the program writes, and its status.
-use Rattle.std.specs.Prelude.{◌≡◌, ℕ, Bool, true, false, ◌⊎◌, List, [], take, Option, Some, None, Result, Ok, Err, IfSome}
+use Rattle.std.specs.Prelude.{◌≡◌, ℕ, suc, zero, Bool, true, false, ◌⊎◌, List, [], take, Option, Some, None, Result, Ok, Err, IfSome}
 use Rattle.std.specs.Io.KnownBytes.{Appends}
 use Rattle.toml.specs.Data.{Members}
 use Rattle.toml.specs.Parse.{parse_document}
 use Rattle.pd_settings.specs.declared.faults.SettingsFault.{SettingsFault}
 use Rattle.pd_settings.specs.declared.fields.Settings.{Settings}
 use Rattle.pd_settings.specs.Table.{from_table_of}
+use Rattle.pd_cli.specs.Beside.{MayAnswer}
+use Rattle.pd_cli.specs.Commands.{commands}
 use Rattle.pd_cli.specs.Output.{output, Answers}
 use Rattle.pd_cli.specs.ProgramFaults.{of_settings, fault_line}
 use Rattle.pd_cli.specs.declared.faults.ServeFault.TheVariants.{OutOfMemory}
 use Rattle.pd_cli.specs.declared.exits.Exit.{Exit}
+use Rattle.pd_cli.specs.declared.faults.ServeFault.{ServeFault}
 use Rattle.pd_cli.specs.declared.program_faults.ProgramFault.{ProgramFault}
 use Rattle.pd_cli.specs.declared.program_faults.ProgramFault.TheVariants.{NotToml, Serving}
 
@@ -26,13 +29,18 @@ settings_of (Some entries) = in_document (from_table_of entries)
 abbrev pub settings_in : List ℕ → Result Settings ProgramFault
 settings_in text = settings_of (parse_document text)
 
--- where the settings are good the input is served with them; where they are not, nothing is written,
+-- what serving writes, and how it ends: without workers the output of the input, else what may be written beside them
+abbrev pub Served : ℕ → Settings → Result Bool ServeFault → List ℕ → List ℕ → Type 0
+Served zero settings end octets input = Answers end octets (output settings input)
+Served (suc more) settings end octets input = MayAnswer end octets (record { opening = settings; past = [] }) (commands input)
+
+-- where the settings are good the input is served with them and so many workers; where they are not, nothing is written,
 -- and the run ends with their fault or for want of memory
-abbrev pub Runs : Result Settings ProgramFault → Result Bool ProgramFault → List ℕ → List ℕ → Type 0
-Runs (Ok settings) (Ok passed) octets input = Answers (Ok passed) octets (output settings input)
-Runs (Ok settings) (Err (Serving fault)) octets input = Answers (Err fault) octets (output settings input)
-Runs (Ok settings) (Err fault) octets input = ⊥
-Runs (Err fault) end octets input = (octets ≡ []) × ((end ≡ Err fault) ⊎ (end ≡ Err (Serving OutOfMemory)))
+abbrev pub Runs : ℕ → Result Settings ProgramFault → Result Bool ProgramFault → List ℕ → List ℕ → Type 0
+Runs workers (Ok settings) (Ok passed) octets input = Served workers settings (Ok passed) octets input
+Runs workers (Ok settings) (Err (Serving fault)) octets input = Served workers settings (Err fault) octets input
+Runs workers (Ok settings) (Err fault) octets input = ⊥
+Runs workers (Err fault) end octets input = (octets ≡ []) × ((end ≡ Err fault) ⊎ (end ≡ Err (Serving OutOfMemory)))
 
 -- the status: 0 where each row of the last report passes, 1 where one does not, 2 at a fault
 abbrev pub status_of : Result Bool ProgramFault → ℕ
@@ -54,11 +62,11 @@ Tells false said line = (n : ℕ) × (said ≡ take n line)
 abbrev pub Says : Bool → Option (List ℕ) → Option (List ℕ) → List ℕ → Type 0
 Says told before after line = (said : List ℕ) × Appends before after said × Tells told said line
 
--- a run with this settings text came to an end with its status, said what that has to say, and wrote what belongs to it
-abbrev pub Finishes : Exit → List ℕ → Option (List ℕ) → Option (List ℕ) → Option (List ℕ) → Option (List ℕ) → Option (List ℕ) → Type 0
-Finishes exit text input out_before out_after err_before err_after =
+-- a run with so many workers and this settings text came to an end with its status, said what that has to say, and wrote what belongs to it
+abbrev pub Finishes : Exit → ℕ → List ℕ → Option (List ℕ) → Option (List ℕ) → Option (List ℕ) → Option (List ℕ) → Option (List ℕ) → Type 0
+Finishes exit workers text input out_before out_after err_before err_after =
     (end : Result Bool ProgramFault) × (exit.status ≡ status_of end) × Says exit.told err_before err_after (said_of end)
-    × ((octets : List ℕ) × Appends out_before out_after octets × IfSome input (Runs (settings_in text) end octets))
+    × ((octets : List ℕ) × Appends out_before out_after octets × IfSome input (Runs workers (settings_in text) end octets))
 
 -- words that are refused: status 2, and nothing is written but on standard error
 abbrev pub Refuses : Exit → Option (List ℕ) → Option (List ℕ) → Type 0

@@ -12,7 +12,7 @@ use Rattle.pd_cli.specs.Output.{refused, effect, report, all_pass}
 use Rattle.pd_cli.specs.declared.command.Command.{Command}
 use Rattle.pd_cli.specs.declared.command.Command.TheVariants.{Settle}
 use Rattle.pd_cli.specs.declared.faults.ServeFault.{ServeFault}
-use Rattle.pd_cli.specs.declared.faults.ServeFault.TheVariants.{HistoryFull, BadCommand, Truncated, Read, Write, OutOfMemory}
+use Rattle.pd_cli.specs.declared.faults.ServeFault.TheVariants.{HistoryFull, Write, OutOfMemory}
 
 -- what an answer of a book prints
 abbrev pub RepliesTo : Result (Unit {0}) BookFault → List ℕ → Type 0
@@ -32,29 +32,20 @@ Turns (Ok false) old new = (next_job old ≡ None) × (new ≡ old)
 Turns (Err HistoryFull) old new =
     (task : Task) × (next_job old ≡ Some task) × (start_refusal old ≡ Some book.HistoryFull) × (0 < owed old.opening old.past)
 Turns (Err OutOfMemory) old new = Unit {0}
-Turns (Err Read) old new = ⊥
-Turns (Err Write) old new = ⊥
-Turns (Err BadCommand) old new = ⊥
-Turns (Err Truncated) old new = ⊥
+Turns (Err fault) old new = ⊥
 
 -- how settling ended
 abbrev pub SettlesTo : Result (Unit {0}) ServeFault → Story → Story → Type 0
 SettlesTo (Ok u) old new = settled old ≡ Ok new
 SettlesTo (Err HistoryFull) old new = settled old ≡ Err book.HistoryFull
 SettlesTo (Err OutOfMemory) old new = Unit {0}
-SettlesTo (Err Read) old new = ⊥
-SettlesTo (Err Write) old new = ⊥
-SettlesTo (Err BadCommand) old new = ⊥
-SettlesTo (Err Truncated) old new = ⊥
+SettlesTo (Err fault) old new = ⊥
 
 -- why a command has no reply
 abbrev pub Fails : ServeFault → Story → Command → Type 0
 Fails HistoryFull story command = effect story command ≡ Err HistoryFull
 Fails OutOfMemory story command = Unit {0}
-Fails Read story command = ⊥
-Fails Write story command = ⊥
-Fails BadCommand story command = ⊥
-Fails Truncated story command = ⊥
+Fails fault story command = ⊥
 
 -- what doing one command wrote, and the story then
 abbrev pub Does : Result (Unit {0}) ServeFault → Story → Command → Story → List ℕ → Type 0
@@ -62,9 +53,7 @@ Does (Ok u) old command new octets = effect old command ≡ Ok (octets, new)
 Does (Err HistoryFull) old command new octets = (effect old command ≡ Err HistoryFull) × (octets ≡ [])
 Does (Err Write) old command new octets = (more : List ℕ) × (effect old command ≡ Ok (octets ++ more, new))
 Does (Err OutOfMemory) old command new octets = octets ≡ []
-Does (Err Read) old command new octets = ⊥
-Does (Err BadCommand) old command new octets = ⊥
-Does (Err Truncated) old command new octets = ⊥
+Does (Err fault) old command new octets = ⊥
 
 -- the same of the settling at the end, which tells whether each row passes
 abbrev pub Ends : Result Bool ServeFault → Story → Story → List ℕ → Type 0

@@ -3,7 +3,7 @@ use Rattle.std.specs.Prelude.{◌≡◌, ℕ, ◌≤◌, ◌<◌, List, [], ◌�
 use Rattle.std.specs.Str.Lines.{lines}
 use Rattle.pd_cli.specs.Pieces.{NoNewline}
 use Rattle.pd_cli.specs.declared.faults.ServeFault.{ServeFault}
-use Rattle.pd_cli.specs.declared.faults.ServeFault.TheVariants.{HistoryFull, BadCommand, Truncated, Read, Write, OutOfMemory}
+use Rattle.pd_cli.specs.declared.faults.ServeFault.TheVariants.{Read, OutOfMemory}
 use Rattle.pd_cli.specs.declared.intake.Taken.{Taken}
 use Rattle.pd_cli.specs.declared.intake.Taken.TheVariants.{Whole, Long, End}
 
@@ -23,7 +23,4 @@ IsOfLine End = Unit {0}
 abbrev pub IsIo : ServeFault → Type 0
 IsIo Read = Unit {0}
 IsIo OutOfMemory = Unit {0}
-IsIo Write = ⊥
-IsIo HistoryFull = ⊥
-IsIo BadCommand = ⊥
-IsIo Truncated = ⊥
+IsIo fault = ⊥

@@ -7,7 +7,7 @@ use Rattle.pd_cli.specs.declared.requests.Request.{Request}
 use Rattle.pd_cli.specs.declared.command.Command.{Command}
 use Rattle.pd_cli.specs.declared.command.Command.TheVariants.{Settle}
 use Rattle.pd_cli.specs.declared.faults.ServeFault.{ServeFault}
-use Rattle.pd_cli.specs.declared.faults.ServeFault.TheVariants.{HistoryFull, BadCommand, Truncated, Read, Write, OutOfMemory}
+use Rattle.pd_cli.specs.declared.faults.ServeFault.TheVariants.{BadCommand, Truncated, Read, OutOfMemory}
 
 -- the lines of a command are taken
 abbrev pub TakesLines : ℕ → Option (List (List ℕ)) → List ℕ → List ℕ → Type 0
@@ -18,9 +18,7 @@ abbrev pub LinesFault : ServeFault → ℕ → List ℕ → Type 0
 LinesFault Truncated count old = length (lines old) < count
 LinesFault Read count old = Unit {0}
 LinesFault OutOfMemory count old = Unit {0}
-LinesFault BadCommand count old = ⊥
-LinesFault Write count old = ⊥
-LinesFault HistoryFull count old = ⊥
+LinesFault fault count old = ⊥
 
 -- the first line was taken, or there is none
 abbrev pub AsksLine : Option Request → List ℕ → List ℕ → Type 0
@@ -43,5 +41,4 @@ FaultIn BadCommand items = items ≡ stops BadCommand ∷ []
 FaultIn Truncated items = items ≡ stops Truncated ∷ []
 FaultIn Read items = Unit {0}
 FaultIn OutOfMemory items = Unit {0}
-FaultIn Write items = ⊥
-FaultIn HistoryFull items = ⊥
+FaultIn fault items = ⊥

@@ -1,6 +1,6 @@
 //! The acts of a book as commands, and what they print.
 ghost use Rattle.std.specs.Prelude.{◌≡◌, Ok, IfOk, IfErr};
-ghost use Rattle.pd_cli.specs.Output.{effect};
+ghost use Rattle.pd_cli.specs.Output.{refused, effect};
 ghost use Rattle.pd_cli.specs.Steps.{RepliesTo};
 
 use crate::command::Command;
@@ -8,7 +8,7 @@ use crate::faults::ServeFault;
 use pd_book::{Book, BookFault};
 use pd_settings::Value;
 use pd_text::{LineEdit, Lines, Name};
-use std::alloc::Global;
+use std::alloc::{AllocError, Global};
 
 /// Adds a script, and gives what this prints.
 pub fn add(
@@ -63,15 +63,20 @@ fn reply(alloc: Global, answer: Result<(), BookFault>) -> Result<Vec<u8>, ServeF
     ensures reply { IfOk result (λ octets. RepliesTo answer octets.items) }
     ensures only { IfErr result (λ fault. fault ≡ ServeFault.OutOfMemory) }
 {
-    let mut out = Vec::new(alloc);
     match answer {
-        Ok(()) => Ok(out),
+        Ok(()) => Ok(Vec::new(alloc)),
         Err(BookFault::OutOfMemory) => Err(ServeFault::OutOfMemory),
-        Err(fault) => {
-            out.extend_from_slice(b"refused ")?;
-            out.extend_from_slice(fault.text().as_bytes())?;
-            out.extend_from_slice(b"\n")?;
-            Ok(out)
-        }
+        Err(fault) => Ok(refusal_line(alloc, fault)?),
     }
+}
+
+/// The line of a refusal.
+pub fn refusal_line(alloc: Global, fault: BookFault) -> Result<Vec<u8>, AllocError>
+    ensures { IfOk result (λ octets. octets.items ≡ refused fault) }
+{
+    let mut out = Vec::new(alloc);
+    out.extend_from_slice(b"refused ")?;
+    out.extend_from_slice(fault.text().as_bytes())?;
+    out.extend_from_slice(b"\n")?;
+    Ok(out)
 }

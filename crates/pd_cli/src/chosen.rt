@@ -5,4 +5,6 @@
 pub struct Options<'a> {
     /// A TOML text of settings.
     pub settings: &'a str,
+    /// How many workers run the scripts, at most 64; with none the commands are served alone.
+    pub workers: usize,
 }

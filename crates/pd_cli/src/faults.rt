@@ -3,6 +3,8 @@ ghost use Rattle.std.specs.Prelude.{◌≡◌};
 ghost use Rattle.pd_cli.specs.ServeFaults.{serve_fault_text};
 
 use pd_book::BookFault;
+use pd_desk::DeskFault;
+use pd_seat::ShowFault;
 use std::alloc::AllocError;
 use std::fmt;
 use thiserror::Error;
@@ -12,6 +14,10 @@ use thiserror::Error;
 pub enum ServeFault {
     /// A job is owed and the history has no room for its start and its end.
     HistoryFull,
+    /// A script is owed its verdict, and all workers have left.
+    NoWorkers,
+    /// A reply or a report isn't of the scripts and settings that were made by the commands accepted so far.
+    Differs,
     /// A line asks for no command, or is longer than 256 octets.
     BadCommand,
     /// The input ends inside the lines of a command.
@@ -30,6 +36,8 @@ impl ServeFault {
     {
         match self {
             ServeFault::HistoryFull => BookFault::HistoryFull.text(),
+            ServeFault::NoWorkers => "12 NoWorkers",
+            ServeFault::Differs => ShowFault::Differs.text(),
             ServeFault::BadCommand => "15 BadCommand",
             ServeFault::Truncated => "16 Truncated",
             ServeFault::Read => "17 Read",
@@ -58,5 +66,35 @@ impl From<AllocError> for ServeFault {
 
     fn from(_error: AllocError) -> ServeFault {
         ServeFault::OutOfMemory
+    }
+}
+
+impl From<ShowFault> for ServeFault {
+    ghost use Rattle.std.specs.Prelude.{◌≡◌};
+    ghost use Rattle.pd_cli.specs.ServeFaults.{of_show};
+
+    ghost from_gives = { λ fault e. e ≡ of_show fault };
+
+    fn from(fault: ShowFault) -> ServeFault {
+        match fault {
+            ShowFault::Differs => ServeFault::Differs,
+            ShowFault::OutOfMemory => ServeFault::OutOfMemory,
+        }
+    }
+}
+
+impl From<DeskFault> for ServeFault {
+    ghost use Rattle.std.specs.Prelude.{◌≡◌};
+    ghost use Rattle.pd_cli.specs.ServeFaults.{of_desk};
+
+    ghost from_gives = { λ fault e. e ≡ of_desk fault };
+
+    fn from(fault: DeskFault) -> ServeFault {
+        match fault {
+            DeskFault::NoWorkers => ServeFault::NoWorkers,
+            DeskFault::Differs => ServeFault::Differs,
+            DeskFault::HistoryFull => ServeFault::HistoryFull,
+            DeskFault::OutOfMemory => ServeFault::OutOfMemory,
+        }
     }
 }

@@ -6,7 +6,7 @@ ghost use Rattle.pd_cli.specs.Words.{are_digits, is_count, number_of, value_of};
 use pd_settings::Value;
 
 /// The number that digits write, where it fits.
-fn number(word: &[u8]) -> Option<u64>
+pub fn number(word: &[u8]) -> Option<u64>
     ensures { let n = number_of word.now in
         result ≡ (if are_digits word.now && nat_lt n (2 ^ 64) then Some n else None) }
 {

@@ -76,7 +76,7 @@ pub fn settle_and_show(alloc: Global, book: &mut Book) -> Result<(Vec<u8>, bool)
 }
 
 /// Whether each row of a report passes.
-fn all_pass(report: &Report) -> bool
+pub fn all_pass(report: &Report) -> bool
     ensures { result ≡ all_pass report.now }
 {
     report

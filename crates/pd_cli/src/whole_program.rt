@@ -1,23 +1,28 @@
 //! The whole program, over words, a reader and two writers.
-ghost use Rattle.std.specs.Prelude.{◌≡◌, ◌≢◌, ◌⊎◌, ℕ, List, [], Ok, Err, IfOk, IfErr, IfSome, map};
+ghost use Rattle.std.specs.Prelude.{true, ◌≡◌, ◌≢◌, ◌⊎◌, ◌≤◌, ℕ, List, [], Ok, Err, IfOk, IfErr, IfSome, map};
 ghost use Rattle.std.specs.Io.KnownBytes.{Appends};
 ghost use Rattle.clap.specs.Words.{kind_of};
 ghost use Rattle.pd_cli.specs.ProgramFaults.{fault_line, line_of};
-ghost use Rattle.pd_cli.specs.ProgramWords.{settings_text, word_faults};
+ghost use Rattle.pd_cli.specs.ProgramWords.{settings_text, worker_count, word_faults};
 ghost use Rattle.pd_cli.specs.Program.{settings_in, Runs, status_of, Says, Refuses, Finishes};
 
+use crate::chosen::Options;
 use crate::exits::Exit;
 use crate::faults::ServeFault;
 use crate::program_faults::ProgramFault;
 use crate::serving::serve_alone;
 use crate::word_options::options;
+use crate::workers::serve;
 use crate::writing::put_all;
 use clap::Error;
 use clap::error::ErrorKind;
+use pd_desk::OpenGate;
 use pd_settings::Settings;
 use std::alloc::Global;
 use std::convert::AsStr;
 use std::io::{Read, Write};
+use std::sync::Wait;
+use std::thread::Threads;
 
 /// How many tracks a book keeps.
 const TRACKS: usize = 64;
@@ -26,8 +31,9 @@ const TRACKS: usize = 64;
 const FAULT: u8 = 2;
 
 /// Runs the program on its words, of which the first is its own name. Words that `clap` refuses, and `--help`, print
-/// its own text on `err`, with the status 2.
-pub fn run<S: AsStr, R: Read, W: Write, E: Write>(
+/// its own text on `err`, with the status 2. It starts threads where the words ask for workers, and no others.
+pub fn run<H: Threads + Wait + Sync, S: AsStr, R: Read, W: Write, E: Write>(
+    rt: &H,
     alloc: Global,
     words: &[S],
     reader: &mut R,
@@ -36,11 +42,11 @@ pub fn run<S: AsStr, R: Read, W: Write, E: Write>(
 ) -> Exit
     ensures taken { let words = map S.text words.now in
         let input = R.remaining reader.old in
-        word_faults words ≡ [] → Finishes result (settings_text words) input (W.contents out.old) (W.contents out.new) (E.contents err.old) (E.contents err.new) }
+        word_faults words ≡ [] → Finishes result (worker_count words) (settings_text words) input (W.contents out.old) (W.contents out.new) (E.contents err.old) (E.contents err.new) }
     ensures refused { word_faults (map S.text words.now) ≢ [] → Refuses result (W.contents out.old) (W.contents out.new) }
 {
     match options(alloc, words) {
-        Ok(options) => run_alone(alloc, options.settings, reader, out, err),
+        Ok(options) => run_chosen(rt, alloc, options, reader, out, err),
         Err(error) => refuse(alloc, &error, err),
     }
 }
@@ -55,19 +61,49 @@ pub fn run_alone<R: Read, W: Write, E: Write>(
     err: &mut E,
 ) -> Exit
     ensures { let input = R.remaining reader.old in
-        Finishes result text.now input (W.contents out.old) (W.contents out.new) (E.contents err.old) (E.contents err.new) }
+        Finishes result 0 text.now input (W.contents out.old) (W.contents out.new) (E.contents err.old) (E.contents err.new) }
 {
-    match serve(alloc, text, reader, out) {
-        Ok(passed) => Exit {
-            status: status(passed),
-            told: true,
-        },
+    match serve_settings(alloc, text, reader, out) {
+        Ok(passed) => pass(passed),
         Err(fault) => fail(err, fault),
     }
 }
 
+/// Runs the program as the options say: it serves the input, alone or beside workers, or says why it doesn't.
+fn run_chosen<H: Threads + Wait + Sync, R: Read, W: Write, E: Write>(
+    rt: &H,
+    alloc: Global,
+    options: Options<'_>,
+    reader: &mut R,
+    out: &mut W,
+    err: &mut E,
+) -> Exit
+    requires { options.workers ≤ 64 }
+    ensures { let input = R.remaining reader.old in
+        Finishes result options.entry.workers options.entry.settings.now input (W.contents out.old) (W.contents out.new) (E.contents err.old) (E.contents err.new) }
+{
+    if options.workers == 0 {
+        return run_alone(alloc, options.settings, reader, out, err);
+    }
+    match serve_beside(rt, alloc, options, reader, out) {
+        Ok(passed) => pass(passed),
+        Err(fault) => fail(err, fault),
+    }
+}
+
+/// Ends a run at the end of the input.
+fn pass(passed: bool) -> Exit
+    ensures status { result.status ≡ status_of (Ok passed) }
+    ensures told { result.told ≡ true }
+{
+    Exit {
+        status: status(passed),
+        told: true,
+    }
+}
+
 /// Says what `clap` says of words that it refuses.
-fn refuse<E: Write>(alloc: Global, error: &Error, err: &mut E) -> Exit
+pub fn refuse<E: Write>(alloc: Global, error: &Error, err: &mut E) -> Exit
     ensures status { result.status ≡ 2 }
     ensures memory { let line = fault_line (ProgramFault.Serving ServeFault.OutOfMemory) in
         kind_of error.now ≡ ErrorKind.OutOfMemory → Says result.told (E.contents err.old) (E.contents err.new) line }
@@ -123,18 +159,45 @@ fn status(passed: bool) -> u8
     if passed { 0 } else { 1 }
 }
 
-/// Reads the settings text, then serves the input.
-fn serve<R: Read, W: Write>(
+/// Reads the settings text, then serves the input alone.
+fn serve_settings<R: Read, W: Write>(
     alloc: Global,
     text: &str,
     reader: &mut R,
     out: &mut W,
 ) -> Result<bool, ProgramFault>
     ensures { let before = W.contents out.old in
-        (octets : List ℕ) × Appends before (W.contents out.new) octets × IfSome (R.remaining reader.old) (Runs (settings_in text.now) result octets) }
+        (octets : List ℕ) × Appends before (W.contents out.new) octets × IfSome (R.remaining reader.old) (Runs 0 (settings_in text.now) result octets) }
 {
     let settings = settings_of(alloc, text)?;
     let passed = serve_alone(alloc, settings, TRACKS, reader, out)?;
+    Ok(passed)
+}
+
+/// Reads the settings text, then serves the input beside workers.
+fn serve_beside<H: Threads + Wait + Sync, R: Read, W: Write>(
+    rt: &H,
+    alloc: Global,
+    options: Options<'_>,
+    reader: &mut R,
+    out: &mut W,
+) -> Result<bool, ProgramFault>
+    requires some { 1 ≤ options.workers }
+    requires few { options.workers ≤ 64 }
+    ensures { let before = W.contents out.old in
+        (octets : List ℕ) × Appends before (W.contents out.new) octets × IfSome (R.remaining reader.old) (Runs options.entry.workers (settings_in options.entry.settings.now) result octets) }
+{
+    let settings = settings_of(alloc, options.settings)?;
+    let passed = serve(
+        rt,
+        alloc,
+        settings,
+        TRACKS,
+        options.workers,
+        reader,
+        out,
+        &OpenGate,
+    )?;
     Ok(passed)
 }
 

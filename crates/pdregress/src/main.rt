@@ -13,6 +13,7 @@ fn main(rt: HostRuntime) -> ExitCode {
         Ok(words) => {
             let words = words.as_slice();
             run(
+                &rt,
                 rt.alloc(),
                 words,
                 &mut rt.stdin(),

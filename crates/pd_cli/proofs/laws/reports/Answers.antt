@@ -1,6 +1,7 @@
 -- The reports of serving are those of the book's laws.
 use Rattle.std.proofs.Common.{refl}
 use Rattle.pd_cli.proofs.Passage.{output_goes_on, stories_legal, settles_scratch}
+use Rattle.pd_cli.proofs.Possible.{alone_possible}
 use Rattle.pd_cli.proofs.laws.reports.Goals as goal
 
 pub returns-clause-output : goal.returns-clause-output
@@ -14,3 +15,8 @@ returns-clause-settles c = settles_scratch (record { adds = c.accepting.ensures.
 
 pub returns-clause-shows : goal.returns-clause-shows
 returns-clause-shows c = λ story. (refl, c.headline.ensures.rows story.opening story.past)
+
+pub returns-clause-beside : goal.returns-clause-beside
+returns-clause-beside c =
+    alone_possible c.headline.ensures.rows
+    (settles_scratch (record { adds = c.accepting.ensures.adds; edits = c.accepting.ensures.edits; removes = c.accepting.ensures.removes; sets = c.accepting.ensures.sets; settles = c.settling.ensures.settles }))

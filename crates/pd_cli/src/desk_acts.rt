@@ -1,0 +1,141 @@
+//! The acts of a seat at a desk as commands, and what they print. Each reply is compared with the seat's own copy: a book
+//! in which the accepted acts alone were made, so that no job is started in it.
+ghost use Rattle.std.specs.Prelude.{◌≡◌, ◌∷◌, ℕ, List, [], IfOk, IfErr, IsOk, unwrap_or};
+ghost use Rattle.pd_book.specs.declared.act.Act.{Act};
+ghost use Rattle.pd_cli.specs.Beside.{MayPrint};
+ghost use Rattle.pd_cli.specs.BesideSteps.{Declines, FailsBeside};
+
+use crate::acts::refusal_line;
+use crate::command::Command;
+use crate::faults::ServeFault;
+use pd_book::{Act, Book, BookFault};
+use pd_desk::Desk;
+use pd_seat::Seat;
+use pd_settings::Value;
+use pd_text::{LineEdit, Lines, Name, Text};
+use std::alloc::Global;
+use std::sync::Wait;
+
+/// Where a seat makes its calls.
+#[derive(Clone, Copy)]
+pub struct AtDesk<'a, H> {
+    pub rt: &'a H,
+    pub alloc: Global,
+    pub desk: &'a Desk,
+}
+
+/// Adds a script, and gives what this prints.
+pub fn add<H: Wait>(
+    at: &AtDesk<'_, H>,
+    seat: &mut Seat,
+    own: &mut Book,
+    name: Name,
+    text: Option<Lines>,
+) -> Result<Vec<u8>, ServeFault>
+    ensures printed { IfOk result (λ octets. MayPrint own.old.story (Command.Add name text) octets.items own.new.story) }
+    ensures only { IfErr result (λ fault. FailsBeside fault (Command.Add name text)) }
+{
+    let Some(text) = text else {
+        return Ok(refusal_line(at.alloc, BookFault::TooLarge)?);
+    };
+    match at.desk.add(at.rt, seat, name.copy()?, text) {
+        Ok(()) => {
+            let text = added_text(seat)?;
+            accepted(at.alloc, own.add_shared(name, text))
+        }
+        Err(fault) => declined(at.alloc, fault, own.name_refusal(&name)),
+    }
+}
+
+/// Edits a script, and gives what this prints.
+pub fn edit<H: Wait>(
+    at: &AtDesk<'_, H>,
+    seat: &mut Seat,
+    own: &mut Book,
+    name: &Name,
+    edit: Option<LineEdit>,
+) -> Result<Vec<u8>, ServeFault>
+    ensures printed { IfOk result (λ octets. MayPrint own.old.story (Command.Edit name.now edit) octets.items own.new.story) }
+    ensures only { IfErr result (λ fault. FailsBeside fault (Command.Edit name.now edit)) }
+{
+    let Some(edit) = edit else {
+        return Ok(refusal_line(at.alloc, BookFault::TooLarge)?);
+    };
+    match at.desk.edit(at.rt, seat, name, &edit) {
+        Ok(()) => accepted(at.alloc, own.edit(name, &edit)),
+        Err(fault) => declined(at.alloc, fault, own.text_refusal(name, &edit)),
+    }
+}
+
+/// Removes a script, and gives what this prints.
+pub fn remove<H: Wait>(
+    at: &AtDesk<'_, H>,
+    seat: &mut Seat,
+    own: &mut Book,
+    name: &Name,
+) -> Result<Vec<u8>, ServeFault>
+    ensures printed { IfOk result (λ octets. MayPrint own.old.story (Command.Remove name.now) octets.items own.new.story) }
+    ensures only { IfErr result (λ fault. FailsBeside fault (Command.Remove name.now)) }
+{
+    match at.desk.remove(at.rt, seat, name) {
+        Ok(()) => accepted(at.alloc, own.remove(name)),
+        Err(fault) => declined(at.alloc, fault, own.absence(name)),
+    }
+}
+
+/// Sets a setting, and gives what this prints.
+pub fn set<H: Wait>(
+    at: &AtDesk<'_, H>,
+    seat: &mut Seat,
+    own: &mut Book,
+    key: &Name,
+    value: Value,
+) -> Result<Vec<u8>, ServeFault>
+    ensures printed { IfOk result (λ octets. MayPrint own.old.story (Command.Set key.now value) octets.items own.new.story) }
+    ensures only { IfErr result (λ fault. FailsBeside fault (Command.Set key.now value)) }
+{
+    let key = key.as_slice();
+    match at.desk.set(at.rt, seat, key, value) {
+        Ok(()) => accepted(at.alloc, own.set(key, value)),
+        Err(fault) => declined(at.alloc, fault, own.value_refusal(key, value)),
+    }
+}
+
+/// The text of the seat's last act, an add.
+fn added_text(seat: &Seat) -> Result<Text, ServeFault>
+    ensures text { (name : List ℕ) → (text : List (List ℕ)) → (older : List Act) → seat.now.own ≡ Act.Add name text ∷ older → IfOk result (λ own. own ≡ text) }
+    ensures only { (command : Command) → IfErr result (λ fault. FailsBeside fault command) }
+{
+    match seat.acts().last() {
+        Some(Act::Add(_, text)) => Ok(text.share()?),
+        _ => Err(ServeFault::Differs),
+    }
+}
+
+/// What an act prints that the desk accepted: nothing, where the own copy accepts it too.
+fn accepted(alloc: Global, own: Result<(), BookFault>) -> Result<Vec<u8>, ServeFault>
+    ensures none { IfOk result (λ octets. octets.items ≡ []) }
+    ensures too { IfOk result (λ _. IsOk own) }
+    ensures only { (command : Command) → IfErr result (λ fault. FailsBeside fault command) }
+{
+    match own {
+        Ok(()) => Ok(Vec::new(alloc)),
+        Err(BookFault::OutOfMemory) => Err(ServeFault::OutOfMemory),
+        Err(_) => Err(ServeFault::Differs),
+    }
+}
+
+/// The line of an act that the desk refused, where the own copy refuses it for the same reason, or the history of the desk
+/// is full and the own copy has no reason.
+fn declined(alloc: Global, fault: BookFault, own: Option<BookFault>) -> Result<Vec<u8>, ServeFault>
+    ensures line { IfOk result (λ octets. Declines own octets.items) }
+    ensures only { (command : Command) → IfErr result (λ fault. FailsBeside fault command) }
+{
+    if fault == BookFault::OutOfMemory {
+        return Err(ServeFault::OutOfMemory);
+    }
+    if fault != own.unwrap_or(BookFault::HistoryFull) {
+        return Err(ServeFault::Differs);
+    }
+    Ok(refusal_line(alloc, fault)?)
+}

@@ -1,0 +1,168 @@
+//! Serving beside workers in threads of their own.
+ghost use Rattle.std.specs.Prelude.{◌≡◌, ◌≤◌};
+ghost use Rattle.pd_cli.specs.Beside.{ServesBeside};
+
+use crate::faults::ServeFault;
+use crate::seat_serving::serve_seat;
+use pd_desk::{Desk, Gate};
+use pd_seat::Seat;
+use pd_settings::Settings;
+use std::alloc::Global;
+use std::io::{Read, Write};
+use std::sync::Wait;
+use std::thread;
+use std::thread::Threads;
+
+/// Opens a desk with these settings, and serves the commands of a reader at a seat of it, beside so many workers in threads
+/// of their own. It answers when all of them have left, also where serving stops at a fault.
+///
+/// # Errors
+/// Those of `serve_seat`; `OutOfMemory` where the desk can't be opened or no thread can be started.
+pub fn serve<H: Threads + Wait + Sync, R: Read, W: Write, G: Gate + Sync>(
+    rt: &H,
+    alloc: Global,
+    settings: Settings,
+    cache: usize,
+    workers: usize,
+    reader: &mut R,
+    writer: &mut W,
+    gate: &G,
+) -> Result<bool, ServeFault>
+    requires { workers ≤ 64 }
+    ensures { ServesBeside result settings (R.remaining reader.old) (W.contents writer.old) (W.contents writer.new) }
+{
+    let (desk, mut seats) = Desk::open(alloc, cache, settings, workers, workers + 1)?;
+    let Some(mut seat) = seats.pop() else {
+        return Err(ServeFault::OutOfMemory);
+    };
+    serve_beside(
+        rt, alloc, &desk, gate, seats, &mut seat, &settings, reader, writer,
+    )
+}
+
+/// Serves at a seat of a desk, beside workers at the other seats.
+fn serve_beside<H: Threads + Wait + Sync, R: Read, W: Write, G: Gate + Sync>(
+    rt: &H,
+    alloc: Global,
+    desk: &Desk,
+    gate: &G,
+    workers: Vec<Seat>,
+    seat: &mut Seat,
+    settings: &Settings,
+    reader: &mut R,
+    writer: &mut W,
+) -> Result<bool, ServeFault>
+    ensures { ServesBeside result settings.now (R.remaining reader.old) (W.contents writer.old) (W.contents writer.new) }
+{
+    let task = Serving {
+        rt,
+        alloc,
+        desk,
+        seat,
+        settings,
+        reader,
+        writer: &mut *writer,
+    };
+    let (writer, answer) = run_beside(rt, alloc, desk, gate, workers, task);
+    take_back(writer);
+    answer
+}
+
+/// What is done beside workers. Of what a closure wrote into its captures a scope says nothing, but it says what is
+/// returned, and so what this gives.
+trait Task {
+    type Output;
+
+    ghost gives: { Self → Self.Output → Type 0 };
+
+    fn run(self) -> Self::Output
+        ensures { gives self result };
+
+    /// Where no thread can be started, in its place.
+    fn give_up(self) -> Self::Output
+        ensures { gives self result };
+}
+
+/// Serving at a seat.
+#[derive(Drop)]
+struct Serving<'a, H, R, W> {
+    rt: &'a H,
+    alloc: Global,
+    desk: &'a Desk,
+    seat: &'a mut Seat,
+    settings: &'a Settings,
+    reader: &'a mut R,
+    writer: &'a mut W,
+}
+
+impl<'a, H: Wait, R: Read, W: Write> Task for Serving<'a, H, R, W> {
+    ghost use Rattle.std.specs.Prelude.{◌≡◌};
+    ghost use Rattle.pd_cli.specs.Beside.{ServesBeside};
+
+    type Output = (&'a mut W, Result<bool, ServeFault>);
+
+    ghost gives = { λ s r. (r.0.ghost_name ≡ s.writer.ghost_name) × ServesBeside r.1 s.settings.now (R.remaining s.reader.now) (W.contents s.writer.now) (W.contents r.0.now) };
+
+    fn run(self) -> (&'a mut W, Result<bool, ServeFault>) {
+        let Serving {
+            rt,
+            alloc,
+            desk,
+            seat,
+            settings,
+            reader,
+            writer,
+        } = self;
+        let answer = serve_seat(rt, alloc, desk, seat, *settings, reader, writer);
+        (writer, answer)
+    }
+
+    fn give_up(self) -> (&'a mut W, Result<bool, ServeFault>) {
+        let Serving { writer, .. } = self;
+        (writer, Err(ServeFault::OutOfMemory))
+    }
+}
+
+/// Runs a task beside the workers of a desk, then shuts the desk and lets them leave.
+fn run_beside<'x, H: Threads + Wait + Sync, G: Gate + Sync, T: Task<Output = A> + Drop, A: Drop>(
+    rt: &'x H,
+    alloc: Global,
+    desk: &'x Desk,
+    gate: &'x G,
+    workers: Vec<Seat>,
+    task: T,
+) -> A
+    ensures { T.gives task result }
+{
+    thread::scope(
+        thread::scope_env(),
+        rt,
+        |scope| -> A
+            ensures { T.gives task result }
+        {
+            let work = move || work_all(rt, alloc, desk, gate, workers);
+            if scope.spawn(work).is_err() {
+                return task.give_up();
+            }
+            let answer = task.run();
+            desk.shut(rt);
+            answer
+        },
+    )
+}
+
+/// Works at all of these seats.
+fn work_all<H: Threads + Wait + Sync, G: Gate + Sync>(
+    rt: &H,
+    alloc: Global,
+    desk: &Desk,
+    gate: &G,
+    mut seats: Vec<Seat>,
+) {
+    let _ = desk.pool(rt, alloc, seats.as_mut_slice(), gate);
+}
+
+/// Does nothing: its use ties a reference that comes back to the one that was lent.
+fn take_back<T>(lent: &mut T)
+    ensures { lent.new ≡ lent.old }
+{}
