@@ -1,8 +1,0 @@
-use Rattle.std.proofs.Common.{[]}
-use Rattle.pd_cli.specs.Program.{settings_in}
-use Rattle.pd_cli.proofs.Ending.{settings_out}
-use Rattle.pd_cli.proofs.Written.{appends_none}
-use Rattle.pd_cli.proofs.whole_program.serve.Goals as goal
-
-pub returns-in_err-settings : goal.returns-in_err-settings
-returns-in_err-settings g c = ([], appends_none (g.W.Write.contents c.args.out.now), settings_out c.from_residual.result c.in_err-settings.field-0.0 (settings_in c.args.text.now) (g.R.Read.remaining c.args.reader.now) c.from_residual.ensures.1 c.in_err-settings.ensures.err)
