@@ -55,7 +55,9 @@ fn text(alloc: Global, written: &str) -> Result<Lines, TextFault> {
     let mut lines = Vec::new(alloc);
     let line = owned(alloc, written.as_bytes())?;
     if is_line(line.as_slice()) {
-        lines.push(line)?;
+        if lines.push(line).is_err() {
+            return Err(TextFault::OutOfMemory);
+        }
     }
     Lines::new(lines)
 }

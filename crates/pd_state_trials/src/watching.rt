@@ -1,4 +1,6 @@
 //! A stepper that notes through which states a run leads.
+ghost use Rattle.std.specs.Prelude.{◌≡◌};
+
 use pd_run::{ConnState, Plain, RunState, StepEnd, Stepper};
 use pd_script::Event;
 use pd_settings::Settings;
