@@ -1,0 +1,3 @@
+-- The lemmas of desks.
+pub mod Jobs
+pub mod HandedOut

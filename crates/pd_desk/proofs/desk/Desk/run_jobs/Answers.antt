@@ -1,0 +1,36 @@
+-- One job more, and how a worker leaves.
+use Rattle.std.proofs.Common.{◌≡◌, Err, refl, sym, subst, arith, rules}
+use Rattle.pd_book.specs.declared.act.Act.TheVariants.{Start}
+use Rattle.pd_book.specs.Story.{Handed}
+use Rattle.pd_seat.specs.Seats.{with_act}
+use Rattle.pd_desk.specs.Work.{Works}
+use Rattle.pd_desk.proofs.Jobs.{worked_none, worked_more, worked_on, left_more, works_want, works_left, of_given}
+use Rattle.pd_desk.proofs.desk.Desk.run_jobs.Goals as goal
+
+pub loop-init : goal.loop-init
+loop-init g c = record { jobs = worked_none c.args.seat.now c.args.seat.now refl; few = omega arith }
+
+pub returns-in_err-job-clause-works : goal.returns-in_err-job-clause-works
+returns-in_err-job-clause-works g c =
+    let fault = c.in_err-job.field-0.0 in
+    let failed : c.from_residual.result ≡ Err fault = search rules in
+    let before = worked_on c.args.seat.now c.loop.seat c.next_job.new.seat c.loop.invariant.jobs c.in_err-job.ensures.refuses in
+    subst (λ r. Works c.args.seat.now r c.next_job.new.seat) (sym failed) (works_want c.args.seat.now c.next_job.new.seat fault c.in_err-job.ensures.fault before)
+
+pub returns-in_err-do_job-clause-works : goal.returns-in_err-do_job-clause-works
+returns-in_err-do_job-clause-works g c =
+    let fault = c.in_err-do_job.field-0.0 in
+    let failed : c.from_residual-in_err-do_job.result ≡ Err fault = search rules in
+    let task = c.in-Some.job.task in
+    let begun = of_given (λ (job : Handed). c.next_job.new.seat ≡ with_act c.loop.seat (Start job.task.number job.task.name)) c.in_ok-job.field-0 c.in-Some.job c.in-Some.is c.in_ok-job.ensures.records in
+    let left = left_more c.args.seat.now c.loop.seat c.next_job.new.seat c.do_job.new.seat task.number task.name c.loop.invariant.jobs begun c.in_err-do_job.ensures.abandoned.1 in
+    subst (λ r. Works c.args.seat.now r c.do_job.new.seat) (sym failed) (works_left c.args.seat.now c.do_job.new.seat fault c.in_err-do_job.ensures.abandoned.0 left)
+
+pub loop-preserved : goal.loop-preserved
+loop-preserved g c =
+    let task = c.in-Some.job.task in
+    let begun = of_given (λ (job : Handed). c.next_job.new.seat ≡ with_act c.loop.seat (Start job.task.number job.task.name)) c.in_ok-job.field-0 c.in-Some.job c.in-Some.is c.in_ok-job.ensures.records in
+    record {
+      jobs = worked_more c.args.seat.now c.loop.seat c.next_job.new.seat c.do_job.new.seat task.number task.name c.loop.invariant.jobs begun c.in_ok-do_job.ensures.finished;
+      few = omega (arith, c.in_ok-do_job.ensures.few, c.loop.invariant.few);
+    }

@@ -1,0 +1,7 @@
+-- The job was that of a start after the history that was held.
+use Rattle.pd_desk.proofs.HandedOut.{handed_out}
+use Rattle.pd_desk.proofs.desk.Desk.start.Goals as goal
+
+pub returns-clause-given : goal.returns-clause-given
+returns-clause-given g c =
+    handed_out c.deref_mut.result.now.held.book.story c.start-reply.new.self.book.story c.start-reply.result c.start-reply.ensures.gives c.start-reply.ensures.legal
