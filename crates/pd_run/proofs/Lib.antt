@@ -3,5 +3,7 @@ pub mod Bounds
 pub mod HeaderItems
 pub mod Passed
 pub mod Queued
+pub mod States
 pub mod Steps
+pub mod Underway
 pub mod WithinLimits

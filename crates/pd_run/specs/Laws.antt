@@ -1,17 +1,21 @@
 -- What holds of every step that goes on, whatever the checks and their order.
-use Rattle.std.specs.Prelude.{◌≡◌, slice_get, Some, Ok}
+use Rattle.std.specs.Prelude.{◌≡◌, ℕ, ◌+◌, ◌*◌, ◌≤◌, List, slice_get, Some, None, Ok}
 use Rattle.std.specs.List.{AllByRecursion}
+use Rattle.pd_settings.specs.declared.fields.Settings.{Settings}
 use Rattle.pd_script.specs.declared.calls.Call.{Call}
 use Rattle.pd_script.specs.declared.packets.Packet.{Packet}
 use Rattle.pd_script.specs.declared.script_events.Action.TheVariants.{Outbound, Call as Calls}
 use Rattle.pd_script.specs.declared.script_events.Event.{Event}
+use Rattle.pd_script.specs.declared.script_header.HeaderItem.{HeaderItem}
 use Rattle.pd_seg.specs.declared.answers.Answer.{Answer}
 use Rattle.pd_seg.specs.declared.segments.Sent.{Sent}
 use Rattle.pd_host.specs.Growth.{ExpiriesQueueNothing, ArrivalsQueueOurSyn, CallsQueueWhatTheyAsk}
-use Rattle.pd_host.specs.Laws.{StartsUpToDate, AdvancesKeepUp, ArrivalsKeepUp, CallsKeepUp, TakingKeepsUp}
+use Rattle.pd_host.specs.Laws.{IsUpTo, StartsUpToDate, AdvancesKeepUp, ArrivalsKeepUp, CallsKeepUp, TakingKeepsUp}
+use Rattle.pd_host.specs.Sender.{queued_to}
 use Rattle.pd_host.specs.declared.sender_state.State.{State}
 use Rattle.pd_match.specs.Agreement.{Agrees, IsResult}
 use Rattle.pd_match.specs.Packets.{compared}
+use Rattle.pd_run.specs.Run.{start_of}
 use Rattle.pd_run.specs.Step.{Running, answers, awaited, step}
 use Rattle.pd_run.specs.Times.{moments_of}
 
@@ -49,3 +53,20 @@ PassedCallsAnswer =
 -- no event changes the tolerance
 abbrev pub ToleranceStays : Type 0
 ToleranceStays = (r s : Running) (e : Event) → step r e ≡ Ok s → s.tolerance ≡ r.tolerance
+
+-- a run that goes on, after n events: its sender hasn't ended and is up to date, the clock and the base lie at most 3,600
+-- seconds an event after the start, and at most 262,144 octets an event were queued
+pub record IsUnderway (n : ℕ) (r : Running) : Type 0 where
+  pub live : r.host.ended ≡ None
+  pub clock : r.clock ≤ 3600000000 * n
+  pub base : r.base ≤ 3600000000 * n
+  pub up_to : IsUpTo r.clock r.host.state
+  pub queued : queued_to r.host.state.endpoint.connection ≤ 262144 * n
+
+-- so it is before the first event,
+abbrev pub StartsUnderway : Type 0
+StartsUnderway = (header : List HeaderItem) (settings : Settings) (r : Running) → start_of header settings ≡ Ok r → IsUnderway 0 r
+
+-- and after each step that goes on
+abbrev pub StepsGoOn : Type 0
+StepsGoOn = (n : ℕ) (r s : Running) (e : Event) → IsUnderway n r → step r e ≡ Ok s → IsUnderway (n + 1) s

@@ -1,5 +1,5 @@
 //! Laws of runs: functions whose contracts are the laws; they call those that they rest on.
-ghost use Rattle.pd_run.specs.Laws.{SenderIsLawful, PassedPacketsAgree, PassedCallsAnswer, ToleranceStays};
+ghost use Rattle.pd_run.specs.Laws.{SenderIsLawful, PassedPacketsAgree, PassedCallsAnswer, ToleranceStays, StartsUnderway, StepsGoOn};
 
 use pd_host::{growth_is_lawful, moments_are_lawful};
 use pd_match::comparisons_are_lawful;
@@ -19,4 +19,12 @@ pub fn steps_are_lawful()
     ensures tolerance { ToleranceStays }
 {
     comparisons_are_lawful();
+}
+
+/// How far along a run is after so many events: within the bounds that a step asks for, up to 4,096 of them.
+pub fn runs_are_bounded()
+    ensures start { StartsUnderway }
+    ensures step { StepsGoOn }
+{
+    sender_is_lawful();
 }

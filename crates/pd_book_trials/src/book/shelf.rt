@@ -24,6 +24,13 @@ impl Shelf {
         }
     }
 
+    /// A new book, which keeps so many tracks.
+    pub fn renew(&mut self, cache: usize) -> Result<String, StoryFault> {
+        self.book = Ledger::new(self.alloc, cache);
+        self.tasks = Vec::new(self.alloc);
+        Ok(owned(self.alloc, "ok")?)
+    }
+
     pub fn add(&mut self, mut words: Words<'_>) -> Result<String, StoryFault> {
         let name = name(self.alloc, words.script())?;
         let text = text(self.alloc, words)?;

@@ -70,6 +70,7 @@ impl Story {
         mut words: Words<'_>,
     ) -> Result<String, StoryFault> {
         match word {
+            "cache" => self.book.renew(words.number()? as usize),
             "fill" => self.book.fill(words.number()?),
             "carry" => self.carry(words.number()? as usize),
             "swap" => self.swap(),

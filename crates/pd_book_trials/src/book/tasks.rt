@@ -70,7 +70,7 @@ pub fn job_of(
 ) -> Result<Job, AllocError> {
     let name = name(alloc, script)?;
     let text = Text::new(alloc, lines)?;
-    Ok(Job::new(number, name, text, tolerated(tolerance)))
+    Ok(Job::new(number, name, text, tolerated(tolerance), None))
 }
 
 pub const LISTEN: &str =

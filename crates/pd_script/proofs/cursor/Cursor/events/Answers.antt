@@ -1,33 +1,48 @@
-use Rattle.std.proofs.Common.{◌≡◌, ◌∙◌, sym, ◌+◌, ◌-◌, Some, Ok, Err, true, false, arith}
-use Rattle.pd_script.specs.Items.{starts_event, next_is}
-use Rattle.pd_script.specs.Reading.{next_line}
+-- Each turn takes the event that stands next, and the last one that may come is kept where the end follows it.
+use Rattle.std.proofs.Common.{◌≡◌, ◌∙◌, sym, suc, ◌+◌, ◌-◌, false, is_some, None, arith}
 use Rattle.pd_script.specs.Script.{found_in, at_end}
-use Rattle.pd_script.proofs.Finding.{found_step, found_none, found_zero, in_front-append, in_front-none}
-use Rattle.pd_script.proofs.cursor.Cursor.events.Goals.{else-events-test, then-events-test+then-not-starts_event}
+use Rattle.pd_script.proofs.Finding.{found_got, found_last, found_over, found_fault, found_zero, in_front-append, in_front-none}
+use Rattle.pd_script.proofs.cursor.Cursor.events.Goals.{else-i-eq-MAX_EVENTS-via-then-i-eq-MAX_EVENTS+else-is_some, else-i-eq-MAX_EVENTS-via-else-i-eq-MAX_EVENTS}
 use Rattle.pd_script.proofs.cursor.Cursor.events.Goals as goal
 
-pub returns-in-Err-Syntax : goal.returns-in-Err-Syntax
-returns-in-Err-Syntax c =
+pub returns-then-is_some : goal.returns-then-is_some
+returns-then-is_some c =
+    let n = 4096 - c.events.i in
+    let next = rw c.in-Got.is at c.in_ok-event.ensures.next in
+    let left = rw c.in-Got.is at c.in_ok-event.ensures.left in
+    let one : n ≡ 1 = omega (arith, c.if-i-eq-MAX_EVENTS.true) in
+    let some = sym c.is_some.ensures ∙ c.if-is_some.true in
+    sym (in_front-none c.events.events c.in-Got.reach) ∙ (rw (found_last n c.events.self c.in-Got.event c.in-Got.field-1 c.in-Got.reach c.next_event.new.self one next left some) at c.events.invariant)
+
+pub returns-in-End : goal.returns-in-End
+returns-in-End c =
+    let next = rw c.in-End.is at c.in_ok-event.ensures.next in
+    sym (in_front-none c.events.events None) ∙ (rw (found_over (4096 - c.events.i) c.events.self next) at c.events.invariant)
+
+pub returns-in-Fault : goal.returns-in-Fault
+returns-in-Fault c =
+    let n = 4096 - c.events.i in
     let m = 4096 - c.events.i - 1 in
-    let got = rw (c.in-Err-Syntax.is, c.in-Err-Syntax.field-0-is) at c.followed_event.ensures in
-    let start : next_is starts_event c.events.self ≡ true = cc (c.starts_event.ensures, c.if-not-starts_event.false) in
-    let step = found_step (4096 - c.events.i) m c.events.self (Err c.followed_event.new.self) (omega arith) start got in
-    rw c.line.ensures (sym (in_front-none c.events.events (Some (next_line c.followed_event.new.self))) ∙ (rw step at c.events.invariant))
+    let more : n ≡ suc m = omega (arith, c.events-test.true) in
+    let next = rw c.in-Fault.is at c.in_ok-event.ensures.next in
+    sym (in_front-none c.events.events _) ∙ (rw (found_fault n m c.events.self c.in-Fault.line more next) at c.events.invariant)
 
 pub events-preserved : goal.events-preserved
 events-preserved c =
+    let n = 4096 - c.events.i in
     let m = 4096 - c.events.i - 1 in
-    let got = rw c.in-Ok.is at c.followed_event.ensures in
-    let start : next_is starts_event c.events.self ≡ true = cc (c.starts_event.ensures, c.if-not-starts_event.false) in
-    let step = found_step (4096 - c.events.i) m c.events.self (Ok (c.in-Ok.event, c.followed_event.new.self)) (omega arith) start got in
+    let more : n ≡ suc m = omega (arith, c.events-test.true) in
     let less : 4096 - (c.events.i + 1) ≡ m = omega arith in
-    rw (c.in_ok-push-in-Ok.ensures, less) (in_front-append c.events.events c.in-Ok.event (found_in m c.followed_event.new.self) ∙ (rw step at c.events.invariant))
+    let next = rw c.in-Got.is at c.in_ok-event.ensures.next in
+    let left = rw c.in-Got.is at c.in_ok-event.ensures.left in
+    let last : m ≡ 0 → is_some c.in-Got.reach ≡ false = λ (none : m ≡ 0). (elim c.else-i-eq-MAX_EVENTS.branch [
+      | else-i-eq-MAX_EVENTS-via-then-i-eq-MAX_EVENTS+else-is_some w ↦ sym w.is_some.ensures ∙ w.if-is_some.false
+      | else-i-eq-MAX_EVENTS-via-else-i-eq-MAX_EVENTS w ↦ absurd (omega (arith, none, c.events-test.true, w.if-i-eq-MAX_EVENTS.false))
+    ]) in
+    let step = found_got n m c.events.self c.in-Got.event c.in-Got.field-1 c.in-Got.reach c.next_event.new.self more next left last in
+    rw (c.in_ok-push-in-Got.ensures, less) (in_front-append c.events.events c.in-Got.event (found_in m c.next_event.new.self) ∙ (rw step at c.events.invariant))
 
 pub returns : goal.returns
 returns c =
-    elim c.events-test.branch [
-      | else-events-test w ↦ (let none_left : 4096 - c.events.i ≡ 0 = omega (arith, w.events-test.false) in
-          rw c.fault-fault.ensures (sym (in_front-none c.events.events (at_end c.events.self).fault) ∙ (rw (found_zero (4096 - c.events.i) c.events.self none_left) at c.events.invariant)))
-      | then-events-test+then-not-starts_event w ↦ (let none : next_is starts_event c.events.self ≡ false = cc (w.starts_event.ensures, w.if-not-starts_event.true) in
-          rw c.fault-fault.ensures (sym (in_front-none c.events.events (at_end c.events.self).fault) ∙ (rw (found_none (4096 - c.events.i) c.events.self none) at c.events.invariant)))
-    ]
+    let none_left : 4096 - c.events.i ≡ 0 = omega (arith, c.events-test.false) in
+    rw c.reach-fault.ensures (sym (in_front-none c.events.events (at_end c.events.self).fault) ∙ (rw (found_zero (4096 - c.events.i) c.events.self none_left) at c.events.invariant))

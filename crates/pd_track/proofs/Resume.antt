@@ -1,0 +1,135 @@
+-- Where a run may begin.
+use Rattle.std.proofs.Common.{◌≡◌, ℕ, zero, suc, ◌+◌, ◌*◌, ◌-◌, ◌%◌, ◌≤◌, ◌<◌, refl, sym, ap, subst, ◌∙◌, arith, List, [], ◌∷◌, ◌++◌, length, take, drop, slice_get, Option, None, Some, Ok}
+use Rattle.std.proofs.lemmas.Option.{slice_get_within}
+use Rattle.pd_settings.specs.declared.fields.Settings.{Settings}
+use Rattle.pd_script.specs.Header.{Heading}
+use Rattle.pd_script.specs.Script.{script_of}
+use Rattle.pd_script.specs.declared.parsing.Parsed.{Parsed}
+use Rattle.pd_script.specs.declared.script_events.Event.{Event}
+use Rattle.pd_text.specs.Text.{AreLines}
+use Rattle.pd_reparse.specs.Laws.{FirstEventsOfScriptsStay}
+use Rattle.pd_run.specs.Laws.{IsUnderway, StartsUnderway, StepsGoOn}
+use Rattle.pd_run.specs.Run.{start_of, verdict_in, stepped_in, states_in, verdict_of, stepped_of, states_of, verdict_from, stepped_from, states_from}
+use Rattle.pd_run.specs.Step.{Running}
+use Rattle.pd_run.proofs.States.{Onward, resume, states_same, states_underway}
+use Rattle.pd_track.specs.Reuse.{Source, fourths, kept}
+use Rattle.pd_track.specs.Resuming.{BeginsIn, Resumes, script_events}
+use Rattle.pd_track.proofs.Fourths.{slice_get-fourths, fourths_take, fourths_rest}
+
+none_before : (n : ℕ) → 0 + n ≡ n
+none_before n = omega arith
+
+-- what a run is that begins in a state
+verdict_in_begun : (settings : Settings) (p : Parsed) (r : Running) → p.fault ≡ None → start_of p.header.items settings ≡ Ok r → verdict_in settings p ≡ verdict_from 0 p.events r
+verdict_in_begun settings p r fault start = rw (fault, start) refl
+
+stepped_in_begun : (settings : Settings) (p : Parsed) (r : Running) → p.fault ≡ None → start_of p.header.items settings ≡ Ok r → stepped_in settings p ≡ stepped_from p.events r
+stepped_in_begun settings p r fault start = rw (fault, start) refl
+
+states_in_begun : (settings : Settings) (p : Parsed) (r : Running) → p.fault ≡ None → start_of p.header.items settings ≡ Ok r → states_in settings p ≡ states_from p.events r
+states_in_begun settings p r fault start = rw (fault, start) refl
+
+-- a script with a state on its way has no fault
+no_fault : (settings : Settings) (p : Parsed) (s : Running) (q : ℕ) → slice_get (fourths 3 (states_in settings p)) q ≡ Some s → p.fault ≡ None
+no_fault settings p s q found = go p.fault refl
+  where
+    go : (o : Option ℕ) → p.fault ≡ o → p.fault ≡ None
+    go None is = is
+    go (Some line) is = absurd (let none = rw is at found in cc)
+
+module _ (text : List (List ℕ)) (settings : Settings) (r : Running) (begins : BeginsIn text settings r) where
+  pub verdict_begun : verdict_of text settings ≡ verdict_from 0 (script_events text) r
+  verdict_begun = verdict_in_begun settings (script_of text) r begins.fault begins.start
+
+  pub stepped_begun : stepped_of text settings ≡ stepped_from (script_events text) r
+  stepped_begun = stepped_in_begun settings (script_of text) r begins.fault begins.start
+
+  pub states_begun : states_of text settings ≡ states_from (script_events text) r
+  states_begun = states_in_begun settings (script_of text) r begins.fault begins.start
+
+  -- a run may begin before its first event
+  pub resumes_fresh : IsUnderway 0 r → Resumes text settings 0 r []
+  resumes_fresh underway = record {
+    fourth = refl;
+    within = omega arith;
+    underway = underway;
+    verdict = sym verdict_begun;
+    steps = none_before (stepped_from (script_events text) r) ∙ sym stepped_begun;
+    kept = ap (fourths 3) (sym states_begun);
+  }
+
+slice_get-take : (m : ℕ) (rs : List Running) → slice_get (take (suc m) rs) m ≡ slice_get rs m
+slice_get-take m [] = refl
+slice_get-take zero (r ∷ rs) = refl
+slice_get-take (suc m) (r ∷ rs) = slice_get-take m rs
+
+-- from the state after the first m + 1 events, a multiple of 4
+resumes_at : StepsGoOn → (text : List (List ℕ)) (settings : Settings) (r s : Running) (q m : ℕ) → m ≡ 4 * q + 3 → BeginsIn text settings r → IsUnderway 0 r
+    → slice_get (states_from (script_events text) r) m ≡ Some s
+    → Resumes text settings (suc m) s (take (suc q) (fourths 3 (states_from (script_events text) r)))
+resumes_at law text settings r s q m is begins underway found =
+    let onward : Onward (script_events text) m r s = resume (script_events text) m r s found in
+    let all : take (suc q) (fourths 3 (states_from (script_events text) r)) ++ fourths 3 (drop (suc m) (states_from (script_events text) r)) ≡ fourths 3 (states_from (script_events text) r) =
+    fourths_rest 3 q m (states_from (script_events text) r) is (slice_get_within (states_from (script_events text) r) m s found) in
+    record {
+      fourth = omega arith;
+      within = onward.within;
+      underway = subst (λ (n : ℕ). IsUnderway n s) (none_before (suc m)) (states_underway law (script_events text) 0 m r s underway found);
+      verdict = onward.verdict 0 (suc m) (omega arith) ∙ sym (verdict_begun text settings r begins);
+      steps = onward.steps ∙ sym (stepped_begun text settings r begins);
+      kept = ap (λ (rest : List Running). take (suc q) (fourths 3 (states_from (script_events text) r)) ++ fourths 3 rest) onward.states
+          ∙ (all ∙ ap (fourths 3) (sym (states_begun text settings r begins)));
+    }
+
+-- from a state that a run of another text has kept, which begins as this one does
+pub resumes_kept : StepsGoOn → (old text : List (List ℕ)) (settings : Settings) (r s : Running) (q : ℕ) → BeginsIn text settings r → IsUnderway 0 r
+    → ((script_of old).header ≡ (script_of text).header) × (take (4 * suc q) (script_of old).events ≡ take (4 * suc q) (script_of text).events)
+    → slice_get (fourths 3 (states_of old settings)) q ≡ Some s
+    → Resumes text settings (4 * suc q) s (take (suc q) (fourths 3 (states_of old settings)))
+resumes_kept law old text settings r s q begins underway same snap =
+    let m : ℕ = 4 * q + 3 in
+    let count : 4 * suc q ≡ suc (4 * q + 3) = omega arith in
+    let old_begins : BeginsIn old settings r = record {
+      fault = no_fault settings (script_of old) s q snap;
+      start = ap (λ (h : Heading). start_of h.items settings) same.0 ∙ begins.start;
+    } in
+    let old_states : states_of old settings ≡ states_from (script_events old) r = states_begun old settings r old_begins in
+    let events : take (suc (4 * q + 3)) (script_events old) ≡ take (suc (4 * q + 3)) (script_events text) =
+    subst (λ (n : ℕ). take n (script_events old) ≡ take n (script_events text)) count same.1 in
+    let states : take (suc (4 * q + 3)) (states_from (script_events old) r) ≡ take (suc (4 * q + 3)) (states_from (script_events text) r) =
+    states_same (suc (4 * q + 3)) (script_events old) (script_events text) r events in
+    let there : slice_get (states_from (script_events old) r) (4 * q + 3) ≡ Some s =
+    sym (slice_get-fourths 3 q (states_from (script_events old) r)) ∙ (ap (λ (rs : List Running). slice_get (fourths 3 rs) q) (sym old_states) ∙ snap) in
+    let here : slice_get (states_from (script_events text) r) (4 * q + 3) ≡ Some s =
+    sym (slice_get-take (4 * q + 3) (states_from (script_events text) r))
+    ∙ (ap (λ (rs : List Running). slice_get rs (4 * q + 3)) (sym states) ∙ (slice_get-take (4 * q + 3) (states_from (script_events old) r) ∙ there)) in
+    let snaps : take (suc q) (fourths 3 (states_of old settings)) ≡ take (suc q) (fourths 3 (states_from (script_events text) r)) =
+    ap (λ (rs : List Running). take (suc q) (fourths 3 rs)) old_states
+    ∙ (fourths_take 3 q (4 * q + 3) (states_from (script_events old) r) refl
+    ∙ (ap (fourths 3) states ∙ sym (fourths_take 3 q (4 * q + 3) (states_from (script_events text) r) refl))) in
+    let whole : Resumes text settings (suc (4 * q + 3)) s (take (suc q) (fourths 3 (states_from (script_events text) r))) =
+    resumes_at law text settings r s q (4 * q + 3) refl begins underway here in
+    subst (λ (rs : List Running). Resumes text settings (4 * suc q) s rs) (sym snaps)
+    (subst (λ (n : ℕ). Resumes text settings n s (take (suc q) (fourths 3 (states_from (script_events text) r)))) (sym count) whole)
+
+-- a run that begins is underway
+pub begun_underway : StartsUnderway → (text : List (List ℕ)) (settings : Settings) (r : Running) → BeginsIn text settings r → IsUnderway 0 r
+begun_underway law text settings r begins = law (script_of text).header.items settings r begins.start
+
+-- from the last state of a track that serves
+pub resumes_after : FirstEventsOfScriptsStay → StartsUnderway → StepsGoOn → (track : Source) (text : List (List ℕ)) (settings : Settings) (r s : Running) (count events : ℕ) (snaps : List Running)
+    → AreLines track.text → AreLines text → 0 < count → BeginsIn text settings r → events ≡ kept track.text text → 4 * count ≤ events → track.settings ≡ settings
+    → slice_get (fourths 3 (states_of track.text track.settings)) (count - 1) ≡ Some s
+    → snaps ≡ take count (fourths 3 (states_of track.text track.settings))
+    → Resumes text settings (4 * count) s snaps
+resumes_after same starts steps track text settings r s zero events snaps old_lines lines some begins kept_is within equal snap snaps_are = absurd (omega arith)
+resumes_after same starts steps track text settings r s (suc q) events snaps old_lines lines some begins kept_is within equal snap snaps_are =
+    let few : 4 * suc q ≤ kept track.text text = omega arith in
+    let last : suc q - 1 ≡ q = omega arith in
+    let at : slice_get (fourths 3 (states_of track.text settings)) q ≡ Some s =
+    subst (λ (t : Settings). slice_get (fourths 3 (states_of track.text t)) q ≡ Some s) equal
+    (subst (λ (n : ℕ). slice_get (fourths 3 (states_of track.text track.settings)) n ≡ Some s) last snap) in
+    let all : snaps ≡ take (suc q) (fourths 3 (states_of track.text settings)) =
+    subst (λ (t : Settings). snaps ≡ take (suc q) (fourths 3 (states_of track.text t))) equal snaps_are in
+    subst (λ (rs : List Running). Resumes text settings (4 * suc q) s rs) (sym all)
+    (resumes_kept steps track.text text settings r s q begins (begun_underway starts text settings r begins) (same track.text text (4 * suc q) old_lines lines (omega arith) few) at)

@@ -1,0 +1,3 @@
+-- The definitions of checkpoints and of how much of a run they spare.
+pub mod Reuse
+pub mod Resuming

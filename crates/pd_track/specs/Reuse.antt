@@ -1,0 +1,93 @@
+-- How much of an earlier run stands for a later one.
+use Rattle.std.specs.Prelude.{◌≡◌, ℕ, zero, suc, ◌+◌, ◌-◌, ◌%◌, ◌==◌, nat_le, ◌&&◌, Bool, List, [], ◌∷◌, length, Option, None, Some, if◌then◌else◌}
+use Rattle.std.proofs.Math.Bool.{beq}
+use Rattle.pd_text.specs.Text.{front}
+use Rattle.pd_settings.specs.declared.fields.Settings.{Settings}
+use Rattle.pd_reparse.specs.Reading.{DecidedScript, reading_of, kept_of}
+use Rattle.pd_run.specs.Run.{states_of, stepped_of, verdict_of}
+use Rattle.pd_run.specs.Step.{Running}
+use Rattle.pd_run.specs.declared.verdicts.Verdict.{Verdict}
+use Rattle.pd_track.specs.declared.task.Task.{Task}
+
+-- what a track is of: the text that was run, and the settings that it was run under
+pub record Source : Type 0 where
+  pub text : List (List ℕ)
+  pub settings : Settings
+
+-- what a job is: its task, and what the track that it was given is of
+pub record Handed : Type 0 where
+  pub task : Task
+  pub track : Option Source
+
+-- every fourth state of a list, after so many that are passed over
+abbrev pub fourths : ℕ → List Running → List Running
+fourths j [] = []
+fourths zero (r ∷ rs) = r ∷ fourths 3 rs
+fourths (suc j) (r ∷ rs) = fourths j rs
+
+-- what a track keeps: its text as it was read, and the states after 4, 8, 12 .. events of its run
+pub record IsTrack (text : List (List ℕ)) (settings : Settings) (reading : DecidedScript) (snaps : List Running) : Type 0 where
+  pub read : reading ≡ reading_of text
+  pub kept : snaps ≡ fourths 3 (states_of text settings)
+
+-- the greatest number up to n that passes, or 0
+abbrev pub greatest : (ℕ → Bool) → ℕ → ℕ
+greatest p zero = 0
+greatest p (suc n) = if p (suc n) then suc n else greatest p n
+
+-- the events of the old text that are decided by the lines with which both texts begin
+abbrev pub kept : List (List ℕ) → List (List ℕ) → ℕ
+kept old new = kept_of (front old new) (reading_of old)
+
+-- how many events of its track's text a job keeps: none without a track
+abbrev pub kept_of_track : Option Source → List (List ℕ) → ℕ
+kept_of_track None text = 0
+kept_of_track (Some track) text = kept track.text text
+
+abbrev pub kept_before : Handed → ℕ
+kept_before job = kept_of_track job.track job.task.text
+
+-- how many events a run got through
+abbrev pub reached : List (List ℕ) → Settings → ℕ
+reached text settings = length (states_of text settings)
+
+-- two settings are equal in each field
+abbrev pub are_equal : Settings → Settings → Bool
+are_equal a b =
+    a.mss == b.mss && beq a.sack b.sack && a.wscale == b.wscale && a.sndbuf == b.sndbuf && a.rcv_wnd == b.rcv_wnd
+    && a.initial_ssthresh == b.initial_ssthresh && a.min_rto_us == b.min_rto_us && a.max_rto_us == b.max_rto_us
+    && a.granularity_us == b.granularity_us && beq a.nagle b.nagle && a.tolerance_us == b.tolerance_us
+
+-- a track has the state after so many events, and a job under these settings may begin with it
+abbrev pub serves : Source → Settings → ℕ → Bool
+serves track settings events =
+    events % 4 == 0 && nat_le events (reached track.text track.settings) && are_equal track.settings settings
+
+-- how many events of a text needn't be run after a track
+abbrev pub from_track : Source → List (List ℕ) → Settings → ℕ
+from_track track text settings = greatest (serves track settings) (kept track.text text)
+
+abbrev pub from_of : Option Source → List (List ℕ) → Settings → ℕ
+from_of None text settings = 0
+from_of (Some track) text settings = from_track track text settings
+
+-- how many events of a job needn't be run: none without a track
+abbrev pub from : Handed → ℕ
+from job = from_of job.track job.task.text job.task.settings
+
+-- the steps that a job takes: the events of its whole run, up to the stop and with it, without those that needn't be run
+abbrev pub steps : Handed → ℕ
+steps job =
+    if stepped_of job.task.text job.task.settings == 0 then 0
+    else stepped_of job.task.text job.task.settings - from job
+
+-- the number of lines with which a job's text and the text of its track begin: none without a track
+abbrev pub front_of : Option Source → List (List ℕ) → ℕ
+front_of None text = 0
+front_of (Some track) text = front track.text text
+
+-- what a job came to: the verdict of its text under its settings, and a track of both
+pub record IsDone (task : Task) (came : Verdict) (track : Source) : Type 0 where
+  pub verdict : came ≡ verdict_of task.text task.settings
+  pub text : track.text ≡ task.text
+  pub settings : track.settings ≡ task.settings

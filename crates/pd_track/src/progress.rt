@@ -1,0 +1,76 @@
+//! Runs under way, which keep each fourth state.
+ghost use Rattle.std.specs.Prelude.{◌≡◌, ◌+◌, ◌-◌, ◌<◌, ◌≤◌, ◌^◌, ◌%◌, ◌==◌, ◌++◌, ◌∷◌, [], ℕ, length, map, IfOk, OnOk, if◌then◌else◌};
+ghost use Rattle.pd_reparse.specs.Reading.{events_of};
+ghost use Rattle.pd_run.specs.Laws.{IsUnderway};
+ghost use Rattle.pd_run.specs.Run.{verdict_from, stepped_from, states_from};
+ghost use Rattle.pd_track.specs.Reuse.{fourths};
+
+use crate::snap::Snap;
+use pd_reparse::Decided;
+use pd_run::{RunState, StepEnd, Stepper, Verdict, runs_are_bounded};
+use pd_settings::Settings;
+use std::alloc::{AllocError, Global};
+
+/// How far a run has come: its state after so many events, and those after each fourth of them.
+#[derive(Drop)]
+pub struct Progress {
+    pub state: RunState,
+    pub passed: usize,
+    pub snaps: Vec<Snap>,
+}
+
+impl Progress {
+    /// Before the first event.
+    pub fn new(alloc: Global, state: RunState) -> Progress
+        ensures state { result.state ≡ state }
+        ensures passed { result.passed ≡ 0 }
+        ensures snaps { result.snaps.items ≡ [] }
+    {
+        Progress {
+            state,
+            passed: 0,
+            snaps: Vec::new(alloc),
+        }
+    }
+
+    /// Runs the events that are left, up to the first that stops the run.
+    pub fn run<S: Stepper>(
+        &mut self,
+        alloc: Global,
+        events: &[Decided],
+        settings: &Settings,
+        stepper: &mut S,
+    ) -> Result<Verdict, AllocError>
+        requires fourth { self.old.passed % 4 ≡ 0 }
+        requires few { self.old.passed + length events.now ≤ 4096 }
+        requires underway { IsUnderway self.old.passed self.old.state }
+        requires room { S.counted stepper.old + length events.now < 2 ^ 64 }
+        ensures verdict { IfOk result (λ verdict. verdict ≡ verdict_from self.old.passed (events_of events.now) self.old.state) }
+        ensures steps { OnOk result (S.counted stepper.new ≡ S.counted stepper.old + stepped_from (events_of events.now) self.old.state) }
+        ensures few { OnOk result (S.counted stepper.new ≤ S.counted stepper.old + length events.now) }
+        ensures snaps { OnOk result (self.new.snaps.items ≡ self.old.snaps.items ++ fourths 3 (states_from (events_of events.now) self.old.state)) }
+    {
+        runs_are_bounded();
+        for decided in events {
+            match stepper.step(&mut self.state, &decided.event, settings)? {
+                StepEnd::Go => self.pass(alloc)?,
+                StepEnd::Stop(verdict) => return Ok(verdict),
+            }
+        }
+        Ok(Verdict::Pass(self.passed))
+    }
+
+    /// One more event has passed: each fourth state is kept.
+    fn pass(&mut self, alloc: Global) -> Result<(), AllocError>
+        requires { self.old.passed < 4096 }
+        ensures state { self.new.state ≡ self.old.state }
+        ensures passed { OnOk result (self.new.passed ≡ self.old.passed + 1) }
+        ensures snaps { OnOk result (self.new.snaps.items ≡ self.old.snaps.items ++ (if (self.old.passed + 1) % 4 == 0 then self.new.state ∷ [] else [])) }
+    {
+        self.passed += 1;
+        if self.passed % 4 == 0 {
+            self.snaps.push(Snap::new(alloc, &self.state)?)?;
+        }
+        Ok(())
+    }
+}

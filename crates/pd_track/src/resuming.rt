@@ -1,0 +1,149 @@
+//! Where a run begins: at its first event, or in a state that an earlier one kept.
+ghost use Rattle.std.specs.Prelude.{◌≡◌, ◌+◌, ◌*◌, ◌-◌, ◌≤◌, ◌<◌, ℕ, length, take, drop, slice_get, Some, IsTrue, IfOk};
+ghost use Rattle.pd_text.specs.Text.{front, AreLines};
+ghost use Rattle.pd_reparse.specs.Reading.{reading_of, kept_of};
+ghost use Rattle.pd_run.specs.Run.{states_of};
+ghost use Rattle.pd_track.specs.Reuse.{from, from_track, serves, are_equal, greatest, fourths, kept, kept_before};
+ghost use Rattle.pd_track.specs.Resuming.{BeginsIn, Resumes};
+
+use crate::job::Job;
+use crate::progress::Progress;
+use crate::snap::Snap;
+use crate::track::Track;
+use pd_reparse::{Reread, first_events, read, reread};
+use pd_run::{RunState, runs_are_bounded};
+use pd_settings::Settings;
+use pd_text::Text;
+use std::alloc::{AllocError, Global};
+
+/// Reads a job's text, from the first event on that the track's reading doesn't settle.
+pub fn read_job(alloc: Global, job: &Job) -> Result<Reread, AllocError>
+    ensures reading { IfOk result (λ r. r.reading ≡ reading_of job.now.task.text) }
+    ensures kept { IfOk result (λ r. r.kept ≡ kept_before job.now) }
+{
+    match job.track() {
+        Some(track) => read_after(alloc, track, job.text(), job.same()),
+        None => Ok(Reread {
+            reading: read(alloc, job.text().lines())?,
+            kept: 0,
+        }),
+    }
+}
+
+/// Reads a text that begins with the same lines as the track's.
+fn read_after(alloc: Global, track: &Track, text: &Text, same: usize) -> Result<Reread, AllocError>
+    requires { same ≡ front track.now.text text.now }
+    ensures reading { IfOk result (λ r. r.reading ≡ reading_of text.now) }
+    ensures kept { IfOk result (λ r. r.kept ≡ kept track.now.text text.now) }
+{
+    have_lines(track.text());
+    reread(alloc, track.reading(), text.lines(), same)
+}
+
+/// A fact of texts: no line holds a newline.
+fn have_lines(text: &Text)
+    ensures { AreLines text.now }
+{
+    let _first = text.lines().line(1);
+}
+
+/// Begins a job's run, which before its first event is in this state, where the track allows.
+pub fn begin(alloc: Global, job: &Job, kept: usize, fresh: RunState) -> Result<Progress, AllocError>
+    requires kept { kept ≡ kept_before job.now }
+    requires fresh { BeginsIn job.now.task.text job.now.task.settings fresh }
+    ensures passed { IfOk result (λ p. p.passed ≡ from job.now) }
+    ensures resumes { IfOk result (λ p. Resumes job.now.task.text job.now.task.settings p.passed p.state p.snaps.items) }
+{
+    match job.track() {
+        Some(track) => begin_after(alloc, track, kept, job.text(), &job.settings(), fresh),
+        None => begin_fresh(alloc, job.text(), &job.settings(), fresh),
+    }
+}
+
+/// Begins at the first event.
+fn begin_fresh(
+    alloc: Global,
+    _text: &Text,
+    _settings: &Settings,
+    fresh: RunState,
+) -> Result<Progress, AllocError>
+    requires fresh { BeginsIn _text.now _settings.now fresh }
+    ensures passed { IfOk result (λ p. p.passed ≡ 0) }
+    ensures resumes { IfOk result (λ p. Resumes _text.now _settings.now p.passed p.state p.snaps.items) }
+{
+    runs_are_bounded();
+    Ok(Progress::new(alloc, fresh))
+}
+
+/// Begins in the last state of the track that serves.
+fn begin_after(
+    alloc: Global,
+    track: &Track,
+    events: usize,
+    text: &Text,
+    settings: &Settings,
+    fresh: RunState,
+) -> Result<Progress, AllocError>
+    requires events { events ≡ kept track.now.text text.now }
+    requires fresh { BeginsIn text.now settings.now fresh }
+    ensures passed { IfOk result (λ p. p.passed ≡ from_track track.now text.now settings.now) }
+    ensures resumes { IfOk result (λ p. Resumes text.now settings.now p.passed p.state p.snaps.items) }
+{
+    let count = serving(track, events, settings);
+    if count == 0 {
+        return begin_fresh(alloc, text, settings, fresh);
+    }
+    first_events();
+    runs_are_bounded();
+    have_lines(track.text());
+    have_lines(text);
+    let snaps = share_first(alloc, track.snaps(), count)?;
+    let state = last(track.snaps(), count).state().copy()?;
+    Ok(Progress {
+        state,
+        passed: 4 * count,
+        snaps,
+    })
+}
+
+/// How many of the track's states serve a run under these settings of which so many events are kept.
+fn serving(track: &Track, kept: usize, settings: &Settings) -> usize
+    ensures within { result ≤ length (fourths 3 (states_of track.now.text track.now.settings)) }
+    ensures kept { 4 * result ≤ kept }
+    ensures equal { 0 < result → track.now.settings ≡ settings.now }
+    ensures greatest { 4 * result ≡ greatest (serves track.now settings.now) kept }
+{
+    if !are_same(track.settings(), settings) {
+        return 0;
+    }
+    (kept / 4).min(track.snaps().len())
+}
+
+/// Whether two settings are equal in each field.
+fn are_same(settings: &Settings, other: &Settings) -> bool
+    ensures test { result ≡ are_equal settings.now other.now }
+    ensures same { IsTrue result → settings.now ≡ other.now }
+{
+    settings.is_same(other)
+}
+
+/// The first states, shared.
+fn share_first(alloc: Global, snaps: &[Snap], count: usize) -> Result<Vec<Snap>, AllocError>
+    requires { count ≤ length snaps.now }
+    ensures { IfOk result (λ shared. shared.items ≡ take count snaps.now) }
+{
+    let mut shared = Vec::with_capacity(alloc, count)?;
+    for i in 0..count {
+        shared.push(snaps[i].share()?)?;
+    }
+    Ok(shared)
+}
+
+/// The last of the first states.
+fn last(snaps: &[Snap], count: usize) -> &Snap
+    requires some { 0 < count }
+    requires within { count ≤ length snaps.now }
+    ensures { slice_get snaps.now (count - 1) ≡ Some result.now }
+{
+    &snaps[count - 1]
+}

@@ -1,0 +1,124 @@
+//! Running a job.
+ghost use Rattle.std.specs.Prelude.{◌≡◌, ◌+◌, ◌-◌, ◌<◌, ◌≤◌, ◌^◌, ℕ, length, map, drop, IfOk, IfErr, OnOk};
+ghost use Rattle.pd_reparse.specs.Reading.{reading_of, events_of};
+ghost use Rattle.pd_track.specs.Reuse.{from, steps, kept_before};
+ghost use Rattle.pd_track.specs.Resuming.{Resumes, IsOutcome, script_events};
+
+use crate::done::{Done, Unfinished};
+use crate::job::Job;
+use crate::progress::Progress;
+use crate::resuming::{begin, read_job};
+use crate::snap::Snap;
+use crate::task::Task;
+use crate::track::Track;
+use pd_reparse::{Decided, Reading, Reread, readings};
+use pd_run::{RunState, Stepper, Verdict};
+use std::alloc::{AllocError, Global};
+
+/// What a run came to, what was read, and the states on its way.
+#[derive(Drop)]
+struct Outcome {
+    verdict: Verdict,
+    reading: Reading,
+    snaps: Vec<Snap>,
+}
+
+/// Runs a job with this stepper, which has room for 4,096 steps. The run begins in the last state of the job's track that
+/// serves, else before its first event, and takes one step for each event from there up to the stop, the stop's included.
+///
+/// # Errors
+/// `Unfinished` for want of memory.
+pub fn run_job<S: Stepper>(alloc: Global, job: Job, stepper: &mut S) -> Result<Done, Unfinished>
+    requires room { S.counted stepper.old + 4096 < 2 ^ 64 }
+    ensures done { IfOk result (λ done. done ≡ job.task) }
+    ensures steps { OnOk result (S.counted stepper.new ≡ S.counted stepper.old + steps job) }
+    ensures few { OnOk result (S.counted stepper.new ≤ S.counted stepper.old + 4096) }
+    ensures unfinished { IfErr result (λ unfinished. unfinished.number ≡ job.task.number) }
+{
+    let number = job.number();
+    match run(alloc, &job, stepper) {
+        Ok(outcome) => match finish(alloc, job.into_task(), outcome) {
+            Ok(done) => Ok(done),
+            Err(_) => Err(Unfinished { number }),
+        },
+        Err(_) => Err(Unfinished { number }),
+    }
+}
+
+/// The result of a task that was run.
+fn finish(alloc: Global, task: Task, outcome: Outcome) -> Result<Done, AllocError>
+    requires { IsOutcome task outcome.verdict outcome.reading outcome.snaps.items }
+    ensures { IfOk result (λ done. done ≡ task) }
+{
+    let Outcome {
+        verdict,
+        reading,
+        snaps,
+    } = outcome;
+    let track = Track::new(alloc, task.text.share()?, task.settings, reading, snaps)?;
+    Ok(Done::new(task, verdict, track))
+}
+
+fn run<S: Stepper>(alloc: Global, job: &Job, stepper: &mut S) -> Result<Outcome, AllocError>
+    requires room { S.counted stepper.old + 4096 < 2 ^ 64 }
+    ensures outcome { IfOk result (λ o. IsOutcome job.now.task o.verdict o.reading o.snaps.items) }
+    ensures steps { OnOk result (S.counted stepper.new ≡ S.counted stepper.old + steps job.now) }
+    ensures few { OnOk result (S.counted stepper.new ≤ S.counted stepper.old + 4096) }
+{
+    readings();
+    let Reread { reading, kept } = read_job(alloc, job)?;
+    if let Some(line) = reading.fault() {
+        return Ok(Outcome {
+            verdict: Verdict::Syntax(line),
+            reading,
+            snaps: Vec::new(alloc),
+        });
+    }
+    match RunState::new(alloc, reading.header(), &job.settings()) {
+        Ok(fresh) => {
+            let progress = begin(alloc, job, kept, fresh)?;
+            go_on(alloc, job, reading, progress, stepper)
+        }
+        Err(verdict) => Ok(Outcome {
+            verdict,
+            reading,
+            snaps: Vec::new(alloc),
+        }),
+    }
+}
+
+/// Runs the events of a job that are left.
+fn go_on<S: Stepper>(
+    alloc: Global,
+    job: &Job,
+    reading: Reading,
+    progress: Progress,
+    stepper: &mut S,
+) -> Result<Outcome, AllocError>
+    requires room { S.counted stepper.old + 4096 < 2 ^ 64 }
+    requires reading { reading ≡ reading_of job.now.task.text }
+    requires passed { progress.passed ≡ from job.now }
+    requires resumes { Resumes job.now.task.text job.now.task.settings progress.passed progress.state progress.snaps.items }
+    ensures outcome { IfOk result (λ o. IsOutcome job.now.task o.verdict o.reading o.snaps.items) }
+    ensures steps { OnOk result (S.counted stepper.new ≡ S.counted stepper.old + steps job.now) }
+    ensures few { OnOk result (S.counted stepper.new ≤ S.counted stepper.old + 4096) }
+{
+    readings();
+    let mut progress = progress;
+    let rest = after(reading.events(), progress.passed);
+    let verdict = progress.run(alloc, rest, &job.settings(), stepper)?;
+    Ok(Outcome {
+        verdict,
+        reading,
+        snaps: progress.snaps,
+    })
+}
+
+/// The events after the first ones.
+fn after(events: &[Decided], passed: usize) -> &[Decided]
+    requires { passed ≤ length events.now }
+    ensures rest { events_of result.now ≡ drop passed (events_of events.now) }
+    ensures count { passed + length result.now ≡ length events.now }
+{
+    &events[passed..]
+}

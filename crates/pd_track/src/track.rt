@@ -1,0 +1,98 @@
+//! Tracks: what is kept of a run for a later one.
+ghost use Rattle.std.specs.Prelude.{◌≡◌, ◌+◌, ◌*◌, IfOk, slice_get, option_copied};
+ghost use Rattle.pd_reparse.specs.Reading.{reading_of};
+ghost use Rattle.pd_run.specs.Run.{states_of};
+ghost use Rattle.pd_track.specs.Reuse.{fourths};
+
+use crate::snap::Snap;
+use crate::trail::Trail;
+use pd_reparse::Reading;
+use pd_settings::Settings;
+use pd_text::Text;
+use std::alloc::{AllocError, Global};
+use std::marker::Model;
+use std::sync::Arc;
+
+/// The text and the settings of a run, what was read of the text, and the states on the run's way, held once however many
+/// owners keep them. A text that is no script, or that stops in its header, has no states.
+#[derive(Drop)]
+pub struct Track {
+    trail: Arc<Trail>,
+}
+
+impl Model for Track {
+    ghost use Rattle.pd_track.specs.Reuse.{Source};
+
+    ghost Value = { Source };
+
+    ghost view = { λ t. t.trail.value };
+}
+
+impl Track {
+    ghost use Rattle.pd_track.specs.Reuse.{IsTrack};
+
+    pub(crate) fn new(
+        alloc: Global,
+        text: Text,
+        settings: Settings,
+        reading: Reading,
+        snaps: Vec<Snap>,
+    ) -> Result<Track, AllocError>
+        requires { IsTrack text settings reading snaps.items }
+        ensures { IfOk result (λ track. track ≡ record { text = text; settings = settings }) }
+    {
+        Ok(Track {
+            trail: Arc::new(alloc, Trail::new(text, settings, reading, snaps))?,
+        })
+    }
+
+    /// Another owner of the same track. Fails only where the count of owners is full.
+    pub fn share(&self) -> Result<Track, AllocError>
+        ensures { IfOk result (λ track. track ≡ self.now) }
+    {
+        Ok(Track {
+            trail: self.trail.clone()?,
+        })
+    }
+
+    /// The text that was run.
+    pub fn text(&self) -> &Text
+        ensures { result.now ≡ self.now.text }
+    {
+        self.trail.text()
+    }
+
+    /// The settings that it was run under.
+    pub fn settings(&self) -> &Settings
+        ensures { result.now ≡ self.now.settings }
+    {
+        self.trail.settings()
+    }
+
+    /// What was read of the text.
+    pub fn reading(&self) -> &Reading
+        ensures { result.now ≡ reading_of self.now.text }
+    {
+        self.trail.reading()
+    }
+
+    /// The states after 4, 8, 12 .. events that passed.
+    pub(crate) fn snaps(&self) -> &[Snap]
+        ensures { result.now ≡ fourths 3 (states_of self.now.text self.now.settings) }
+    {
+        self.trail.snaps()
+    }
+
+    /// The state after 4k + 4 events of the text under the settings, where that many passed.
+    pub fn snap(&self, k: usize) -> Option<&Snap>
+        ensures { option_copied result ≡ slice_get (states_of self.now.text self.now.settings) (4 * k + 3) }
+    {
+        snap_at(self.snaps(), k)
+    }
+}
+
+fn snap_at(snaps: &[Snap], k: usize) -> Option<&Snap>
+    ensures { option_copied result ≡ slice_get snaps.now k }
+{
+    snaps.get(k)
+}
