@@ -3,7 +3,7 @@ ghost use Rattle.std.specs.Prelude.{◌≡◌, ◌+◌, ◌≤◌, ◌<◌, ◌^
 ghost use Rattle.pd_host.specs.Arrivals.{reset_of};
 ghost use Rattle.pd_host.specs.Calls.{stream_of, with_stream, with_nagle, free_of, with_queued, with_fin};
 ghost use Rattle.pd_host.specs.ControlBlock.{IsScalable};
-ghost use Rattle.pd_host.specs.Handshake.{offered_mss, is_mss_run, smss_of, scaling_of, begun, window_in, established_by};
+ghost use Rattle.pd_host.specs.Handshake.{offered_mss, is_mss_run, smss_of, scaling_of, begun, window_in, established_with, established_by};
 ghost use Rattle.pd_host.specs.Sending.{is_recovering};
 ghost use Rattle.pd_host.specs.declared.streams.Stream.TheVariants.{Open as StreamOpen, Closed as StreamClosed};
 ghost use Rattle.pd_host.specs.Packets.{peer_count};
@@ -135,20 +135,27 @@ impl Connection {
         requires sent { 1 ≤ self.old.board.top }
         ensures { self.new ≡ established_by now settings.now segment.now self.old }
     {
-        let window = self.window_in(segment);
+        let established = self.established_with(settings, segment);
         self.board.take_ack(1);
         self.sample(now, settings.granularity_us, 1);
         self.settle_timer();
-        self.widest = self.widest.max(window);
-        self.established = Some(Established {
-            rwnd: window,
+        self.widest = self.widest.max(established.rwnd);
+        self.established = Some(established);
+    }
+
+    /// What the connection has once this segment has finished the handshake.
+    fn established_with(&self, settings: &Settings, segment: &Segment) -> Established
+        ensures { result ≡ established_with settings.now segment.now self.now }
+    {
+        Established {
+            rwnd: self.window_in(segment),
             wl1: segment.start,
             wl2: segment.ack,
             nagle: settings.nagle,
             granularity_us: settings.granularity_us,
             congestion: Cong::new(settings, self.board.smss(), self.resent),
             stream: Stream::Waiting,
-        });
+        }
     }
 
     /// The window that a segment tells, in octets.

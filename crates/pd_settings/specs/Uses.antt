@@ -12,6 +12,7 @@ no_uses = record {
   sndbuf = false;
   rcv_wnd = false;
   initial_ssthresh = false;
+  initial_window = false;
   min_rto_us = false;
   max_rto_us = false;
   granularity_us = false;
@@ -27,6 +28,7 @@ pub record Agree (uses : UseSet) (a b : Settings) : Type 0 where
   pub sndbuf : uses.sndbuf ≡ true → a.sndbuf ≡ b.sndbuf
   pub rcv_wnd : uses.rcv_wnd ≡ true → a.rcv_wnd ≡ b.rcv_wnd
   pub initial_ssthresh : uses.initial_ssthresh ≡ true → a.initial_ssthresh ≡ b.initial_ssthresh
+  pub initial_window : uses.initial_window ≡ true → a.initial_window ≡ b.initial_window
   pub min_rto_us : uses.min_rto_us ≡ true → a.min_rto_us ≡ b.min_rto_us
   pub max_rto_us : uses.max_rto_us ≡ true → a.max_rto_us ≡ b.max_rto_us
   pub granularity_us : uses.granularity_us ≡ true → a.granularity_us ≡ b.granularity_us
