@@ -31,14 +31,14 @@ use std::marker::Model;
 const MAX_ACTS: usize = 65_536;
 
 /// The greatest number of scripts.
-const MAX_SCRIPTS: usize = 1_024;
+pub(crate) const MAX_SCRIPTS: usize = 1_024;
 
 /// Scripts, settings, jobs and results. Its history is the list of its accepted calls; what it shows is what
 /// that list says. A refused call changes nothing.
 #[derive(Drop)]
 pub struct Book {
     opening: Settings,
-    settings: Settings,
+    pub(crate) settings: Settings,
     numbers: u64,
     records: Records,
 }
@@ -90,14 +90,14 @@ impl Book {
     }
 
     /// Whether a script of this name stands.
-    fn stands(&self, name: &Name) -> bool
+    pub(crate) fn stands(&self, name: &Name) -> bool
         ensures { result ≡ stands self.now.story.past name.now }
     {
         self.records.scripts.contains(name)
     }
 
     /// How many scripts stand.
-    fn count(&self) -> usize
+    pub(crate) fn count(&self) -> usize
         ensures { result ≡ length (texts self.now.story.past) }
     {
         self.records.scripts.len()
@@ -192,7 +192,7 @@ impl Book {
     }
 
     /// The text of a script after an edit; `None` for want of memory.
-    fn edited(&self, name: &Name, edit: &LineEdit) -> Result<Option<Lines>, BookFault>
+    pub(crate) fn edited(&self, name: &Name, edit: &LineEdit) -> Result<Option<Lines>, BookFault>
         ensures ok { IfOk result (λ lines. IfSome lines (λ lines. lines ≡ edited (text_of self.now.story.past name.now) edit.now)) }
         ensures allowed { OnOk result (text_refusal (present self.now.story.past name.now) edit.now ≡ None) }
         ensures err { IfErr result (λ e. text_refusal (present self.now.story.past name.now) edit.now ≡ Some e) }

@@ -1,5 +1,5 @@
 //! Results of jobs, and how they are made.
-ghost use Rattle.std.specs.Prelude.{◌≡◌, ◌+◌, ◌<◌, ◌^◌, IfOk, IfErr, OnOk};
+ghost use Rattle.std.specs.Prelude.{◌≡◌, ◌+◌, ◌<◌, ◌≤◌, ◌^◌, IfOk, IfErr, OnOk};
 ghost use Rattle.pd_run.specs.Run.{verdict_of, stepped_of};
 
 use crate::job::Job;
@@ -86,6 +86,7 @@ pub fn run_job<S: Stepper>(alloc: Global, job: Job, stepper: &mut S) -> Result<D
     requires room { S.counted stepper.old + 4096 < 2 ^ 64 }
     ensures done { IfOk result (λ done. done ≡ job.task) }
     ensures steps { OnOk result (S.counted stepper.new ≡ S.counted stepper.old + stepped_of job.task.text job.task.settings) }
+    ensures few { OnOk result (S.counted stepper.new ≤ S.counted stepper.old + 4096) }
     ensures unfinished { IfErr result (λ unfinished. unfinished.number ≡ job.task.number) }
 {
     let task = job.into_task();

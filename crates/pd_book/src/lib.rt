@@ -12,6 +12,7 @@ mod faults;
 mod job;
 mod laws;
 mod recording;
+mod refusing;
 mod report;
 mod row;
 mod script;

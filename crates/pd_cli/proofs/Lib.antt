@@ -6,6 +6,7 @@ pub mod Cuts
 pub mod Digits
 pub mod Ending
 pub mod Fronts
+pub mod Newlines
 pub mod Gather
 pub mod Known
 pub mod Written

@@ -8,6 +8,7 @@ ghost use Rattle.pd_cli.specs.Pieces.{NoNewline, CutsPiece, Cuts, KeepsLine};
 ghost use Rattle.pd_cli.specs.TakenLines.{TakesLine, IsOfLine, IsIo};
 
 use crate::faults::ServeFault;
+use memchr::memchr;
 use std::alloc::{AllocError, Global};
 use std::io::Read;
 use std::marker::Model;
@@ -157,12 +158,7 @@ fn newline_at(octets: &[u8]) -> Option<usize>
         IfSome result (λ n. (n < length s) × CutsPiece (take n s) true s (drop (n + 1) s)) }
     ensures none { IfNone result (NoNewline octets.now) }
 {
-    for i in 0..octets.len() {
-        if octets[i] == b'\n' {
-            return Some(i);
-        }
-    }
-    None
+    memchr(b'\n', octets)
 }
 
 /// Adds the octets that fit.

@@ -1,9 +1,22 @@
 -- What a desk tells those at its seats.
-use Rattle.std.specs.Prelude.{List}
-use Rattle.pd_book.specs.Story.{Contents}
+use Rattle.std.specs.Prelude.{◌≡◌, List, Some, All, IsSome}
+use Rattle.pd_book.specs.declared.row.Row.{Row}
+use Rattle.pd_book.specs.declared.task.Task.{Task}
+use Rattle.pd_book.specs.Legal.{Legal}
+use Rattle.pd_book.specs.Refusals.{next_job}
+use Rattle.pd_book.specs.Report.{Shown}
+use Rattle.pd_book.specs.Story.{Story, Contents}
 use Rattle.pd_seat.specs.Seats.{Noted, SeatView}
 use Rattle.pd_seat.specs.Closing.{Closes}
 
 -- the book is that of some legal history in which each seat's acts stand once, in its order, and no others
 abbrev pub IsClosed : List SeatView → Contents → Type 0
 IsClosed seats book = (held : Noted) × Closes held seats book
+
+-- no row is pending
+abbrev pub IsCurrent : Shown → Type 0
+IsCurrent report = All (λ (row : Row). IsSome row.verdict) report.rows
+
+-- a start hands out this job after some legal history
+abbrev pub IsHandedOut : Task → Type 0
+IsHandedOut task = (story : Story) × Legal story.opening story.past × (next_job story ≡ Some task)

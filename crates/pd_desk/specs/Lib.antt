@@ -1,4 +1,6 @@
--- The definitions of the desk: what a closing says to its seats.
+-- The definitions of the desk: what a settling shows, what a worker leaves in its seat, what a closing says to its seats.
 pub use Rattle.pd_seat.specs.Seats
 pub use Rattle.pd_seat.specs.Closing
 pub mod Desk
+pub mod Work
+pub mod Faults

@@ -3,8 +3,10 @@ ghost use Rattle.std.specs.Prelude.{◌≡◌, ◌≢◌, ◌≤◌, true, IfOk,
 ghost use Rattle.pd_settings.specs.Keys.{key_named};
 ghost use Rattle.pd_seat.specs.Seats.{new_seats, with_act, is_unended, IsShown};
 ghost use Rattle.pd_seat.specs.Closing.{ClosesNotAt};
-ghost use Rattle.pd_desk.specs.Desk.{IsClosed};
+ghost use Rattle.pd_desk.specs.Desk.{IsClosed, IsHandedOut};
 
+use crate::crew::Crew;
+use crate::room::Room;
 use pd_book::{Act, Book, BookFault, Done, FinishFault, Job, Report, Ruling};
 use pd_seat::{CloseFault, Held, Seat, ShowFault};
 use pd_settings::{Settings, Value};
@@ -12,26 +14,18 @@ use pd_text::{LineEdit, Lines, Name};
 use std::alloc::{AllocError, Global};
 use std::sync::{Condvar, Mutex, Wait};
 
-/// What lies under the lock: what callers share, for how many workers the desk was opened, how many entered and left,
-/// and whether it is shut.
-#[derive(Drop)]
-struct Room {
-    held: Held,
-    workers: usize,
-    entered: usize,
-    left: usize,
-    is_shut: bool,
-}
-
 /// A book under one lock. The order in which the lock is taken is the order of the acts.
 #[derive(Drop)]
 pub struct Desk {
-    room: Mutex<Room>,
-    moved: Condvar,
+    pub(crate) room: Mutex<Room>,
+    pub(crate) moved: Condvar,
 }
 
 impl Desk {
     /// A desk for so many workers, with a book without acts, and its seats.
+    ///
+    /// # Errors
+    /// For want of memory.
     pub fn open(
         alloc: Global,
         cache: usize,
@@ -45,10 +39,7 @@ impl Desk {
         let (held, made) = Held::new(alloc, cache, settings, seats)?;
         let room = Room {
             held,
-            workers,
-            entered: 0,
-            left: 0,
-            is_shut: false,
+            crew: Crew::new(workers),
         };
         let desk = Desk {
             room: Mutex::new(room),
@@ -58,6 +49,9 @@ impl Desk {
     }
 
     /// Adds a script behind the others.
+    ///
+    /// # Errors
+    /// Those of `Held::add`.
     pub fn add<R: Wait>(
         &self,
         rt: &R,
@@ -74,6 +68,9 @@ impl Desk {
     }
 
     /// Edits the text of a script.
+    ///
+    /// # Errors
+    /// Those of `Held::edit`.
     pub fn edit<R: Wait>(
         &self,
         rt: &R,
@@ -90,6 +87,9 @@ impl Desk {
     }
 
     /// Takes a script out.
+    ///
+    /// # Errors
+    /// Those of `Held::remove`.
     pub fn remove<R: Wait>(&self, rt: &R, seat: &mut Seat, name: &Name) -> Result<(), BookFault>
         ensures records { OnOk result (seat.new ≡ with_act seat.old (Act.Remove name.now)) }
         ensures refuses { OnErr result (seat.new ≡ seat.old) }
@@ -100,6 +100,9 @@ impl Desk {
     }
 
     /// Sets a setting.
+    ///
+    /// # Errors
+    /// Those of `Held::set`.
     pub fn set<R: Wait>(
         &self,
         rt: &R,
@@ -116,9 +119,13 @@ impl Desk {
     }
 
     /// Hands out the job of the first script that waits; `None` where none waits.
+    ///
+    /// # Errors
+    /// Those of `Held::start`.
     pub fn start<R: Wait>(&self, rt: &R, seat: &mut Seat) -> Result<Option<Job>, BookFault>
         ensures records { IfOk result (λ given. IfSome given (λ job. seat.new ≡ with_act seat.old (Act.Start job.task.number job.task.name))) }
         ensures none { IfOk result (λ given. IfNone given (seat.new ≡ seat.old)) }
+        ensures given { IfOk result (λ given. IfSome given (λ job. IsHandedOut job.task)) }
         ensures refuses { OnErr result (seat.new ≡ seat.old) }
     {
         let reply = self.room.lock(rt).held.start(seat);
@@ -127,6 +134,9 @@ impl Desk {
     }
 
     /// Takes the result of an outstanding job.
+    ///
+    /// # Errors
+    /// Those of `Held::finish`.
     pub fn finish<R: Wait>(
         &self,
         rt: &R,
@@ -143,6 +153,9 @@ impl Desk {
     }
 
     /// Gives up an outstanding job.
+    ///
+    /// # Errors
+    /// Those of `Held::abandon`.
     pub fn abandon<R: Wait>(&self, rt: &R, seat: &mut Seat, number: u64) -> Result<(), FinishFault>
         ensures records { OnOk result (seat.new ≡ with_act seat.old (Act.Abandon number)) }
         ensures room { is_unended seat.old.own number ≡ true → result ≢ Err FinishFault.OutOfMemory }
@@ -154,6 +167,10 @@ impl Desk {
     }
 
     /// The report as it stands, of a history that agrees with the seat.
+    ///
+    /// # Errors
+    /// `Differs` where the seat's acts aren't those noted with its number, or the seat was shown a longer history; else
+    /// `OutOfMemory`.
     pub fn show<R: Wait>(&self, rt: &R, seat: &mut Seat) -> Result<Report, ShowFault>
         ensures is_shown { IfOk result (λ report. IsShown seat.old report seat.new) }
         ensures refuses { OnErr result (seat.new ≡ seat.old) }
@@ -170,25 +187,12 @@ impl Desk {
         ensures err { IfErr result (ClosesNotAt seats.items) }
     {
         let Desk { room, moved } = self;
-        let Room {
-            held,
-            workers,
-            entered,
-            left,
-            is_shut,
-        } = room.into_inner();
+        let Room { held, crew } = room.into_inner();
         match held.close(seats) {
             Ok(book) => Ok(book),
             Err(CloseFault::MissingSeat(held, seats)) => {
-                let room = Room {
-                    held,
-                    workers,
-                    entered,
-                    left,
-                    is_shut,
-                };
                 let desk = Desk {
-                    room: Mutex::new(room),
+                    room: Mutex::new(Room { held, crew }),
                     moved,
                 };
                 Err(CloseFault::MissingSeat(desk, seats))

@@ -1,9 +1,17 @@
-//! A book under one lock, and its seats.
+//! A book under one lock, its seats, and the workers that run its jobs.
 //!
 //! Each call of a seat takes the lock and makes its call on what callers share once; all but `show` wake those that
-//! wait.
+//! wait. Jobs are run outside the lock.
 #![tactic(auto)]
 
+mod crew;
 mod desk;
+mod faults;
+mod gate;
+mod pool;
+mod room;
+mod working;
 
 pub use desk::Desk;
+pub use faults::DeskFault;
+pub use gate::{Gate, OpenGate};

@@ -13,14 +13,12 @@ use Rattle.pd_recover.specs.Laws.{StaysWithin}
 use Rattle.pd_recover.specs.declared.responses.Then.TheVariants.{NewSegment, FastRetransmit}
 use Rattle.pd_host.specs.Acknowledgments.{newly_acked, with_number, blocks_of, told_blocks, scored, with_blocks, with_timing, is_current, with_new_window, with_ack, ack_of_segment, answering, taking}
 use Rattle.pd_host.specs.Arrivals.{ruling_of}
-use Rattle.pd_host.specs.Calls.{stream_in}
 use Rattle.pd_host.specs.ControlBlock.{ControlBlock}
 use Rattle.pd_host.specs.Handshake.{looked_at}
-use Rattle.pd_host.specs.Invariants.{IsOrdered, IsOfPhase, IsInBounds, IsTimed, IsReached, fin_octets}
+use Rattle.pd_host.specs.Invariants.{IsEnding, IsOrdered, IsOfPhase, IsInBounds, IsTimed, IsReached, fin_octets}
 use Rattle.pd_host.specs.Sending.{sent_on}
 use Rattle.pd_host.specs.Timing.{is_measured, clocked, measured, with_timer_moved}
 use Rattle.pd_host.specs.declared.established.Established.{Established}
-use Rattle.pd_host.specs.declared.streams.Stream.TheVariants as stream
 use Rattle.pd_host.specs.declared.timings.Timing.{Timing}
 use Rattle.pd_host.proofs.Boards.{HasNumbersOf, acknowledged_ordered, blocks_keep}
 use Rattle.pd_host.proofs.Kept.{by_test}
@@ -84,7 +82,6 @@ module _ (b : Settings) (now : ℕ) where
         agreed = record {
           mss = h.reached.agreed.mss;
           no_longer = omega (arith, h.reached.agreed.no_longer, up.smss);
-          next = h.reached.agreed.next;
           window = h.reached.agreed.window;
         };
         board = up.ordered;
@@ -158,7 +155,7 @@ module _ (b : Settings) (now : ℕ) where
           board = h.live.reached.board;
           room = h.live.reached.room;
           phase = subst (λ o. IsOfPhase o c.board.una c.board.top c.board.end) h.is h.live.reached.phase;
-          fin = subst (λ (o : Option Established). c.fin ≡ true → stream_in o ≡ stream.Closed) h.is h.live.reached.fin;
+          fin = subst (λ (o : Option Established). IsEnding c.fin o) h.is h.live.reached.fin;
           bounds = record {
             windows = k.windows;
             widest = omega arith;

@@ -1,5 +1,5 @@
 -- What each rule keeps of a connection, arrivals keep.
-use Rattle.std.proofs.Common.{◌≡◌, ℕ, nat_lt, length, Bool, true, false, if◌then◌else◌, List, Option, Some, None, Result, Ok, Err, refl}
+use Rattle.std.proofs.Common.{◌≡◌, ℕ, ◌&&◌, nat_lt, length, Bool, true, false, if◌then◌else◌, List, Option, Some, None, Result, Ok, Err, refl}
 use Rattle.std.specs.Prelude.{IfSome}
 use Rattle.pd_settings.specs.declared.fields.Settings.{Settings}
 use Rattle.pd_seg.specs.declared.sack_blocks.Span.{Span}
@@ -9,7 +9,7 @@ use Rattle.pd_recover.specs.declared.responses.Then.{Then}
 use Rattle.pd_recover.specs.declared.responses.Then.TheVariants.{Ordinary, StepC, Entry, LimitedTransmit, NewSegment, FastRetransmit, Nothing}
 use Rattle.pd_recover.specs.declared.segments.NextSegment.{NextSegment}
 use Rattle.pd_host.specs.Acknowledgments.{OnTheWay, taking, taken, step_c_found, step_c_sent, step_c, sender_of, pipe_of, limited_found, limited_sent, limited_transmit, put_segment, entered_on, entry, led_to}
-use Rattle.pd_host.specs.Arrivals.{ruling_of, ruled, arrived_on, arrived}
+use Rattle.pd_host.specs.Arrivals.{ruling_of, ruled, goes_on, with_connection, with_peer_fin, finished_on, finished_by, arrived_on, arrived}
 use Rattle.pd_host.specs.ControlBlock.{ControlBlock}
 use Rattle.pd_host.specs.Handshake.{is_opening, begun, syn_uses}
 use Rattle.pd_host.specs.Packets.{ack_of, refusal_of, syn_ack_of, data_of}
@@ -138,6 +138,17 @@ module _ (now : ℕ) (O : List Sent → Type 0) (C D : Settings → ControlBlock
     ruled_holds (Some OldAck) segment c s h d is e = h
     ruled_holds None segment c s h d is e = taken_holds segment c s h d e
 
+    -- the peer's FIN is taken
+    finished_on_holds : (s : State) (o : Option ControlBlock) → All s → IfSome o (C s.settings) → Comes All (finished_on now s o)
+    finished_on_holds s None h d = h
+    finished_on_holds s (Some c) h d =
+        answers_with (ack_of (with_peer_fin c)) s (with_connection (with_peer_fin c) s.endpoint) h.packets ((rules s.settings).finished c d)
+
+    finished_holds : (segment : Segment) (r : Option Ruling) (s : State) → All s → Comes All (finished_by now segment r s)
+    finished_holds segment r s h =
+        by_test (Comes All) (goes_on r && segment.flags.fin) (finished_on now s s.endpoint.connection) (Ok s)
+        (λ _. finished_on_holds s s.endpoint.connection h h.connection) (λ _. h)
+
     opened_holds : (segment : Segment) (s : State) → All s → Comes All (arrived_on now segment s None)
     opened_holds segment s h =
         by_test (Comes All) (is_opening s.endpoint.listener segment) _ (Err Unsupported)
@@ -149,7 +160,9 @@ module _ (now : ℕ) (O : List Sent → Type 0) (C D : Settings → ControlBlock
     arrived_on_holds : (o : Option ControlBlock) (segment : Segment) (s : State) → All s → IfSome o (C s.settings) → s.endpoint.connection ≡ o
         → Comes All (arrived_on now segment s o)
     arrived_on_holds None segment s h d is = opened_holds segment s h
-    arrived_on_holds (Some c) segment s h d is = ruled_holds (ruling_of c segment) segment c s h d is refl
+    arrived_on_holds (Some c) segment s h d is =
+        comes_then All All (finished_by now segment (ruling_of c segment)) (finished_holds segment (ruling_of c segment))
+        (ruled now segment c s (ruling_of c segment)) (ruled_holds (ruling_of c segment) segment c s h d is refl)
 
     pub arrived_holds : (segment : Segment) (s t : State) → All s → arrived segment now s ≡ Ok t → All t
     arrived_holds segment s t h is =

@@ -1,8 +1,8 @@
 -- What an arrival puts out stands behind the packets that nobody has taken.
-use Rattle.std.proofs.Common.{◌≡◌, ℕ, Bool, true, false, if◌then◌else◌, nat_lt, length, List, [], ◌∷◌, ◌++◌, Option, None, Some, Ok, Err, refl, ap, sym, ◌∙◌, append-nil}
+use Rattle.std.proofs.Common.{◌≡◌, ℕ, Bool, true, false, if◌then◌else◌, nat_lt, length, List, [], ◌∷◌, ◌++◌, Option, None, Some, Ok, Err, refl, ap, sym, ◌∙◌, append_assoc, append-nil}
 use Rattle.pd_seg.specs.declared.segments.Segment.{Segment}
 use Rattle.pd_seg.specs.declared.segments.Sent.{Sent}
-use Rattle.pd_host.specs.Arrivals.{ruled, arrived_on, arrived, ruling_of, reset_of}
+use Rattle.pd_host.specs.Arrivals.{ruled, arrived_on, arrived, ruling_of, reset_of, with_peer_fin}
 use Rattle.pd_host.specs.Acknowledgments.{taking, taken}
 use Rattle.pd_host.specs.ControlBlock.{ControlBlock}
 use Rattle.pd_host.specs.Handshake.{is_opening, begun, answered_syn, syn_uses, established_by, establishment_uses}
@@ -15,8 +15,9 @@ use Rattle.pd_host.specs.declared.halts.Halt.TheVariants.{Limit, Unsupported}
 use Rattle.pd_host.specs.declared.rulings.Ruling.{Ruling}
 use Rattle.pd_host.specs.declared.rulings.Ruling.TheVariants.{NotRun, StrayRst, OutsideWindow, ExactRst, ChallengedRst, WithoutAck, FirstAck, RefusedAck, EarlyAck, OldAck}
 use Rattle.pd_host.specs.declared.sender_state.State.{State}
+use Rattle.pd_host.proofs.Finishes.{after_fin, passed_leaves}
 use Rattle.pd_host.proofs.Outcomes.{Leaves, came, leaves_too, either}
-use Rattle.pd_host.proofs.SentOn.{IsSentOn}
+use Rattle.pd_host.proofs.SentOn.{IsSentOn, all_of_both}
 use Rattle.pd_host.proofs.Taken.{taken_sends}
 
 -- nothing was put out
@@ -53,6 +54,15 @@ by_ruling None segment now s c =
     leaves_too (IsSentOn now left) (IsBehind now s) (taken now segment c s c.established)
     (λ t h. (h.packets, h.moments, h.outbox)) (taken_sends now segment c s c.established)
 
+-- an ACK of the peer's FIN stands behind them
+fin_behind : (now : ℕ) (s u : State) (c : ControlBlock) → IsBehind now s u → IsBehind now s (after_fin now c u)
+fin_behind now s u c h =
+    let packet : Sent = record { segment = ack_of (with_peer_fin c); at = now } in (
+      h.0 ++ packet ∷ [],
+      all_of_both now h.0 (packet ∷ []) h.1 (refl, tt),
+      ap (λ (l : List Sent). l ++ packet ∷ []) h.2 ∙ append_assoc s.endpoint.outbox h.0 (packet ∷ []),
+    )
+
 opening : (now : ℕ) (c : ControlBlock) (s : State) → Leaves (IsBehind now s) (answered_syn now c s)
 opening now c s =
     one_behind (nat_lt (length s.endpoint.outbox) 1024) now (syn_ack_of c) (record s { uses = syn_uses s.uses }) s
@@ -62,7 +72,9 @@ on_connection : (o : Option ControlBlock) (segment : Segment) (now : ℕ) (s : S
 on_connection None segment now s =
     either (IsBehind now s) (is_opening s.endpoint.listener segment) (answered_syn now (begun now s.settings segment) s) (Err Unsupported)
     (opening now (begun now s.settings segment) s) tt
-on_connection (Some c) segment now s = by_ruling (ruling_of c segment) segment now s c
+on_connection (Some c) segment now s =
+    passed_leaves (IsBehind now s) now segment c s (ruling_of c segment) (λ u d e k. fin_behind now s u d k)
+    (by_ruling (ruling_of c segment) segment now s c)
 
 pub puts_out_behind : PutsOutBehind
 puts_out_behind segment now s t h = came (IsBehind now s) (arrived segment now s) t h (on_connection s.endpoint.connection segment now s)

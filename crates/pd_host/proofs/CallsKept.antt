@@ -42,7 +42,7 @@ connected_so false true true e = refl
 connected_so false true false e = absurd cc
 connected_so false false is e = absurd cc
 
-connected : (e : Endpoint) (fd : ℕ) → opened e fd ≡ Some Connected → is_stream_open e.connection ≡ true
+pub connected : (e : Endpoint) (fd : ℕ) → opened e fd ≡ Some Connected → is_stream_open e.connection ≡ true
 connected e fd is = connected_so (fd == 3 && is_listener_open e.listener) (fd == 4) (is_stream_open e.connection) is
 
 module _ (now : ℕ) (O : List Sent → Type 0) (C D : Settings → ControlBlock → Type 0) (Q : ControlBlock → Type 0)

@@ -1,5 +1,5 @@
 -- Other settings that agree on all that was consulted give the same arrival.
-use Rattle.std.proofs.Common.{◌≡◌, ℕ, ◌&&◌, min, max, Bool, true, false, if◌then◌else◌, nat_lt, length, List, Option, None, Some, Result, Ok, Err, refl, sym, ap, ◌∙◌}
+use Rattle.std.proofs.Common.{◌≡◌, ℕ, ◌&&◌, min, max, Bool, true, false, if◌then◌else◌, nat_lt, length, List, Option, None, Some, Result, Ok, Err, refl, sym, ap, subst, ◌∙◌}
 use Rattle.std.specs.Option.{option_map, unwrap_or}
 use Rattle.pd_board.specs.Scoreboard.{opened}
 use Rattle.pd_recover.specs.Congestion as congestion
@@ -9,20 +9,23 @@ use Rattle.pd_settings.specs.declared.use_set.UseSet.{UseSet}
 use Rattle.pd_seg.specs.declared.segments.Segment.{Segment}
 use Rattle.pd_seg.specs.declared.segments.Sent.{Sent}
 use Rattle.pd_timer.specs.Timer.{initial, started}
-use Rattle.pd_host.specs.Arrivals.{ruled, arrived_on, ruling_of, with_connection}
+use Rattle.pd_host.specs.Arrivals.{ruled, goes_on, finished_on, finished_by, arrived_on, ruling_of, with_connection}
 use Rattle.pd_host.specs.ControlBlock.{ControlBlock}
 use Rattle.pd_host.specs.Handshake.{is_opening, begun, answered_syn, established_by, window_in, syn_acked, syn_octet, syn_uses, establishment_uses, offered_mss, offered_count, offers_sack}
 use Rattle.pd_host.specs.InputLaws.{OnlyUsesMatter, rebound}
 use Rattle.pd_host.specs.Packets.{syn_ack_of}
-use Rattle.pd_host.specs.Sender.{beside, with_outbox, put_out}
+use Rattle.pd_host.specs.Sender.{beside, with_outbox, put_out, then_on}
 use Rattle.pd_host.specs.Timing.{with_sample, with_timer_settled}
 use Rattle.pd_host.specs.declared.endpoint.Endpoint.{Endpoint}
 use Rattle.pd_host.specs.declared.halts.Halt.{Halt}
 use Rattle.pd_host.specs.declared.halts.Halt.TheVariants.{Limit, Unsupported}
+use Rattle.pd_host.specs.declared.peer_fins.PeerFin.TheVariants.{Awaited}
 use Rattle.pd_host.specs.declared.rulings.Ruling.{Ruling}
 use Rattle.pd_host.specs.declared.rulings.Ruling.TheVariants.{NotRun, StrayRst, OutsideWindow, ExactRst, ChallengedRst, WithoutAck, FirstAck, RefusedAck, EarlyAck, OldAck}
 use Rattle.pd_host.specs.declared.sender_state.State.{State}
 use Rattle.pd_host.specs.declared.streams.Stream.TheVariants.{Waiting}
+use Rattle.pd_host.proofs.Finishes.{finished_leaves}
+use Rattle.pd_host.proofs.Outcomes.{came, either_mapped}
 use Rattle.pd_host.proofs.Rebound.{again, taken_again}
 
 -- the endpoint's rules know no settings
@@ -36,7 +39,6 @@ begun_with mss sack wscale rcv_wnd least greatest now syn = record {
   announced = mss;
   sack = sack && offers_sack syn.options;
   scaling = option_map (λ count. record { own = wscale; peer = min count 14 }) (offered_count syn.options);
-  rcv_nxt = 1;
   rcv_wnd = rcv_wnd;
   board = opened (min mss (unwrap_or (offered_mss syn.options) 536));
   fin = false;
@@ -92,6 +94,7 @@ established_so nagle granularity threshold now segment c = record (with_timer_se
     granularity_us = granularity;
     congestion = congestion.begun threshold c.board.smss c.resent;
     stream = Waiting;
+    peer_fin = Awaited;
   });
 }
 
@@ -127,12 +130,42 @@ by_ruling (Some EarlyAck) segment now s t c b h agree = beside_again b s _
 by_ruling (Some OldAck) segment now s t c b h agree = refl
 by_ruling None segment now s t c b h agree = taken_again b now segment c s c.established
 
+-- the peer's FIN consults nothing
+
+finished_on_again : (b : Settings) (now : ℕ) (s : State) (o : Option ControlBlock) → finished_on now (rebound b s) o ≡ again b (finished_on now s o)
+finished_on_again b now s None = refl
+finished_on_again b now s (Some c) = beside_again b s _
+
+finished_again : (b : Settings) (now : ℕ) (segment : Segment) (r : Option Ruling) (s : State)
+    → finished_by now segment r (rebound b s) ≡ again b (finished_by now segment r s)
+finished_again b now segment r s =
+    either_mapped (rebound b) (goes_on r && segment.flags.fin) (finished_on now s s.endpoint.connection) (Ok s)
+    (finished_on now (rebound b s) s.endpoint.connection) (Ok (rebound b s)) (finished_on_again b now s s.endpoint.connection) refl
+
+finished_uses : (now : ℕ) (segment : Segment) (r : Option Ruling) (s t : State) → finished_by now segment r s ≡ Ok t → t.uses ≡ s.uses
+finished_uses now segment r s t h =
+    came (λ (u : State). u.uses ≡ s.uses) (finished_by now segment r s) t h (finished_leaves (λ (u : State). u.uses ≡ s.uses) now segment r s refl (λ c e. refl))
+
+-- the ruling, and then the FIN
+both_again : (b : Settings) (now : ℕ) (segment : Segment) (t : State) (c : ControlBlock) (s : State) (r : Option Ruling) (x y : Result State Halt)
+    → ((u : State) → x ≡ Ok u → Agree u.uses s.settings b → y ≡ again b x)
+    → then_on (finished_by now segment r) x ≡ Ok t
+    → Agree t.uses s.settings b
+    → then_on (finished_by now segment r) y ≡ again b (then_on (finished_by now segment r) x)
+both_again b now segment t c s r (Err halt) y same h agree = absurd cc
+both_again b now segment t c s r (Ok u) y same h agree =
+    let uses : t.uses ≡ u.uses = finished_uses now segment r u t h in
+    ap (then_on (finished_by now segment r)) (same u refl (subst (λ (x : UseSet). Agree x s.settings b) uses agree))
+    ∙ finished_again b now segment r u
+
 on_connection : (o : Option ControlBlock) (segment : Segment) (now : ℕ) (s t : State) (b : Settings)
     → arrived_on now segment s o ≡ Ok t
     → Agree t.uses s.settings b
     → arrived_on now segment (rebound b s) o ≡ again b (arrived_on now segment s o)
 on_connection None segment now s t b h agree = opening (is_opening s.endpoint.listener segment) segment now s t b h agree
-on_connection (Some c) segment now s t b h agree = by_ruling (ruling_of c segment) segment now s t c b h agree
+on_connection (Some c) segment now s t b h agree =
+    both_again b now segment t c s (ruling_of c segment) (ruled now segment c s (ruling_of c segment)) (ruled now segment c (rebound b s) (ruling_of c segment))
+    (λ u e k. by_ruling (ruling_of c segment) segment now s u c b e k) h agree
 
 pub only_uses_matter : OnlyUsesMatter
 only_uses_matter segment now s t b came agree =

@@ -4,14 +4,17 @@ use Rattle.std.specs.Prelude.{is_some, IfSome}
 use Rattle.pd_settings.specs.declared.fields.Settings.{Settings}
 use Rattle.pd_seg.specs.declared.segments.Segment.{Segment}
 use Rattle.pd_seg.specs.declared.segments.Sent.{Sent}
-use Rattle.pd_host.specs.Arrivals.{check_window, check_rst, check_ack_flag, check_handshake, check_ack, first_ruling, ruling_of, ruled, arrived_on}
+use Rattle.pd_host.specs.Arrivals.{is_stray_fin, check_window, check_rst, check_ack_flag, check_handshake, check_ack, first_ruling, ruling_of, passed_on, arrived_on}
 use Rattle.pd_host.specs.Calls.{with_stream, with_fin, closed_stream}
+use Rattle.pd_host.specs.ConnStates.{state_since, state_of, is_closed}
 use Rattle.pd_host.specs.ControlBlock.{ControlBlock}
 use Rattle.pd_host.specs.Expiries.{due_by, deadline_on, deadline_of, expired}
 use Rattle.pd_host.specs.Handshake.{length_of}
 use Rattle.pd_host.specs.Invariants.{IsReached, BoardsAreScoreboards, CallsStayInRange, EndsForGood}
 use Rattle.pd_host.specs.Sender.{queued_to}
 use Rattle.pd_host.specs.Sending.{repeated, on_found, places_left}
+use Rattle.pd_host.specs.declared.conn_states.ConnState.{ConnState}
+use Rattle.pd_host.specs.declared.conn_states.ConnState.TheVariants.{Closed}
 use Rattle.pd_host.specs.declared.halts.Halt.TheVariants.{Limit}
 use Rattle.pd_host.specs.declared.rulings.Ruling.{Ruling}
 use Rattle.pd_host.specs.declared.rulings.Ruling.TheVariants.{NotRun}
@@ -83,18 +86,23 @@ calls_stay_in_range call now s t answer short came =
 
 -- After an RST
 
-not_run : (a b c reset : Bool) (checks : List (Option Ruling)) → reset ≡ true
-    → first_ruling ((if a || (b || (c || reset)) then Some NotRun else None) ∷ checks) ≡ Some NotRun
-not_run true b c reset checks e = refl
-not_run false true c reset checks e = refl
-not_run false false true reset checks e = refl
+not_run : (a b c closed : Bool) (checks : List (Option Ruling)) → closed ≡ true
+    → first_ruling ((if a || (b || (c || closed)) then Some NotRun else None) ∷ checks) ≡ Some NotRun
+not_run true b c closed checks e = refl
+not_run false true c closed checks e = refl
+not_run false false true closed checks e = refl
 not_run false false false true checks e = refl
 not_run false false false false checks e = absurd cc
 
+reset_closes : (reset : Bool) (state : ConnState) → reset ≡ true → is_closed (if reset then Closed else state) ≡ true
+reset_closes true state e = refl
+reset_closes false state e = absurd cc
+
 reset_rules : (c : ControlBlock) (segment : Segment) → c.reset ≡ true → ruling_of c segment ≡ Some NotRun
 reset_rules c segment e =
-    not_run (nat_lt 0 (length_of segment)) segment.flags.syn segment.flags.fin c.reset
-    (check_window c segment ∷ check_rst c segment ∷ check_ack_flag segment ∷ check_handshake c segment ∷ check_ack c segment ∷ []) e
+    not_run (nat_lt 0 (length_of segment)) segment.flags.syn (is_stray_fin c segment) (is_closed (state_of c))
+    (check_window c segment ∷ check_rst c segment ∷ check_ack_flag segment ∷ check_handshake c segment ∷ check_ack c segment ∷ [])
+    (reset_closes c.reset (state_since c c.established) e)
 
 off : (x reset : Bool) → reset ≡ true → (x && not reset) ≡ false
 off true true e = refl
@@ -128,7 +136,7 @@ module _ (now : ℕ) where
 pub ends_for_good : EndsForGood
 ends_for_good = record {
   arrivals = λ segment now s c is e.
-      ap (arrived_on now segment s) is ∙ ap (ruled now segment c s) (reset_rules c segment e);
+      ap (arrived_on now segment s) is ∙ ap (passed_on now segment c s) (reset_rules c segment e);
   expiries = λ now until s c h is e.
       let k : IsReached s.settings now c = at_some (IsReached s.settings now) s.endpoint.connection c is h.connection in
       let none : c.timer.deadline ≡ None = nothing_found c.timer.deadline (k.runs ∙ off (nat_lt c.board.una c.board.top) c.reset e) in

@@ -5,8 +5,8 @@ use Rattle.pd_settings.specs.declared.fields.Settings.{Settings}
 use Rattle.pd_seg.specs.declared.segments.Segment.{Segment}
 use Rattle.pd_seg.specs.declared.segments.Sent.{Sent}
 use Rattle.pd_host.specs.Acknowledgments.{taking, taken}
-use Rattle.pd_host.specs.Arrivals.{first_ruling, ruled, arrived_on, ruling_of}
-use Rattle.pd_host.specs.ControlBlock.{ControlBlock}
+use Rattle.pd_host.specs.Arrivals.{first_ruling, ruled, passed_on, arrived_on, ruling_of}
+use Rattle.pd_host.specs.ControlBlock.{ControlBlock, rcv_nxt}
 use Rattle.pd_host.specs.Handshake.{established_by, syn_acked}
 use Rattle.pd_host.specs.InputLaws.{OnlyAnExactRstResets}
 use Rattle.pd_host.specs.Sender.{beside, with_outbox}
@@ -17,6 +17,7 @@ use Rattle.pd_host.specs.declared.halts.Halt.TheVariants.{Limit}
 use Rattle.pd_host.specs.declared.rulings.Ruling.{Ruling}
 use Rattle.pd_host.specs.declared.rulings.Ruling.TheVariants.{NotRun, StrayRst, OutsideWindow, ExactRst, ChallengedRst, WithoutAck, FirstAck, RefusedAck, EarlyAck, OldAck}
 use Rattle.pd_host.specs.declared.sender_state.State.{State}
+use Rattle.pd_host.proofs.Finishes.{passed_leaves}
 use Rattle.pd_host.proofs.Outcomes.{Leaves, came, leaves_too}
 use Rattle.pd_host.proofs.SentOn.{IsSentOn, stills}
 use Rattle.pd_host.proofs.Taken.{taking_keeps, taken_sends, measured_keeps}
@@ -72,6 +73,14 @@ resets None segment now s c still live =
     inr (leaves_too (IsSentOn now left) IsLive (taken now segment c s c.established)
     (λ t h. sent_live now left t h (taking_live now segment c c.established ∙ still)) (taken_sends now segment c s c.established))
 
+-- nor a FIN of the peer's
+passed : (r : Option Ruling) (segment : Segment) (now : ℕ) (s : State) (c : ControlBlock)
+    → (r ≡ Some ExactRst) ⊎ Leaves IsLive (ruled now segment c s r)
+    → (r ≡ Some ExactRst) ⊎ Leaves IsLive (passed_on now segment c s r)
+passed r segment now s c (inl same) = inl same
+passed r segment now s c (inr live) =
+    inr (passed_leaves IsLive now segment c s r (λ u d e k. sym (ap was_reset e) ∙ k) live)
+
 -- an arrival that resets was ruled so
 was_exact : (r : Option Ruling) (x : Result State Halt) (t : State) (d : ControlBlock) → t.endpoint.connection ≡ Some d → d.reset ≡ true
     → x ≡ Ok t → (r ≡ Some ExactRst) ⊎ Leaves IsLive x → r ≡ Some ExactRst
@@ -80,7 +89,7 @@ was_exact r x t d hd was h (inr live) =
     absurd (true≢false (sym was ∙ sym (ap was_reset hd) ∙ came IsLive x t h live))
 
 -- the check that rules so
-at_rcv_nxt : (bad inside rst here flag shaken sent above below : Bool)
+pub at_rcv_nxt : (bad inside rst here flag shaken sent above below : Bool)
     → first_ruling (
     (if bad then Some NotRun else None)
     ∷ (if inside then None else Some (if rst then StrayRst else OutsideWindow))
@@ -107,10 +116,10 @@ equal m n h = grind (arith, nat_tests)
 
 pub only_an_exact_rst_resets : OnlyAnExactRstResets
 only_an_exact_rst_resets segment now s t c d hc hd still was h =
-    let arrives : ruled now segment c s (ruling_of c segment) ≡ Ok t = ap (arrived_on now segment s) (sym hc) ∙ h in
+    let arrives : passed_on now segment c s (ruling_of c segment) ≡ Ok t = ap (arrived_on now segment s) (sym hc) ∙ h in
     let ruling : ruling_of c segment ≡ Some ExactRst =
-    was_exact (ruling_of c segment) (ruled now segment c s (ruling_of c segment)) t d hd was arrives
-    (resets (ruling_of c segment) segment now s c still (ap was_reset hc ∙ still)) in
-    let at : (segment.flags.rst ≡ true) × ((segment.start == c.rcv_nxt) ≡ true) =
-    at_rcv_nxt _ _ segment.flags.rst (segment.start == c.rcv_nxt) _ _ _ _ _ ruling in
-    (at.0, equal segment.start c.rcv_nxt at.1)
+    was_exact (ruling_of c segment) (passed_on now segment c s (ruling_of c segment)) t d hd was arrives
+    (passed (ruling_of c segment) segment now s c (resets (ruling_of c segment) segment now s c still (ap was_reset hc ∙ still))) in
+    let at : (segment.flags.rst ≡ true) × ((segment.start == rcv_nxt c) ≡ true) =
+    at_rcv_nxt _ _ segment.flags.rst (segment.start == rcv_nxt c) _ _ _ _ _ ruling in
+    (at.0, equal segment.start (rcv_nxt c) at.1)

@@ -6,12 +6,10 @@ use Rattle.std.proofs.lemmas.Bool.Decides.{nat_tests}
 use Rattle.pd_settings.specs.declared.fields.Settings.{Settings}
 use Rattle.pd_board.specs.Scoreboard.{unmarked}
 use Rattle.pd_recover.specs.Laws.{StaysWithin}
-use Rattle.pd_host.specs.Calls.{stream_in}
 use Rattle.pd_host.specs.ControlBlock.{ControlBlock}
 use Rattle.pd_host.specs.Expiries.{resent_by, first_again, expired_by}
-use Rattle.pd_host.specs.Invariants.{IsOfPhase, IsInBounds, IsTimed, IsReached}
+use Rattle.pd_host.specs.Invariants.{IsEnding, IsOfPhase, IsInBounds, IsTimed, IsReached}
 use Rattle.pd_host.specs.declared.established.Established.{Established}
-use Rattle.pd_host.specs.declared.streams.Stream.TheVariants as stream
 use Rattle.pd_host.specs.declared.timings.Timing.{Timing}
 use Rattle.pd_host.proofs.Acked.{few}
 use Rattle.pd_host.proofs.Boards.{unmarked_ordered, sent_ordered}
@@ -57,7 +55,7 @@ module _ (b : Settings) where
         board = sent_ordered (first_again c).end (unmarked c.board) run.0 (omega (arith, run.1, h.board.top_end)) (unmarked_ordered c.board h.board);
         room = h.room;
         phase = subst (λ o. IsOfPhase o c.board.una c.board.top c.board.end) is h.phase;
-        fin = subst (λ (o : Option Established). c.fin ≡ true → stream_in o ≡ stream.Closed) is h.fin;
+        fin = subst (λ (o : Option Established). IsEnding c.fin o) is h.fin;
         bounds = record {
           windows = windows.expiry b.initial_ssthresh c.board.smss c.board.una c.board.top e.congestion h.board.smss_high (few b now c h) k.windows;
           widest = k.widest;

@@ -138,6 +138,7 @@ arrivals now n some b = record {
   begun = λ listener segment e. some;
   established = λ segment c h e. alike n _ _ (measured_end now b.granularity_us 1 (syn_acked c) c.timed) h;
   reset = λ c h. h;
+  finished = λ c h. h;
 }
 
 -- a sender whose connection, if any, ends at or below a place

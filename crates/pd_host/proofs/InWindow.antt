@@ -10,10 +10,11 @@ use Rattle.pd_seg.specs.declared.sack_blocks.Span.{Span}
 use Rattle.pd_seg.specs.declared.segments.Segment.{Segment}
 use Rattle.pd_seg.specs.declared.segments.Sent.{Sent}
 use Rattle.pd_host.specs.Acknowledgments.{newly_acked, ack_of_segment, answering, with_ack, taking, taken}
+use Rattle.std.specs.Prelude.{option_map}
 use Rattle.pd_board.specs.Scoreboard.{unmarked}
 use Rattle.pd_script.specs.declared.calls.Call.{Call}
 use Rattle.pd_host.specs.Calls.{called}
-use Rattle.pd_host.specs.Arrivals.{ruled, arrived_on, arrived, ruling_of, reset_of}
+use Rattle.pd_host.specs.Arrivals.{ruled, arrived_on, arrived, ruling_of, reset_of, with_peer_fin}
 use Rattle.pd_host.specs.ControlBlock.{ControlBlock, data_end}
 use Rattle.pd_host.specs.Expiries.{first_again, segment_again, block_expired, expired, advanced}
 use Rattle.pd_host.specs.Handshake.{is_opening, begun, answered_syn, syn_uses, established_by, establishment_uses}
@@ -24,6 +25,7 @@ use Rattle.pd_host.specs.SendingLaws.{sent_in, window_end, taken_in, end_with_fi
 use Rattle.pd_host.specs.declared.endpoint.Endpoint.{Endpoint}
 use Rattle.pd_host.specs.declared.established.Established.{Established}
 use Rattle.pd_host.specs.declared.halts.Halt.TheVariants.{Limit, Unsupported}
+use Rattle.pd_host.specs.declared.peer_fins.PeerFin.TheVariants.{BeforeOurs, BehindOurs}
 use Rattle.pd_host.specs.declared.rulings.Ruling.{Ruling}
 use Rattle.pd_host.specs.declared.rulings.Ruling.TheVariants.{NotRun, StrayRst, OutsideWindow, ExactRst, ChallengedRst, WithoutAck, FirstAck, RefusedAck, EarlyAck, OldAck}
 use Rattle.pd_host.specs.declared.sender_state.State.{State}
@@ -31,6 +33,7 @@ use Rattle.pd_host.proofs.Advances.{expiry_finds, expiry_sends}
 use Rattle.pd_host.proofs.CallsGo.{IsQuiet, called_goes}
 use Rattle.pd_host.proofs.Chosen.{run_end}
 use Rattle.pd_host.proofs.Duplicates.{IsAllowed, what_follows}
+use Rattle.pd_host.proofs.Finishes.{after_fin, passed_leaves}
 use Rattle.pd_host.proofs.Goes.{IsSending, IsMoved, Goes, IsNamed, led_to_goes}
 use Rattle.pd_host.proofs.LastOctet.{fin_covered}
 use Rattle.pd_host.proofs.Outcomes.{Leaves, came, leaves_too, either, kept}
@@ -261,6 +264,24 @@ by_ruling (Some EarlyAck) segment now s c e = answered_out now (ack_of c) s (bel
 by_ruling (Some OldAck) segment now s c e = nothing_out s s refl
 by_ruling None segment now s c e = taken_in_window now segment c s c.established e
 
+-- the ACK of the peer's FIN has no octets, and the window stays
+fin_in_window : (now : ℕ) (s u : State) (c : ControlBlock) → u.endpoint.connection ≡ Some c → PutsOutInWindow s u
+    → PutsOutInWindow s (after_fin now c u)
+fin_in_window now s u c e h =
+    let packet : Sent = record { segment = ack_of (with_peer_fin c); at = now } in
+    let n : ℕ = max (sent_in s.endpoint.connection) (taken_in (Some (with_peer_fin c))) in
+    let same : max (sent_in s.endpoint.connection) (taken_in u.endpoint.connection) ≡ n =
+    ap (λ (x : ℕ). max (sent_in s.endpoint.connection) x) (ap taken_in e ∙ sym (fin_window c c.established)) in (
+      h.0 ++ packet ∷ [],
+      both_lists n h.0 (packet ∷ []) (subst (λ (x : ℕ). AllBelow x h.0) same h.1) (λ lt. absurd (below_self c.board.top lt), tt),
+      ap (λ (l : List Sent). l ++ packet ∷ []) h.2 ∙ append_assoc s.endpoint.outbox h.0 (packet ∷ []),
+    )
+  where
+    fin_window : (d : ControlBlock) (o : Option Established)
+        → window_end (with_peer_fin d) (option_map {T = Established} (λ e. record e { peer_fin = if d.fin then BehindOurs else BeforeOurs }) o) ≡ window_end d o
+    fin_window d None = refl
+    fin_window d (Some x) = refl
+
 on_connection : (o : Option ControlBlock) (segment : Segment) (now : ℕ) (s : State) → s.endpoint.connection ≡ o
     → Leaves (PutsOutInWindow s) (arrived_on now segment s o)
 on_connection None segment now s e =
@@ -268,7 +289,9 @@ on_connection None segment now s e =
     either (PutsOutInWindow s) (is_opening s.endpoint.listener segment) (answered_syn now c s) (Err Unsupported)
     (one_out (nat_lt (length s.endpoint.outbox) 1024) now (syn_ack_of c) (record s { uses = syn_uses s.uses }) s
     (record s.endpoint { connection = Some c }) refl (below_self 0)) tt
-on_connection (Some c) segment now s e = by_ruling (ruling_of c segment) segment now s c e
+on_connection (Some c) segment now s e =
+    passed_leaves (PutsOutInWindow s) now segment c s (ruling_of c segment) (λ u d is k. fin_in_window now s u d is k)
+    (by_ruling (ruling_of c segment) segment now s c e)
 
 -- Expiries
 

@@ -17,6 +17,10 @@ pub mod ExactRst
 pub mod Expired
 pub mod ExpiriesKept
 pub mod Finished
+pub mod Finishes
+pub mod Faces
+pub mod FigureOfCalls
+pub mod FigureOfSegments
 pub mod FirstAck
 pub mod FirstRuling
 pub mod Goes

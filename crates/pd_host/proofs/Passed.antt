@@ -2,15 +2,18 @@
 use Rattle.std.proofs.Common.{◌≡◌, refl, ◌≤◌, ◌&&◌, ◌||◌, Bool, true, false, if◌then◌else◌, nat_lt, nat_le, ◌∷◌, [], Option, None, Some}
 use Rattle.std.specs.Prelude.{is_some}
 use Rattle.pd_seg.specs.declared.segments.Segment.{Segment}
-use Rattle.pd_host.specs.Arrivals.{first_ruling, ruling_of, is_in_window}
+use Rattle.pd_host.specs.Arrivals.{first_ruling, ruling_of, is_in_window, is_stray_fin}
+use Rattle.pd_host.specs.ConnStates.{state_since, state_of, is_closed}
 use Rattle.pd_host.specs.ControlBlock.{ControlBlock}
 use Rattle.pd_host.specs.Handshake.{length_of}
+use Rattle.pd_host.specs.declared.conn_states.ConnState.{ConnState}
+use Rattle.pd_host.specs.declared.conn_states.ConnState.TheVariants.{Closed}
 use Rattle.pd_host.specs.declared.rulings.Ruling.{Ruling}
 use Rattle.pd_host.specs.declared.rulings.Ruling.TheVariants.{NotRun, StrayRst, OutsideWindow, ExactRst, ChallengedRst, WithoutAck, FirstAck, RefusedAck, EarlyAck, OldAck}
 use Rattle.pd_host.proofs.Kept.{nothing_found}
 use Rattle.pd_host.proofs.AckedBelow.{ge}
 
-abbrev checks : (bad inside rst here flag shaken sent above below : Bool) → Option Ruling
+abbrev pub checks : (bad inside rst here flag shaken sent above below : Bool) → Option Ruling
 checks bad inside rst here flag shaken sent above below = first_ruling (
     (if bad then Some NotRun else None)
     ∷ (if inside then None else Some (if rst then StrayRst else OutsideWindow))
@@ -53,6 +56,15 @@ last_of_four true b c d h = absurd cc
 last_of_four false true c d h = absurd cc
 last_of_four false false true d h = absurd cc
 
+-- a connection that isn't closed wasn't reset
+
+not_first : (reset : Bool) (state : ConnState) → is_closed (if reset then Closed else state) ≡ false → reset ≡ false
+not_first true state h = absurd cc
+not_first false state h = refl
+
+pub open_live : (c : ControlBlock) → is_closed (state_of c) ≡ false → c.reset ≡ false
+open_live c h = not_first c.reset (state_since c c.established) h
+
 -- a segment that passes comes before a reset, and acknowledges what was sent
 pub record Passes (c : ControlBlock) (segment : Segment) : Type 0 where
   pub live : c.reset ≡ false
@@ -61,11 +73,11 @@ pub record Passes (c : ControlBlock) (segment : Segment) : Type 0 where
 
 pub passes : (c : ControlBlock) (segment : Segment) → ruling_of c segment ≡ None → Passes c segment
 passes c segment h =
-    let k = none_rules (nat_lt 0 (length_of segment) || (segment.flags.syn || (segment.flags.fin || c.reset))) (is_in_window c segment) segment.flags.rst _ segment.flags.ack
+    let k = none_rules (nat_lt 0 (length_of segment) || (segment.flags.syn || (is_stray_fin c segment || is_closed (state_of c)))) (is_in_window c segment) segment.flags.rst _ segment.flags.ack
     (is_some c.established) (nat_lt c.board.una segment.ack && nat_le segment.ack c.board.top)
     (nat_lt c.board.top segment.ack) (nat_lt segment.ack c.board.una) h in
     record {
-      live = last_of_four (nat_lt 0 (length_of segment)) segment.flags.syn segment.flags.fin c.reset k.0;
+      live = open_live c (last_of_four (nat_lt 0 (length_of segment)) segment.flags.syn (is_stray_fin c segment) (is_closed (state_of c)) k.0);
       from = ge segment.ack c.board.una k.2;
       to = ge c.board.top segment.ack k.1;
     }
@@ -73,6 +85,6 @@ passes c segment h =
 -- the first ACK comes before a reset, in the handshake
 pub first_comes : (c : ControlBlock) (segment : Segment) → ruling_of c segment ≡ Some FirstAck → (c.reset ≡ false) × (c.established ≡ None)
 first_comes c segment h =
-    let k = shakes (nat_lt 0 (length_of segment) || (segment.flags.syn || (segment.flags.fin || c.reset))) (is_in_window c segment) segment.flags.rst _ segment.flags.ack
+    let k = shakes (nat_lt 0 (length_of segment) || (segment.flags.syn || (is_stray_fin c segment || is_closed (state_of c)))) (is_in_window c segment) segment.flags.rst _ segment.flags.ack
     (is_some c.established) (nat_lt c.board.una segment.ack && nat_le segment.ack c.board.top) _ _ h in
-    (last_of_four (nat_lt 0 (length_of segment)) segment.flags.syn segment.flags.fin c.reset k.0, nothing_found c.established k.1)
+    (open_live c (last_of_four (nat_lt 0 (length_of segment)) segment.flags.syn (is_stray_fin c segment) (is_closed (state_of c)) k.0), nothing_found c.established k.1)

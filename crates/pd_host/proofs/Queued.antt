@@ -1,11 +1,14 @@
 -- What holds of a connection that the rules reach, through calls.
 use Rattle.std.proofs.Common.{◌≡◌, ℕ, ◌+◌, ◌&&◌, min, Bool, true, false, Option, Some, None, refl, ap, subst, ◌∙◌, arith}
-use Rattle.std.specs.Prelude.{is_some, option_map, IfSome}
+use Rattle.std.specs.Prelude.{is_some, option_map, IfSome, if◌then◌else◌}
 use Rattle.pd_settings.specs.declared.fields.Settings.{Settings}
+use Rattle.pd_host.specs.Arrivals.{with_peer_fin}
 use Rattle.pd_host.specs.Calls.{is_open, is_waiting, stream_in, stream_of, with_stream, with_nagle, free_of, with_queued, with_fin, closed_stream}
 use Rattle.pd_host.specs.ControlBlock.{ControlBlock}
-use Rattle.pd_host.specs.Invariants.{IsOfPhase, IsInBounds, IsReached, fin_octets}
+use Rattle.pd_host.specs.Invariants.{IsOfPhase, IsInBounds, IsEnding, IsReached, fin_octets}
 use Rattle.pd_host.specs.declared.established.Established.{Established}
+use Rattle.pd_host.specs.declared.peer_fins.PeerFin.{PeerFin}
+use Rattle.pd_host.specs.declared.peer_fins.PeerFin.TheVariants.{BeforeOurs, BehindOurs}
 use Rattle.pd_host.specs.declared.streams.Stream.{Stream}
 use Rattle.pd_host.specs.declared.streams.Stream.TheVariants as stream
 use Rattle.pd_host.proofs.Boards.{sure, written_ordered}
@@ -48,9 +51,37 @@ module _ (b : Settings) (smss top widest : ℕ) where
     rescue_rxt = h.rescue_rxt;
   }
 
-nagle_stream : (on : Bool) (o : Option Established) → stream_in (option_map {T = Established} (λ e. record e { nagle = on }) o) ≡ stream_in o
-nagle_stream on None = refl
-nagle_stream on (Some e) = refl
+fin_bounds : (b : Settings) (smss top widest : ℕ) (p : PeerFin) (e : Established) → IsInBounds b smss top widest e
+    → IsInBounds b smss top widest (record e { peer_fin = p })
+fin_bounds b smss top widest p e h = record {
+  windows = h.windows;
+  widest = h.widest;
+  recovery_point = h.recovery_point;
+  high_rxt = h.high_rxt;
+  rescue_rxt = h.rescue_rxt;
+}
+
+-- how the ends of both sides stand, where one of them moves
+
+nagle_ending : (on fin : Bool) (o : Option Established) → IsEnding fin o → IsEnding fin (option_map {T = Established} (λ e. record e { nagle = on }) o)
+nagle_ending on fin None h = h
+nagle_ending on fin (Some e) h = h
+
+stream_ending : (d : Stream) (fin : Bool) (o : Option Established)
+    → (fin ≡ true → stream_in (option_map {T = Established} (λ e. record e { stream = d }) o) ≡ stream.Closed)
+    → IsEnding fin o → IsEnding fin (option_map {T = Established} (λ e. record e { stream = d }) o)
+stream_ending d fin None closed h = (closed, h.1)
+stream_ending d fin (Some e) closed h = (closed, h.1)
+
+-- the FIN is noted as behind ours only where ours is queued
+noted_order : (fin : Bool) → (if fin then BehindOurs else BeforeOurs) ≡ BehindOurs → fin ≡ true
+noted_order true h = refl
+noted_order false h = absurd cc
+
+peer_ending : (fin : Bool) (o : Option Established) → IsEnding fin o
+    → IsEnding fin (option_map {T = Established} (λ e. record e { peer_fin = if fin then BehindOurs else BeforeOurs }) o)
+peer_ending fin None h = h
+peer_ending fin (Some e) h = (h.0, noted_order fin)
 
 closed_in : (o : Option Established) → is_open (stream_in o) ≡ true → stream_in (option_map {T = Established} (λ e. record e { stream = stream.Closed }) o) ≡ stream.Closed
 closed_in None e = absurd cc
@@ -75,7 +106,7 @@ module _ (b : Settings) (now : ℕ) where
     board = h.board;
     room = h.room;
     phase = phase_same (λ e. record e { stream = d }) c.established c.board.una c.board.top c.board.end h.phase;
-    fin = fin;
+    fin = stream_ending d c.fin c.established fin h.fin;
     bounds = bounds_same b (λ e. record e { stream = d }) c.board.smss c.board.top c.widest c.established (stream_bounds b c.board.smss c.board.top c.widest d) h.bounds;
     runs = h.runs;
     timed = h.timed;
@@ -84,7 +115,7 @@ module _ (b : Settings) (now : ℕ) where
   pub accepted_reached : (c : ControlBlock) → IsReached b now c → (is_some c.established && is_waiting (stream_of c)) ≡ true
       → IsReached b now (with_stream stream.Open c)
   accepted_reached c h e =
-      restreamed stream.Open c h (λ queued. absurd (not_waiting (stream_of c) (second_of_two (is_some c.established) _ e) (h.fin queued)))
+      restreamed stream.Open c h (λ queued. absurd (not_waiting (stream_of c) (second_of_two (is_some c.established) _ e) (h.fin.0 queued)))
 
   pub nagle_reached : (on : Bool) (c : ControlBlock) → IsReached b now c → IsReached b now (with_nagle on c)
   nagle_reached on c h = record {
@@ -92,15 +123,31 @@ module _ (b : Settings) (now : ℕ) where
     board = h.board;
     room = h.room;
     phase = phase_same (λ e. record e { nagle = on }) c.established c.board.una c.board.top c.board.end h.phase;
-    fin = λ queued. nagle_stream on c.established ∙ h.fin queued;
+    fin = nagle_ending on c.fin c.established h.fin;
     bounds = bounds_same b (λ e. record e { nagle = on }) c.board.smss c.board.top c.widest c.established (nagle_bounds b c.board.smss c.board.top c.widest on) h.bounds;
     runs = h.runs;
     timed = h.timed;
   }
 
+  pub finned_reached : (c : ControlBlock) → IsReached b now c → IsReached b now (with_peer_fin c)
+  finned_reached c h =
+      let p : PeerFin = if c.fin then BehindOurs else BeforeOurs in
+      record {
+        agreed = h.agreed;
+        board = h.board;
+        room = h.room;
+        phase = phase_same (λ e. record e { peer_fin = p }) c.established c.board.una c.board.top c.board.end h.phase;
+        fin = peer_ending c.fin c.established h.fin;
+        bounds =
+            bounds_same b (λ e. record e { peer_fin = p }) c.board.smss c.board.top c.widest c.established
+            (fin_bounds b c.board.smss c.board.top c.widest p) h.bounds;
+        runs = h.runs;
+        timed = h.timed;
+      }
+
   -- no FIN is queued while descriptor 4 is open
   unfinished : (c : ControlBlock) → IsReached b now c → is_open (stream_of c) ≡ true → c.fin ≡ false
-  unfinished c h unclosed = sure c.fin (λ queued. not_open (stream_of c) unclosed (h.fin queued))
+  unfinished c h unclosed = sure c.fin (λ queued. not_open (stream_of c) unclosed (h.fin.0 queued))
 
   pub queued_live : (n : ℕ) (c : ControlBlock) → IsReached b now c → is_open (stream_of c) ≡ true → c.reset ≡ false
       → IsLive b now (with_queued (min n (free_of b.sndbuf c)) c)
@@ -134,7 +181,7 @@ module _ (b : Settings) (now : ℕ) where
           phase =
               phase_same (λ e. record e { stream = stream.Closed }) c.established c.board.una c.board.top (c.board.end + 1)
               (phase_of c.established k.0 c.board.una c.board.top c.board.end c.board.top (c.board.end + 1) k.1 h.phase);
-          fin = λ _. closed_in c.established unclosed;
+          fin = (λ _. closed_in c.established unclosed, λ _. refl);
           bounds =
               bounds_same b (λ e. record e { stream = stream.Closed }) c.board.smss c.board.top c.widest c.established
               (stream_bounds b c.board.smss c.board.top c.widest stream.Closed) h.bounds;

@@ -12,13 +12,11 @@ use Rattle.pd_recover.specs.Laws.{IsWithin}
 use Rattle.pd_recover.specs.declared.segments.NextSegment.{NextSegment}
 use Rattle.pd_recover.specs.declared.segments.NextSegment.TheVariants.{Lost, New, Hole, Rescue}
 use Rattle.pd_host.specs.Acknowledgments.{step_c_on, sent_as, noted_on, limited_on, counted_on, octets_of, entered_on}
-use Rattle.pd_host.specs.Calls.{stream_in}
 use Rattle.pd_host.specs.ControlBlock.{ControlBlock}
-use Rattle.pd_host.specs.Invariants.{IsOfPhase, IsInBounds, IsTimed, IsReached}
+use Rattle.pd_host.specs.Invariants.{IsEnding, IsOfPhase, IsInBounds, IsTimed, IsReached}
 use Rattle.pd_host.specs.Sending.{past_sacked, sent_on, found_on}
 use Rattle.pd_host.specs.Timing.{overlaps, timed_after, clocked}
 use Rattle.pd_host.specs.declared.established.Established.{Established}
-use Rattle.pd_host.specs.declared.streams.Stream.TheVariants as stream
 use Rattle.pd_host.specs.declared.timings.Timing.{Timing}
 use Rattle.pd_host.proofs.Boards.{sent_ordered, skipped_ordered}
 use Rattle.pd_host.proofs.Kept.{by_test}
@@ -149,7 +147,7 @@ module _ (b : Settings) (now : ℕ) where
       board = h.reached.board;
       room = h.reached.room;
       phase = subst (λ o. IsOfPhase o c.board.una c.board.top c.board.end) is h.reached.phase;
-      fin = subst (λ (o : Option Established). c.fin ≡ true → stream_in o ≡ stream.Closed) is h.reached.fin;
+      fin = subst (λ (o : Option Established). IsEnding c.fin o) is h.reached.fin;
       bounds = record {
         windows = within;
         widest = (at_some (IsInBounds b c.board.smss c.board.top c.widest) c.established e is h.reached.bounds).widest;

@@ -17,12 +17,15 @@ use Rattle.pd_recover.specs.declared.segments.NextSegment.{NextSegment}
 use Rattle.pd_recover.specs.declared.segments.NextSegment.TheVariants.{Lost, New, Hole, Rescue}
 use Rattle.pd_board.specs.Loss.{is_lost}
 use Rattle.pd_host.specs.Acknowledgments.{newly_acked, with_number, is_block_sent, blocks_of, told_block, told_blocks, scored, with_timing, is_current, with_new_window, with_blocks, with_ack, news_of, ack_of_segment, answering, taking, sent_as, noted_on, counted_on, entered_on}
+use Rattle.pd_host.specs.Arrivals.{with_peer_fin}
 use Rattle.pd_host.specs.Calls.{with_stream, with_nagle}
 use Rattle.pd_host.specs.ControlBlock.{ControlBlock}
 use Rattle.pd_host.specs.Handshake.{looked_at}
 use Rattle.pd_host.specs.Invariants.{RecoversBelow, IsBelowPoint}
 use Rattle.pd_host.specs.Timing.{is_measured, measured, with_sample, with_timer_moved}
 use Rattle.pd_host.specs.declared.established.Established.{Established}
+use Rattle.pd_host.specs.declared.peer_fins.PeerFin.{PeerFin}
+use Rattle.pd_host.specs.declared.peer_fins.PeerFin.TheVariants.{BeforeOurs, BehindOurs}
 use Rattle.pd_host.specs.declared.streams.Stream.{Stream}
 use Rattle.pd_host.specs.declared.timings.Timing.{Timing}
 use Rattle.pd_host.proofs.AckedBelow.{ge}
@@ -186,3 +189,10 @@ stream_below d c h sack = stream_same c.board.una d c.established (h sack)
 
 pub nagle_below : (on : Bool) (c : ControlBlock) → IsBelowPoint c → IsBelowPoint (with_nagle on c)
 nagle_below on c h sack = nagle_same c.board.una on c.established (h sack)
+
+finned_same : (una : ℕ) (p : PeerFin) (o : Option Established) → RecoversBelow una o → RecoversBelow una (option_map {T = Established} (λ e. record e { peer_fin = p }) o)
+finned_same una p None h = h
+finned_same una p (Some e) h = h
+
+pub finned_below : (c : ControlBlock) → IsBelowPoint c → IsBelowPoint (with_peer_fin c)
+finned_below c h sack = finned_same c.board.una (if c.fin then BehindOurs else BeforeOurs) c.established (h sack)

@@ -9,7 +9,7 @@ use Rattle.pd_board.specs.Choice.{run_at}
 use Rattle.pd_recover.specs.declared.responses.Then.TheVariants.{NewSegment, FastRetransmit}
 use Rattle.pd_recover.specs.declared.segments.NextSegment.{NextSegment}
 use Rattle.pd_host.specs.Acknowledgments.{taking, step_c_on, sent_as, noted_on, limited_on, counted_on, octets_of, entered_on}
-use Rattle.pd_host.specs.Arrivals.{ruling_of, reset_of}
+use Rattle.pd_host.specs.Arrivals.{ruling_of, reset_of, with_peer_fin}
 use Rattle.pd_host.specs.Calls.{stream_of, is_open, is_waiting, with_stream, with_nagle, with_queued, free_of, closed_stream}
 use Rattle.pd_host.specs.ControlBlock.{ControlBlock}
 use Rattle.pd_host.specs.Expiries.{due_by, resent_by, expired_by}
@@ -65,6 +65,7 @@ pub record KeptByArrivals (now : ℕ) (b : Settings) (C D : ControlBlock → Typ
   pub begun : (listener : Listener) (segment : Segment) → is_opening listener segment ≡ true → C (begun now b segment)
   pub established : (segment : Segment) (c : ControlBlock) → C c → ruling_of c segment ≡ Some FirstAck → C (established_by now b segment c)
   pub reset : (c : ControlBlock) → C c → C (reset_of c)
+  pub finished : (c : ControlBlock) → C c → C (with_peer_fin c)
 
 -- calls, where the connection meets their condition
 pub record KeptByCalls (now : ℕ) (b : Settings) (Q C D : ControlBlock → Type 0) : Type 0 where

@@ -52,7 +52,7 @@ pub record IsSentOn (now : ℕ) (s t : State) : Type 0 where
   pub listener : t.endpoint.listener ≡ s.endpoint.listener
   pub connection : stills t.endpoint.connection ≡ stills s.endpoint.connection
 
-all_of_both : (now : ℕ) (a b : List Sent) → AllByRecursion (λ p. p.at ≡ now) a → AllByRecursion (λ p. p.at ≡ now) b
+pub all_of_both : (now : ℕ) (a b : List Sent) → AllByRecursion (λ p. p.at ≡ now) a → AllByRecursion (λ p. p.at ≡ now) b
     → AllByRecursion (λ p. p.at ≡ now) (a ++ b)
 all_of_both now [] b first second = second
 all_of_both now (p ∷ a) b first second = (first.0, all_of_both now a b first.1 second)

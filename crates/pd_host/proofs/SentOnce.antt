@@ -10,7 +10,7 @@ use Rattle.pd_seg.specs.declared.segments.Segment.{Segment}
 use Rattle.pd_seg.specs.declared.segments.Sent.{Sent}
 use Rattle.pd_timer.specs.Timer.{sampled}
 use Rattle.pd_host.specs.Acknowledgments.{newly_acked, answering, with_blocks, with_number, with_ack, with_timing, is_current, taking, taken}
-use Rattle.pd_host.specs.Arrivals.{ruled, arrived_on, arrived, ruling_of, reset_of}
+use Rattle.pd_host.specs.Arrivals.{ruled, arrived_on, arrived, ruling_of, reset_of, with_peer_fin}
 use Rattle.pd_host.specs.Calls.{called}
 use Rattle.pd_host.specs.ControlBlock.{ControlBlock}
 use Rattle.pd_host.specs.Expiries.{segment_again, block_expired, expired, advanced}
@@ -28,6 +28,7 @@ use Rattle.pd_host.specs.declared.sender_state.State.{State}
 use Rattle.pd_host.specs.declared.timings.Timing.{Timing}
 use Rattle.pd_host.proofs.Advances.{expiry_finds, expiry_sends}
 use Rattle.pd_host.proofs.CallsGo.{IsQuiet, called_goes}
+use Rattle.pd_host.proofs.Finishes.{after_fin, passed_leaves}
 use Rattle.pd_host.proofs.Goes.{IsSending, IsMoved, Goes, led_to_goes}
 use Rattle.pd_host.proofs.InWindow.{packet_ends, lifted, both_lists, taking_named, taking_top}
 use Rattle.pd_host.proofs.Outcomes.{Leaves, came, leaves_too, either, kept}
@@ -366,13 +367,24 @@ opened_so true now c s e timed =
     the_timing y z h = cc
 opened_so false now c s e timed = tt
 
+-- the ACK of the peer's FIN has none of its octets
+fin_times_new : (now : ℕ) (s u : State) (c : ControlBlock) → u.endpoint.connection ≡ Some c → TimesNew s u → TimesNew s (after_fin now c u)
+fin_times_new now s u c e h =
+    let packet : Sent = record { segment = ack_of (with_peer_fin c); at = now } in (
+      h.0 ++ packet ∷ [],
+      ap (λ (l : List Sent). l ++ packet ∷ []) h.1 ∙ append_assoc s.endpoint.outbox h.0 (packet ∷ []),
+      λ x k. from_first s x h.0 (packet ∷ []) (empty_apart c.board.top x.segment.start x.segment.end, tt) (h.2 x (ap timed_in e ∙ k)),
+    )
+
 on_connection : (o : Option ControlBlock) (segment : Segment) (now : ℕ) (s : State) → s.endpoint.connection ≡ o
     → Leaves (TimesNew s) (arrived_on now segment s o)
 on_connection None segment now s e =
     let c : ControlBlock = begun now s.settings segment in
     either (TimesNew s) (is_opening s.endpoint.listener segment) (answered_syn now c s) (Err Unsupported)
     (opened_so (nat_lt (length s.endpoint.outbox) 1024) now c s e refl) tt
-on_connection (Some c) segment now s e = by_ruling (ruling_of c segment) segment now s c e
+on_connection (Some c) segment now s e =
+    passed_leaves (TimesNew s) now segment c s (ruling_of c segment) (λ u d is k. fin_times_new now s u d is k)
+    (by_ruling (ruling_of c segment) segment now s c e)
 
 -- Expiries
 

@@ -44,11 +44,11 @@ module _ (b : Settings) (now : ℕ) where
   begun_reached listener segment e =
       let low : 64 ≤ unwrap_or (offered_mss segment.options) 536 = mss_low (offered_mss segment.options) (opening_mss listener segment e) in
       record {
-        agreed = record { mss = refl; no_longer = omega arith; next = refl; window = refl };
+        agreed = record { mss = refl; no_longer = omega arith; window = refl };
         board = opened_ordered (smss_of b (offers_of segment.options)) (omega (arith, low, b.mss_in_range.0)) (omega (arith, b.mss_in_range.1));
         room = omega (arith, b.sndbuf_in_range.0);
         phase = (refl, refl, refl);
-        fin = λ no. absurd cc;
+        fin = (λ no. absurd cc, λ no. absurd cc);
         bounds = tt;
         runs = refl;
         timed = record { some = omega arith; waited = omega arith; sent = omega arith; past = omega arith };
@@ -85,7 +85,7 @@ module _ (b : Settings) (now : ℕ) where
           board = acknowledged_ordered 1 c.board (omega (arith, k.0)) (omega (arith, k.1)) h.board;
           room = omega (arith, k.2);
           phase = omega arith;
-          fin = λ queued. ap stream_in (sym is) ∙ h.fin queued;
+          fin = (λ queued. ap stream_in (sym is) ∙ h.fin.0 queued, λ no. absurd cc);
           bounds = record {
             windows = windows.first b.initial_ssthresh c.board.smss c.resent h.board.smss_high b.initial_ssthresh_in_range.1;
             widest = omega arith;

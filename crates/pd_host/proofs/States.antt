@@ -20,9 +20,9 @@ use Rattle.pd_host.proofs.Expired.{resent_reached, expired_reached, later_reache
 use Rattle.pd_host.proofs.ExpiriesKept.{advanced_holds}
 use Rattle.pd_host.proofs.Kept.{by_test}
 use Rattle.pd_host.proofs.Moments.{Good, good, up_to, anything, expiries, one_more, starts_up_to_date, taking_keeps_up}
-use Rattle.pd_host.proofs.Queued.{accepted_reached, nagle_reached, queued_live, finished_live, abandoned_reached}
+use Rattle.pd_host.proofs.Queued.{accepted_reached, nagle_reached, finned_reached, queued_live, finished_live, abandoned_reached}
 use Rattle.pd_host.proofs.Reached.{IsLive, sending_live, step_c_live, limited_live, entry_live, entry_alone_live}
-use Rattle.pd_host.proofs.Recovers.{taking_below, noted_below, counted_below, entered_below, stream_below, nagle_below}
+use Rattle.pd_host.proofs.Recovers.{taking_below, noted_below, counted_below, entered_below, stream_below, nagle_below, finned_below}
 use Rattle.pd_host.proofs.Rules.{Holds, KeptBySending, KeptByArrivals, KeptByCalls, KeptByExpiries, first_run}
 use Rattle.pd_host.proofs.Shaken.{begun_reached, reset_reached, established_reached}
 use Rattle.pd_host.proofs.Timely.{IsTimely, arrivals_timely, calls_timely}
@@ -105,6 +105,7 @@ module _ (bounds : Bounds) (windows : Windows) where
           below = λ sack recovering. absurd cc;
         };
         reset = λ c h. record { timely = t.reset c h.timely; reached = reset_reached b now c h.reached; below = h.below };
+        finished = λ c h. record { timely = t.finished c h.timely; reached = finned_reached b now c h.reached; below = finned_below c h.below };
       }
 
   calls_known : (now : ℕ) (b : Settings) → KeptByCalls now b (λ _. Unit {0}) (IsKnown b now) (IsSending b now)

@@ -4,7 +4,7 @@ use Rattle.pd_settings.specs.declared.fields.Settings.{Settings}
 use Rattle.pd_seg.specs.declared.segments.Segment.{Segment}
 use Rattle.pd_seg.specs.declared.segments.Sent.{Sent}
 use Rattle.pd_host.specs.Acknowledgments.{taking, taken}
-use Rattle.pd_host.specs.Arrivals.{ruled, arrived_on, arrived, ruling_of}
+use Rattle.pd_host.specs.Arrivals.{ruled, passed_on, arrived_on, arrived, ruling_of}
 use Rattle.pd_host.specs.ControlBlock.{ControlBlock}
 use Rattle.pd_host.specs.Expiries.{block_expired, expired, advanced}
 use Rattle.pd_host.specs.Handshake.{established_by, syn_acked}
@@ -16,6 +16,7 @@ use Rattle.pd_host.specs.declared.rulings.Ruling.{Ruling}
 use Rattle.pd_host.specs.declared.rulings.Ruling.TheVariants.{NotRun, StrayRst, OutsideWindow, ExactRst, ChallengedRst, WithoutAck, FirstAck, RefusedAck, EarlyAck, OldAck}
 use Rattle.pd_host.specs.declared.sender_state.State.{State}
 use Rattle.pd_host.proofs.Advances.{expiry_finds, expiry_sends}
+use Rattle.pd_host.proofs.Finishes.{passed_leaves}
 use Rattle.pd_host.proofs.Outcomes.{Leaves, came, leaves_too, kept}
 use Rattle.pd_host.proofs.SentOn.{IsSentOn, stills}
 use Rattle.pd_host.proofs.Taken.{taking_keeps, taken_sends, measured_keeps}
@@ -78,8 +79,9 @@ pub arrivals_queue_nothing : (segment : Segment) (now : ℕ) (s t : State) (c d 
     → (d.fin ≡ c.fin) × (d.board.end ≡ c.board.end)
 arrivals_queue_nothing segment now s t c d hc hd h =
     both c d t hd
-    (came (Tail (c.fin, c.board.end)) (ruled now segment c s (ruling_of c segment)) t (ap (arrived_on now segment s) (sym hc) ∙ h)
-    (by_ruling (ruling_of c segment) segment now s c (ap tail hc)))
+    (came (Tail (c.fin, c.board.end)) (passed_on now segment c s (ruling_of c segment)) t (ap (arrived_on now segment s) (sym hc) ∙ h)
+    (passed_leaves (Tail (c.fin, c.board.end)) now segment c s (ruling_of c segment) (λ u x e k. sym (ap tail e) ∙ k)
+    (by_ruling (ruling_of c segment) segment now s c (ap tail hc))))
 
 -- Expiries
 

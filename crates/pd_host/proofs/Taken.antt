@@ -50,7 +50,7 @@ measured_keeps now granularity ack c None = refl
 measured_keeps now granularity ack c (Some t) =
     same_either timeless (is_measured ack t) (record c { timer = sampled (now - t.sent_at) granularity c.timer; timed = None }) c (timeless c) refl refl
 
-timing_keeps : (now granularity n : ℕ) (c : ControlBlock) → timeless (with_timing now granularity n c) ≡ timeless c
+pub timing_keeps : (now granularity n : ℕ) (c : ControlBlock) → timeless (with_timing now granularity n c) ≡ timeless c
 timing_keeps now granularity n c =
     same_either timeless (nat_lt 0 n) (with_timer_moved now (with_sample now granularity c.board.una c)) c (timeless c)
     (measured_keeps now granularity c.board.una c c.timed) refl

@@ -158,6 +158,7 @@ module _ (within : StaysWithin) where
         settled_timely b now (with_sample now b.granularity_us 1 (syn_acked c)).resent _
         (measured_timely b now b.granularity_us 1 (syn_acked c) c.timed h);
     reset = λ c h. stopped_timely b now c.timer h.bounds;
+    finished = λ c h. h;
   }
 
   pub calls_timely : (now : ℕ) (b : Settings) → KeptByCalls now b (λ _. Unit {0}) (Timely b now) (Timely b now)

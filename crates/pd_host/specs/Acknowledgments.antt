@@ -99,6 +99,7 @@ ack_of_segment segment n fresh before after c = record {
   rwnd = after.rwnd;
   acked = n;
   same_window = window_in c segment == before.rwnd;
+  fin = segment.flags.fin;
   sack = news_of fresh c;
 }
 
@@ -275,7 +276,7 @@ abbrev pub led_on : ℕ → State → Then → Option ControlBlock → Result St
 led_on now s next None = Ok s
 led_on now s next (Some c) = led_to now c s next
 
--- a segment that passed all checks is taken, and what follows is sent
+-- a segment that passed all checks is taken, and what follows is sent; its FIN comes after that
 abbrev pub taken : ℕ → Segment → ControlBlock → State → Option Established → Result State Halt
 taken now segment c s e =
     let t = taking now segment c e in

@@ -1,5 +1,5 @@
 -- A segment that arrives: its checks in their order, and what each ruling does.
-use Rattle.std.specs.Prelude.{ℕ, ◌+◌, ◌==◌, nat_lt, nat_le, Bool, true, ◌&&◌, ◌||◌, List, [], ◌∷◌, Option, Some, None, is_some, Result, Ok, Err, if◌then◌else◌}
+use Rattle.std.specs.Prelude.{ℕ, ◌+◌, ◌==◌, nat_lt, nat_le, not, Bool, true, false, ◌&&◌, ◌||◌, List, [], ◌∷◌, Option, Some, None, is_some, option_map, Result, Ok, Err, if◌then◌else◌}
 use Rattle.pd_seg.specs.declared.segments.Segment.{Segment}
 use Rattle.pd_host.specs.declared.halts.Halt.{Halt}
 use Rattle.pd_host.specs.declared.halts.Halt.TheVariants.{Unsupported}
@@ -9,19 +9,39 @@ use Rattle.pd_timer.specs.Timer.{stopped}
 use Rattle.pd_host.specs.Acknowledgments.{taken}
 use Rattle.pd_host.specs.Handshake.{length_of, opened_by, established_by, establishment_uses}
 use Rattle.pd_host.specs.Packets.{ack_of, refusal_of}
-use Rattle.pd_host.specs.ControlBlock.{ControlBlock}
+use Rattle.pd_host.specs.ConnStates.{state_of, is_closed}
+use Rattle.pd_host.specs.ControlBlock.{ControlBlock, peer_fin_in, rcv_nxt}
 use Rattle.pd_host.specs.declared.endpoint.Endpoint.{Endpoint}
+use Rattle.pd_host.specs.declared.established.Established.{Established}
+use Rattle.pd_host.specs.declared.peer_fins.PeerFin.{PeerFin}
+use Rattle.pd_host.specs.declared.peer_fins.PeerFin.TheVariants.{Awaited, BeforeOurs, BehindOurs}
 use Rattle.pd_host.specs.declared.sender_state.State.{State}
-use Rattle.pd_host.specs.Sender.{beside, put_out}
-
--- 1. data, a SYN, a FIN, and whatever comes after a reset isn't run (own profile)
-abbrev pub check_contents : ControlBlock → Segment → Option Ruling
-check_contents c segment =
-    if nat_lt 0 (length_of segment) || (segment.flags.syn || (segment.flags.fin || c.reset)) then Some NotRun else None
+use Rattle.pd_host.specs.Sender.{beside, put_out, then_on}
 
 -- the sequence number lies in the receive window
 abbrev pub is_in_window : ControlBlock → Segment → Bool
-is_in_window c segment = nat_le c.rcv_nxt segment.start && nat_lt segment.start (c.rcv_nxt + c.rcv_wnd)
+is_in_window c segment = nat_le (rcv_nxt c) segment.start && nat_lt segment.start (rcv_nxt c + c.rcv_wnd)
+
+-- no FIN of the peer was taken
+abbrev pub is_awaited : PeerFin → Bool
+is_awaited Awaited = true
+is_awaited _ = false
+
+-- the peer's FIN is the next octet: it is the first, and nothing is missing before it
+abbrev pub is_next_fin : ControlBlock → Segment → Bool
+is_next_fin c segment = is_awaited (peer_fin_in c.established) && segment.start == rcv_nxt c
+
+-- another FIN in the receive window
+abbrev pub is_stray_fin : ControlBlock → Segment → Bool
+is_stray_fin c segment = segment.flags.fin && (is_in_window c segment && not (is_next_fin c segment))
+
+-- 1. data, a SYN, a FIN in the receive window that isn't the next octet, and whatever comes to a closed connection isn't run
+-- (own profile)
+abbrev pub check_contents : ControlBlock → Segment → Option Ruling
+check_contents c segment =
+    if nat_lt 0 (length_of segment) || (segment.flags.syn || (is_stray_fin c segment || is_closed (state_of c)))
+    then Some NotRun
+    else None
 
 -- 2. outside the receive window an RST is dropped; any other segment is answered by an ACK and dropped (RFC 9293, section
 -- 3.10.7.4, first check)
@@ -33,21 +53,21 @@ check_window c segment =
 -- section 3.10.7.4, second check; RFC 5961, section 3.2)
 abbrev pub check_rst : ControlBlock → Segment → Option Ruling
 check_rst c segment =
-    if segment.flags.rst then Some (if segment.start == c.rcv_nxt then ExactRst else ChallengedRst) else None
+    if segment.flags.rst then Some (if segment.start == rcv_nxt c then ExactRst else ChallengedRst) else None
 
 -- 4. a segment without the ACK flag is dropped (RFC 9293, section 3.10.7.4, fifth check)
 abbrev pub check_ack_flag : Segment → Option Ruling
 check_ack_flag segment = if segment.flags.ack then None else Some WithoutAck
 
--- 5. in the handshake an ACK of our SYN establishes the connection; any other is refused by an RST (RFC 9293, section
+-- 5. in the handshake an ACK of our SYN establishes the connection, and its FIN is looked at; any other is refused by an RST (RFC 9293, section
 -- 3.10.7.4, fifth check, SYN-RECEIVED)
 abbrev pub check_handshake : ControlBlock → Segment → Option Ruling
 check_handshake c segment =
     if is_some c.established then None
     else Some (if nat_lt c.board.una segment.ack && nat_le segment.ack c.board.top then FirstAck else RefusedAck)
 
--- 6. an ACK of what wasn't sent is answered by an ACK and dropped; one below what is acknowledged is dropped (RFC 9293,
--- section 3.10.7.4, fifth check, ESTABLISHED)
+-- 6. an ACK of what wasn't sent is answered by an ACK and dropped; of one below what is acknowledged the FIN alone is looked
+-- at (RFC 9293, section 3.10.7.4, fifth check, ESTABLISHED)
 abbrev pub check_ack : ControlBlock → Segment → Option Ruling
 check_ack c segment =
     if nat_lt c.board.top segment.ack then Some EarlyAck
@@ -97,10 +117,45 @@ ruled now segment c s (Some EarlyAck) = beside s (put_out now (ack_of c) s.endpo
 ruled now segment c s (Some OldAck) = Ok s
 ruled now segment c s None = taken now segment c s c.established
 
+-- the same by whether a connection was begun
+abbrev pub ruled_on : ℕ → Segment → State → Option Ruling → Option ControlBlock → Result State Halt
+ruled_on now segment s r None = Ok s
+ruled_on now segment s r (Some c) = ruled now segment c s r
+
+-- 11. the FIN
+
+-- a segment's FIN is looked at where it establishes the connection, where its ACK is old, and where it passed all checks; one
+-- that is dropped has none
+abbrev pub goes_on : Option Ruling → Bool
+goes_on (Some FirstAck) = true
+goes_on (Some OldAck) = true
+goes_on None = true
+goes_on _ = false
+
+-- the peer's FIN is taken: RCV.NXT lies behind it, and it came before ours or behind it (RFC 9293, section 3.10.7.4, eighth
+-- check)
+abbrev pub with_peer_fin : ControlBlock → ControlBlock
+with_peer_fin c = record c {
+  established = option_map {T = Established} (λ e. record e { peer_fin = if c.fin then BehindOurs else BeforeOurs }) c.established;
+}
+
+-- it is taken and answered by an ACK at a moment
+abbrev pub finished_on : ℕ → State → Option ControlBlock → Result State Halt
+finished_on now s None = Ok s
+finished_on now s (Some c) = beside s (put_out now (ack_of (with_peer_fin c)) (with_connection (with_peer_fin c) s.endpoint))
+
+-- so it is where the segment has one and goes on to it, after what its ACK led to was sent
+abbrev pub finished_by : ℕ → Segment → Option Ruling → State → Result State Halt
+finished_by now segment r s = if goes_on r && segment.flags.fin then finished_on now s s.endpoint.connection else Ok s
+
+-- a later segment: the ruling, and then the FIN
+abbrev pub passed_on : ℕ → Segment → ControlBlock → State → Option Ruling → Result State Halt
+passed_on now segment c s r = then_on (finished_by now segment r) (ruled now segment c s r)
+
 -- an arrival, by whether a connection was begun
 abbrev pub arrived_on : ℕ → Segment → State → Option ControlBlock → Result State Halt
 arrived_on now segment s None = opened_by now segment s
-arrived_on now segment s (Some c) = ruled now segment c s (ruling_of c segment)
+arrived_on now segment s (Some c) = passed_on now segment c s (ruling_of c segment)
 
 -- a segment arrives at a moment: the first one, or one on the connection that was begun
 abbrev pub arrived : Segment → ℕ → State → Result State Halt

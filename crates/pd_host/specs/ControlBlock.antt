@@ -1,9 +1,11 @@
 -- A connection's transmission control block.
-use Rattle.std.specs.Prelude.{ℕ, ◌-◌, ◌≤◌, Bool, Option, IfNone, if◌then◌else◌}
+use Rattle.std.specs.Prelude.{ℕ, ◌-◌, ◌≤◌, Bool, Option, None, Some, IfNone, if◌then◌else◌}
 use Rattle.std.specs.Option.{ForSome}
 use Rattle.pd_board.specs.Scoreboard.{Scoreboard}
 use Rattle.pd_timer.specs.Timer.{Timer}
 use Rattle.pd_host.specs.declared.established.Established.{Established}
+use Rattle.pd_host.specs.declared.peer_fins.PeerFin.{PeerFin}
+use Rattle.pd_host.specs.declared.peer_fins.PeerFin.TheVariants.{Awaited}
 use Rattle.pd_host.specs.declared.scaling.Scaling.{Scaling}
 use Rattle.pd_host.specs.declared.timings.Timing.{Timing}
 
@@ -15,8 +17,6 @@ pub record ControlBlock : Type 0 where
   pub sack : Bool
   -- by how much windows are shifted, if that was agreed (RFC 7323, section 2)
   pub scaling : Option Scaling
-  -- RCV.NXT: the number of the next octet that the peer sends
-  pub rcv_nxt : ℕ
   -- RCV.WND: how many octets the peer may send
   pub rcv_wnd : ℕ
   -- SMSS, the numbers that are sent by, and the SACKed octets (RFC 9293, section 3.3.1; RFC 6675, section 3)
@@ -35,6 +35,21 @@ pub record ControlBlock : Type 0 where
   pub established : Option Established
   -- whether an RST has ended it
   pub reset : Bool
+
+-- the peer's FIN, which can't have come before the end of the handshake
+abbrev pub peer_fin_in : Option Established → PeerFin
+peer_fin_in None = Awaited
+peer_fin_in (Some e) = e.peer_fin
+
+-- the number of the next octet that the peer sends: its FIN is octet 1, since no data of it is run (own profile), and nothing
+-- comes behind it
+abbrev pub next_from : PeerFin → ℕ
+next_from Awaited = 1
+next_from _ = 2
+
+-- RCV.NXT (RFC 9293, section 3.3.1)
+abbrev pub rcv_nxt : ControlBlock → ℕ
+rcv_nxt c = next_from (peer_fin_in c.established)
 
 -- the number after the last octet of data that is queued; the FIN is the octet behind it
 abbrev pub data_end : ControlBlock → ℕ

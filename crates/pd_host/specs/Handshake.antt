@@ -14,6 +14,7 @@ use Rattle.pd_host.specs.declared.halts.Halt.TheVariants.{Unsupported}
 use Rattle.pd_host.specs.declared.listeners.Listener.{Listener}
 use Rattle.pd_host.specs.declared.listeners.Listener.TheVariants.{Listens}
 use Rattle.pd_host.specs.declared.offers.Offers.{Offers}
+use Rattle.pd_host.specs.declared.peer_fins.PeerFin.TheVariants.{Awaited}
 use Rattle.pd_host.specs.declared.scaling.Scaling.{Scaling}
 use Rattle.pd_host.specs.declared.streams.Stream.TheVariants.{Waiting}
 use Rattle.pd_host.specs.Packets.{peer_count, syn_ack_of}
@@ -121,7 +122,6 @@ begun now settings syn = record {
   announced = settings.mss;
   sack = is_sack_agreed settings (offers_of syn.options);
   scaling = scaling_of settings (offers_of syn.options);
-  rcv_nxt = 1;
   rcv_wnd = settings.rcv_wnd;
   board = opened (smss_of settings (offers_of syn.options));
   fin = false;
@@ -158,7 +158,8 @@ abbrev pub with_window : ℕ → Segment → Established → Established
 with_window window segment e = record e { rwnd = window; wl1 = segment.start; wl2 = segment.ack }
 
 -- what a connection has from the end of its handshake on: the window, Nagle's algorithm and the clock's granularity as the
--- settings say, the initial congestion window (RFC 5681, section 3.1), and a descriptor that `accept` has still to hand out
+-- settings say, the initial congestion window (RFC 5681, section 3.1), a descriptor that `accept` has still to hand out, and
+-- the peer's FIN still to come
 abbrev pub established_with : Settings → Segment → ControlBlock → Established
 established_with settings segment c = record {
   rwnd = window_in c segment;
@@ -168,6 +169,7 @@ established_with settings segment c = record {
   granularity_us = settings.granularity_us;
   congestion = congestion.begun settings.initial_ssthresh c.board.smss c.resent;
   stream = Waiting;
+  peer_fin = Awaited;
 }
 
 -- our SYN is acknowledged

@@ -9,7 +9,7 @@ use Rattle.pd_seg.specs.declared.segments.Segment.{Segment}
 use Rattle.pd_seg.specs.declared.segments.Sent.{Sent}
 use Rattle.pd_host.specs.Arrivals.{is_in_window, arrived}
 use Rattle.pd_host.specs.Calls.{called}
-use Rattle.pd_host.specs.ControlBlock.{ControlBlock}
+use Rattle.pd_host.specs.ControlBlock.{ControlBlock, rcv_nxt}
 use Rattle.pd_host.specs.Expiries.{advanced}
 use Rattle.pd_host.specs.Laws.{AreInOrder}
 use Rattle.pd_host.specs.declared.sender_state.State.{State}
@@ -32,7 +32,7 @@ OnlyAnExactRstResets =
     → c.reset ≡ false
     → d.reset ≡ true
     → arrived segment now s ≡ Ok t
-    → (segment.flags.rst ≡ true) × (segment.start ≡ c.rcv_nxt)
+    → (segment.flags.rst ≡ true) × (segment.start ≡ rcv_nxt c)
 
 -- what was put out at a moment stands behind the packets that nobody has taken, and carries that moment
 abbrev pub IsBehind : ℕ → State → State → Type 0

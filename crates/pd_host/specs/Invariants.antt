@@ -8,23 +8,28 @@ use Rattle.pd_board.specs.Octets.{contains, octets_where}
 use Rattle.pd_board.specs.Scoreboard.{Scoreboard, IsScoreboard}
 use Rattle.pd_recover.specs.Laws.{IsWithin}
 use Rattle.pd_host.specs.Arrivals.{arrived}
-use Rattle.pd_host.specs.Calls.{called, stream_of}
-use Rattle.pd_host.specs.ControlBlock.{ControlBlock}
+use Rattle.pd_host.specs.Calls.{called, stream_in}
+use Rattle.pd_host.specs.ControlBlock.{ControlBlock, peer_fin_in}
 use Rattle.pd_host.specs.Expiries.{advanced}
 use Rattle.pd_host.specs.Laws.{IsUpTo}
 use Rattle.pd_host.specs.Sender.{Sender, fresh, without_oldest, queued_to, IsShort}
 use Rattle.pd_host.specs.declared.established.Established.{Established}
 use Rattle.pd_host.specs.declared.halts.Halt.TheVariants.{Unsupported}
+use Rattle.pd_host.specs.declared.peer_fins.PeerFin.TheVariants.{BehindOurs}
 use Rattle.pd_host.specs.declared.sender_state.State.{State}
 use Rattle.pd_host.specs.declared.streams.Stream.TheVariants as stream
 use Rattle.pd_host.specs.declared.timings.Timing.{Timing}
 
 -- what the SYN and the settings agreed on stays (RFC 9293, section 3.7.1)
-pub record IsAgreed (b : Settings) (announced smss rcv_nxt rcv_wnd : ℕ) : Type 0 where
+pub record IsAgreed (b : Settings) (announced smss rcv_wnd : ℕ) : Type 0 where
   pub mss : announced ≡ b.mss
   pub no_longer : smss ≤ b.mss
-  pub next : rcv_nxt ≡ 1
   pub window : rcv_wnd ≡ b.rcv_wnd
+
+-- where our FIN is queued descriptor 4 is closed, so that nothing is queued behind it (RFC 9293, section 3.10.4); a FIN of the
+-- peer that is noted as behind ours came behind ours
+abbrev pub IsEnding : Bool → Option Established → Type 0
+IsEnding fin o = (fin ≡ true → stream_in o ≡ stream.Closed) × (peer_fin_in o ≡ BehindOurs → fin ≡ true)
 
 -- the numbers that are sent by are in order, and what is SACKed was sent and isn't acknowledged (RFC 9293, section 3.3.1;
 -- RFC 2018, section 3)
@@ -65,13 +70,12 @@ pub record IsTimed (now una top : ℕ) (t : Timing) : Type 0 where
 
 -- a connection that the rules reach at a moment
 pub record IsReached (b : Settings) (now : ℕ) (c : ControlBlock) : Type 0 where
-  pub agreed : IsAgreed b c.announced c.board.smss c.rcv_nxt c.rcv_wnd
+  pub agreed : IsAgreed b c.announced c.board.smss c.rcv_wnd
   pub board : IsOrdered c.board
   -- no more is queued than the setting `sndbuf` and our FIN
   pub room : c.board.end ≤ c.board.una + b.sndbuf + fin_octets c.fin
   pub phase : IsOfPhase c.established c.board.una c.board.top c.board.end
-  -- where our FIN is queued descriptor 4 is closed, so that nothing is queued behind it (RFC 9293, section 3.10.4)
-  pub fin : c.fin ≡ true → stream_of c ≡ stream.Closed
+  pub fin : IsEnding c.fin c.established
   pub bounds : IfSome c.established (IsInBounds b c.board.smss c.board.top c.widest)
   -- the timer runs while octets are outstanding, our SYN too, and not else; no timer runs after an RST (RFC 6298, sections
   -- 5.1 and 5.2)

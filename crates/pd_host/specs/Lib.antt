@@ -8,8 +8,10 @@ pub mod Requests
 pub mod Sending
 pub mod Calls
 pub mod Handshake
+pub mod ConnStates
 pub mod Acknowledgments
 pub mod Arrivals
+pub mod Figure
 pub mod Expiries
 pub mod Laws
 pub mod Growth

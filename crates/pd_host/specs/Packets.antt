@@ -6,7 +6,7 @@ use Rattle.pd_seg.specs.declared.option_list.SegOption.TheVariants.{Mss, Wscale,
 use Rattle.pd_seg.specs.declared.sack_blocks.Span.{Span}
 use Rattle.pd_seg.specs.declared.segments.Segment.{Segment}
 use Rattle.pd_host.specs.declared.scaling.Scaling.{Scaling}
-use Rattle.pd_host.specs.ControlBlock.{ControlBlock, data_end}
+use Rattle.pd_host.specs.ControlBlock.{ControlBlock, rcv_nxt, data_end}
 
 -- a segment without flags
 abbrev pub no_flags : Flags
@@ -33,7 +33,7 @@ ack_of c = record {
   flags = record no_flags { ack = true };
   start = c.board.top;
   end = c.board.top;
-  ack = c.rcv_nxt;
+  ack = rcv_nxt c;
   win = shifted_window c;
   options = [];
 }
@@ -52,7 +52,7 @@ data_of c segment = record {
   flags = record no_flags { fin = covers_fin c segment; psh = ends_data c segment; ack = true };
   start = segment.start;
   end = min segment.end (data_end c);
-  ack = c.rcv_nxt;
+  ack = rcv_nxt c;
   win = shifted_window c;
   options = [];
 }

@@ -1,14 +1,15 @@
 //! A segment that arrives.
-ghost use Rattle.std.specs.Prelude.{◌≡◌, ◌<◌, ◌^◌};
-ghost use Rattle.pd_host.specs.Arrivals.{arrived};
+ghost use Rattle.std.specs.Prelude.{◌≡◌, ◌≤◌, ◌<◌, ◌^◌, Some, IfSome, IfNone};
+ghost use Rattle.pd_host.specs.Arrivals.{ruled_on, finished_on, arrived};
 ghost use Rattle.pd_host.specs.Handshake.{is_syn_alone, is_opening, opened_by};
 ghost use Rattle.pd_host.specs.Outcome.{Gives};
+ghost use Rattle.pd_host.specs.declared.rulings.Ruling.TheVariants.{FirstAck};
 
 use crate::connection::{Connection, refusal};
 use crate::halts::{Ending, Halt};
 use crate::listeners::Listener;
 use crate::offers::{Offers, is_mss_run};
-use crate::rulings::Ruling;
+use crate::rulings::{Ruling, goes_on};
 use crate::sender_state::State;
 use crate::uses::{with_establishment, with_syn};
 use pd_seg::{Flags, Segment};
@@ -22,11 +23,30 @@ impl State {
         requires early { now < 2 ^ 62 }
         ensures { Gives (arrived segment.now now self.old) result self.new }
     {
-        let Some(connection) = &mut self.endpoint.connection else {
+        let Some(connection) = &self.endpoint.connection else {
             return self.open(segment, now);
         };
+        let ruling = connection.ruling(segment);
+        self.rule(ruling, segment, now)?;
+        if goes_on(ruling) && segment.flags.fin {
+            self.finish(now)?;
+        }
+        Ok(())
+    }
+
+    /// What a ruling makes of a segment, but for its FIN.
+    fn rule(&mut self, ruling: Option<Ruling>, segment: &Segment, now: u64) -> Result<(), Ending>
+        requires early { now < 2 ^ 62 }
+        requires known { IfSome self.old.endpoint.connection (λ c. IfNone ruling (c.board.una ≤ segment.now.ack)) }
+        requires sent { IfSome self.old.endpoint.connection (λ c. IfNone ruling (segment.now.ack ≤ c.board.top)) }
+        requires first { IfSome self.old.endpoint.connection (λ c. ruling ≡ Some FirstAck → (c.board.una ≤ 1) × (1 ≤ c.board.top)) }
+        ensures { Gives (ruled_on now segment.now self.old ruling self.old.endpoint.connection) result self.new }
+    {
+        let Some(connection) = &mut self.endpoint.connection else {
+            return Ok(());
+        };
         let outbox = &mut self.endpoint.outbox;
-        match connection.ruling(segment) {
+        match ruling {
             Some(Ruling::NotRun) => Err(NOT_RUN),
             Some(Ruling::StrayRst | Ruling::WithoutAck | Ruling::OldAck) => Ok(()),
             Some(Ruling::OutsideWindow | Ruling::ChallengedRst | Ruling::EarlyAck) => {
@@ -51,6 +71,19 @@ impl State {
                 self.respond(then, now)
             }
         }
+    }
+
+    /// The peer's FIN is taken and answered by an ACK.
+    fn finish(&mut self, now: u64) -> Result<(), Ending>
+        ensures { Gives (finished_on now self.old self.old.endpoint.connection) result self.new }
+    {
+        let Some(connection) = &mut self.endpoint.connection else {
+            return Ok(());
+        };
+        connection.take_fin();
+        let outbox = &mut self.endpoint.outbox;
+        let ack = connection.acknowledgment(outbox.allocator());
+        outbox.put_out(ack, now)
     }
 
     /// The first segment begins the connection, or isn't run.

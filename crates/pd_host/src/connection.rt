@@ -1,8 +1,8 @@
 //! A connection: what was agreed, the numbers that it sends by, and how far it has come.
 ghost use Rattle.std.specs.Prelude.{◌≡◌, ◌+◌, ◌≤◌, ◌<◌, ◌^◌, true, is_some};
-ghost use Rattle.pd_host.specs.Arrivals.{reset_of};
+ghost use Rattle.pd_host.specs.Arrivals.{reset_of, with_peer_fin};
 ghost use Rattle.pd_host.specs.Calls.{stream_of, with_stream, with_nagle, free_of, with_queued, with_fin};
-ghost use Rattle.pd_host.specs.ControlBlock.{IsScalable};
+ghost use Rattle.pd_host.specs.ControlBlock.{IsScalable, peer_fin_in, rcv_nxt};
 ghost use Rattle.pd_host.specs.Handshake.{offered_mss, is_mss_run, smss_of, scaling_of, begun, window_in, established_by};
 ghost use Rattle.pd_host.specs.Sending.{is_recovering};
 ghost use Rattle.pd_host.specs.declared.streams.Stream.TheVariants.{Open as StreamOpen, Closed as StreamClosed};
@@ -10,13 +10,16 @@ ghost use Rattle.pd_host.specs.Packets.{peer_count};
 
 mod acknowledgments;
 mod checks;
+mod copying;
 mod expiring;
 mod packets;
 mod sending;
+mod states;
 mod timing;
 
 use crate::established::Established;
 use crate::offers::Offers;
+use crate::peer_fins::PeerFin;
 use crate::scaling::Scaling;
 use crate::streams::Stream;
 use crate::timings::Timing;
@@ -41,7 +44,6 @@ pub struct Connection {
     announced: u16,
     sack: bool,
     scaling: Option<Scaling>,
-    rcv_nxt: u32,
     rcv_wnd: u32,
     board: Board,
     fin: bool,
@@ -58,7 +60,7 @@ impl Model for Connection {
 
     ghost Value = { ControlBlock };
 
-    ghost view = { λ c. record { announced = c.announced; sack = c.sack; scaling = c.scaling; rcv_nxt = c.rcv_nxt; rcv_wnd = c.rcv_wnd; board = c.board; fin = c.fin; timer = c.timer; timed = c.timed; widest = c.widest; resent = c.resent; established = c.established; reset = c.reset } };
+    ghost view = { λ c. record { announced = c.announced; sack = c.sack; scaling = c.scaling; rcv_wnd = c.rcv_wnd; board = c.board; fin = c.fin; timer = c.timer; timed = c.timed; widest = c.widest; resent = c.resent; established = c.established; reset = c.reset } };
 
     ghost invariant = { λ c. IsConnection c.scaling c.board.una c.established };
 }
@@ -112,7 +114,6 @@ impl Connection {
             announced: settings.mss,
             sack: settings.sack && offers.sack,
             scaling: scaling_of(settings, offers),
-            rcv_nxt: 1,
             rcv_wnd: settings.rcv_wnd,
             board: Board::new(alloc, smss_of(settings, offers)),
             fin: false,
@@ -148,6 +149,7 @@ impl Connection {
             granularity_us: settings.granularity_us,
             congestion: Cong::new(settings, self.board.smss(), self.resent),
             stream: Stream::Waiting,
+            peer_fin: PeerFin::Awaited,
         });
     }
 
@@ -156,6 +158,37 @@ impl Connection {
         ensures { result ≡ window_in self.now segment.now }
     {
         u32::from(segment.win) << peer_count(self.scaling)
+    }
+
+    /// The peer's FIN.
+    fn peer_fin(&self) -> PeerFin
+        ensures { result ≡ peer_fin_in self.now.established }
+    {
+        match &self.established {
+            None => PeerFin::Awaited,
+            Some(established) => established.peer_fin,
+        }
+    }
+
+    /// RCV.NXT: the number of the next octet that the peer sends.
+    fn rcv_nxt(&self) -> u32
+        ensures value { result ≡ rcv_nxt self.now }
+        ensures small { result ≤ 2 }
+    {
+        self.peer_fin().next_number()
+    }
+
+    /// The peer's FIN is taken.
+    pub fn take_fin(&mut self)
+        ensures { self.new ≡ with_peer_fin self.old }
+    {
+        if let Some(established) = &mut self.established {
+            established.peer_fin = if self.fin {
+                PeerFin::BehindOurs
+            } else {
+                PeerFin::BeforeOurs
+            };
+        }
     }
 
     /// An RST ends the connection for good.

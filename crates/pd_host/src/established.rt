@@ -3,6 +3,7 @@ ghost use Rattle.std.specs.Prelude.{◌≡◌};
 ghost use Rattle.pd_host.specs.Acknowledgments.{is_current};
 ghost use Rattle.pd_host.specs.Handshake.{with_window};
 
+use crate::peer_fins::PeerFin;
 use crate::streams::Stream;
 use pd_recover::Cong;
 use pd_seg::Segment;
@@ -24,6 +25,7 @@ pub struct Established {
     pub congestion: Cong,
     /// Descriptor 4.
     pub stream: Stream,
+    pub peer_fin: PeerFin,
 }
 
 impl Established {

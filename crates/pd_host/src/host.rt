@@ -1,11 +1,14 @@
 //! A host: the sender behind one interface, with the reason why it has ended.
-ghost use Rattle.std.specs.Prelude.{◌≡◌, ◌<◌, ◌^◌, slice_get};
+ghost use Rattle.std.specs.Prelude.{◌≡◌, ◌<◌, ◌^◌, Some, IfOk, IsErr, slice_get};
 ghost use Rattle.pd_host.specs.Arrivals.{arrived};
 ghost use Rattle.pd_host.specs.Calls.{called};
+ghost use Rattle.pd_host.specs.ConnStates.{conn_state};
 ghost use Rattle.pd_host.specs.Outcome.{Goes, Answers};
 ghost use Rattle.pd_host.specs.Expiries.{advanced, deadline_of};
 ghost use Rattle.pd_host.specs.Sender.{IsShort, fresh, without_oldest, exhausted, end_of};
+ghost use Rattle.pd_host.specs.declared.halts.Ending.TheVariants.{OutOfMemory};
 
+use crate::conn_states::ConnState;
 use crate::endpoint::Endpoint;
 use crate::halts::{Ending, Halt};
 use crate::outbox::Outbox;
@@ -14,7 +17,7 @@ use crate::sender_state::State;
 use pd_script::Call;
 use pd_seg::{Answer, Segment, Sent};
 use pd_settings::{Settings, UseSet};
-use std::alloc::Global;
+use std::alloc::{AllocError, Global};
 use std::marker::Model;
 
 /// A TCP sender in virtual time. Moments are microseconds since the start of the run, below 2^62.
@@ -110,6 +113,13 @@ impl Host {
         self.state.deadline()
     }
 
+    /// The state of the connection, or of the listener where none was begun.
+    pub fn state(&self) -> ConnState
+        ensures { result ≡ conn_state self.now.state }
+    {
+        self.state.conn_state()
+    }
+
     /// The packets that were put out and not yet taken.
     pub fn outbox(&self) -> &Outbox
         ensures { result.now ≡ self.now.state.endpoint.outbox }
@@ -140,6 +150,24 @@ impl Host {
     {
         let ending = self.ended.unwrap_or(Ending::OutOfMemory);
         self.end(ending)
+    }
+
+    /// The same host once more.
+    ///
+    /// # Errors
+    ///
+    /// Want of memory, also where the host has ended by it.
+    pub fn copy(&self) -> Result<Host, AllocError>
+        ensures ok { IfOk result (λ copy. copy ≡ self.now) }
+        ensures again { self.now.ended ≡ Some OutOfMemory → IsErr result }
+    {
+        if let Some(Ending::OutOfMemory) = self.ended {
+            return Err(AllocError);
+        }
+        Ok(Host {
+            state: self.state.copy()?,
+            ended: self.ended,
+        })
     }
 
     /// The host has ended by this.

@@ -1,5 +1,6 @@
 //! Laws of the rules: functions without code, whose contracts are the laws.
 ghost use Rattle.pd_host.specs.Growth.{ExpiriesQueueNothing, ArrivalsQueueOurSyn, CallsQueueWhatTheyAsk};
+ghost use Rattle.pd_host.specs.Figure.{FollowsFigure};
 ghost use Rattle.pd_host.specs.Laws.{StartsUpToDate, AdvancesKeepUp, ArrivalsKeepUp, CallsKeepUp, TakingKeepsUp};
 ghost use Rattle.pd_host.specs.Invariants.{StartsLawful, AdvancesStayLawful, ArrivalsStayLawful, CallsStayLawful, TakingStaysLawful, BoardsAreScoreboards, CallsStayInRange, EndsForGood};
 ghost use Rattle.pd_host.specs.InputLaws.{OutsideIsHarmless, OnlyAnExactRstResets, PutsOutBehind, OnlyUsesMatter, CallsPutOutBehind, CallsOnlyUse, AdvancesPutOutBehind, AdvancesUseNone};
@@ -65,6 +66,7 @@ pub fn states_are_lawful()
     ensures boards { BoardsAreScoreboards }
     ensures range { CallsStayInRange }
     ensures resets { EndsForGood }
+    ensures figure { FollowsFigure }
 {
     timers_are_lawful();
     recovery_is_lawful();

@@ -4,6 +4,7 @@
 mod acknowledgments;
 mod arrivals;
 mod calls;
+mod conn_states;
 mod connection;
 mod descriptors;
 mod endpoint;
@@ -15,6 +16,7 @@ mod laws;
 mod listeners;
 mod offers;
 mod outbox;
+mod peer_fins;
 mod requests;
 mod rulings;
 mod scaling;
@@ -24,6 +26,7 @@ mod streams;
 mod timings;
 mod uses;
 
+pub use conn_states::ConnState;
 pub use halts::{Ending, Halt};
 pub use host::Host;
 pub use laws::{

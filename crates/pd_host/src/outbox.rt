@@ -1,12 +1,12 @@
 //! The packets that were put out and not yet taken.
-ghost use Rattle.std.specs.Prelude.{◌≡◌, ◌==◌, [], nat_le, length, slice_get, drop};
+ghost use Rattle.std.specs.Prelude.{◌≡◌, ◌==◌, [], nat_le, length, slice_get, drop, IfOk};
 ghost use Rattle.std.specs.Option.{option_copied};
 ghost use Rattle.pd_host.specs.Outcome.{Gives};
 ghost use Rattle.pd_host.specs.Sender.{with_packet};
 
 use crate::halts::{Ending, Halt};
 use pd_seg::{Segment, Sent};
-use std::alloc::Global;
+use std::alloc::{AllocError, Global};
 use std::collections::VecDeque;
 use std::marker::Model;
 
@@ -89,6 +89,17 @@ impl Outbox {
         ensures rest { self.new ≡ drop 1 self.old }
     {
         self.packets.pop_front()
+    }
+
+    /// The same packets once more.
+    pub fn copy(&self) -> Result<Outbox, AllocError>
+        ensures { IfOk result (λ copy. copy ≡ self.now) }
+    {
+        let mut packets = VecDeque::new(self.allocator());
+        for sent in self.packets.iter() {
+            packets.push_back(sent.copy()?)?;
+        }
+        Ok(Outbox { packets })
     }
 
     /// What the outbox allocates by.

@@ -202,12 +202,12 @@ module _ (cs xs ys : List (List ℕ)) (plain_x : list_all is_line (cs ++ xs) ≡
       within le =
           let q = standing (cs ++ xs) p in
           let h : IsPlace (cs ++ xs) q = standing_is_place (cs ++ xs) p le in
-          let is = items_from (cs ++ xs) plain_x p q h refl in
+          let is = items_from (cs ++ xs) p q h refl in
           let beyond : length cs < q.line → AgreeTo (length cs) (items (cs ++ xs) q) (items (cs ++ ys) p) = λ lt. far (length cs) q.line (max 1 (length (cs ++ xs))) (items (cs ++ xs) q) (items (cs ++ ys) p) lt (items_rise (cs ++ xs) plain_x q h) in
           let near : q.line ≤ length cs → AgreeTo (length cs) (items (cs ++ xs) q) (items (cs ++ ys) p) = λ close.
           let front = place_in_front cs xs q h close in
           let same = standing_same p (omega (arith, standing_rises (cs ++ xs) p)) in
-          let other = items_from (cs ++ ys) plain_y p q (place_in_whole cs ys q front close) same in
+          let other = items_from (cs ++ ys) p q (place_in_whole cs ys q front close) same in
           rw other (agree_within (length (octets_from (cs ++ xs) q)) q front close (omega arith))
           in
           rw is (by_line (length cs) q.line (AgreeTo (length cs) (items (cs ++ xs) q) (items (cs ++ ys) p)) beyond near)

@@ -50,4 +50,4 @@ go_on lines p plain = by_line (length lines) p.line (GoOn lines (items lines p))
     within : p.line ≤ length lines → GoOn lines (items lines p)
     within le =
         let h = standing_is_place lines p le in
-        rw (items_from lines plain p (standing lines p) h refl) (on_within lines plain (length (octets_from lines (standing lines p))) (standing lines p) h (omega arith))
+        rw (items_from lines p (standing lines p) h refl) (on_within lines plain (length (octets_from lines (standing lines p))) (standing lines p) h (omega arith))

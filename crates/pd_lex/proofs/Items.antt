@@ -38,14 +38,14 @@ unfolding items_within front
 one_piece last p [] = refl
 one_piece last p (b ∷ s) = same_followed last p (b ∷ s) (front (b ∷ s)) (items_within (length s) last) (all_within last) (front_leaves (b ∷ s)) (λ q r lt. enough (length s) (length r) last q r (omega arith) (omega arith))
 
+pub items_from : (lines : List (List ℕ)) (p q : Place) → IsPlace lines q → q ≡ standing lines p → items lines p ≡ items lines q
+unfolding items octets_from
+items_from lines p q h e = rw (← e, standing_place lines q h) refl
+
 module _ (lines : List (List ℕ)) (plain : list_all is_line lines ≡ true) where
   items_at : (p : Place) → IsPlace lines p → items lines p ≡ all_within (max 1 (length lines)) p (octets_from lines p)
   unfolding items
   items_at p h = rw (standing_place lines p h) refl
-
-  pub items_from : (p q : Place) → IsPlace lines q → q ≡ standing lines p → items lines p ≡ items lines q
-  unfolding items octets_from
-  items_from p q h e = rw (← e, standing_place lines q h) refl
 
   pub items_past : (p : Place) → length lines < p.line → items lines p ≡ ending (max 1 (length lines)) ∷ []
   unfolding items items_within

@@ -6,6 +6,9 @@ pub mod Fronts
 pub mod Items
 pub mod Steps
 pub mod Texts
+pub mod TextLines
+pub mod Words
+pub mod Blanks
 pub mod Bounds
 pub mod Spelled
 pub mod Longest

@@ -48,3 +48,8 @@ stuck_at s e = record {
 pub Skips-then : {s t text rest : List ℕ} → Skips s t → IsLongest t None text rest → Skips s rest
 Skips-then here cut = past cut here
 Skips-then (past first more) cut = past first (Skips-then more cut)
+
+-- and many more
+pub Skips-over : {s t u : List ℕ} → Skips s t → Skips t u → Skips s u
+Skips-over here more = more
+Skips-over (past first skipped) more = past first (Skips-over skipped more)

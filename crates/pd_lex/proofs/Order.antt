@@ -185,4 +185,4 @@ rise lines p plain = by_line (length lines) p.line (IsInOrder p.line (max 1 (len
     within : p.line ≤ length lines → IsInOrder p.line (max 1 (length lines)) (items lines p)
     within le =
         let h = standing_is_place lines p le in
-        rw (items_from lines plain p (standing lines p) h refl) (rises_from p.line (standing lines p).line (max 1 (length lines)) (items lines (standing lines p)) (standing_rises lines p) (items_rise lines plain (standing lines p) h))
+        rw (items_from lines p (standing lines p) h refl) (rises_from p.line (standing lines p).line (max 1 (length lines)) (items lines (standing lines p)) (standing_rises lines p) (items_rise lines plain (standing lines p) h))

@@ -146,7 +146,7 @@ same_line lines p q h g e left (inr le) =
     let b : length (octets_from lines q) ≡ length (line_at lines p.line) - q.at + 1 + length (joined (drop p.line lines)) = rw e (left_here lines q g (omega arith)) in
     omega (arith, h.at, (rw (← e) at g.at), a, b)
 
-place_is : (p q : Place) → p.line ≡ q.line → p.at ≡ q.at → p ≡ q
+pub place_is : (p q : Place) → p.line ≡ q.line → p.at ≡ q.at → p ≡ q
 place_is p q e f =
     let line_is : ◌≡◌ {A = Place} (record { line = p.line; at = p.at }) (record { line = q.line; at = p.at }) = ap (λ (n : ℕ). record { line = n; at = p.at }) e in
     let at_is : ◌≡◌ {A = Place} (record { line = q.line; at = p.at }) (record { line = q.line; at = q.at }) = ap (λ (n : ℕ). record { line = q.line; at = n }) f in

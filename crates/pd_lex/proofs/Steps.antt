@@ -101,7 +101,6 @@ module _ (lines : List (List ℕ)) (p : Place) (h : IsPlace lines p) (le : p.lin
 
   step_over : (o : Opener) (r : Option (List ℕ)) (q : Place) (step : Step) → IsClosing o q step → front (octets_from lines p) ≡ closed o r → IsClosed lines r (Some q) → IsStep lines p step
   step_over o None q step is e c = absurd c
-  step_over o (Some rest) q steps.Nothing is e c = absurd is
   step_over o (Some rest) q (steps.Gap r) is e c = rw is.1 (c.place, over_gap o rest q is.0 e c)
   step_over o (Some rest) q (steps.Token kind text r) is e c =
       let over = over_token o kind rest q is.0 e c in

@@ -10,5 +10,5 @@ mod step;
 mod token;
 
 pub use laws::{first_lines, items_behind_tokens, longest_pieces};
-pub use next::next_token;
+pub use next::{next_token, read_next};
 pub use token::{Lexed, Place, Span, Token, TokenKind};

@@ -2,7 +2,7 @@
 ghost use Rattle.pd_lex.specs.Lexing.{IsNext};
 ghost use Rattle.pd_lex.specs.Next.{IsCut, HasLine, HasText};
 
-use crate::standing::standing_place;
+use crate::standing::behind_blanks;
 use crate::step::{Step, step_at};
 use crate::token::{Lexed, Place, Span, Token};
 use pd_text::Lines;
@@ -17,26 +17,56 @@ pub fn next_token<'a>(lines: &'a Lines, place: Place) -> Lexed<'a>
     ensures line { HasLine lines.now result }
     ensures text { HasText lines.now result }
 {
-    let Some(mut here) = standing_place(lines, place) else {
-        return Lexed::End;
+    let mut next = Lexed::End;
+    read_next(lines, place, &mut next);
+    next
+}
+
+/// `next_token`, put in the place of what was read before.
+pub fn read_next<'a>(lines: &'a Lines, place: Place, next: &mut Lexed<'a>)
+    ensures next { IsNext lines.now place next.new }
+    ensures cut { IsCut lines.now place next.new }
+    ensures line { HasLine lines.now next.new }
+    ensures text { HasText lines.now next.new }
+{
+    let mut here = if place.line == 0 {
+        Place::first()
+    } else {
+        place
     };
     'gaps: loop {
-        match step_at(lines, here) {
+        let Some(line) = lines.line(here.line) else {
+            *next = Lexed::End;
+            return;
+        };
+        let at = behind_blanks(line, here.at);
+        if at >= line.len() {
+            here = Place {
+                line: here.line + 1,
+                at: 0,
+            };
+            continue;
+        }
+        let from = Place {
+            line: here.line,
+            at,
+        };
+        match step_at(lines, from, &line[at..]) {
             Step::Gap(after) => here = after,
             Step::Token(kind, text, after) => {
                 let token = Token {
                     kind,
                     text,
-                    span: Span {
-                        from: here,
-                        to: after,
-                    },
-                    line: here.line,
+                    span: Span { from, to: after },
+                    line: from.line,
                 };
-                return Lexed::Token(token, after);
+                *next = Lexed::Token(token, after);
+                return;
             }
-            Step::Nothing => return Lexed::End,
-            Step::Stray => return Lexed::Bad(here.line),
+            Step::Stray => {
+                *next = Lexed::Bad(from.line);
+                return;
+            }
         }
     }
 }

@@ -1,9 +1,9 @@
 //! The piece at the front of a line.
-ghost use Rattle.std.specs.Prelude.{◌≡◌, ◌≤◌, ◌<◌, length, option_copied, IfSome};
+ghost use Rattle.std.specs.Prelude.{◌≡◌, ◌≤◌, ◌<◌, true, nat_lt, length};
 ghost use Rattle.std.specs.List.{prefix_len, list_all};
 ghost use Rattle.pd_lex.specs.Octets.{is_digit, is_hex_digit, is_word, is_blank, is_solid, is_inside_line};
 ghost use Rattle.pd_lex.specs.Pieces.{is_hex, fraction_len, value_len, word_piece, point_piece, dash_piece, piece, after_pair, after_quote, after_backquote, after_end, opener_len};
-ghost use Rattle.pd_lex.specs.Scanned.{piece_len};
+ghost use Rattle.pd_lex.specs.Scanned.{piece_len, begins_name, run_piece, slash_piece, percent_piece};
 
 use crate::token::TokenKind;
 
@@ -66,7 +66,7 @@ fn word(b: u8) -> bool
 fn blank(b: u8) -> bool
     ensures { result ≡ is_blank b }
 {
-    matches!(b, b' ' | b'\t' | b'\r' | b'\n')
+    b <= b' ' && matches!(b, b' ' | b'\t' | b'\r' | b'\n')
 }
 
 fn solid(b: u8) -> bool
@@ -109,12 +109,6 @@ fn line_len(s: &[u8]) -> usize
     s.iter().take_while(|b| inside_line(**b)).count()
 }
 
-fn all_digits(s: &[u8]) -> bool
-    ensures { result ≡ list_all is_digit s.now }
-{
-    s.iter().all(|b| digit(*b))
-}
-
 fn all_hex_digits(s: &[u8]) -> bool
     ensures { result ≡ list_all is_hex_digit s.now }
 {
@@ -143,6 +137,14 @@ fn fraction(s: &[u8]) -> usize
     }
 }
 
+/// How many blanks it begins with.
+pub fn blanks_len(s: &[u8]) -> usize
+    ensures len { result ≡ prefix_len is_blank s.now }
+    ensures within { result ≤ length s.now }
+{
+    s.iter().take_while(|b| blank(**b)).count()
+}
+
 fn value(s: &[u8]) -> usize
     ensures len { result ≡ value_len s.now }
     ensures within { result ≤ length s.now }
@@ -153,25 +155,56 @@ fn value(s: &[u8]) -> usize
     }
 }
 
-#[tactic(auto, unfolding(crate::specs::Pieces::word_piece))]
-fn word_at(s: &[u8]) -> Piece
-    ensures piece { result ≡ word_piece s.now }
+/// Whether it begins with a letter, a digit or `_`.
+#[tactic(auto, using(crate::proofs::Words::goes_on_is))]
+fn goes_on(s: &[u8]) -> bool
+    ensures { result ≡ nat_lt 0 (prefix_len is_word s.now) }
+{
+    match s {
+        [b, ..] => word(*b),
+        [] => false,
+    }
+}
+
+/// A run of letters, digits and `_`, among them one that is no digit.
+fn run_at(s: &[u8]) -> Piece
+    ensures piece { result ≡ run_piece s.now }
     ensures within { piece_len result ≤ length s.now }
 {
     let n = word_len(s);
-    let (run, rest) = s.split_at(n);
-    if all_digits(run) {
-        let f = fraction(rest);
-        if f > 0 {
-            return Piece::Whole(TokenKind::Decimal, n + f);
-        }
-        return Piece::Whole(TokenKind::Int, n);
-    }
+    let (run, _) = s.split_at(n);
     if hex(run) {
         Piece::Whole(TokenKind::Hex, n)
     } else {
         Piece::Whole(TokenKind::Word, n)
     }
+}
+
+/// A number, or a word that begins with digits.
+fn number_at(s: &[u8]) -> Piece
+    ensures piece { result ≡ word_piece s.now }
+    ensures within { piece_len result ≤ length s.now }
+{
+    let digits = digits_len(s);
+    let (_, rest) = s.split_at(digits);
+    let f = fraction(rest);
+    if f > 0 {
+        return Piece::Whole(TokenKind::Decimal, digits + f);
+    }
+    if goes_on(rest) {
+        run_at(s)
+    } else {
+        Piece::Whole(TokenKind::Int, digits)
+    }
+}
+
+/// A word that begins with a letter or `_`.
+fn name_at(s: &[u8]) -> Piece
+    requires { begins_name s.now ≡ true }
+    ensures piece { result ≡ word_piece s.now }
+    ensures within { piece_len result ≤ length s.now }
+{
+    Piece::Whole(TokenKind::Word, word_len(s))
 }
 
 #[tactic(auto, unfolding(crate::specs::Pieces::point_piece))]
@@ -210,6 +243,31 @@ fn dash_at(s: &[u8]) -> Piece
     }
 }
 
+/// A line comment, the beginning of a comment, or the slash.
+fn slash_at(s: &[u8]) -> Piece
+    requires { 0 < length s.now }
+    ensures piece { result ≡ slash_piece s.now }
+    ensures within { piece_len result ≤ length s.now }
+{
+    match s {
+        [b'/', b'/', ..] => Piece::Blank(line_len(s)),
+        [b'/', b'*', ..] => Piece::Open(Opener::Comment),
+        _ => Piece::Whole(TokenKind::Symbol, 1),
+    }
+}
+
+/// The beginning of code, or the percent sign.
+fn percent_at(s: &[u8]) -> Piece
+    requires { 0 < length s.now }
+    ensures piece { result ≡ percent_piece s.now }
+    ensures within { piece_len result ≤ length s.now }
+{
+    match s {
+        [b'%', b'{', ..] => Piece::Open(Opener::Brace),
+        _ => Piece::Whole(TokenKind::Symbol, 1),
+    }
+}
+
 /// The piece at the front of what is left of a line.
 #[tactic(auto, unfolding(crate::specs::Pieces::piece))]
 pub fn piece_at(s: &[u8]) -> Piece
@@ -219,15 +277,18 @@ pub fn piece_at(s: &[u8]) -> Piece
 {
     match s {
         [] => Piece::Stray,
+        [b, ..] if digit(*b) => number_at(s),
+        [b'(' | b')' | b'+' | b',' | b':' | b'<' | b'=' | b'>', ..] => {
+            Piece::Whole(TokenKind::Symbol, 1)
+        }
+        [b, ..] if word(*b) => name_at(s),
         [b, ..] if blank(*b) => Piece::Blank(1),
-        [b, ..] if word(*b) => word_at(s),
         [b'.', ..] => point_at(s),
         [b'-', ..] => dash_at(s),
-        [b'/', b'/', ..] => Piece::Blank(line_len(s)),
-        [b'/', b'*', ..] => Piece::Open(Opener::Comment),
+        [b'/', ..] => slash_at(s),
         [b'"', ..] => Piece::Open(Opener::Quote),
         [b'`', ..] => Piece::Open(Opener::Backquote),
-        [b'%', b'{', ..] => Piece::Open(Opener::Brace),
+        [b'%', ..] => percent_at(s),
         [33..=126, ..] => Piece::Whole(TokenKind::Symbol, 1),
         _ => Piece::Stray,
     }

@@ -1,26 +1,23 @@
 //! Places in a text, and what is left of their lines.
-ghost use Rattle.std.specs.Prelude.{◌≡◌, ◌≤◌, ◌<◌, ◌^◌, length, drop, IfSome, IfNone};
-ghost use Rattle.pd_text.specs.Text.{AreLines};
-ghost use Rattle.pd_lex.specs.Places.{line_at, standing, IsPlace};
+ghost use Rattle.std.specs.Prelude.{◌≡◌, ◌+◌, ◌≤◌, ◌<◌, ◌^◌, length, drop, IfSome, IfNone};
+ghost use Rattle.std.specs.List.{prefix_len};
+ghost use Rattle.pd_lex.specs.Octets.{is_blank};
+ghost use Rattle.pd_lex.specs.Places.{line_at, IsPlace};
 
+use crate::scan::blanks_len;
 use crate::token::Place;
 use pd_text::Lines;
 
-/// Where a place stands in a text; `None` past the last line.
-#[tactic(auto, unfolding(crate::specs::Places::standing))]
-pub fn standing_place(lines: &Lines, place: Place) -> Option<Place>
-    ensures some { IfSome result (λ p. p ≡ standing lines.now place) }
-    ensures place { IfSome result (IsPlace lines.now) }
-    ensures none { IfNone result (length lines.now < place.line) }
-    ensures lines { AreLines lines.now }
+/// How many octets of a line stand before the first that is no blank, from one on; no fewer than
+/// before that one.
+pub fn behind_blanks(line: &[u8], at: usize) -> usize
+    ensures place { result ≡ at + prefix_len is_blank (drop at line.now) }
+    ensures small { length line.now < 2 ^ 64 }
 {
-    match lines.line(place.line) {
-        Some(line) => Some(Place {
-            line: place.line,
-            at: place.at.min(line.len()),
-        }),
-        None if place.line == 0 => Some(Place::first()),
-        None => None,
+    if at < line.len() {
+        at + blanks_len(&line[at..])
+    } else {
+        at
     }
 }
 

@@ -2,7 +2,7 @@
 ghost use Rattle.std.specs.Prelude.{◌≡◌, ◌+◌, length};
 ghost use Rattle.pd_lex.specs.Places.{octets_from, IsPlace};
 ghost use Rattle.pd_lex.specs.Pieces.{after_end};
-ghost use Rattle.pd_lex.specs.Scanned.{IsClosed, IsClosing, IsStep};
+ghost use Rattle.pd_lex.specs.Scanned.{IsClosed, IsClosing, IsLeftInLine, IsStep};
 
 use crate::ending::behind_end;
 use crate::scan::{Opener, Piece, piece_at};
@@ -13,8 +13,6 @@ use pd_text::Lines;
 /// What stands at a place, and the place behind it.
 #[derive(Clone, Copy)]
 pub enum Step<'a> {
-    /// The end of the text.
-    Nothing,
     /// A blank or a comment.
     Gap(Place),
     /// A token, with its octets if its kind stays in its line.
@@ -54,21 +52,12 @@ fn closed<'a>(opener: Opener, after: Place) -> Step<'a>
     }
 }
 
-/// The step at a place.
-pub fn step_at<'a>(lines: &'a Lines, place: Place) -> Step<'a>
-    requires { IsPlace lines.now place }
+/// The step at a place within a line, of which this much is left.
+pub fn step_at<'a>(lines: &'a Lines, place: Place, rest: &'a [u8]) -> Step<'a>
+    requires { IsLeftInLine lines.now place rest.now }
     ensures { IsStep lines.now place result }
 {
     let Place { line, at } = place;
-    let Some(rest) = rest_of_line(lines, place) else {
-        return Step::Nothing;
-    };
-    if rest.is_empty() {
-        return Step::Gap(Place {
-            line: line + 1,
-            at: 0,
-        });
-    }
     match piece_at(rest) {
         Piece::Blank(n) => Step::Gap(Place { line, at: at + n }),
         Piece::Whole(kind, n) => Step::Token(kind, &rest[..n], Place { line, at: at + n }),

@@ -1,5 +1,5 @@
 -- What an ACK makes of the congestion window and of loss recovery, and what it leads to.
-use Rattle.std.specs.Prelude.{⊤, ◌≡◌, ℕ, ◌+◌, ◌-◌, ◌*◌, ◌^◌, ◌<◌, ◌≤◌, ◌==◌, nat_lt, nat_le, min, Bool, true, false, ◌&&◌, ◌||◌, Option, Some, None, if◌then◌else◌}
+use Rattle.std.specs.Prelude.{⊤, ◌≡◌, ℕ, ◌+◌, ◌-◌, ◌*◌, ◌^◌, ◌<◌, ◌≤◌, ◌==◌, nat_lt, nat_le, not, min, Bool, true, false, ◌&&◌, ◌||◌, Option, Some, None, if◌then◌else◌}
 use Rattle.pd_seg.specs.declared.sack_blocks.Span.{Span}
 use Rattle.pd_recover.specs.declared.feedback.Ack.{Ack}
 use Rattle.pd_recover.specs.declared.feedback.News.{News}
@@ -73,9 +73,10 @@ told_by_sack ack news w =
 
 -- Without SACK (RFC 5681, section 3.2)
 
--- a duplicate acknowledges nothing new while octets are outstanding, and its window is the one before (section 2)
+-- a duplicate acknowledges nothing new while octets are outstanding, its window is the one before, and no FIN comes with it
+-- (section 2)
 abbrev pub is_duplicate : Ack → Bool
-is_duplicate ack = ack.acked == 0 && (nat_lt ack.una ack.top && ack.same_window)
+is_duplicate ack = ack.acked == 0 && (nat_lt ack.una ack.top && (ack.same_window && not ack.fin))
 
 -- the window is deflated, and recovery ends (step 6)
 abbrev pub deflated : Congestion → Congestion

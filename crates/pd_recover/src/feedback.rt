@@ -18,6 +18,8 @@ pub struct Ack {
     pub acked: u32,
     /// Whether its window is the one before it.
     pub same_window: bool,
+    /// Whether a FIN came with it.
+    pub fin: bool,
     /// What its blocks tell, where SACK was agreed.
     pub sack: Option<News>,
 }

@@ -28,6 +28,7 @@ pub struct PlainAck {
     /// The peer's window since, in octets.
     pub rwnd: u32,
     pub is_same_window: bool,
+    pub is_fin: bool,
     /// Whether a block had a new octet, where SACK was agreed.
     pub fresh: Option<bool>,
 }
@@ -167,7 +168,7 @@ impl PlainWindow {
 
     /// Without SACK, no new octets.
     fn take_no_octets(&mut self, board: &PlainBoard, ack: PlainAck) -> Response {
-        let is_duplicate = board.una < board.top && ack.is_same_window;
+        let is_duplicate = board.una < board.top && ack.is_same_window && !ack.is_fin;
         if !is_duplicate || board.una < self.recovery_point {
             return Response::Ordinary;
         }

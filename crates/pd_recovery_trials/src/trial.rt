@@ -168,6 +168,7 @@ impl Trial {
             acked: number - una,
             rwnd: dice.between(100, 2_000),
             is_same_window: !dice.is_once_in(4),
+            is_fin: dice.is_once_in(20),
             fresh: self.is_sack_agreed.then_some(fresh),
         };
         let told = self.told(ack);
@@ -191,6 +192,7 @@ impl Trial {
             rwnd: ack.rwnd,
             acked: ack.acked,
             same_window: ack.is_same_window,
+            fin: ack.is_fin,
             sack: ack.fresh.map(|fresh| News {
                 fresh,
                 lost: fresh && self.board.is_lost(self.board.una()),

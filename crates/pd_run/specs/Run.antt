@@ -60,7 +60,7 @@ on_script {A} refused stopped run settings parsed = on_fault parsed.fault
 
     on_fault : Option ℕ → A
     on_fault (Some line) = refused line
-    on_fault None = on_start (start_of parsed.header settings)
+    on_fault None = on_start (start_of parsed.header.items settings)
 
 -- the verdict of a script that was read, run from its first event on a fresh host
 abbrev pub verdict_in : Settings → Parsed → Verdict

@@ -13,6 +13,7 @@ mod times;
 mod verdicts;
 
 pub use laws::steps_are_lawful;
+pub use pd_host::ConnState;
 pub use pd_match::Kind;
 pub use run_state::RunState;
 pub use running::{run_all, run_with};

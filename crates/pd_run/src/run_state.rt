@@ -1,6 +1,7 @@
 //! The state of a run between two events.
-ghost use Rattle.std.specs.Prelude.{◌≡◌, ◌<◌, ◌^◌, false, None, Some, IfOk, OnErr, max, slice_get};
+ghost use Rattle.std.specs.Prelude.{◌≡◌, ◌<◌, ◌^◌, false, None, Some, IfOk, IsErr, OnErr, max, slice_get};
 ghost use Rattle.std.specs.List.{list_any};
+ghost use Rattle.pd_host.specs.ConnStates.{conn_state};
 ghost use Rattle.pd_host.specs.Expiries.{advanced, deadline_of};
 ghost use Rattle.pd_host.specs.Sender.{IsShort};
 ghost use Rattle.pd_host.specs.declared.halts.Ending.TheVariants.{OutOfMemory};
@@ -16,7 +17,7 @@ use crate::shapes::is_run;
 use crate::stepping::{StepEnd, end_by};
 use crate::times::{base_after, is_backwards, is_in_reach, moment_of, moments_of};
 use crate::verdicts::Verdict;
-use pd_host::Host;
+use pd_host::{ConnState, Host};
 use pd_match::{Expect, Kind, check_call, check_packet};
 use pd_script::{Action, Call, Event, Header, HeaderKind, Packet, Time};
 use pd_settings::Settings;
@@ -51,7 +52,7 @@ impl RunState {
     /// # Errors
     /// `Unsupported` at the first header item that is no valid `--tolerance_usecs`.
     pub fn new(alloc: Global, header: &Header, settings: &Settings) -> Result<RunState, Verdict>
-        ensures { result ≡ start_of header.now settings.now }
+        ensures { result ≡ start_of header.now.items settings.now }
     {
         let mut tolerance = settings.tolerance_us;
         for item in header.as_slice() {
@@ -66,6 +67,30 @@ impl RunState {
             base: 0,
             tolerance,
         })
+    }
+
+    /// The same run once more.
+    ///
+    /// # Errors
+    ///
+    /// Want of memory, also where a step before has found none.
+    pub fn copy(&self) -> Result<RunState, AllocError>
+        ensures ok { IfOk result (λ copy. copy ≡ self.now) }
+        ensures again { self.now.host.ended ≡ Some OutOfMemory → IsErr result }
+    {
+        Ok(RunState {
+            host: self.host.copy()?,
+            clock: self.clock,
+            base: self.base,
+            tolerance: self.tolerance,
+        })
+    }
+
+    /// The state of the run's sender.
+    pub fn conn_state(&self) -> ConnState
+        ensures { result ≡ conn_state self.now.host.state }
+    {
+        self.host.state()
     }
 
     /// One event, its checks in order: limits, shapes that aren't run, absolute times that go back, then the event

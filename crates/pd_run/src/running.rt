@@ -30,6 +30,7 @@ pub fn run_with<S: Stepper>(
     requires room { S.counted stepper.old + 4096 < 2 ^ 64 }
     ensures verdict { IfOk result (λ verdict. verdict ≡ verdict_of lines.now settings.now) }
     ensures steps { OnOk result (S.counted stepper.new ≡ S.counted stepper.old + stepped_of lines.now settings.now) }
+    ensures few { OnOk result (S.counted stepper.new ≤ S.counted stepper.old + 4096) }
 {
     let parsed = parse(alloc, lines)?;
     if let Some(line) = parsed.fault {
@@ -54,6 +55,7 @@ fn run_events<S: Stepper>(
     requires room { S.counted stepper.old + 4096 < 2 ^ 64 }
     ensures verdict { IfOk result (λ verdict. verdict ≡ verdict_from 0 events.now start) }
     ensures steps { OnOk result (S.counted stepper.new ≡ S.counted stepper.old + stepped_from events.now start) }
+    ensures few { OnOk result (S.counted stepper.new ≤ S.counted stepper.old + 4096) }
 {
     sender_is_lawful();
     let mut state = start;

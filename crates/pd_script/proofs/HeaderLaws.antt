@@ -1,52 +1,105 @@
--- The header is read as it is spelled.
-use Rattle.std.proofs.Common.{◌≡◌, ◌<◌, Bool, true, false, List, [], ◌∷◌, ◌++◌, length, Ok, Err, refl, sym, ap, ◌∙◌, arith, append_assoc}
+-- The header is read token by token, each from the place behind the one before.
+use Rattle.std.proofs.Common.{◌≡◌, ℕ, ◌<◌, Bool, true, false, cond, List, [], ◌∷◌, ◌++◌, length, Option, Some, None, refl, sym, ap, ◌∙◌, arith, append_assoc}
+use Rattle.std.specs.Prelude.{take, fold}
 use Rattle.std.proofs.lemmas.List.{append-nil}
-use Rattle.pd_lex.specs.Tokens.{Item}
+use Rattle.std.specs.List.{list_all}
+use Rattle.pd_text.specs.Text.{is_line}
+use Rattle.pd_lex.specs.declared.token.Place.{Place}
+use Rattle.pd_lex.specs.declared.token.Token.{Token}
+use Rattle.pd_lex.specs.Places.{first_place, place_after, octets_from, between}
+use Rattle.pd_lex.specs.Tokens.{Item, lexeme}
+use Rattle.pd_lex.specs.Kinds.{stays_in_line}
+use Rattle.pd_lex.specs.Lexing.{items, lexeme_of}
+use Rattle.pd_lex.specs.Next.{IsTokenAt}
 use Rattle.pd_script.specs.declared.script_header.HeaderItem.{HeaderItem}
-use Rattle.pd_script.specs.Items.{is_header}
-use Rattle.pd_script.specs.Header.{header_item}
-use Rattle.pd_script.specs.Reading.{header_item_at}
-use Rattle.pd_script.proofs.Laws.{ok, value_is, rest_is}
-use Rattle.pd_script.specs.Script.{header_of, behind_header}
+use Rattle.pd_script.specs.Items.{is_header, given, next_is}
+use Rattle.pd_script.specs.Header.{Heading, header_item, behind, HasEnd, IsItemAt}
+use Rattle.pd_script.specs.Cursor.{shown}
+use Rattle.pd_script.specs.Script.{header_of, header_end, header_in, behind_header}
+use Rattle.pd_script.proofs.Placed.{token_behind}
+use Rattle.pd_script.proofs.Taking.{alike}
 
--- what was taken of the header, and what is left
-pub record SoFar (taken : List HeaderItem) (now all : List Item) : Type 0 where
-  pub items : taken ++ header_of now ≡ header_of all
+-- ---- what was taken of the header, and what is left
+
+pub record SoFar (taken : Heading) (now all : List Item) : Type 0 where
+  pub items : taken.items ++ header_of now ≡ header_of all
+  pub end : header_end taken.end now ≡ header_end first_place all
   pub behind : behind_header now ≡ behind_header all
 
--- the header goes on
-record Goes (xs ys : List Item) (item : HeaderItem) : Type 0 where
-  items : header_of xs ≡ item ∷ header_of ys
-  behind : behind_header xs ≡ behind_header ys
-  less : length ys < length xs
+pub nothing_taken : (all : List Item) → SoFar (record { items = []; end = first_place }) all all
+nothing_taken all = record { items = refl; end = refl; behind = refl }
 
-goes : (xs ys : List Item) (item : HeaderItem) → header_item_at xs ≡ Ok (item, ys) → Goes xs ys item
-goes [] ys item e = absurd cc
-goes (t ∷ ts) ys item e = by_test (is_header t) refl
+is_given : (t : Item) (item : HeaderItem) → given is_header (λ u. header_item u) t ≡ Some item → (is_header t ≡ true) × (header_item t ≡ item)
+is_given t item e = by_test (is_header t) refl
   where
-    by_test : (b : Bool) → is_header t ≡ b → Goes (t ∷ ts) ys item
-    by_test true h =
-        let got : ok (header_item t) ts ≡ ok item ys = rw h at e in
-        let left : ts ≡ ys = rest_is (header_item t) item ts ys got in
-        let value : header_item t ≡ item = value_is (header_item t) item ts ys got in
-        record { items = rw (h, value, left) refl; behind = rw (h, left) refl; less = rw (← left) (omega arith) }
+    by_test : (b : Bool) → is_header t ≡ b → (is_header t ≡ true) × (header_item t ≡ item)
+    by_test true h = (h, (let got = rw h at e in cc))
     by_test false h = absurd (let got = rw h at e in cc)
 
-pub goes_on : (taken : List HeaderItem) (xs ys all : List Item) (item : HeaderItem) → SoFar taken xs all → header_item_at xs ≡ Ok (item, ys) → SoFar (taken ++ item ∷ []) ys all × (length ys < length xs)
-goes_on taken xs ys all item so_far e =
-    let G = goes xs ys item e in
-    let more : (taken ++ item ∷ []) ++ header_of ys ≡ taken ++ header_of xs = rw (append_assoc, G.items) refl in
-    (record { items = more ∙ so_far.items; behind = sym G.behind ∙ so_far.behind }, G.less)
-
-stops : (xs rest : List Item) → header_item_at xs ≡ Err rest → (header_of xs ≡ []) × (behind_header xs ≡ xs)
-stops [] rest e = (refl, refl)
-stops (t ∷ ts) rest e = by_test (is_header t) refl
+is_not_given : (t : Item) → given is_header (λ u. header_item u) t ≡ None → is_header t ≡ false
+is_not_given t e = by_test (is_header t) refl
   where
-    by_test : (b : Bool) → is_header t ≡ b → (header_of (t ∷ ts) ≡ []) × (behind_header (t ∷ ts) ≡ t ∷ ts)
+    by_test : (b : Bool) → is_header t ≡ b → is_header t ≡ false
     by_test true h = absurd (let got = rw h at e in cc)
-    by_test false h = (rw h refl, rw h refl)
+    by_test false h = h
 
-pub stops_there : (taken : List HeaderItem) (xs rest all : List Item) → SoFar taken xs all → header_item_at xs ≡ Err rest → (taken ≡ header_of all) × (xs ≡ behind_header all)
-stops_there taken xs rest all so_far e =
-    let S = stops xs rest e in
-    (sym (append-nil taken) ∙ ap (λ (h : List HeaderItem). taken ++ h) (sym S.0) ∙ so_far.items, sym S.1 ∙ so_far.behind)
+one_taken : (taken : Heading) (t : Item) (ts all : List Item) (item : HeaderItem) → SoFar taken (t ∷ ts) all → is_header t ≡ true → header_item t ≡ item → SoFar (record { items = taken.items ++ item ∷ []; end = behind taken.end t }) ts all
+one_taken taken t ts all item so_far h value =
+    let items : taken.items ++ header_of (t ∷ ts) ≡ taken.items ++ item ∷ header_of ts = rw (h, value) refl in
+    let end : header_end taken.end (t ∷ ts) ≡ header_end (behind taken.end t) ts = rw h refl in
+    let left : behind_header (t ∷ ts) ≡ behind_header ts = rw h refl in
+    record { items = append_assoc taken.items (item ∷ []) (header_of ts) ∙ sym items ∙ so_far.items; end = sym end ∙ so_far.end; behind = sym left ∙ so_far.behind }
+
+stop : (taken : Heading) (now all : List Item) → header_of now ≡ [] → header_end taken.end now ≡ taken.end → behind_header now ≡ now → SoFar taken now all → (taken ≡ header_in all) × (now ≡ behind_header all)
+stop taken now all none end left so_far =
+    let items_are : taken.items ≡ header_of all = sym (append-nil taken.items) ∙ ap (λ (x : List HeaderItem). taken.items ++ x) (sym none) ∙ so_far.items in
+    let end_is : taken.end ≡ header_end first_place all = sym end ∙ so_far.end in
+    (heading_is items_are end_is, sym left ∙ so_far.behind)
+  where
+    heading_is : taken.items ≡ header_of all → taken.end ≡ header_end first_place all → taken ≡ header_in all
+    heading_is i e =
+        let one : ◌≡◌ {A = Heading} (record { items = taken.items; end = taken.end }) (record { items = header_of all; end = taken.end }) = ap (λ (x : List HeaderItem). record { items = x; end = taken.end }) i in
+        let two : ◌≡◌ {A = Heading} (record { items = header_of all; end = taken.end }) (record { items = header_of all; end = header_end first_place all }) = ap (λ (x : Place). record { items = header_of all; end = x }) e in
+        one ∙ two
+
+-- ---- a token as the lexer answers it
+
+module _ (lines : List (List ℕ)) (t : Token) (h : stays_in_line t.kind ≡ true → t.text.now ≡ (lexeme_of lines t).text) where
+  same_given : given is_header (λ u. header_item u) (lexeme (lexeme_of lines t)) ≡ given is_header (λ u. header_item u) (shown t)
+  unfolding lexeme_of
+  same_given = alike (λ (i : Item). given is_header (λ u. header_item u) i) t.kind (between lines t.span.from t.span.to) t.text.now t.span.from (λ stays. sym (h stays)) refl refl refl
+
+  there : (place : Place) → list_all is_line lines ≡ true → (p : Place) (after : Place) → IsTokenAt lines p t after → behind place (lexeme (lexeme_of lines t)) ≡ after
+  unfolding lexeme_of
+  there place plain p after at = token_behind lines plain p t after at
+
+  pub header_item_there : list_all is_line lines ≡ true → (p : Place) (after : Place) → IsTokenAt lines p t after → items lines p ≡ lexeme (lexeme_of lines t) ∷ items lines after → (item : HeaderItem) → given is_header (λ u. header_item u) (shown t) ≡ Some item → IsItemAt lines p item after
+  header_item_there plain p after at next item e =
+      let G = is_given (lexeme (lexeme_of lines t)) item (same_given ∙ e) in
+      record { token = lexeme (lexeme_of lines t); next = next; test = G.0; value = G.1; end = there p plain p after at }
+
+  pub no_header_item : (p : Place) (after : Place) → items lines p ≡ lexeme (lexeme_of lines t) ∷ items lines after → given is_header (λ u. header_item u) (shown t) ≡ None → next_is is_header (items lines p) ≡ false
+  no_header_item p after next e = rw next (is_not_given (lexeme (lexeme_of lines t)) (same_given ∙ e))
+
+pub header_goes_on : (lines : List (List ℕ)) (taken : Heading) (all : List Item) (item : HeaderItem) (after : Place) → IsItemAt lines taken.end item after → SoFar taken (items lines taken.end) all → SoFar (record { items = taken.items ++ item ∷ []; end = after }) (items lines after) all × (length (items lines after) < length (items lines taken.end))
+header_goes_on lines taken all item after at so_far =
+    let more = one_taken taken at.token (items lines after) all item (rw at.next at so_far) at.test at.value in
+    let ends : behind taken.end at.token ≡ after = at.end in
+    (rw ends at more, omega (arith, ap length at.next))
+
+pub header_stops : (taken : Heading) (now all : List Item) → next_is is_header now ≡ false → SoFar taken now all → (taken ≡ header_in all) × (now ≡ behind_header all)
+header_stops taken [] all h so_far = stop taken [] all refl refl refl so_far
+header_stops taken (t ∷ ts) all h so_far = stop taken (t ∷ ts) all (rw h refl) (rw h refl) (rw h refl) so_far
+
+-- ---- the header's end
+
+fold_end : (place : Place) (ts : List Item) → header_end place ts ≡ fold behind place (take (length (header_of ts)) ts)
+fold_end place [] = refl
+fold_end place (t ∷ ts) = by_test (is_header t) refl (fold_end (behind place t) ts)
+  where
+    by_test : (b : Bool) → is_header t ≡ b → header_end (behind place t) ts ≡ fold behind (behind place t) (take (length (header_of ts)) ts) → header_end place (t ∷ ts) ≡ fold behind place (take (length (header_of (t ∷ ts))) (t ∷ ts))
+    by_test true h ih = rw h ih
+    by_test false h ih = rw h refl
+
+pub header_has_end : (ts : List Item) → HasEnd ts (header_in ts)
+header_has_end ts = fold_end first_place ts

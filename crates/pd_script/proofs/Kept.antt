@@ -19,7 +19,8 @@ use Rattle.pd_script.specs.Reader.{Read, then_read}
 use Rattle.pd_script.specs.Reading.{next_line, event_at, end_at, events_at}
 use Rattle.pd_script.specs.Grammar.{IsTime, IsMaybeUntil, IsEvent}
 use Rattle.pd_script.specs.Script.{found_in, followed, may_follow, with_event, at_end, in_front, script_in, header_of, behind_header}
-use Rattle.pd_script.specs.Faults.{IsHeader, AreEvents, IsScript, IsKept, IsRead}
+use Rattle.pd_script.specs.Faults.{IsHeader, AreEvents, IsScript, IsKept, IsRead, IsReadTo}
+use Rattle.pd_script.proofs.HeaderLaws.{header_has_end}
 use Rattle.pd_script.proofs.Laws.{Full, Stops, ok, value_is, rest_is}
 use Rattle.pd_script.proofs.Apart.{or-no, or-right, not-true, not-false}
 use Rattle.pd_script.proofs.ArgumentLaws.{a_token}
@@ -301,7 +302,7 @@ kept_with_header ts front t rest parts fault =
 
 -- ---- what the items of a text are read as
 
-read_by : (ts : List Item) → IsClosed ts → (r : Read (List Event)) → events_at 4096 (behind_header ts) ≡ r → IsFound (found_in 4096 (behind_header ts)) r → IsRead ts (script_in ts) (script_in ts).fault
+read_by : (ts : List Item) → IsClosed ts → (r : Read (List Event)) → events_at 4096 (behind_header ts) ≡ r → IsFound (found_in 4096 (behind_header ts)) r → IsReadTo ts (script_in ts) (script_in ts).fault
 unfolding script_in
 read_by ts c (Ok x) e found =
     let S = script_is ts x.0 x.1 c e in
@@ -312,4 +313,5 @@ read_by ts c (Err (t ∷ rest)) e found =
     rw found (F.0, t, rest, F.1, refl, F.2, kept_with_header ts F.0 t rest F.1 e)
 
 pub script_read : (ts : List Item) → IsClosed ts → IsRead ts (script_in ts) (script_in ts).fault
-script_read ts c = read_by ts c (events_at 4096 (behind_header ts)) refl (found_is 4096 (behind_header ts))
+unfolding script_in
+script_read ts c = (header_has_end ts, read_by ts c (events_at 4096 (behind_header ts)) refl (found_is 4096 (behind_header ts)))

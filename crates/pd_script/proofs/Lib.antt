@@ -10,12 +10,14 @@ pub mod ArgumentSteps
 pub mod Finding
 pub mod Matches
 pub mod ArgumentSound
+pub mod Placed
 pub mod HeaderLaws
 pub mod ScriptLaws
 pub mod Kept
 pub mod Plain
 pub mod OneScript
 pub mod TextItems
+pub mod NextLaws
 pub mod NoteLaws
 pub mod Repeating
 pub mod TokenLaws

@@ -1,7 +1,8 @@
 -- Items are read in one way alone, so the script of a text is the only one that the grammar gives.
 use Rattle.std.proofs.Common.{◌≡◌, ℕ, ◌<◌, ◌≤◌, true, false, List, [], ◌∷◌, ◌++◌, length, Option, Some, None, refl, sym, ap, subst, ◌∙◌, arith, append_assoc, inl, inr}
-use Rattle.std.specs.Prelude.{◌⊎◌}
+use Rattle.std.specs.Prelude.{◌⊎◌, take}
 use Rattle.std.proofs.lemmas.Bool.{cases_lt}
+use Rattle.pd_lex.specs.declared.token.Place.{Place}
 use Rattle.pd_lex.specs.Places.{first_place}
 use Rattle.pd_lex.specs.Tokens.{Item, line_of}
 use Rattle.pd_lex.specs.Lexing.{items}
@@ -10,6 +11,7 @@ use Rattle.pd_script.specs.declared.script_header.HeaderItem.{HeaderItem}
 use Rattle.pd_script.specs.declared.script_events.Event.{Event}
 use Rattle.pd_script.specs.declared.parsing.Parsed.{Parsed}
 use Rattle.pd_script.specs.Items.{is_header, is_end, starts_event, goes_on, next_is}
+use Rattle.pd_script.specs.Header.{Heading, place_behind, HasEnd}
 use Rattle.pd_script.specs.Grammar.{IsEvent}
 use Rattle.pd_script.specs.Reading.{event_at}
 use Rattle.pd_script.specs.Script.{script_of}
@@ -60,12 +62,12 @@ one_fault front other t u rest behind e one two = by_length (cases_lt (length fr
 
 -- ---- one way to keep what stands before it
 
-Stops-next : (ts : List Item) → next_is goes_on ts ≡ true → Stops goes_on ts
+pub Stops-next : (ts : List Item) → next_is goes_on ts ≡ true → Stops goes_on ts
 Stops-next [] h = absurd cc
 Stops-next (t ∷ ts) h = h
 
 -- an event before what goes on is read
-read_on : (e : Event) (ts rest : List Item) → IsEvent e ts rest → next_is goes_on rest ≡ true → event_at ts ≡ ok e rest
+pub read_on : (e : Event) (ts rest : List Item) → IsEvent e ts rest → next_is goes_on rest ≡ true → event_at ts ≡ ok e rest
 read_on e ts rest h g = Reads-event.complete ts e rest h (Stops-next rest g)
 
 starts_on : (ts : List Item) → next_is starts_event ts ≡ true → next_is goes_on ts ≡ true
@@ -141,22 +143,33 @@ not_both h es ts front t rest script parts fault =
     let whole : ts ≡ (front ++ t ∷ []) ++ rest = parts ∙ sym (append_assoc front (t ∷ []) rest) in
     fault.none (record { more = rest; header = h; events = es; script = subst (λ (x : List Item). IsScript h es x) whole script })
 
-parsed_is : (p q : Parsed) → SameParts p.header q.header p.events q.events → p.fault ≡ q.fault → p ≡ q
-parsed_is p q parts fault =
-    let one : ◌≡◌ {A = Parsed} (record { header = p.header; events = p.events; fault = p.fault }) (record { header = q.header; events = p.events; fault = p.fault }) = ap (λ (x : List HeaderItem). record { header = x; events = p.events; fault = p.fault }) parts.headers in
-    let two : ◌≡◌ {A = Parsed} (record { header = q.header; events = p.events; fault = p.fault }) (record { header = q.header; events = q.events; fault = p.fault }) = ap (λ (x : List Event). record { header = q.header; events = x; fault = p.fault }) parts.events in
+parsed_is : (p q : Parsed) → p.header ≡ q.header → p.events ≡ q.events → p.fault ≡ q.fault → p ≡ q
+parsed_is p q header events fault =
+    let one : ◌≡◌ {A = Parsed} (record { header = p.header; events = p.events; fault = p.fault }) (record { header = q.header; events = p.events; fault = p.fault }) = ap (λ (x : Heading). record { header = x; events = p.events; fault = p.fault }) header in
+    let two : ◌≡◌ {A = Parsed} (record { header = q.header; events = p.events; fault = p.fault }) (record { header = q.header; events = q.events; fault = p.fault }) = ap (λ (x : List Event). record { header = q.header; events = x; fault = p.fault }) events in
     let three : ◌≡◌ {A = Parsed} (record { header = q.header; events = q.events; fault = p.fault }) (record { header = q.header; events = q.events; fault = q.fault }) = ap (λ (x : Option ℕ). record { header = q.header; events = q.events; fault = x }) fault in
     one ∙ two ∙ three
 
+-- headers with the same items end at the same place
+one_end : (ts : List Item) (h g : Heading) → HasEnd ts h → HasEnd ts g → h.items ≡ g.items → h ≡ g
+one_end ts h g one two same =
+    let ends : h.end ≡ g.end = one ∙ ap (λ (x : List HeaderItem). place_behind (take (length x) ts)) same ∙ sym two in
+    let first : ◌≡◌ {A = Heading} (record { items = h.items; end = h.end }) (record { items = g.items; end = h.end }) = ap (λ (x : List HeaderItem). record { items = x; end = h.end }) same in
+    let second : ◌≡◌ {A = Heading} (record { items = g.items; end = h.end }) (record { items = g.items; end = g.end }) = ap (λ (x : Place). record { items = g.items; end = x }) ends in
+    first ∙ second
+
 read_once : (ts : List Item) (p q : Parsed) (f g : Option ℕ) → p.fault ≡ f → q.fault ≡ g → IsRead ts p f → IsRead ts q g → p ≡ q
-read_once ts p q None None e d one two = parsed_is p q (one_whole p.header q.header p.events q.events ts one two) (e ∙ sym d)
-read_once ts p q None (Some line) e d one two = absurd (not_both p.header p.events ts two.0 two.1 two.2 one two.3 two.5)
-read_once ts p q (Some line) None e d one two = absurd (not_both q.header q.events ts one.0 one.1 one.2 two one.3 one.5)
-read_once ts p q (Some line) (Some other) e d one two =
+read_once ts p q None None e d (i, one) (k, two) =
+    let S = one_whole p.header.items q.header.items p.events q.events ts one two in
+    parsed_is p q (one_end ts p.header q.header i k S.headers) S.events (e ∙ sym d)
+read_once ts p q None (Some line) e d (i, one) (k, two) = absurd (not_both p.header.items p.events ts two.0 two.1 two.2 one two.3 two.5)
+read_once ts p q (Some line) None e d (i, one) (k, two) = absurd (not_both q.header.items q.events ts one.0 one.1 one.2 two one.3 one.5)
+read_once ts p q (Some line) (Some other) e d (i, one) (k, two) =
     let F = one_fault one.0 two.0 one.1 two.1 one.2 two.2 (sym one.3 ∙ two.3) one.5 two.5 in
     let lines : line ≡ other = one.4 ∙ ap line_of F.1 ∙ sym two.4 in
-    let kept : IsKept p.header p.events two.0 = subst (λ (x : List Item). IsKept p.header p.events x) F.0 one.6 in
-    parsed_is p q (one_kept p.header q.header p.events q.events two.0 kept two.6) (e ∙ ap (λ (n : ℕ). Some n) lines ∙ sym d)
+    let kept : IsKept p.header.items p.events two.0 = subst (λ (x : List Item). IsKept p.header.items p.events x) F.0 one.6 in
+    let S = one_kept p.header.items q.header.items p.events q.events two.0 kept two.6 in
+    parsed_is p q (one_end ts p.header q.header i k S.headers) S.events (e ∙ ap (λ (n : ℕ). Some n) lines ∙ sym d)
 
 pub read_one_way : (ts : List Item) (one other : Parsed) → IsRead ts one one.fault → IsRead ts other other.fault → one ≡ other
 read_one_way ts one other h g = read_once ts one other one.fault other.fault refl refl h g

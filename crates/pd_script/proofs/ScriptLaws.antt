@@ -269,7 +269,7 @@ behind_closed (lexeme x ∷ ts) c = by_test (is_header (lexeme x)) refl (behind_
 behind_closed (ending line ∷ ts) c = c
 behind_closed (bad line ∷ ts) c = c
 
-lexemes_open : (front : List Item) → list_all is_lexeme front ≡ true → IsClosed front → ⊥
+pub lexemes_open : (front : List Item) → list_all is_lexeme front ≡ true → IsClosed front → ⊥
 unfolding IsClosed
 lexemes_open [] h c = c
 lexemes_open (lexeme x ∷ front) h c = lexemes_open front h c

@@ -38,7 +38,7 @@ leaves_err stops.Syntax rest read h = h
 leaves_err stops.OutOfMemory rest read h = tt
 
 -- what looks at the octets of a token only where its kind stays in its line
-alike : {A : Type 0} (f : Item → A) (kind : TokenKind) (s t : List ℕ) (from : Place) → (stays_in_line kind ≡ true → s ≡ t) → f (lexeme (record { kind = kinds.Str; text = s; from = from })) ≡ f (lexeme (record { kind = kinds.Str; text = t; from = from })) → f (lexeme (record { kind = kinds.Cmd; text = s; from = from })) ≡ f (lexeme (record { kind = kinds.Cmd; text = t; from = from })) → f (lexeme (record { kind = kinds.Code; text = s; from = from })) ≡ f (lexeme (record { kind = kinds.Code; text = t; from = from })) → f (lexeme (record { kind = kind; text = s; from = from })) ≡ f (lexeme (record { kind = kind; text = t; from = from }))
+pub alike : {A : Type 0} (f : Item → A) (kind : TokenKind) (s t : List ℕ) (from : Place) → (stays_in_line kind ≡ true → s ≡ t) → f (lexeme (record { kind = kinds.Str; text = s; from = from })) ≡ f (lexeme (record { kind = kinds.Str; text = t; from = from })) → f (lexeme (record { kind = kinds.Cmd; text = s; from = from })) ≡ f (lexeme (record { kind = kinds.Cmd; text = t; from = from })) → f (lexeme (record { kind = kinds.Code; text = s; from = from })) ≡ f (lexeme (record { kind = kinds.Code; text = t; from = from })) → f (lexeme (record { kind = kind; text = s; from = from })) ≡ f (lexeme (record { kind = kind; text = t; from = from }))
 alike f kinds.Int s t from h str cmd code = ap (λ (l : List ℕ). f (lexeme (record { kind = kinds.Int; text = l; from = from }))) (h refl)
 alike f kinds.Hex s t from h str cmd code = ap (λ (l : List ℕ). f (lexeme (record { kind = kinds.Hex; text = l; from = from }))) (h refl)
 alike f kinds.Word s t from h str cmd code = ap (λ (l : List ℕ). f (lexeme (record { kind = kinds.Word; text = l; from = from }))) (h refl)

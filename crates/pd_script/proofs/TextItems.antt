@@ -21,7 +21,7 @@ use Rattle.pd_script.specs.Grammar.{IsAbsoluteRange, IsRelativeRange, IsTime, Is
 use Rattle.pd_script.specs.Script.{found_in, followed as followed_by, may_follow, with_event, at_end, script_in, script_of, behind_header}
 use Rattle.pd_script.specs.declared.script_header.HeaderItem.{HeaderItem}
 use Rattle.pd_script.specs.declared.parsing.Parsed.{Parsed}
-use Rattle.pd_script.specs.Faults.{IsHeader, AreEvents, IsRead}
+use Rattle.pd_script.specs.Faults.{IsHeader, AreEvents, IsRead, IsReadTo}
 use Rattle.pd_script.specs.Range.{IsLineOf, HasLines}
 use Rattle.pd_script.proofs.GrammarLaws.{Reads-event}
 use Rattle.pd_script.proofs.ScriptLaws.{IsClosed, header_takes}
@@ -120,14 +120,14 @@ behind_header_lines lines hs ts behind h in_lines =
     let F = header_takes hs ts behind h in
     AreLinesOf-behind lines F.0 behind (subst (λ (x : List Item). AreLinesOf lines x) F.1 in_lines)
 
-lines_by : (lines : List (List ℕ)) (ts : List Item) (parsed : Parsed) (fault : Option ℕ) → parsed.fault ≡ fault → IsRead ts parsed fault → AreLinesOf lines ts → HasLines lines parsed
+lines_by : (lines : List (List ℕ)) (ts : List Item) (parsed : Parsed) (fault : Option ℕ) → parsed.fault ≡ fault → IsReadTo ts parsed fault → AreLinesOf lines ts → HasLines lines parsed
 lines_by lines ts parsed None e r in_lines =
-    record { events = events_lines lines parsed.events r.behind (r.end ∷ []) r.goes (behind_header_lines lines parsed.header ts r.behind r.begins in_lines); fault = rw e tt }
+    record { events = events_lines lines parsed.events r.behind (r.end ∷ []) r.goes (behind_header_lines lines parsed.header.items ts r.behind r.begins in_lines); fault = rw e tt }
 lines_by lines ts parsed (Some line) e r in_lines =
     let whole : AreLinesOf lines (r.0 ++ r.1 ∷ r.2) = subst (λ (x : List Item). AreLinesOf lines x) r.3 in_lines in
     let K = r.6 in
     let at : IsLineOf lines (line_of r.1) = AreLinesOf-first lines r.1 r.2 (AreLinesOf-behind lines r.0 (r.1 ∷ r.2) whole) in
-    record { events = events_lines lines parsed.events K.behind K.others K.goes (behind_header_lines lines parsed.header r.0 K.behind K.begins (AreLinesOf-front lines r.0 (r.1 ∷ r.2) whole)); fault = rw e (subst (λ (n : ℕ). IsLineOf lines n) (sym r.4) at) }
+    record { events = events_lines lines parsed.events K.behind K.others K.goes (behind_header_lines lines parsed.header.items r.0 K.behind K.begins (AreLinesOf-front lines r.0 (r.1 ∷ r.2) whole)); fault = rw e (subst (λ (n : ℕ). IsLineOf lines n) (sym r.4) at) }
 
 -- ---- the number of events
 
@@ -151,7 +151,7 @@ unfolding script_of
 script_is_read lines = script_read (items lines first_place) (items_closed lines first_place)
 
 pub script_has_lines : ItemsAreInOrder → (lines : List (List ℕ)) → list_all is_line lines ≡ true → HasLines lines (script_of lines)
-script_has_lines law lines plain = lines_by lines (items lines first_place) (script_of lines) (script_of lines).fault refl (script_is_read lines) (items_lines law lines plain)
+script_has_lines law lines plain = lines_by lines (items lines first_place) (script_of lines) (script_of lines).fault refl (script_is_read lines).1 (items_lines law lines plain)
 
 pub script_is_short : (lines : List (List ℕ)) → length (script_of lines).events ≤ 4096
 unfolding script_of script_in

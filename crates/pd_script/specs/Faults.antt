@@ -2,7 +2,7 @@
 use Rattle.std.specs.Prelude.{◌≡◌, ℕ, ◌≤◌, true, false, List, [], ◌∷◌, ◌++◌, length, Option, Some, None, ◌⊎◌, All}
 use Rattle.pd_lex.specs.Tokens.{Item, line_of, AreItemsOf}
 use Rattle.pd_script.specs.Items.{is_header, is_end, goes_on, next_is, IsPlain}
-use Rattle.pd_script.specs.Header.{header_item}
+use Rattle.pd_script.specs.Header.{header_item, HasEnd}
 use Rattle.pd_script.specs.Grammar.{IsEvent}
 use Rattle.pd_script.specs.declared.script_header.HeaderItem.{HeaderItem}
 use Rattle.pd_script.specs.declared.script_events.Event.{Event}
@@ -52,9 +52,13 @@ pub record IsKept (header : List HeaderItem) (events : List Event) (front : List
   pub last : (e : Event) (rest : List Item) → IsEvent e others rest → next_is goes_on rest ≡ false
 
 -- the items are a script that was read, or they were read up to their fault
+abbrev pub IsReadTo : List Item → Parsed → Option ℕ → Type 0
+IsReadTo ts parsed None = IsScript parsed.header.items parsed.events ts
+IsReadTo ts parsed (Some line) = (front : List Item) × (t : Item) × (rest : List Item) × (ts ≡ front ++ t ∷ rest) × (line ≡ line_of t) × IsFault front t × IsKept parsed.header.items parsed.events front
+
+-- so they were, and the header has its end
 abbrev pub IsRead : List Item → Parsed → Option ℕ → Type 0
-IsRead ts parsed None = IsScript parsed.header parsed.events ts
-IsRead ts parsed (Some line) = (front : List Item) × (t : Item) × (rest : List Item) × (ts ≡ front ++ t ∷ rest) × (line ≡ line_of t) × IsFault front t × IsKept parsed.header parsed.events front
+IsRead ts parsed fault = HasEnd ts parsed.header × IsReadTo ts parsed fault
 
 -- what a text is read as
 abbrev pub IsScriptOf : List (List ℕ) → Parsed → Type 0

@@ -1,10 +1,13 @@
 -- The header of a script.
-use Rattle.std.specs.Prelude.{codes, ℕ, ◌&&◌, nat_le, nat_eq, List, drop, if◌then◌else◌}
+use Rattle.std.specs.Prelude.{◌≡◌, codes, ℕ, ◌&&◌, nat_le, nat_eq, true, List, ◌∷◌, length, take, drop, fold, if◌then◌else◌}
 use Rattle.std.specs.List.{starts_with}
 use Rattle.pd_lex.specs.declared.token.TokenKind.{TokenKind}
 use Rattle.pd_lex.specs.declared.token.TokenKind.TheVariants as kinds
+use Rattle.pd_lex.specs.declared.token.Place.{Place}
+use Rattle.pd_lex.specs.Places.{first_place, place_after}
 use Rattle.pd_lex.specs.Tokens.{Item, lexeme, ending, bad, line_of}
-use Rattle.pd_script.specs.Items.{is_digits}
+use Rattle.pd_lex.specs.Lexing.{items}
+use Rattle.pd_script.specs.Items.{is_digits, is_header}
 use Rattle.pd_script.specs.Values.{number}
 use Rattle.pd_script.specs.declared.script_header.HeaderItem.{HeaderItem}
 use Rattle.pd_script.specs.declared.script_header.HeaderKind.{HeaderKind}
@@ -29,3 +32,30 @@ header_kind (bad line) = headers.Command
 
 abbrev pub header_item : Item → HeaderItem
 header_item t = record { line = line_of t; kind = header_kind t }
+
+-- a header: its items in order, and its end
+pub record Heading : Type 0 where
+  pub items : List HeaderItem
+  pub end : Place
+
+-- the place behind an item where one stood: behind a token's last octet
+abbrev pub behind : Place → Item → Place
+behind place (lexeme x) = place_after x.from x.text
+behind place (ending line) = place
+behind place (bad line) = place
+
+-- the place behind the last of some items of a text; where there are none, the text's first place
+abbrev pub place_behind : List Item → Place
+place_behind ts = fold behind first_place ts
+
+-- a header ends behind the last of its items; one without items at the text's first place
+abbrev pub HasEnd : List Item → Heading → Type 0
+HasEnd ts header = header.end ≡ place_behind (take (length header.items) ts)
+
+-- at a place of a text a header item stands, with this place behind it
+pub record IsItemAt (lines : List (List ℕ)) (place : Place) (item : HeaderItem) (after : Place) : Type 0 where
+  pub token : Item
+  pub next : items lines place ≡ token ∷ items lines after
+  pub test : is_header token ≡ true
+  pub value : header_item token ≡ item
+  pub end : behind place token ≡ after

@@ -21,4 +21,5 @@ pub mod Drafts
 pub mod PacketReading
 pub mod Reading
 pub mod Script
+pub mod Next
 pub mod Cursor

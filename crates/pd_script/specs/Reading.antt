@@ -1,10 +1,8 @@
 -- The grammar, read from left to right.
 use Rattle.std.specs.Prelude.{ℕ, zero, suc, true, false, List, [], ◌∷◌, Option, Some, None, ⊤}
 use Rattle.pd_lex.specs.Tokens.{Item, line_of}
-use Rattle.pd_script.specs.Items.{is_int, is_hex, is_num, is_num_from, is_dots, is_command, is_code, is_word, is_symbol, is_header, is_end, starts_event, text_of}
+use Rattle.pd_script.specs.Items.{is_int, is_hex, is_num, is_num_from, is_dots, is_command, is_code, is_word, is_symbol, is_end, starts_event, text_of}
 use Rattle.pd_script.specs.Values.{sign, hex_number, microseconds, function_named, error_named}
-use Rattle.pd_script.specs.Header.{header_item}
-use Rattle.pd_script.specs.declared.script_header.HeaderItem.{HeaderItem}
 use Rattle.pd_script.specs.Reader.{Reader, ◌>>=◌, done, one, when, machine_at}
 use Rattle.pd_script.specs.TokenReading.{symbol_at, int_at, dots_at}
 use Rattle.pd_script.specs.PacketReading.{packet_at}
@@ -27,12 +25,6 @@ use Rattle.pd_script.specs.declared.script_events.Event.{Event}
 abbrev pub next_line : List Item → ℕ
 next_line [] = 0
 next_line (t ∷ ts) = line_of t
-
--- an option or a command of the header
-abbrev pub header_item_at : Reader HeaderItem
-header_item_at = do
-  t ← one is_header
-  done (header_item t)
 
 -- a hexadecimal number
 abbrev pub hex_at : Reader ℕ

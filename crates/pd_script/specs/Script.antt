@@ -2,9 +2,10 @@
 use Rattle.std.specs.Prelude.{ℕ, zero, suc, Bool, List, [], ◌∷◌, ◌++◌, Some, None, Ok, Err, if◌then◌else◌}
 use Rattle.pd_lex.specs.Tokens.{Item}
 use Rattle.pd_lex.specs.Lexing.{items}
+use Rattle.pd_lex.specs.declared.token.Place.{Place}
 use Rattle.pd_lex.specs.Places.{first_place}
 use Rattle.pd_script.specs.Items.{is_header, is_end, starts_event, goes_on, next_is}
-use Rattle.pd_script.specs.Header.{header_item}
+use Rattle.pd_script.specs.Header.{Heading, header_item, behind}
 use Rattle.pd_script.specs.Reader.{Read}
 use Rattle.pd_script.specs.Reading.{next_line, event_at}
 use Rattle.pd_script.specs.declared.script_header.HeaderItem.{HeaderItem}
@@ -21,6 +22,15 @@ header_of (t ∷ ts) = if is_header t then header_item t ∷ header_of ts else [
 abbrev pub behind_header : List Item → List Item
 behind_header [] = []
 behind_header (t ∷ ts) = if is_header t then behind_header ts else t ∷ ts
+
+-- the place behind them, or this place where there are none
+abbrev pub header_end : Place → List Item → Place
+header_end place [] = place
+header_end place (t ∷ ts) = if is_header t then header_end (behind place t) ts else place
+
+-- the header of a text's items
+abbrev pub header_in : List Item → Heading
+header_in ts = record { items = header_of ts; end = header_end first_place ts }
 
 -- what may follow an event when there may be so many more
 abbrev pub may_follow : ℕ → Item → Bool
@@ -52,7 +62,7 @@ found_in (suc n) ts = if next_is starts_event ts then with_event (found_in n) (f
 unfoldable pub script_in : List Item → Parsed
 script_in ts =
     let found = found_in 4096 (behind_header ts) in
-    record { header = header_of ts; events = found.events; fault = found.fault }
+    record { header = header_in ts; events = found.events; fault = found.fault }
 
 -- what a text is read as
 unfoldable pub script_of : List (List ℕ) → Parsed

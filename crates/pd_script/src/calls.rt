@@ -1,5 +1,5 @@
 //! System calls as a script writes them.
-ghost use Rattle.std.specs.Prelude.{◌≡◌, [], ◌∷◌, ◌++◌, length, OnOk};
+ghost use Rattle.std.specs.Prelude.{◌≡◌, [], ◌∷◌, ◌++◌, length, IfOk, OnOk};
 
 use std::alloc::{AllocError, Global};
 use std::marker::Model;
@@ -89,6 +89,22 @@ pub enum ErrorName {
     Unknown,
 }
 
+impl Call {
+    /// The same call once more.
+    ///
+    /// # Errors
+    /// `AllocError` where a growth is refused.
+    pub fn copy(&self) -> Result<Call, AllocError>
+        ensures { IfOk result (λ copy. copy ≡ self.now) }
+    {
+        Ok(Call {
+            function: self.function,
+            arguments: self.arguments.copy()?,
+            result: self.result,
+        })
+    }
+}
+
 impl Arguments {
     pub fn new(alloc: Global) -> Arguments
         ensures { result ≡ [] }
@@ -115,5 +131,16 @@ impl Arguments {
         ensures { result.now ≡ self.now }
     {
         self.arguments.as_slice()
+    }
+    /// The same arguments once more.
+    ///
+    /// # Errors
+    /// `AllocError` where a growth is refused.
+    pub fn copy(&self) -> Result<Arguments, AllocError>
+        ensures { IfOk result (λ copy. copy ≡ self.now) }
+    {
+        Ok(Arguments {
+            arguments: self.arguments.clone()?,
+        })
     }
 }

@@ -2,11 +2,11 @@
 ghost use Rattle.std.specs.Prelude.{◌≡◌, unwrap_or};
 ghost use Rattle.pd_lex.specs.Tokens.{line_of};
 ghost use Rattle.pd_lex.specs.Lexing.{items};
-ghost use Rattle.pd_script.specs.Items.{is_int, is_named, is_hex, is_num, is_num_from, is_dots, is_command, is_code, is_word, is_symbol, is_int_from, is_int_of, is_flags, is_option, is_header, is_end, starts_event, next_is, next_given, text_of};
-ghost use Rattle.pd_script.specs.Header.{header_item};
+ghost use Rattle.pd_script.specs.Items.{is_int, is_named, is_hex, is_num, is_num_from, is_dots, is_command, is_code, is_word, is_symbol, is_int_from, is_int_of, is_flags, is_option, is_end, starts_event, next_is, next_given, text_of};
 ghost use Rattle.pd_script.specs.Values.{number, hex_number, microseconds, function_named, error_named, flags_of, option_named};
 ghost use Rattle.pd_script.specs.Drafts.{part_at, note_part_at, behind_token};
 ghost use Rattle.pd_script.specs.Reading.{next_line};
+ghost use Rattle.pd_script.specs.Next.{next_place};
 ghost use Rattle.pd_script.specs.Cursor.{Leaves, Takes};
 
 use crate::brackets::{MAX_DEPTH, OpenPairs};
@@ -16,9 +16,8 @@ use crate::names::{OptionName, error_named, function_named, option_named};
 use crate::numbers::{GREATEST, TIME_LIMIT, hex_number, microseconds, number};
 use crate::packets::{Flags, are_flags};
 use crate::script_events::Action;
-use crate::script_header::{HeaderItem, HeaderKind};
 use crate::stops::Stop;
-use pd_lex::{Lexed, Place, TokenKind, next_token};
+use pd_lex::{Lexed, Place, TokenKind, next_token, read_next};
 use pd_text::Lines;
 use std::marker::Model;
 
@@ -66,6 +65,21 @@ impl<'a> Cursor<'a> {
         }
     }
 
+    /// Where the next token or the end stands: the end behind the last line.
+    #[tactic(auto, unfolding(pd_lex::specs::Lexing::lexeme_of))]
+    pub fn next_place(&self) -> Place
+        ensures { result ≡ next_place self.now }
+    {
+        match self.next {
+            Lexed::Token(token, _) => token.span.from,
+            Lexed::End => Place {
+                line: self.lines.len().max(1) + 1,
+                at: 0,
+            },
+            Lexed::Bad(line) => Place { line, at: 0 },
+        }
+    }
+
     pub fn is_end(&self) -> bool
         ensures { result ≡ next_is is_end self.now }
     {
@@ -78,7 +92,7 @@ impl<'a> Cursor<'a> {
     {
         if let Lexed::Token(_, after) = self.next {
             self.place = after;
-            self.next = next_token(self.lines, after);
+            read_next(self.lines, after, &mut self.next);
         }
     }
 
@@ -423,24 +437,6 @@ impl<'a> Cursor<'a> {
         } else {
             None
         }
-    }
-
-    #[tactic(auto, unfolding(pd_lex::specs::Lexing::lexeme_of))]
-    pub fn next_header_item(&self) -> Option<HeaderItem>
-        ensures { result ≡ next_given is_header (λ t. header_item t) self.now }
-    {
-        let Lexed::Token(token, _) = self.next else {
-            return None;
-        };
-        let kind = match token.kind {
-            TokenKind::Opt => HeaderKind::of_option(token.text),
-            TokenKind::Cmd => HeaderKind::Command,
-            _ => return None,
-        };
-        Some(HeaderItem {
-            line: token.line,
-            kind,
-        })
     }
 }
 

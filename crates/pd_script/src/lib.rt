@@ -4,7 +4,9 @@
 mod brackets;
 mod calls;
 mod cursor;
+mod deciding;
 mod drafts;
+mod heading;
 mod names;
 mod numbers;
 mod packets;
@@ -22,10 +24,12 @@ mod timing;
 mod tokens;
 
 pub use calls::{Argument, Arguments, Call, Constant, ErrorName, Function, Outcome};
+pub use deciding::{NextEvent, next_event};
+pub use heading::read_header;
 pub use packets::{Block, Blocks, Flags, OptionList, Options, Packet, PacketOption};
 pub use parsing::Parsed;
 pub use read_script::{MAX_EVENTS, parse};
 pub use script_events::{Action, Event, Events};
 pub use script_header::{Header, HeaderItem, HeaderKind};
-pub use script_laws::scripts_are_grammatical;
+pub use script_laws::{items_stand_there, scripts_are_grammatical};
 pub use timing::{Time, Until};

@@ -5,8 +5,8 @@ ghost use Rattle.std.specs.Str.Parse.{digits_value, digits_value_after};
 ghost use Rattle.std.specs.List.{list_all};
 ghost use Rattle.pd_lex.specs.Octets.{is_digit};
 ghost use Rattle.pd_script.specs.Items.{is_digits};
-ghost use Rattle.pd_script.specs.Values.{number, hex_number, capped_number, whole_len, whole_digits, microseconds};
-ghost use Rattle.pd_script.specs.TokenReading.{capped_digit};
+ghost use Rattle.pd_script.specs.Values.{number, hex_number, capped_number, whole_len, microseconds};
+ghost use Rattle.pd_script.specs.TokenReading.{capped_digit, wrapped_digit};
 
 /// A time is below so many microseconds.
 pub const TIME_LIMIT: u64 = 4_294_967_296_000_000;
@@ -14,12 +14,17 @@ pub const TIME_LIMIT: u64 = 4_294_967_296_000_000;
 /// The greatest number of a packet or a result.
 pub const GREATEST: u64 = 4_294_967_295;
 
+/// So many digits write no number above the greatest `u64`.
+const FEW: usize = 9;
+
 /// What an octet stands for as a digit in a base up to 36, or 36.
 fn digit_value(octet: u8) -> u64
     ensures { result ≡ digit_value octet }
 {
+    if octet.is_ascii_digit() {
+        return u64::from(octet - b'0');
+    }
     match octet {
-        b'0'..=b'9' => u64::from(octet - b'0'),
         b'A'..=b'Z' => u64::from(octet - b'A') + 10,
         b'a'..=b'z' => u64::from(octet - b'a') + 10,
         _ => 36,
@@ -38,12 +43,34 @@ fn value_after(radix: u64, value: u64, digits: &[u8]) -> u64
     )
 }
 
+/// The number that digits write, modulo 2^64.
+fn wrapped(digits: &[u8]) -> u64
+    ensures { result ≡ fold wrapped_digit 0 digits.now }
+{
+    digits.iter().fold(
+        0u64,
+        |value, digit| value.wrapping_mul(10).wrapping_add(digit_value(*digit)),
+    )
+}
+
+/// The number in digits, of which there are so few that none of them is too large.
+fn few_digits(digits: &[u8]) -> u64
+    requires { length digits.now ≤ 9 }
+    ensures { result ≡ capped_number digits.now }
+{
+    wrapped(digits)
+}
+
 /// The number in digits; one above the greatest `u64` stands as that.
 #[tactic(auto, using(crate::proofs::Capped::capping))]
 pub fn number(digits: &[u8]) -> u64
     ensures { result ≡ capped_number digits.now }
 {
-    value_after(10, 0, digits)
+    if digits.len() <= FEW {
+        few_digits(digits)
+    } else {
+        value_after(10, 0, digits)
+    }
 }
 
 /// The digits behind `0x`.
@@ -69,18 +96,11 @@ fn whole_len(text: &[u8]) -> usize
     text.iter().take_while(|octet| **octet != b'.').count()
 }
 
-/// The digits before the point.
-fn whole_digits(text: &[u8]) -> &[u8]
-    ensures { result.now ≡ whole_digits text.now }
+/// The digits behind the point, which stands behind so many.
+fn decimals(text: &[u8], len: usize) -> &[u8]
+    requires { len ≤ length text.now }
+    ensures { result.now ≡ drop (len + 1) text.now }
 {
-    &text[..whole_len(text)]
-}
-
-/// The digits behind the point.
-fn decimals(text: &[u8]) -> &[u8]
-    ensures { result.now ≡ drop (whole_len text.now + 1) text.now }
-{
-    let len = whole_len(text);
     if len < text.len() {
         &text[len + 1..]
     } else {
@@ -92,6 +112,9 @@ fn decimals(text: &[u8]) -> &[u8]
 fn six_decimals_after(value: u64, decimals: &[u8]) -> u64
     ensures { result ≡ fold (capped_digit 10) value (take 6 (decimals.now ++ replicate 6 48)) }
 {
+    if decimals.is_empty() {
+        return value.saturating_mul(1_000_000);
+    }
     decimals.iter().chain(b"000000".iter()).take(6).fold(
         value,
         |value, digit| value.saturating_mul(10).saturating_add(digit_value(*digit)),
@@ -102,7 +125,8 @@ fn six_decimals_after(value: u64, decimals: &[u8]) -> u64
 pub fn microseconds(text: &[u8]) -> u64
     ensures { result ≡ min (microseconds text.now) (2 ^ 64 - 1) }
 {
-    six_decimals_after(number(whole_digits(text)), decimals(text))
+    let len = whole_len(text);
+    six_decimals_after(number(&text[..len]), decimals(text, len))
 }
 
 fn is_digit_octet(octet: u8) -> bool

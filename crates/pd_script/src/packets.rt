@@ -1,5 +1,5 @@
 //! Packets as a script writes them.
-ghost use Rattle.std.specs.Prelude.{◌≡◌, ◌==◌, ◌||◌, [], ◌∷◌, ◌++◌, length, OnOk};
+ghost use Rattle.std.specs.Prelude.{◌≡◌, ◌==◌, ◌||◌, [], ◌∷◌, ◌++◌, length, IfOk, OnOk};
 ghost use Rattle.std.specs.List.{list_any, list_all};
 ghost use Rattle.pd_script.specs.Values.{is_flag};
 
@@ -21,6 +21,26 @@ pub struct Packet {
     /// The window field, if written; an inbound packet always has one.
     pub win: Option<u32>,
     pub options: Options,
+}
+
+impl Packet {
+    /// The same packet once more.
+    ///
+    /// # Errors
+    /// `AllocError` where a growth is refused.
+    pub fn copy(&self) -> Result<Packet, AllocError>
+        ensures { IfOk result (λ copy. copy ≡ self.now) }
+    {
+        Ok(Packet {
+            flags: self.flags,
+            start: self.start,
+            end: self.end,
+            length: self.length,
+            ack: self.ack,
+            win: self.win,
+            options: self.options.copy()?,
+        })
+    }
 }
 
 /// The flags of a packet.
@@ -160,6 +180,42 @@ pub struct Block {
     pub right: u64,
 }
 
+impl Options {
+    /// The same options once more.
+    ///
+    /// # Errors
+    /// `AllocError` where a growth is refused.
+    pub fn copy(&self) -> Result<Options, AllocError>
+        ensures { IfOk result (λ copy. copy ≡ self.now) }
+    {
+        Ok(match self {
+            Options::Absent => Options::Absent,
+            Options::Any => Options::Any,
+            Options::Listed(options) => Options::Listed(options.copy()?),
+        })
+    }
+}
+
+impl PacketOption {
+    /// The same option once more.
+    ///
+    /// # Errors
+    /// `AllocError` where a growth is refused.
+    pub fn copy(&self) -> Result<PacketOption, AllocError>
+        ensures { IfOk result (λ copy. copy ≡ self.now) }
+    {
+        Ok(match self {
+            PacketOption::Mss(mss) => PacketOption::Mss(*mss),
+            PacketOption::Wscale(shift) => PacketOption::Wscale(*shift),
+            PacketOption::SackOk => PacketOption::SackOk,
+            PacketOption::Nop => PacketOption::Nop,
+            PacketOption::Eol => PacketOption::Eol,
+            PacketOption::Timestamp(value, echo) => PacketOption::Timestamp(*value, *echo),
+            PacketOption::Sack(blocks) => PacketOption::Sack(blocks.copy()?),
+        })
+    }
+}
+
 impl OptionList {
     pub fn new(alloc: Global) -> OptionList
         ensures { result ≡ [] }
@@ -186,6 +242,20 @@ impl OptionList {
         ensures { result.now ≡ self.now }
     {
         self.options.as_slice()
+    }
+
+    /// The same options once more.
+    ///
+    /// # Errors
+    /// `AllocError` where a growth is refused.
+    pub fn copy(&self) -> Result<OptionList, AllocError>
+        ensures { IfOk result (λ copy. copy ≡ self.now) }
+    {
+        let mut copy = OptionList::new(*self.options.allocator());
+        for option in self.options.as_slice() {
+            copy.push(option.copy()?)?;
+        }
+        Ok(copy)
     }
 }
 
@@ -215,5 +285,16 @@ impl Blocks {
         ensures { result.now ≡ self.now }
     {
         self.blocks.as_slice()
+    }
+    /// The same blocks once more.
+    ///
+    /// # Errors
+    /// `AllocError` where a growth is refused.
+    pub fn copy(&self) -> Result<Blocks, AllocError>
+        ensures { IfOk result (λ copy. copy ≡ self.now) }
+    {
+        Ok(Blocks {
+            blocks: self.blocks.clone()?,
+        })
     }
 }

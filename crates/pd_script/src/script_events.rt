@@ -1,5 +1,5 @@
 //! The events of a script.
-ghost use Rattle.std.specs.Prelude.{◌≡◌, [], ◌∷◌, ◌++◌, length, OnOk};
+ghost use Rattle.std.specs.Prelude.{◌≡◌, [], ◌∷◌, ◌++◌, length, IfOk, OnOk};
 
 use crate::calls::Call;
 use crate::packets::Packet;
@@ -39,6 +39,41 @@ pub struct Events {
     events: Vec<Event>,
 }
 
+impl Event {
+    /// The same event once more.
+    ///
+    /// # Errors
+    /// `AllocError` where a growth is refused.
+    pub fn copy(&self) -> Result<Event, AllocError>
+        ensures { IfOk result (λ copy. copy ≡ self.now) }
+    {
+        Ok(Event {
+            line: self.line,
+            time: self.time,
+            until: self.until,
+            action: self.action.copy()?,
+        })
+    }
+}
+
+impl Action {
+    /// The same action once more.
+    ///
+    /// # Errors
+    /// `AllocError` where a growth is refused.
+    pub fn copy(&self) -> Result<Action, AllocError>
+        ensures { IfOk result (λ copy. copy ≡ self.now) }
+    {
+        Ok(match self {
+            Action::Inbound(packet) => Action::Inbound(packet.copy()?),
+            Action::Outbound(packet) => Action::Outbound(packet.copy()?),
+            Action::Call(call) => Action::Call(call.copy()?),
+            Action::Command => Action::Command,
+            Action::Code => Action::Code,
+        })
+    }
+}
+
 impl Model for Events {
     ghost use Rattle.std.specs.Prelude.{List};
     ghost use Rattle.pd_script.specs.declared.script_events.Event.{Event};
@@ -55,6 +90,18 @@ impl Events {
         Events {
             events: Vec::new(alloc),
         }
+    }
+
+    /// No events, with room for so many.
+    ///
+    /// # Errors
+    /// `AllocError` where the room is refused.
+    pub fn with_room(alloc: Global, room: usize) -> Result<Events, AllocError>
+        ensures { IfOk result (λ events. events ≡ []) }
+    {
+        Ok(Events {
+            events: Vec::with_capacity(alloc, room)?,
+        })
     }
 
     pub fn push(&mut self, event: Event) -> Result<(), AllocError>

@@ -1,7 +1,9 @@
 //! The header of a script.
-ghost use Rattle.std.specs.Prelude.{◌≡◌, [], ◌∷◌, ◌++◌, length, OnOk};
+ghost use Rattle.std.specs.Prelude.{◌≡◌, [], ◌∷◌, ◌++◌, length, IfOk, OnOk};
+ghost use Rattle.pd_lex.specs.Places.{first_place};
 
 use crate::numbers::{is_digits, number};
+use pd_lex::Place;
 use std::alloc::{AllocError, Global};
 use std::marker::Model;
 
@@ -24,19 +26,19 @@ pub enum HeaderKind {
     Command,
 }
 
-/// The items of a header, in order.
+/// The items of a header, in order, and its end.
 #[derive(Drop)]
 pub struct Header {
     items: Vec<HeaderItem>,
+    end: Place,
 }
 
 impl Model for Header {
-    ghost use Rattle.std.specs.Prelude.{List};
-    ghost use Rattle.pd_script.specs.declared.script_header.HeaderItem.{HeaderItem};
+    ghost use Rattle.pd_script.specs.Header.{Heading};
 
-    ghost Value = { List HeaderItem };
+    ghost Value = { Heading };
 
-    ghost view = { λ h. h.items.items };
+    ghost view = { λ h. record { items = h.items.items; end = h.end } };
 }
 
 /// The greatest tolerance, in microseconds.
@@ -71,29 +73,53 @@ impl HeaderKind {
 
 impl Header {
     pub fn new(alloc: Global) -> Header
-        ensures { result ≡ [] }
+        ensures { result ≡ record { items = []; end = first_place } }
     {
         Header {
             items: Vec::new(alloc),
+            end: Place::first(),
         }
     }
 
-    pub fn push(&mut self, item: HeaderItem) -> Result<(), AllocError>
-        ensures { OnOk result (self.new ≡ self.old ++ item ∷ []) }
+    /// Puts one more item behind the others, with the place behind it.
+    pub fn push(&mut self, item: HeaderItem, end: Place) -> Result<(), AllocError>
+        ensures { OnOk result (self.new ≡ record { items = self.old.items ++ item ∷ []; end = end }) }
     {
         self.items.push(item)?;
+        self.end = end;
         Ok(())
     }
 
     pub fn len(&self) -> usize
-        ensures { result ≡ length self.now }
+        ensures { result ≡ length self.now.items }
     {
         self.items.len()
     }
 
     pub fn as_slice(&self) -> &[HeaderItem]
-        ensures { result.now ≡ self.now }
+        ensures { result.now ≡ self.now.items }
     {
         self.items.as_slice()
+    }
+
+    /// The place behind the last item, where the first event is looked for; without items the
+    /// first place of a text.
+    pub fn end(&self) -> Place
+        ensures { result ≡ self.now.end }
+    {
+        self.end
+    }
+
+    /// The same header once more.
+    ///
+    /// # Errors
+    /// `AllocError` where a growth is refused.
+    pub fn copy(&self) -> Result<Header, AllocError>
+        ensures { IfOk result (λ copy. copy ≡ self.now) }
+    {
+        Ok(Header {
+            items: self.items.clone()?,
+            end: self.end,
+        })
     }
 }

@@ -1,7 +1,7 @@
 //! Laws of scripts.
-ghost use Rattle.pd_script.specs.Laws.{ScriptsAreGrammatical, NoOthersAreGrammatical, ItemsAreReadInOneWay};
+ghost use Rattle.pd_script.specs.Laws.{ScriptsAreGrammatical, NoOthersAreGrammatical, ItemsAreReadInOneWay, ItemsStandThere};
 
-use pd_lex::longest_pieces;
+use pd_lex::{items_behind_tokens, longest_pieces};
 
 /// Three laws, and no work: what a text is read as is what the grammar gives for its tokens, it gives
 /// nothing else, and no tokens are read in two ways.
@@ -11,4 +11,12 @@ pub fn scripts_are_grammatical()
     ensures one_way { ItemsAreReadInOneWay }
 {
     longest_pieces();
+}
+
+/// A law, and no work: from the place of an item with which an event or the end begins, in a text,
+/// the items are that one and those behind it.
+pub fn items_stand_there()
+    ensures { ItemsStandThere }
+{
+    items_behind_tokens();
 }

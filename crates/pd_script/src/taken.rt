@@ -1,8 +1,8 @@
 //! Taking the next token for what it is.
-ghost use Rattle.std.specs.Prelude.{◌≡◌, Ok, Err, IfSome, IfNone};
+ghost use Rattle.std.specs.Prelude.{◌≡◌};
 ghost use Rattle.pd_script.specs.TokenReading.{symbol_at, int_at, dots_at};
 ghost use Rattle.pd_script.specs.PacketReading.{int_from_at, int_of_at, named_at, letters_at, option_name_at};
-ghost use Rattle.pd_script.specs.Reading.{header_item_at, hex_at, num_at, num_from_at, command_at, code_at, function_at, error_at};
+ghost use Rattle.pd_script.specs.Reading.{hex_at, num_at, num_from_at, command_at, code_at, function_at, error_at};
 ghost use Rattle.pd_script.specs.Cursor.{Leaves};
 
 use crate::calls::{ErrorName, Function};
@@ -10,7 +10,6 @@ use crate::cursor::Cursor;
 use crate::names::OptionName;
 use crate::packets::Flags;
 use crate::script_events::Action;
-use crate::script_header::HeaderItem;
 use crate::stops::Stop;
 
 impl<'a> Cursor<'a> {
@@ -132,16 +131,5 @@ impl<'a> Cursor<'a> {
     {
         let found = self.next_code();
         self.take_found(found)
-    }
-
-    /// Takes an option or a command of the header, if one stands here.
-    pub fn header_item(&mut self) -> Option<HeaderItem>
-        ensures some { IfSome result (λ item. header_item_at self.old ≡ Ok (item, self.new)) }
-        ensures none { IfNone result (header_item_at self.old ≡ Err self.new) }
-        ensures same { IfNone result (self.new ≡ self.old) }
-    {
-        let item = self.next_header_item()?;
-        self.take();
-        Some(item)
     }
 }

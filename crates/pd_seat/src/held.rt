@@ -3,6 +3,7 @@ ghost use Rattle.std.specs.Prelude.{◌≡◌, ◌≢◌, ◌↔◌, ◌≤◌, 
 ghost use Rattle.pd_settings.specs.Keys.{key_named};
 ghost use Rattle.pd_book.specs.Acts.{next, job};
 ghost use Rattle.pd_book.specs.Refusals.{next_job};
+ghost use Rattle.pd_book.specs.Legal.{Legal};
 ghost use Rattle.pd_book.specs.Report.{shown, owed};
 ghost use Rattle.pd_book.specs.Given.{GivesAdd, GivesEdit, GivesRemove, GivesSet, GivesStart, GivesFinish, GivesAbandon};
 ghost use Rattle.pd_seat.specs.Seats.{new_seats, IsNew, Records, Unless, is_unended, Agrees, IsShown, IsShownFrom};
@@ -161,6 +162,7 @@ impl Held {
         ensures gives { Unless BookFault.OutOfMemory result (GivesStart self.old.book.story result self.new.book.story) }
         ensures records { IfOk result (λ given. IfSome given (λ job. Records self.old seat.old (Act.Start job.task.number job.task.name) self.new seat.new)) }
         ensures none { IfOk result (λ given. IfNone given ((self.new ≡ self.old) × (seat.new ≡ seat.old))) }
+        ensures legal { OnOk result (Legal self.old.book.story.opening self.old.book.story.past) }
         ensures refuses { OnErr result ((self.new ≡ self.old) × (seat.new ≡ seat.old)) }
     {
         self.notes.reserve(self.book.outstanding_count() + 2)?;

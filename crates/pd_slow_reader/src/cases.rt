@@ -4,7 +4,10 @@ use crate::comparing::{Comparison, Wanted};
 use crate::escapes::unescape;
 use crate::items::kinds_of;
 use crate::measures::decimal_value;
+use crate::product::steps_of;
+use crate::rereading::{edit_often, edited, read_both};
 use crate::stops::Stop;
+use crate::texts::text;
 use std::alloc::Global;
 use std::fs;
 use std::rt::Files;
@@ -26,7 +29,40 @@ pub fn carry_out(
         let script = fs::read(rt, text)?;
         return check_script(comparison, asked, text, script.as_slice());
     }
+    if asked.starts_with("edit") {
+        let (name, insert) = text.split_once(' ').unwrap_or((text, ""));
+        let script = fs::read(rt, name)?;
+        return check_edits(rt.alloc(), comparison, asked, script.as_slice(), insert);
+    }
     check_row(rt.alloc(), comparison, asked, text)
+}
+
+/// Edits a script as it is said, or so many times by dice.
+fn check_edits(
+    alloc: Global,
+    comparison: &mut Comparison,
+    asked: &str,
+    script: &[u8],
+    insert: &str,
+) -> Result<(), Stop> {
+    let mut words = asked.as_bytes().split(|octet| *octet == b' ');
+    let _case = words.next();
+    let first = decimal_value(words.next().unwrap_or(&[]));
+    if asked.starts_with("edits ") {
+        let tally = edit_often(alloc, script, first)?;
+        comparison.note_edits(tally.edits, tally.kept, tally.wrong);
+        return Ok(());
+    }
+    let remove = decimal_value(words.next().unwrap_or(&[]));
+    let same = decimal_value(words.next().unwrap_or(&[]));
+    let kept = decimal_value(words.next().unwrap_or(&[]));
+    let insert = unescape(alloc, insert)?;
+    let new = edited(alloc, script, first, remove, insert.as_slice())?;
+    let outcome = read_both(alloc, &text(alloc, script)?, &text(alloc, new.as_slice())?)?;
+    let is_wanted = outcome.same as u64 == same && outcome.kept as u64 == kept;
+    let is_right = outcome.is_right && is_wanted;
+    comparison.note_edits(1, outcome.kept as u64, if is_right { 0 } else { 1 });
+    Ok(())
 }
 
 /// Checks a whole script, and then each way to cut or change it.
@@ -50,7 +86,12 @@ fn check_row(
     if let Some(kinds) = asked.strip_prefix("tokens ") {
         let octets = unescape(alloc, text)?;
         let found = kinds_of(alloc, octets.as_slice())?;
-        return comparison.check_kinds(text, kinds, found.as_str());
+        return comparison.check_words("tokens", text, kinds, found.as_str());
+    }
+    if let Some(steps) = asked.strip_prefix("steps ") {
+        let octets = unescape(alloc, text)?;
+        let found = steps_of(alloc, octets.as_slice())?;
+        return comparison.check_words("steps", text, steps, found.as_str());
     }
     let wanted = wanted(asked);
     let octets = if asked.starts_with("many ") {

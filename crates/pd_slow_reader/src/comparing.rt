@@ -1,8 +1,8 @@
 //! Reads texts both ways and keeps what differs.
 use crate::machine::{Reading, read};
+use crate::product::{parsed, stepped};
 use crate::stops::Stop;
 use crate::texts::text;
-use pd_script::parse;
 use pd_text::Lines;
 use std::alloc::{AllocError, Global};
 
@@ -30,6 +30,9 @@ impl Wanted {
 pub struct Comparison {
     pub alloc: Global,
     pub texts: u64,
+    /// How many edited scripts were read again, and how many of their events were kept.
+    pub edits: u64,
+    pub kept: u64,
     pub wrong: u64,
     pub said: String,
 }
@@ -39,6 +42,8 @@ impl Comparison {
         Comparison {
             alloc,
             texts: 0,
+            edits: 0,
+            kept: 0,
             wrong: 0,
             said: String::new(alloc),
         }
@@ -66,12 +71,14 @@ impl Comparison {
         slow: &Reading,
         is_wanted: bool,
     ) -> Result<(), Stop> {
-        let said = parsed(self.alloc, lines)?;
+        let whole = parsed(self.alloc, lines)?;
+        let steps = stepped(self.alloc, lines)?;
         self.texts = self.texts.saturating_add(1);
-        if is_wanted && said.is_same(slow) {
+        if is_wanted && whole.is_same(slow) && steps.is_same(slow) {
             return Ok(());
         }
         self.wrong = self.wrong.saturating_add(1);
+        let said = if whole.is_same(slow) { steps } else { whole };
         self.say_difference(octets, &said, slow)?;
         Ok(())
     }
@@ -101,30 +108,29 @@ impl Comparison {
         write!(self.said, "{whose} {fault} {header} {events}")
     }
 
-    /// Notes the kinds of a text's tokens where they aren't those that are wanted.
-    pub fn check_kinds(&mut self, text: &str, wanted: &str, found: &str) -> Result<(), Stop> {
+    /// Notes what came of edited scripts that were read again.
+    pub fn note_edits(&mut self, edits: u64, kept: u64, wrong: u64) {
+        self.edits = self.edits.saturating_add(edits);
+        self.kept = self.kept.saturating_add(kept);
+        self.wrong = self.wrong.saturating_add(wrong);
+    }
+
+    /// Notes what was found in a text where it isn't what is wanted.
+    pub fn check_words(
+        &mut self,
+        what: &str,
+        text: &str,
+        wanted: &str,
+        found: &str,
+    ) -> Result<(), Stop> {
         self.texts = self.texts.saturating_add(1);
         if wanted != found {
             self.wrong = self.wrong.saturating_add(1);
             writeln!(
                 self.said,
-                "DIFFERS: {text} has the tokens {found}, and not {wanted}"
+                "DIFFERS: {text} has the {what} {found}, and not {wanted}"
             )?;
         }
         Ok(())
     }
-}
-
-/// What the product reads in a text.
-fn parsed(alloc: Global, lines: &Lines) -> Result<Reading, AllocError> {
-    let parsed = parse(alloc, lines)?;
-    let mut reading = Reading::new(alloc);
-    reading.fault = parsed.fault;
-    for item in parsed.header.as_slice() {
-        reading.header.push(item.line)?;
-    }
-    for event in parsed.events.as_slice() {
-        reading.events.push(event.line)?;
-    }
-    Ok(reading)
 }

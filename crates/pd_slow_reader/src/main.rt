@@ -1,14 +1,19 @@
-//! Compares the reader of scripts with a plain slow one, on scripts that are cut, shortened or changed at each octet.
+//! Compares the reader of scripts with a plain slow one, on scripts that are cut, shortened or changed at each octet, and
+//! reading an edited script again with reading it whole.
 #![tactic(auto)]
 
 mod cases;
 mod changes;
 mod comparing;
+mod dice;
+mod edits;
 mod escapes;
 mod grammar;
 mod items;
 mod machine;
 mod measures;
+mod product;
+mod rereading;
 mod spelling;
 mod stops;
 mod texts;
@@ -43,6 +48,9 @@ fn compare_all(rt: &(impl Input + Print + Files + AllocGlobal)) -> Result<u64, S
             println!(rt; "DIFFERS IN THE CASE {line}")?;
         }
     }
+    let edits = comparison.edits;
+    let kept = comparison.kept;
+    println!(rt; "{edits} edited scripts read again, and {kept} events kept")?;
     let texts = comparison.texts;
     let wrong = comparison.wrong;
     println!(rt; "{texts} texts in all, of which {wrong} are read in two ways")?;

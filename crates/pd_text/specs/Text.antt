@@ -1,6 +1,7 @@
 -- Texts as lists of lines.
 use Rattle.std.specs.Prelude.{ℕ, ◌+◌, ◌≤◌, ◌==◌, Bool, not, ◌&&◌, nat_le, List, length, map, sum_by, IsTrue}
-use Rattle.std.specs.List.{list_all}
+use Rattle.std.specs.List.{list_all, common_prefix_len}
+use Rattle.std.specs.Str.{bytes_eq}
 use Rattle.std.specs.declared.vec.Vec.{Vec}
 use Rattle.std.specs.declared.alloc.Global.{Global}
 
@@ -14,6 +15,10 @@ is_line octets = list_all (λ octet. not (octet == 10)) octets
 
 abbrev pub AreLines : List (List ℕ) → Type 0
 AreLines lines = IsTrue (list_all is_line lines)
+
+-- how many of their first lines are equal
+abbrev pub front : List (List ℕ) → List (List ℕ) → ℕ
+front lines others = common_prefix_len bytes_eq lines others
 
 -- the octets of a text, each line counted with one more for its end
 abbrev pub octets_of : List (List ℕ) → ℕ

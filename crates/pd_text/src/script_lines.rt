@@ -1,6 +1,6 @@
 //! Texts: lists of lines within the limits.
 ghost use Rattle.std.specs.Prelude.{◌≡◌, ◌+◌, ◌-◌, ◌≤◌, true, take, drop, length, IfOk, IfErr, IsTrue, Err, None, unwrap_or, nat_le, if◌then◌else◌, option_copied, slice_get, ◌↔◌};
-ghost use Rattle.pd_text.specs.Text.{lists_of, AreLines, FitsText};
+ghost use Rattle.pd_text.specs.Text.{lists_of, front, AreLines, FitsText};
 ghost use Rattle.pd_text.specs.Edit.{is_in_range, edited, edit_refusal};
 
 use crate::faults::TextFault;
@@ -80,6 +80,19 @@ impl Lines {
         ensures { IsTrue result ↔ (self.now ≡ other.now) }
     {
         self.lines == other.lines
+    }
+
+    /// How many of their first lines are equal; takes no memory.
+    pub fn same_front(&self, other: &Lines) -> usize
+        ensures { result ≡ front self.now other.now }
+    {
+        let most = self.lines.len().min(other.lines.len());
+        'lines: for i in 0..most {
+            if self.lines[i] != other.lines[i] {
+                return i;
+            }
+        }
+        most
     }
 
     /// The text after an edit.

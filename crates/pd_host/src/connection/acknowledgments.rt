@@ -151,6 +151,7 @@ impl Connection {
             rwnd: after.rwnd,
             acked,
             same_window: self.window_in(segment) == before.rwnd,
+            fin: segment.flags.fin,
             sack: self.news(fresh),
         };
         let next = after.congestion.on_ack(ack);

@@ -1,7 +1,7 @@
 //! The checks of a segment that arrives on a connection.
 ghost use Rattle.std.specs.Prelude.{◌≡◌, ◌≤◌, Some, IfNone};
 ghost use Rattle.pd_host.specs.declared.rulings.Ruling.TheVariants.{FirstAck};
-ghost use Rattle.pd_host.specs.Arrivals.{is_in_window, check_contents, check_window, check_rst, check_ack_flag, check_handshake, check_ack, ruling_of};
+ghost use Rattle.pd_host.specs.Arrivals.{is_in_window, is_next_fin, is_stray_fin, check_contents, check_window, check_rst, check_ack_flag, check_handshake, check_ack, ruling_of};
 
 use super::Connection;
 use crate::rulings::Ruling;
@@ -26,18 +26,36 @@ impl Connection {
     fn check_contents(&self, segment: &Segment) -> Option<Ruling>
         ensures { result ≡ check_contents self.now segment.now }
     {
-        let flags = segment.flags;
-        if segment.len() > 0 || flags.syn || flags.fin || self.reset {
+        if segment.len() > 0
+            || segment.flags.syn
+            || self.is_stray_fin(segment)
+            || self.state().is_closed()
+        {
             Some(Ruling::NotRun)
         } else {
             None
         }
     }
 
+    /// Whether it has a FIN in the receive window that isn't the peer's next octet.
+    fn is_stray_fin(&self, segment: &Segment) -> bool
+        ensures { result ≡ is_stray_fin self.now segment.now }
+    {
+        segment.flags.fin && self.is_in_window(segment) && !self.is_next_fin(segment)
+    }
+
+    /// Whether its FIN is the peer's next octet, and the first one.
+    fn is_next_fin(&self, segment: &Segment) -> bool
+        ensures { result ≡ is_next_fin self.now segment.now }
+    {
+        self.peer_fin().is_awaited() && segment.start == self.rcv_nxt()
+    }
+
     fn is_in_window(&self, segment: &Segment) -> bool
         ensures { result ≡ is_in_window self.now segment.now }
     {
-        self.rcv_nxt <= segment.start && segment.start - self.rcv_nxt < self.rcv_wnd
+        let next = self.rcv_nxt();
+        next <= segment.start && segment.start - next < self.rcv_wnd
     }
 
     fn check_window(&self, segment: &Segment) -> Option<Ruling>
@@ -57,7 +75,7 @@ impl Connection {
     {
         if !segment.flags.rst {
             None
-        } else if segment.start == self.rcv_nxt {
+        } else if segment.start == self.rcv_nxt() {
             Some(Ruling::ExactRst)
         } else {
             Some(Ruling::ChallengedRst)

@@ -98,7 +98,7 @@ impl Connection {
             },
             start: self.board.top(),
             end: self.board.top(),
-            ack: self.rcv_nxt,
+            ack: self.rcv_nxt(),
             win: self.shifted_window(),
             options: SegOptions::new(alloc),
         }

@@ -47,7 +47,7 @@ impl Connection {
             },
             start: segment.start,
             end: segment.end.min(self.data_end()),
-            ack: self.rcv_nxt,
+            ack: self.rcv_nxt(),
             win: self.shifted_window(),
             options: SegOptions::new(alloc),
         }

@@ -42,12 +42,13 @@ impl Ack {
         }
     }
 
-    /// Whether it acknowledges nothing new while octets are outstanding, and its window is the one before.
+    /// Whether it acknowledges nothing new while octets are outstanding, its window is the one before, and no FIN comes
+    /// with it.
     fn is_duplicate(self) -> bool
         ensures value { result ≡ is_duplicate self }
         ensures outstanding { OnTrue result (self.una < self.top) }
     {
-        self.acked == 0 && self.una < self.top && self.same_window
+        self.acked == 0 && self.una < self.top && self.same_window && !self.fin
     }
 }
 

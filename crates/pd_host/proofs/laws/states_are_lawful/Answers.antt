@@ -1,5 +1,7 @@
 -- The laws hold.
 use Rattle.pd_host.proofs.Ended.{boards_are_scoreboards, calls_stay_in_range, ends_for_good}
+use Rattle.pd_host.proofs.FigureOfCalls.{expiries_stay, calls_move}
+use Rattle.pd_host.proofs.FigureOfSegments.{segments_move}
 use Rattle.pd_host.proofs.States.{starts_lawful, advances_stay_lawful, arrivals_stay_lawful, calls_stay_lawful, taking_stays_lawful}
 use Rattle.pd_host.proofs.laws.states_are_lawful.Goals as goal
 
@@ -13,4 +15,5 @@ returns c = record {
   boards = boards_are_scoreboards;
   range = calls_stay_in_range;
   resets = ends_for_good;
+  figure = record { calls = calls_move; arrivals = segments_move; expiries = expiries_stay };
 }

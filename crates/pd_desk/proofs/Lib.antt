@@ -1,0 +1,2 @@
+-- The lemmas of desks.
+pub mod Jobs

@@ -1,0 +1,57 @@
+//! The workers of a desk.
+ghost use Rattle.std.specs.Prelude.{◌≡◌, ◌<◌, ◌+◌, ◌↔◌, true, IsTrue, OnTrue, OnFalse};
+
+/// For how many workers a desk was opened, how many entered and left, and whether it is shut.
+#[derive(Drop)]
+pub struct Crew {
+    size: usize,
+    entered: usize,
+    left: usize,
+    is_shut: bool,
+}
+
+impl Crew {
+    /// So many workers, of whom none entered.
+    pub fn new(size: usize) -> Crew
+        ensures { result ≡ record { size = size; entered = 0; left = 0; is_shut = false } }
+    {
+        Crew {
+            size,
+            entered: 0,
+            left: 0,
+            is_shut: false,
+        }
+    }
+
+    /// Lets a worker in while fewer entered than there are; whether it is in.
+    pub fn enter(&mut self) -> bool {
+        if self.entered >= self.size {
+            return false;
+        }
+        self.entered += 1;
+        true
+    }
+
+    /// Lets a worker leave.
+    pub fn leave(&mut self) {
+        self.left = self.left.saturating_add(1);
+    }
+
+    /// Lets all leave after their present jobs.
+    pub fn shut(&mut self) {
+        self.is_shut = true;
+    }
+
+    /// Whether a worker is in or may still enter.
+    pub fn is_manned(&self) -> bool
+        ensures { IsTrue result ↔ self.now.left < self.now.size }
+    {
+        self.left < self.size
+    }
+
+    pub fn is_shut(&self) -> bool
+        ensures { result ≡ self.now.is_shut }
+    {
+        self.is_shut
+    }
+}

@@ -1,0 +1,144 @@
+//! Waiting for verdicts, and the workers that give them.
+ghost use Rattle.std.specs.Prelude.{◌≡◌, ◌≢◌, ◌+◌, ◌≤◌, ◌<◌, ◌^◌, ◌⊎◌, true, IfOk, IfErr, IfSome, IfNone, OnOk, OnErr};
+ghost use Rattle.pd_seat.specs.Seats.{with_act, IsShown};
+ghost use Rattle.pd_desk.specs.Desk.{IsCurrent};
+ghost use Rattle.pd_desk.specs.Work.{Works, IsWant, EndsJob, AbandonsJob};
+
+use crate::desk::Desk;
+use crate::faults::DeskFault;
+use crate::gate::Gate;
+use pd_book::{Act, BookFault, Job, Report, headline, run_job};
+use pd_run::Stepper;
+use pd_seat::Seat;
+use std::alloc::Global;
+use std::sync::Wait;
+
+/// More jobs than any history holds.
+const MOST_JOBS: usize = 65_536;
+
+impl Desk {
+    /// Waits until nothing is owed, and shows the report of that moment, in which no row is pending.
+    ///
+    /// # Errors
+    /// `NoWorkers` where all workers left while a script is owed, at once on a desk for none; else those of `show`.
+    pub fn settle<R: Wait>(&self, rt: &R, seat: &mut Seat) -> Result<Report, DeskFault>
+        ensures is_shown { IfOk result (λ report. IsShown seat.old report seat.new) }
+        ensures current { IfOk result IsCurrent }
+        ensures refuses { OnErr result (seat.new ≡ seat.old) }
+        ensures room { result ≢ Err DeskFault.HistoryFull }
+    {
+        let room = self
+            .moved
+            .wait_while(rt, self.room.lock(rt), |room| room.is_awaited());
+        if room.held.owed() > 0 {
+            return Err(DeskFault::NoWorkers);
+        }
+        headline();
+        Ok(room.held.show(seat)?)
+    }
+
+    /// Lets the workers leave after their present jobs.
+    pub fn shut<R: Wait>(&self, rt: &R) {
+        self.room.lock(rt).crew.shut();
+        self.moved.notify_all();
+    }
+
+    /// Enters, and runs jobs until the desk is shut: starts one, runs it with this stepper outside the lock, between the
+    /// calls of the gate, and finishes it. A refused finish is passed over. The stepper has room for 2^28 steps.
+    ///
+    /// # Errors
+    /// `NoWorkers` where as many workers entered as the desk was opened for; `HistoryFull` where a start finds no room, or
+    /// after 65,536 jobs; `OutOfMemory` where a start or a job found no memory, and then the job is abandoned.
+    pub fn work<R: Wait, G: Gate, S: Stepper>(
+        &self,
+        rt: &R,
+        alloc: Global,
+        seat: &mut Seat,
+        stepper: &mut S,
+        gate: &G,
+    ) -> Result<(), DeskFault>
+        requires room { S.counted stepper.old + 2 ^ 28 < 2 ^ 64 }
+        ensures { Works seat.old result seat.new }
+    {
+        if !self.room.lock(rt).crew.enter() {
+            return Err(DeskFault::NoWorkers);
+        }
+        let left = self.run_jobs(rt, alloc, seat, stepper, gate);
+        self.room.lock(rt).crew.leave();
+        self.moved.notify_all();
+        left
+    }
+
+    /// Runs jobs until the desk is shut.
+    fn run_jobs<R: Wait, G: Gate, S: Stepper>(
+        &self,
+        rt: &R,
+        alloc: Global,
+        seat: &mut Seat,
+        stepper: &mut S,
+        gate: &G,
+    ) -> Result<(), DeskFault>
+        requires room { S.counted stepper.old + 2 ^ 28 < 2 ^ 64 }
+        ensures works { Works seat.old result seat.new }
+        ensures entered { result ≢ Err DeskFault.NoWorkers }
+    {
+        for _ in 0..MOST_JOBS {
+            let Some(job) = self.next_job(rt, seat)? else {
+                return Ok(());
+            };
+            self.do_job(rt, alloc, seat, job, stepper, gate)?;
+        }
+        Err(DeskFault::HistoryFull)
+    }
+
+    /// Waits for a job and starts it; `None` where the desk is shut.
+    fn next_job<R: Wait>(&self, rt: &R, seat: &mut Seat) -> Result<Option<Job>, DeskFault>
+        ensures records { IfOk result (λ given. IfSome given (λ job. seat.new ≡ with_act seat.old (Act.Start job.task.number job.task.name))) }
+        ensures none { IfOk result (λ given. IfNone given (seat.new ≡ seat.old)) }
+        ensures refuses { OnErr result (seat.new ≡ seat.old) }
+        ensures fault { IfErr result IsWant }
+    {
+        let mut room = self
+            .moved
+            .wait_while(rt, self.room.lock(rt), |room| room.is_idle());
+        if room.crew.is_shut() {
+            return Ok(None);
+        }
+        match room.held.start(seat) {
+            Ok(given) => Ok(given),
+            Err(BookFault::HistoryFull) => Err(DeskFault::HistoryFull),
+            Err(_) => Err(DeskFault::OutOfMemory),
+        }
+    }
+
+    /// Runs a job that was started, and ends it.
+    fn do_job<R: Wait, G: Gate, S: Stepper>(
+        &self,
+        rt: &R,
+        alloc: Global,
+        seat: &mut Seat,
+        job: Job,
+        stepper: &mut S,
+        gate: &G,
+    ) -> Result<(), DeskFault>
+        requires room { S.counted stepper.old + 4096 < 2 ^ 64 }
+        ensures finished { OnOk result (EndsJob job.task.number seat.old seat.new) }
+        ensures abandoned { IfErr result (λ fault. (fault ≡ DeskFault.OutOfMemory) × AbandonsJob job.task.number seat.old seat.new) }
+        ensures few { OnOk result (S.counted stepper.new ≤ S.counted stepper.old + 4096) }
+    {
+        let number = job.number();
+        gate.before(number);
+        let ran = run_job(alloc, job, stepper);
+        gate.after(number);
+        match ran {
+            Ok(done) => {
+                let _ = self.finish(rt, seat, &done);
+                Ok(())
+            }
+            Err(_) => {
+                let _ = self.abandon(rt, seat, number);
+                Err(DeskFault::OutOfMemory)
+            }
+        }
+    }
+}

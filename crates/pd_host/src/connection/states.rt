@@ -1,0 +1,47 @@
+//! The state of a connection by its name.
+ghost use Rattle.std.specs.Prelude.{◌≡◌, ◌==◌};
+ghost use Rattle.pd_host.specs.ConnStates.{synchronized, state_of};
+
+use super::Connection;
+use crate::conn_states::ConnState;
+use crate::established::Established;
+use crate::peer_fins::PeerFin;
+
+/// The state from the end of the handshake on: by the peer's FIN, by whether ours is queued, and by whether all that is
+/// queued is acknowledged.
+fn synchronized(peer_fin: PeerFin, is_fin_queued: bool, is_all_acked: bool) -> ConnState
+    ensures { result ≡ synchronized peer_fin is_fin_queued is_all_acked }
+{
+    match (peer_fin, is_fin_queued, is_all_acked) {
+        (PeerFin::Awaited, false, _) => ConnState::Established,
+        (PeerFin::Awaited, true, false) => ConnState::FinWait1,
+        (PeerFin::Awaited, true, true) => ConnState::FinWait2,
+        (PeerFin::BeforeOurs | PeerFin::BehindOurs, false, _) => ConnState::CloseWait,
+        (PeerFin::BeforeOurs, true, false) => ConnState::LastAck,
+        (PeerFin::BeforeOurs, true, true) => ConnState::Closed,
+        (PeerFin::BehindOurs, true, false) => ConnState::Closing,
+        (PeerFin::BehindOurs, true, true) => ConnState::TimeWait,
+    }
+}
+
+impl Connection {
+    /// The state of the connection (RFC 9293, section 3.3.2). After an RST it is CLOSED.
+    pub fn state(&self) -> ConnState
+        ensures { result ≡ state_of self.now }
+    {
+        if self.reset {
+            return ConnState::Closed;
+        }
+        match &self.established {
+            None => ConnState::SynReceived,
+            Some(established) => self.state_since(established),
+        }
+    }
+
+    fn state_since(&self, established: &Established) -> ConnState
+        ensures { result ≡ synchronized established.now.peer_fin self.now.fin (self.now.board.una == self.now.board.end) }
+    {
+        let is_all_acked = self.board.una() == self.board.end();
+        synchronized(established.peer_fin, self.fin, is_all_acked)
+    }
+}

@@ -1,0 +1,189 @@
+-- The steps of the loop over events.
+use Rattle.std.proofs.Common.{◌≡◌, ℕ, zero, suc, ◌+◌, ◌-◌, ◌<◌, ◌≤◌, Bool, true, false, cond, List, [], ◌∷◌, ◌++◌, length, Option, Some, None, is_some, Ok, Err, refl, sym, ap, subst, ◌∙◌, arith, append_assoc}
+use Rattle.std.proofs.lemmas.List.{append-nil, length-append}
+use Rattle.pd_lex.specs.declared.token.Place.{Place}
+use Rattle.pd_lex.specs.Tokens.{Item}
+use Rattle.pd_lex.specs.Lexing.{items}
+use Rattle.pd_script.specs.declared.script_events.Event.{Event}
+use Rattle.pd_script.specs.Items.{starts_event, is_end, goes_on, next_is}
+use Rattle.pd_script.specs.Reader.{Read}
+use Rattle.pd_script.specs.Reading.{next_line, event_at}
+use Rattle.pd_script.specs.Script.{followed, may_follow}
+use Rattle.pd_script.proofs.Apart.{or-elim, or-right}
+use Rattle.pd_script.proofs.Laws.{value_is, rest_is, ok}
+use Rattle.pd_script.specs.declared.deciding.NextEvent.{NextEvent}
+use Rattle.pd_script.specs.declared.deciding.NextEvent.TheVariants.{Got, End, Fault}
+use Rattle.pd_reparse.specs.declared.decided.Decided.{Decided}
+use Rattle.pd_reparse.specs.declared.steps.Step.{Step}
+use Rattle.pd_reparse.specs.declared.steps.Step.TheVariants.{Goes, Stops}
+use Rattle.pd_reparse.specs.Steps.{IsStep}
+use Rattle.pd_script.specs.Next.{next_place, reach_of, got, next_in}
+use Rattle.pd_reparse.specs.Reading.{DecidedEvents, decided, with_decided, none_decided, decided_in, in_front}
+
+-- ---- what the next event tells
+
+pub record IsGot (ts : List Item) (e : Event) (after : Place) (reach : Option ℕ) : Type 0 where
+  pub rest : List Item
+  pub start : next_is starts_event ts ≡ true
+  pub reads : event_at ts ≡ ok e rest
+  pub follows : next_is goes_on rest ≡ true
+  pub place : next_place rest ≡ after
+  pub reach_is : reach_of rest ≡ reach
+
+got_by : (ts : List Item) (e : Event) (after : Place) (reach : Option ℕ) (r : Read Event) → next_is starts_event ts ≡ true → event_at ts ≡ r → got (followed goes_on r) ≡ Got e after reach → IsGot ts e after reach
+got_by ts e after reach (Err rest) start h g = absurd cc
+got_by ts e after reach (Ok x) start h g = by_test (next_is goes_on x.1) refl g
+  where
+    by_test : (b : Bool) → next_is goes_on x.1 ≡ b → got (cond b (Ok x) (Err x.1)) ≡ Got e after reach → IsGot ts e after reach
+    by_test true f g = let same : x.0 ≡ e = cc in record { rest = x.1; start = start; reads = h ∙ ap (λ (v : Event). ok v x.1) same; follows = f; place = cc; reach_is = cc }
+    by_test false f g = absurd cc
+
+pub got_is : (ts : List Item) (e : Event) (after : Place) (reach : Option ℕ) → next_in ts ≡ Got e after reach → IsGot ts e after reach
+unfolding next_in
+got_is ts e after reach h = by_test (next_is starts_event ts) refl h
+  where
+    by_test : (b : Bool) → next_is starts_event ts ≡ b → cond b (got (followed goes_on (event_at ts))) (cond (next_is is_end ts) End (Fault (next_line ts))) ≡ Got e after reach → IsGot ts e after reach
+    by_test true start g = got_by ts e after reach (event_at ts) start refl g
+    by_test false start g = by_end (next_is is_end ts) g
+      where
+        by_end : (b : Bool) → cond b End (Fault (next_line ts)) ≡ Got e after reach → IsGot ts e after reach
+        by_end true g = absurd cc
+        by_end false g = absurd cc
+
+no_end_got : (r : Read Event) → got r ≡ End → ⊥
+no_end_got (Ok x) h = cc
+no_end_got (Err rest) h = cc
+
+pub at_end_is : (n : ℕ) (ts : List Item) → next_in ts ≡ End → decided_in n ts ≡ record { events = []; fault = None }
+unfolding next_in decided_in
+at_end_is n ts h = by_test (next_is starts_event ts) refl h
+  where
+    by_end : (b : Bool) → next_is starts_event ts ≡ false → next_is is_end ts ≡ b → cond b End (Fault (next_line ts)) ≡ End → (m : ℕ) → decided_in m ts ≡ record { events = []; fault = None }
+    by_end true start e g zero = rw e refl
+    by_end true start e g (suc m) = rw (start, e) refl
+    by_end false start e g m = absurd cc
+
+    by_test : (b : Bool) → next_is starts_event ts ≡ b → cond b (got (followed goes_on (event_at ts))) (cond (next_is is_end ts) End (Fault (next_line ts))) ≡ End → decided_in n ts ≡ record { events = []; fault = None }
+    by_test true start g = absurd (no_end_got (followed goes_on (event_at ts)) g)
+    by_test false start g = by_end (next_is is_end ts) start refl g n
+
+not_followed : (n : ℕ) (ts : List Item) → next_is goes_on ts ≡ false → next_is (may_follow n) ts ≡ false
+not_followed zero [] h = refl
+not_followed (suc n) [] h = refl
+not_followed zero (t ∷ ts) h = by_test (is_end t) refl
+  where
+    by_test : (b : Bool) → is_end t ≡ b → is_end t ≡ false
+    by_test true e = absurd (let both = sym h ∙ or-right (starts_event t) (is_end t) e in cc)
+    by_test false e = e
+not_followed (suc n) (t ∷ ts) h = h
+
+pub fault_is : (n line : ℕ) (ts : List Item) → next_in ts ≡ Fault line → decided_in (suc n) ts ≡ record { events = []; fault = Some line }
+unfolding next_in decided_in
+fault_is n line ts h = by_test (next_is starts_event ts) refl h
+  where
+    by_read : (r : Read Event) → got (followed goes_on r) ≡ Fault line → with_decided (decided_in n) (followed (may_follow n) r) ≡ record { events = []; fault = Some line }
+    by_read (Err rest) g = let same : next_line rest ≡ line = cc in rw same refl
+    by_read (Ok x) g = by_next (next_is goes_on x.1) refl g
+      where
+        by_next : (b : Bool) → next_is goes_on x.1 ≡ b → got (cond b (Ok x) (Err x.1)) ≡ Fault line → with_decided (decided_in n) (followed (may_follow n) (Ok x)) ≡ record { events = []; fault = Some line }
+        by_next true f g = absurd cc
+        by_next false f g = let same : next_line x.1 ≡ line = cc in rw (not_followed n x.1 f, same) refl
+
+    by_test : (b : Bool) → next_is starts_event ts ≡ b → cond b (got (followed goes_on (event_at ts))) (cond (next_is is_end ts) End (Fault (next_line ts))) ≡ Fault line → cond (next_is starts_event ts) (with_decided (decided_in n) (followed (may_follow n) (event_at ts))) (none_decided ts) ≡ record { events = []; fault = Some line }
+    by_test true start g = rw start (by_read (event_at ts) g)
+    by_test false start g = rw start (by_end (next_is is_end ts) refl g)
+      where
+        by_end : (b : Bool) → next_is is_end ts ≡ b → cond b End (Fault (next_line ts)) ≡ Fault line → none_decided ts ≡ record { events = []; fault = Some line }
+        by_end true e g = absurd cc
+        by_end false e g = let same : next_line ts ≡ line = cc in rw (e, same) refl
+
+-- ---- an event that is got
+
+ends_there : (rest : List Item) → reach_of rest ≡ None → next_is is_end rest ≡ true
+ends_there rest h = by_test (next_is is_end rest) refl h
+  where
+    by_test : (b : Bool) → next_is is_end rest ≡ b → cond b None (Some (next_line rest)) ≡ None → next_is is_end rest ≡ true
+    by_test true e g = e
+    by_test false e g = absurd cc
+
+goes_further : (rest : List Item) (line : ℕ) → reach_of rest ≡ Some line → (next_is is_end rest ≡ false) × (next_line rest ≡ line)
+goes_further rest line h = by_test (next_is is_end rest) refl h
+  where
+    by_test : (b : Bool) → next_is is_end rest ≡ b → cond b None (Some (next_line rest)) ≡ Some line → (next_is is_end rest ≡ false) × (next_line rest ≡ line)
+    by_test true e g = absurd cc
+    by_test false e g = (e, cc)
+
+-- the last event that a script may have, and another one behind it
+pub one_too_many : (ts : List Item) (e : Event) (after : Place) (line : ℕ) → next_in ts ≡ Got e after (Some line) → decided_in 1 ts ≡ record { events = []; fault = Some line }
+unfolding decided_in
+one_too_many ts e after line h =
+    let G = got_is ts e after (Some line) h in
+    let F = goes_further G.rest line G.reach_is in
+    rw (G.start, G.reads, F.0, F.1) refl
+
+-- it is kept
+pub got_kept : (n : ℕ) (ts : List Item) (e : Event) (after : Place) (reach : Option ℕ) (behind : List Item) → next_in ts ≡ Got e after reach → event_at ts ≡ Ok (e, behind) → (n ≡ 0 → reach ≡ None) → (decided_in (suc n) ts ≡ in_front (record { event = e; reach = reach; after = after } ∷ []) (decided_in n behind)) × (n ≡ 0 → next_is is_end behind ≡ true)
+unfolding decided_in
+got_kept n ts e after reach behind h there few =
+    let G = got_is ts e after reach h in
+    let same : G.rest ≡ behind = rest_is e e G.rest behind (sym G.reads ∙ there) in
+    let follows : next_is (may_follow n) G.rest ≡ true = may n few G.rest G.reach_is G.follows in
+    let here : decided_in (suc n) ts ≡ in_front (record { event = e; reach = reach; after = after } ∷ []) (decided_in n G.rest) = rw (G.start, G.reads, follows, G.place, G.reach_is) refl in
+    (here ∙ ap (λ (l : List Item). in_front (record { event = e; reach = reach; after = after } ∷ []) (decided_in n l)) same, λ z. ap (next_is is_end) (sym same) ∙ ends_there G.rest (G.reach_is ∙ few z))
+  where
+    may : (m : ℕ) → (m ≡ 0 → reach ≡ None) → (rest : List Item) → reach_of rest ≡ reach → next_is goes_on rest ≡ true → next_is (may_follow m) rest ≡ true
+    may zero few rest r f = ends_there rest (r ∙ few refl)
+    may (suc m) few rest r f = f
+
+-- ---- steps
+
+pub stops_at_limit : (lines : List (List ℕ)) (ts : List Item) (n : ℕ) (e : Event) (after : Place) (reach : Option ℕ) → next_in ts ≡ Got e after reach → n ≡ 0 → is_some reach ≡ true → IsStep lines ts n (Stops reach)
+stops_at_limit lines ts n e after (Some line) h z some = ap (λ (m : ℕ). decided_in (suc m) ts) z ∙ one_too_many ts e after line h
+stops_at_limit lines ts n e after None h z some = absurd cc
+
+pub goes_further_on : (lines : List (List ℕ)) (ts : List Item) (n : ℕ) (e : Event) (after : Place) (reach : Option ℕ) → next_in ts ≡ Got e after reach → event_at ts ≡ Ok (e, items lines after) → (n ≡ 0 → is_some reach ≡ false) → IsStep lines ts n (Goes (record { event = e; reach = reach; after = after }))
+goes_further_on lines ts n e after reach h there few = got_kept n ts e after reach (items lines after) h there (λ z. none_is reach (few z))
+  where
+    none_is : (r : Option ℕ) → is_some r ≡ false → r ≡ None
+    none_is None e = refl
+    none_is (Some line) e = absurd cc
+
+-- ---- the loop
+
+-- what was found on the way, and what is found further on
+pub record OnTheWay (front : List Decided) (limit : ℕ) (start : List Item) (events : List Decided) (i : ℕ) (now : List Item) : Type 0 where
+  pub whole : in_front events (decided_in (4096 - i) now) ≡ in_front front (decided_in limit start)
+  pub count : length events ≡ i
+  pub last : i ≡ 4096 → next_is is_end now ≡ true
+
+pub on_the_way : (front : List Decided) (start : List Item) → length front < 4096 → OnTheWay front (4096 - length front) start front (length front) start
+on_the_way front start few = record { whole = refl; count = refl; last = λ e. absurd (omega (arith, e, few)) }
+
+pub one_more : (front : List Decided) (limit : ℕ) (start : List Item) (events : List Decided) (i : ℕ) (lines : List (List ℕ)) (now : List Item) (d : Decided) → OnTheWay front limit start events i now → i < 4096 → IsStep lines now (4096 - i - 1) (Goes d) → OnTheWay front limit start (events ++ d ∷ []) (i + 1) (items lines d.after)
+one_more front limit start events i lines now d W lt S =
+    let n = 4096 - (i + 1) in
+    let is : 4096 - i ≡ suc (4096 - i - 1) = omega (arith, lt) in
+    let less : 4096 - i - 1 ≡ n = omega (arith, lt) in
+    let behind = items lines d.after in
+    let goes : decided_in (4096 - i) now ≡ in_front (d ∷ []) (decided_in n behind) = ap (λ (m : ℕ). decided_in m now) is ∙ S.0 ∙ ap (λ (m : ℕ). in_front (d ∷ []) (decided_in m behind)) less in
+    record {
+      whole = ap (λ (es : List Decided). record { events = es; fault = (decided_in n behind).fault }) (append_assoc events (d ∷ []) (decided_in n behind).events) ∙ ap (in_front events) (sym goes) ∙ W.whole;
+      count = length-append events (d ∷ []) ∙ (let c = W.count in omega (arith, c));
+      last = λ z. S.1 (omega (arith, z));
+    }
+
+-- nothing is found further on
+pub no_more : (front : List Decided) (limit : ℕ) (start : List Item) (events : List Decided) (i : ℕ) (now : List Item) (fault : Option ℕ) → OnTheWay front limit start events i now → decided_in (4096 - i) now ≡ record { events = []; fault = fault } → record { events = events; fault = fault } ≡ in_front front (decided_in limit start)
+no_more front limit start events i now fault W none =
+    ap (λ (es : List Decided). record { events = es; fault = fault }) (sym (append-nil events)) ∙ ap (in_front events) (sym none) ∙ W.whole
+
+pub none_more : (front : List Decided) (limit : ℕ) (start : List Item) (events : List Decided) (i : ℕ) (lines : List (List ℕ)) (now : List Item) (fault : Option ℕ) → OnTheWay front limit start events i now → i < 4096 → IsStep lines now (4096 - i - 1) (Stops fault) → record { events = events; fault = fault } ≡ in_front front (decided_in limit start)
+none_more front limit start events i lines now fault W lt S =
+    let is : 4096 - i ≡ suc (4096 - i - 1) = omega (arith, lt) in
+    no_more front limit start events i now fault W (ap (λ (m : ℕ). decided_in m now) is ∙ S)
+
+pub at_limit : (front : List Decided) (limit : ℕ) (start : List Item) (events : List Decided) (i : ℕ) (now : List Item) → OnTheWay front limit start events i now → i ≡ 4096 → record { events = events; fault = None } ≡ in_front front (decided_in limit start)
+unfolding decided_in
+at_limit front limit start events i now W e =
+    let left : 4096 - i ≡ 0 = omega (arith, e) in
+    no_more front limit start events i now None W (ap (λ (m : ℕ). decided_in m now) left ∙ rw (W.last e) refl)

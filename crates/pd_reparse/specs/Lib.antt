@@ -1,0 +1,4 @@
+-- The definitions of readings.
+pub mod Reading
+pub mod Steps
+pub mod Laws

@@ -1,0 +1,19 @@
+//! Laws of readings.
+ghost use Rattle.pd_reparse.specs.Laws.{ReadingsAreScripts, FirstEventsStay, FirstEventsOfScriptsStay};
+
+use pd_lex::first_lines;
+
+/// A law, and no work: without what decided its events, the reading of a text is what the text is
+/// parsed as.
+pub fn readings()
+    ensures { ReadingsAreScripts }
+{}
+
+/// Laws, and no work: the events that the equal first lines of two texts decide are the first
+/// events of both, and the headers before them are equal.
+pub fn first_events()
+    ensures readings { FirstEventsStay }
+    ensures scripts { FirstEventsOfScriptsStay }
+{
+    first_lines();
+}

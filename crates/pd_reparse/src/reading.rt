@@ -1,0 +1,100 @@
+//! What a text was read as, with what decided each event.
+ghost use Rattle.std.specs.Prelude.{◌≡◌, ◌≤◌, ◌<◌, length, take, IfOk};
+ghost use Rattle.pd_lex.specs.declared.token.Place.{Place};
+ghost use Rattle.pd_reparse.specs.Reading.{kept_of, last_place};
+
+use crate::decided::Decided;
+use pd_lex::Place;
+use pd_script::Header;
+use std::alloc::{AllocError, Global};
+use std::marker::Model;
+
+/// What a text was read as: its header, its events, each with what decided it, and the line of the
+/// fault, if the text is refused.
+#[derive(Drop)]
+pub struct Reading {
+    header: Header,
+    events: Vec<Decided>,
+    fault: Option<usize>,
+}
+
+impl Model for Reading {
+    ghost use Rattle.std.specs.Prelude.{◌≤◌, length};
+    ghost use Rattle.pd_reparse.specs.Reading.{DecidedScript};
+
+    ghost Value = { DecidedScript };
+
+    ghost view = { λ r. record { header = r.header; events = r.events.items; fault = r.fault } };
+
+    ghost invariant = { λ r. length r.events.items ≤ 4096 };
+}
+
+impl Reading {
+    /// The reading of these parts; a script has at most 4,096 events.
+    pub fn new(header: Header, events: Vec<Decided>, fault: Option<usize>) -> Reading
+        requires { length events.items ≤ 4096 }
+        ensures { result ≡ record { header = header; events = events.items; fault = fault } }
+    {
+        Reading {
+            header,
+            events,
+            fault,
+        }
+    }
+
+    pub fn header(&self) -> &Header
+        ensures { result.now ≡ self.now.header }
+    {
+        &self.header
+    }
+
+    pub fn events(&self) -> &[Decided]
+        ensures value { result.now ≡ self.now.events }
+        ensures few { length result.now ≤ 4096 }
+    {
+        self.events.as_slice()
+    }
+
+    /// The line at which no script goes on, if the text is refused.
+    pub fn fault(&self) -> Option<usize>
+        ensures { result ≡ self.now.fault }
+    {
+        self.fault
+    }
+}
+
+/// What is kept where the first lines stay.
+impl Reading {
+    /// How many events were decided within the first `same` lines.
+    #[tactic(auto, unfolding(crate::specs::Reading::kept_of))]
+    pub fn count_within(&self, same: usize) -> usize
+        ensures { result ≡ kept_of same self.now }
+    {
+        self.events
+            .iter()
+            .filter(|decided| decided.is_within(same))
+            .count()
+    }
+
+    /// Copies of the first events.
+    pub fn first_events(&self, alloc: Global, count: usize) -> Result<Vec<Decided>, AllocError>
+        requires { count ≤ length self.now.events }
+        ensures { IfOk result (λ events. events.items ≡ take count self.now.events) }
+    {
+        let mut events = Vec::new(alloc);
+        events.reserve(count)?;
+        'events: for decided in &self.events[..count] {
+            events.push(decided.copy()?)?;
+        }
+        Ok(events)
+    }
+
+    /// The place behind the first events, one at least.
+    pub fn place_behind(&self, count: usize) -> Place
+        requires some { 0 < count }
+        requires within { count ≤ length self.now.events }
+        ensures { (start : Place) → last_place start (take count self.now.events) ≡ result }
+    {
+        self.events[count - 1].after
+    }
+}

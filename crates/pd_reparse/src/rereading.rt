@@ -1,0 +1,106 @@
+//! Reading a text, whole or from the first event that an edit can have changed.
+ghost use Rattle.std.specs.Prelude.{◌≡◌, ◌-◌, ◌<◌, length, IfOk};
+ghost use Rattle.pd_lex.specs.Lexing.{items};
+ghost use Rattle.pd_reparse.specs.Reading.{IsReadingOfFirst, IsReadOn, reading_of, kept_of};
+ghost use Rattle.pd_reparse.specs.Steps.{IsStep};
+
+use crate::decided::Decided;
+use crate::kept::Reread;
+use crate::reading::Reading;
+use crate::steps::Step;
+use pd_lex::{Place, first_lines};
+use pd_script::{Header, MAX_EVENTS, NextEvent, items_stand_there, next_event, read_header};
+use pd_text::Lines;
+use std::alloc::{AllocError, Global};
+
+/// Reads a text.
+///
+/// # Errors
+/// `AllocError` where a growth is refused.
+#[tactic(auto, unfolding(crate::specs::Reading::reading_of, crate::specs::Reading::reading_in))]
+pub fn read(alloc: Global, lines: &Lines) -> Result<Reading, AllocError>
+    ensures { IfOk result (λ reading. reading ≡ reading_of lines.now) }
+{
+    let header = read_header(alloc, lines)?;
+    let place = header.end();
+    read_on(alloc, lines, header, Vec::new(alloc), place)
+}
+
+/// Reads a text again whose first `same` lines are those of the text that was read before: the
+/// events that these lines decide are kept, and reading goes on behind them. The limit on events
+/// holds for all of them.
+///
+/// # Errors
+/// `AllocError` where a growth is refused.
+pub fn reread(
+    alloc: Global,
+    old: &Reading,
+    lines: &Lines,
+    same: usize,
+) -> Result<Reread, AllocError>
+    requires { IsReadingOfFirst same lines.now old.now }
+    ensures reading { IfOk result (λ again. again.reading ≡ reading_of lines.now) }
+    ensures kept { IfOk result (λ again. again.kept ≡ kept_of same old.now) }
+{
+    // The laws of tokens do no work: what is kept rests on them.
+    first_lines();
+    items_stand_there();
+    let kept = old.count_within(same);
+    if kept == 0 {
+        let reading = read(alloc, lines)?;
+        return Ok(Reread { reading, kept });
+    }
+    // A look at a line tells that no line holds a newline.
+    let _ = lines.line(1);
+    let header = old.header().copy()?;
+    let events = old.first_events(alloc, kept)?;
+    let place = old.place_behind(kept);
+    let reading = read_on(alloc, lines, header, events, place)?;
+    Ok(Reread { reading, kept })
+}
+
+/// Reads the events from a place on, behind a header and events that are known.
+fn read_on(
+    alloc: Global,
+    lines: &Lines,
+    header: Header,
+    front: Vec<Decided>,
+    place: Place,
+) -> Result<Reading, AllocError>
+    requires { length front.items < 4096 }
+    ensures { IfOk result (λ reading. IsReadOn reading header front.items (4096 - length front.items) (items lines.now place)) }
+{
+    let mut events = front;
+    let mut place = place;
+    'events: for i in events.len()..MAX_EVENTS {
+        match next_step(alloc, lines, place, MAX_EVENTS - i - 1)? {
+            Step::Goes(decided) => {
+                place = decided.after;
+                events.push(decided)?;
+            }
+            Step::Stops(fault) => return Ok(Reading::new(header, events, fault)),
+        }
+    }
+    // The end of the text follows the last event that a script may have.
+    Ok(Reading::new(header, events, None))
+}
+
+/// Reads the event at a place, where so many more may follow it.
+fn next_step(alloc: Global, lines: &Lines, place: Place, more: usize) -> Result<Step, AllocError>
+    ensures { IfOk result (IsStep lines.now (items lines.now place) more) }
+{
+    match next_event(alloc, lines, place)? {
+        NextEvent::Got(event, after, reach) => {
+            if more == 0 && reach.is_some() {
+                return Ok(Step::Stops(reach));
+            }
+            Ok(Step::Goes(Decided {
+                event,
+                reach,
+                after,
+            }))
+        }
+        NextEvent::End => Ok(Step::Stops(None)),
+        NextEvent::Fault(line) => Ok(Step::Stops(Some(line))),
+    }
+}

@@ -1,0 +1,11 @@
+//! What reading finds next.
+use crate::decided::Decided;
+
+/// What stands next among the events of a text.
+#[derive(Drop)]
+pub enum Step {
+    /// An event that is kept.
+    Goes(Decided),
+    /// The end of the text, or the line of the fault.
+    Stops(Option<usize>),
+}

@@ -1,0 +1,95 @@
+//! The next event of a text, decided by what follows it.
+ghost use Rattle.std.specs.Prelude.{◌≡◌, IfOk};
+ghost use Rattle.pd_lex.specs.Lexing.{items};
+ghost use Rattle.pd_script.specs.Items.{goes_on};
+ghost use Rattle.pd_script.specs.Reading.{event_at};
+ghost use Rattle.pd_script.specs.Script.{followed};
+ghost use Rattle.pd_script.specs.Next.{next_in, reach_of, IsNextEvent, GoesOn, LeavesNext};
+ghost use Rattle.pd_script.specs.Cursor.{Leaves};
+
+use crate::cursor::Cursor;
+use crate::script_events::Event;
+use crate::stops::Stop;
+use pd_lex::{Place, items_behind_tokens};
+use pd_text::Lines;
+use std::alloc::{AllocError, Global};
+
+/// What stands next among the events of a text.
+#[derive(Drop)]
+pub enum NextEvent {
+    /// An event that another one or the end follows; the place of what follows it, at the end of
+    /// the text the start of the line behind the last; and its reach, the line of the token that
+    /// follows it, if one does.
+    Got(Event, Place, Option<usize>),
+    /// The end of the text.
+    End,
+    /// The line of the first token at which no event goes on, or which follows an event and begins
+    /// none.
+    Fault(usize),
+}
+
+impl<'a> Cursor<'a> {
+    /// The line of the next token, if there is one.
+    pub fn reach(&self) -> Option<usize>
+        ensures { result ≡ reach_of self.now }
+    {
+        if self.is_end() {
+            None
+        } else {
+            Some(self.line())
+        }
+    }
+
+    /// Takes an event, if another one or the end may begin behind it.
+    pub fn followed_event(&mut self, alloc: Global) -> Result<Event, Stop>
+        ensures { Leaves result self.new (followed goes_on (event_at self.old)) }
+    {
+        let event = self.event(alloc)?;
+        if self.starts_event() || self.is_end() {
+            Ok(event)
+        } else {
+            Err(Stop::Syntax)
+        }
+    }
+
+    /// Takes the next event.
+    #[tactic(auto, unfolding(crate::specs::Next::next_in))]
+    pub fn next_event(&mut self, alloc: Global) -> Result<NextEvent, AllocError>
+        ensures next { IfOk result (λ next. next ≡ next_in self.old) }
+        ensures left { IfOk result (λ next. LeavesNext next self.new self.old) }
+    {
+        if self.is_end() {
+            return Ok(NextEvent::End);
+        }
+        if !self.starts_event() {
+            return Ok(NextEvent::Fault(self.line()));
+        }
+        match self.followed_event(alloc) {
+            Ok(event) => Ok(NextEvent::Got(event, self.next_place(), self.reach())),
+            Err(Stop::Syntax) => Ok(NextEvent::Fault(self.line())),
+            Err(Stop::OutOfMemory) => Err(AllocError),
+        }
+    }
+}
+
+/// The next event of a text from a place on.
+///
+/// It is an event where one stands there and another one or the end follows it. From the place
+/// behind it on stands what is left.
+///
+/// # Errors
+/// `AllocError` where a growth is refused.
+pub fn next_event(alloc: Global, lines: &Lines, place: Place) -> Result<NextEvent, AllocError>
+    ensures next { IfOk result (λ next. next ≡ next_in (items lines.now place)) }
+
+    // In the grammar's words.
+    ensures spelled { IfOk result (IsNextEvent lines.now place) }
+    ensures goes_on { IfOk result (GoesOn lines.now place) }
+{
+    // The law of tokens does no work: that what is left stands at its place rests on it.
+    items_behind_tokens();
+    // A look at a line tells that no line holds a newline.
+    let _ = lines.line(1);
+    let next = Cursor::at(lines, place).next_event(alloc)?;
+    Ok(next)
+}

@@ -1,0 +1,61 @@
+//! Reading the header of a script.
+ghost use Rattle.std.specs.Prelude.{◌≡◌, false, IfOk, IfSome, IfNone};
+ghost use Rattle.pd_lex.specs.Places.{first_place};
+ghost use Rattle.pd_lex.specs.Lexing.{items};
+ghost use Rattle.pd_script.specs.Items.{is_header, given, next_is};
+ghost use Rattle.pd_script.specs.Header.{header_item, HasEnd, IsItemAt};
+ghost use Rattle.pd_script.specs.Script.{header_in, behind_header};
+ghost use Rattle.pd_script.specs.Cursor.{shown};
+
+use crate::script_header::{Header, HeaderItem, HeaderKind};
+use pd_lex::{Lexed, Place, Token, TokenKind, next_token};
+use pd_text::Lines;
+use std::alloc::{AllocError, Global};
+
+/// The header item that a token is.
+fn header_item(token: &Token) -> Option<HeaderItem>
+    ensures { result ≡ given is_header (λ t. header_item t) (shown token.now) }
+{
+    let kind = match token.kind {
+        TokenKind::Opt => HeaderKind::of_option(token.text),
+        TokenKind::Cmd => HeaderKind::Command,
+        _ => return None,
+    };
+    Some(HeaderItem {
+        line: token.line,
+        kind,
+    })
+}
+
+/// The header item at a place of a text and the place behind it, if one stands there.
+fn next_header_item(lines: &Lines, place: Place) -> Option<(HeaderItem, Place)>
+    ensures some { IfSome result (λ found. IsItemAt lines.now place found.0 found.1) }
+    ensures none { IfNone result (next_is is_header (items lines.now place) ≡ false) }
+{
+    // A look at a line tells that no line holds a newline.
+    let _ = lines.line(1);
+    match next_token(lines, place) {
+        Lexed::Token(token, after) => match header_item(&token) {
+            Some(item) => Some((item, after)),
+            None => None,
+        },
+        Lexed::End => None,
+        Lexed::Bad(_) => None,
+    }
+}
+
+/// Reads the header of a text: the options and commands that it begins with.
+///
+/// # Errors
+/// `AllocError` where a growth is refused.
+pub fn read_header(alloc: Global, lines: &Lines) -> Result<Header, AllocError>
+    ensures header { IfOk result (λ header. header ≡ header_in (items lines.now first_place)) }
+    ensures end { IfOk result (HasEnd (items lines.now first_place)) }
+    ensures behind { IfOk result (λ header. items lines.now header.end ≡ behind_header (items lines.now first_place)) }
+{
+    let mut header = Header::new(alloc);
+    'items: while let Some((item, after)) = next_header_item(lines, header.end()) {
+        header.push(item, after)?;
+    }
+    Ok(header)
+}

@@ -1,0 +1,6 @@
+-- What is read again was read of the text before, and as many first lines are those of the other.
+use Rattle.pd_reparse.proofs.First.{reads_front}
+use Rattle.pd_slow_reader.proofs.rereading.read_again.Goals as goal
+
+pub reread-requires : goal.reread-requires
+reread-requires c = reads_front c.args.old.now c.args.new.now c.in_ok-before.before c.same_front.result c.line.ensures.lines c.in_ok-before.ensures c.same_front.ensures

@@ -1,0 +1,152 @@
+//! Reads edited texts again, and whole, and keeps what differs.
+use crate::dice::Dice;
+use crate::edits::random_edit;
+use crate::stops::Stop;
+use crate::texts::{octets_of, text};
+use pd_reparse::{Decided, Reading, Reread, read, reread};
+use pd_script::{Action, Header};
+use pd_text::Lines;
+use std::alloc::{AllocError, Global};
+
+/// What came of reading an edited text again.
+#[derive(Clone, Copy)]
+pub struct Outcome {
+    /// How many first lines the edit left.
+    pub same: usize,
+    pub kept: usize,
+    /// Whether the reading is that of the whole text, and what was kept is what counting gives.
+    pub is_right: bool,
+}
+
+/// What came of many edits.
+#[derive(Clone, Copy)]
+pub struct Tally {
+    pub edits: u64,
+    pub kept: u64,
+    pub wrong: u64,
+}
+
+/// Edits a script so many times, again and again, from time to time from its beginning on.
+pub fn edit_often(alloc: Global, script: &[u8], edits: u64) -> Result<Tally, Stop> {
+    let mut dice = Dice::new(20_261_123);
+    let mut tally = Tally {
+        edits,
+        kept: 0,
+        wrong: 0,
+    };
+    let mut old = text(alloc, script)?;
+    for _edit in 0..edits {
+        let edited = random_edit(alloc, &old, &mut dice)?;
+        let new = text(alloc, edited.as_slice())?;
+        let outcome = read_both(alloc, &old, &new)?;
+        tally.kept = tally.kept.saturating_add(outcome.kept as u64);
+        if !outcome.is_right {
+            tally.wrong = tally.wrong.saturating_add(1);
+        }
+        old = if dice.is_once_in(3) {
+            text(alloc, script)?
+        } else {
+            new
+        };
+    }
+    Ok(tally)
+}
+
+/// The octets of a script after an edit: so many lines from a line on are removed, and others put there.
+pub fn edited(alloc: Global, script: &[u8], from: u64, remove: u64, insert: &[u8]) -> Result<Vec<u8>, Stop> {
+    let old = text(alloc, script)?;
+    let new = text(alloc, insert)?;
+    let mut octets = Vec::new(alloc);
+    for number in 1..=old.len() {
+        if number as u64 == from {
+            add(&mut octets, octets_of(alloc, &new)?.as_slice())?;
+        }
+        if (number as u64) < from || number as u64 >= from.saturating_add(remove) {
+            add(&mut octets, old.line(number).unwrap_or(&[]))?;
+            add(&mut octets, b"\n")?;
+        }
+    }
+    if from > old.len() as u64 {
+        add(&mut octets, octets_of(alloc, &new)?.as_slice())?;
+    }
+    let _newline = octets.pop();
+    Ok(octets)
+}
+
+fn add(octets: &mut Vec<u8>, more: &[u8]) -> Result<(), AllocError> {
+    octets.extend_from_slice(more)
+}
+
+/// Reads a text, and an edited one again and whole.
+pub fn read_both(alloc: Global, old: &Lines, new: &Lines) -> Result<Outcome, Stop> {
+    let before = read(alloc, old)?;
+    let again = read_again(alloc, old, new)?;
+    let whole = read(alloc, new)?;
+    let same = old.same_front(new);
+    Ok(Outcome {
+        same,
+        kept: again.kept,
+        is_right: is_same(&again.reading, &whole) && again.kept == counted(&before, same),
+    })
+}
+
+fn read_again(alloc: Global, old: &Lines, new: &Lines) -> Result<Reread, AllocError> {
+    let before = read(alloc, old)?;
+    // A look at a line tells that no line holds a newline.
+    let _ = old.line(1);
+    reread(alloc, &before, new, old.same_front(new))
+}
+
+/// The number of events whose reach is one of the first lines.
+fn counted(reading: &Reading, same: usize) -> usize {
+    let mut count = 0usize;
+    for decided in reading.events() {
+        if decided.reach.unwrap_or(usize::MAX) <= same {
+            count = count.saturating_add(1);
+        }
+    }
+    count
+}
+
+fn is_same(one: &Reading, other: &Reading) -> bool {
+    if one.fault() != other.fault() || one.events().len() != other.events().len() {
+        return false;
+    }
+    for (decided, wanted) in one.events().iter().zip(other.events().iter()) {
+        if !is_same_event(decided, wanted) {
+            return false;
+        }
+    }
+    is_same_header(one.header(), other.header())
+}
+
+fn is_same_event(one: &Decided, other: &Decided) -> bool {
+    one.reach == other.reach
+        && one.after.line == other.after.line
+        && one.after.at == other.after.at
+        && one.event.line == other.event.line
+        && kind(&one.event.action) == kind(&other.event.action)
+}
+
+fn kind(action: &Action) -> u8 {
+    match action {
+        Action::Inbound(_) => 1,
+        Action::Outbound(_) => 2,
+        Action::Call(_) => 3,
+        Action::Command => 4,
+        Action::Code => 5,
+    }
+}
+
+fn is_same_header(one: &Header, other: &Header) -> bool {
+    let (end, other_end) = (one.end(), other.end());
+    if one.len() != other.len() || end.line != other_end.line || end.at != other_end.at {
+        return false;
+    }
+    for (item, wanted) in one.as_slice().iter().zip(other.as_slice().iter()) {
+        if item.line != wanted.line {
+            return false;
+        }
+    }
+    true
+}

@@ -1,0 +1,61 @@
+//! Scripts of one line.
+ghost use Rattle.std.specs.Prelude.{◌≡◌, IfOk};
+ghost use Rattle.pd_text.specs.Text.{is_line};
+
+use crate::watching::Watching;
+use pd_run::{Verdict, run_with};
+use pd_settings::Settings;
+use pd_text::{Lines, TextFault};
+use std::alloc::{AllocError, Global};
+
+/// What comes before a script that begins with a `+`.
+const OPENING: &str =
+    "0 socket(..., SOCK_STREAM, 0) = 3 +0 bind(3, ..., ...) = 0 +0 listen(3, 1) = 0 +0.1 < S 0:0(0) win 32792 <mss 1000,sackOK,nop,nop,nop,wscale 7> +0 > S. 0:0(0) ack 1 <...> +0.1 < . 1:1(0) ack 1 win 257 +0 accept(3, ..., ...) = 4 ";
+
+/// The names of the states that a script goes through, and whether it stops before its end.
+pub fn states_of(alloc: Global, script: &str) -> Result<String, AllocError> {
+    let mut written = String::new(alloc);
+    if script.starts_with('+') {
+        written.push_str(OPENING)?;
+    }
+    written.push_str(script)?;
+    match text(alloc, written.as_str()) {
+        Ok(lines) => run(alloc, &lines),
+        Err(TextFault::OutOfMemory) => Err(AllocError),
+        Err(_) => Ok(String::new(alloc)),
+    }
+}
+
+fn run(alloc: Global, lines: &Lines) -> Result<String, AllocError> {
+    let mut watching = Watching::new(alloc);
+    let verdict = run_with(alloc, lines, &Settings::new(), &mut watching)?;
+    let mut states = watching.states();
+    if !matches!(verdict, Verdict::Pass(_)) {
+        states.push_str(" stops")?;
+    }
+    Ok(states)
+}
+
+fn is_line(octets: &[u8]) -> bool
+    ensures { result ≡ is_line octets.now }
+{
+    octets.iter().all(|octet| *octet != b'\n')
+}
+
+fn owned(alloc: Global, octets: &[u8]) -> Result<Vec<u8>, AllocError>
+    ensures { IfOk result (λ own. own.items ≡ octets.now) }
+{
+    let mut own = Vec::new(alloc);
+    own.extend_from_slice(octets)?;
+    Ok(own)
+}
+
+/// The text of one line.
+fn text(alloc: Global, written: &str) -> Result<Lines, TextFault> {
+    let mut lines = Vec::new(alloc);
+    let line = owned(alloc, written.as_bytes())?;
+    if is_line(line.as_slice()) {
+        lines.push(line)?;
+    }
+    Lines::new(lines)
+}

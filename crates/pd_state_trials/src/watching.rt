@@ -1,0 +1,83 @@
+//! A stepper that notes through which states a run leads.
+use pd_run::{ConnState, Plain, RunState, StepEnd, Stepper};
+use pd_script::Event;
+use pd_settings::Settings;
+use std::alloc::{AllocError, Global};
+
+/// The stepper of the product, and the names of the states so far, each where it differs from the one before. A run goes
+/// on with a copy behind each event.
+#[derive(Drop)]
+pub struct Watching {
+    steps: Plain,
+    last: &'static str,
+    states: String,
+}
+
+impl Watching {
+    pub fn new(alloc: Global) -> Watching
+        ensures { result.steps ≡ 0 }
+    {
+        Watching {
+            steps: Plain::new(),
+            last: "",
+            states: String::new(alloc),
+        }
+    }
+
+    /// The names, parted by spaces.
+    pub fn states(self) -> String {
+        self.states
+    }
+
+    fn note(&mut self, state: ConnState) -> Result<(), AllocError>
+        ensures { self.new.steps ≡ self.old.steps }
+    {
+        let name = name(state);
+        if name != self.last {
+            if !self.states.is_empty() {
+                self.states.push(' ')?;
+            }
+            self.states.push_str(name)?;
+            self.last = name;
+        }
+        Ok(())
+    }
+}
+
+impl Stepper for Watching {
+    ghost counted = { λ w. w.steps };
+
+    fn step(
+        &mut self,
+        state: &mut RunState,
+        event: &Event,
+        settings: &Settings,
+    ) -> Result<StepEnd, AllocError> {
+        let end = self.steps.step(state, event, settings)?;
+        if let StepEnd::Go = end {
+            let copy = state.copy()?;
+            *state = copy;
+            self.note(state.conn_state())?;
+        }
+        Ok(end)
+    }
+
+    fn count(&self) -> u64 {
+        self.steps.count()
+    }
+}
+
+fn name(state: ConnState) -> &'static str {
+    match state {
+        ConnState::Closed => "Closed",
+        ConnState::Listen => "Listen",
+        ConnState::SynReceived => "SynReceived",
+        ConnState::Established => "Established",
+        ConnState::FinWait1 => "FinWait1",
+        ConnState::FinWait2 => "FinWait2",
+        ConnState::CloseWait => "CloseWait",
+        ConnState::Closing => "Closing",
+        ConnState::LastAck => "LastAck",
+        ConnState::TimeWait => "TimeWait",
+    }
+}

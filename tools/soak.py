@@ -1,0 +1,198 @@
+"""Runs a program on random input of several kinds and says how it fared; tools/soak.sh calls it."""
+
+import random
+import re
+import subprocess
+import sys
+import tempfile
+import time
+
+OCTETS = 1_000_000
+SECONDS = 60
+# The bound on the memory of a run, in KiB. The program holds its input's texts and what it read of one of them.
+MOST_KIB = 16 * 1024
+# What a word of the program can hold: the system takes no longer one, and none with a zero in it.
+WORD = 125_000
+LAST_LINE = re.compile(
+    rb"total \d+ pass \d+ fail \d+ syntax \d+ unsupported \d+ limit \d+ pending \d+\n\Z"
+)
+FAULT = re.compile(rb"pdregress: \d+ [A-Za-z]+\n")
+
+NAMES = [b"a", b"b", b"c", b"script", b"a.b", b"x" * 64]
+KEYS = [
+    b"mss", b"sack", b"wscale", b"sndbuf", b"rcv_wnd", b"initial_ssthresh", b"min_rto_us",
+    b"max_rto_us", b"granularity_us", b"nagle", b"tolerance_us",
+]
+VALUES = [b"0", b"1", b"true", b"false", b"1000", b"65495", b"1048576", b"x", b"-1", b"18446744073709551616"]
+# What many settings take.
+RIGHT = [b"1000", b"5000", b"60000000", b"true"]
+PIECES = [
+    b"+0", b"0", b"+0.1", b"*", b"+0~+1", b"0.5~0.7", b"...", b" ", b" ", b"\t", b"<", b">", b"S", b"S.", b".", b"P.",
+    b"F.", b"R", b"R.", b"0:0(0)", b"1:1(0)", b"1:1001(1000)", b"ack 1", b"ack 1001", b"win 257", b"win 32792",
+    b"<mss 1000,sackOK,nop,nop,nop,wscale 7>", b"<sack 1001:2001,nop,nop>", b"<...>", b"socket(..., SOCK_STREAM, IPPROTO_TCP)",
+    b"bind(3, ..., ...)", b"listen(3, 1)", b"accept(3, ..., ...)", b"write(4, ..., 1000)", b"close(4)", b"= 0", b"= 3",
+    b"= 4", b"= -1 EAGAIN (note)", b"(", b")", b"[", b"]", b"{", b"}", b"%{", b"}%", b"`ls`", b'"text"', b"/*", b"*/",
+    b"//", b"--tolerance_usecs=5000", b"--", b"0x1f", b"4294967296", b"\\", b"\x00", b"\xff",
+]
+LINES = [
+    b"0 socket(..., SOCK_STREAM, IPPROTO_TCP) = 3", b"+0 bind(3, ..., ...) = 0", b"+0 listen(3, 1) = 0",
+    b"+0.1 < S 0:0(0) win 32792 <mss 1000,sackOK,nop,nop,nop,wscale 7>", b"+0 > S. 0:0(0) ack 1 <...>",
+    b"+0.1 < . 1:1(0) ack 1 win 257", b"+0 accept(3, ..., ...) = 4",
+]
+TRAFFIC = [
+    b"+0 write(4, ..., %d) = %d", b"+0.1 < . 1:1(0) ack %d win %d", b"+0 > . %d:%d(1000) ack 1",
+    b"+0.01 < . 1:1(0) ack 1 win 257 <sack %d:%d,nop,nop>", b"* > P. %d:%d(1000) ack 1", b"+1 < R 1:1(0) win %d%d",
+]
+
+
+def octets_of(dice, count):
+    return dice.randbytes(count)
+
+
+def pieces(dice, count):
+    """About so many octets of what scripts are made of, in any order."""
+    parts, size = [], 0
+    while size < count:
+        part = dice.choice(PIECES) if dice.random() < 0.9 else b"\n"
+        parts.append(part + b" ")
+        size += len(part) + 1
+    return b"".join(parts)
+
+
+def traffic(dice, count):
+    """About so many octets of a connection on which anything is said."""
+    lines, size = list(LINES), 0
+    while size < count:
+        numbers = (dice.choice((1, 1001, 2001, dice.randrange(1, 100_000))), dice.choice((1001, 2001, 3001, 257)))
+        line = dice.choice(TRAFFIC) % numbers
+        if dice.random() < 0.02:
+            line = bytes(dice.randrange(256) if dice.random() < 0.1 else octet for octet in line).replace(b"\n", b" ")
+        lines.append(line)
+        size += len(line) + 1
+    return b"\n".join(lines)
+
+
+def added(name, text):
+    lines = text.split(b"\n")
+    return b"add %s %d\n%s\n" % (name, len(lines), b"\n".join(lines))
+
+
+def scripts(dice, make):
+    """Scripts of up to 60,000 octets each, some of them edited."""
+    parts, size, number = [], 0, 0
+    while size < OCTETS:
+        number += 1
+        part = added(b"s%d" % number, make(dice, dice.randrange(1, 60_000)))
+        if dice.random() < 0.3:
+            part += b"edit s%d %d %d 1\n+0 close(4) = 0\n" % (number, dice.randrange(1, 40), dice.randrange(8))
+        parts.append(part)
+        size += len(part)
+    return b"".join(parts)
+
+
+def commands(dice):
+    """Commands in any order with any words, which a first bad one would end: each is well formed."""
+    parts, size = [], 0
+    while size < OCTETS:
+        kind, name = dice.randrange(8), dice.choice(NAMES)
+        if kind < 3:
+            part = added(name, traffic(dice, dice.randrange(1, 2_000)))
+        elif kind < 5:
+            lines = [dice.randbytes(dice.randrange(60)).replace(b"\n", b"") for _ in range(dice.randrange(5))]
+            part = b"edit %s %d %d %d\n" % (name, dice.randrange(12), dice.randrange(4), len(lines))
+            part += b"".join(line + b"\n" for line in lines)
+        elif kind < 6:
+            part = b"remove %s\n" % name
+        else:
+            part = b"set %s %s\n" % (dice.choice(KEYS), dice.choice(VALUES))
+        if dice.random() < 0.01:
+            part += dice.choice((b"show\n", b"settle\n"))
+        parts.append(part)
+        size += len(part)
+    return b"".join(parts)
+
+
+def settings(dice):
+    """One settings text as long as a word can be: comments and settings, and in every other one noise."""
+    keys = dice.sample(KEYS, dice.randrange(len(KEYS)))
+    is_noisy = dice.random() < 0.5
+    parts, size = [], 0
+    while size < WORD - 200:
+        draw = dice.random()
+        if keys and draw < 0.01:
+            value = dice.choice(RIGHT) if dice.random() < 0.9 else dice.choice(VALUES)
+            part = b"%s = %s\n" % (keys.pop(), value)
+        elif is_noisy and draw < 0.011:
+            part = dice.randbytes(20)
+        else:
+            part = b"# " + bytes(dice.randrange(32, 127) for _ in range(60)) + b"\n"
+        parts.append(part)
+        size += len(part)
+    return b"".join(parts).replace(b"\0", b"0")[:WORD]
+
+
+KINDS = {
+    "octets as commands": lambda dice: [([], octets_of(dice, OCTETS))],
+    "commands": lambda dice: [([], commands(dice))],
+    "octets as scripts": lambda dice: [([], scripts(dice, octets_of))],
+    "pieces as scripts": lambda dice: [([], scripts(dice, pieces))],
+    "traffic as scripts": lambda dice: [([], scripts(dice, traffic))],
+    "octets as settings": lambda dice: [
+        ([b"--settings", octets_of(dice, WORD).replace(b"\0", b"0")], b"") for _ in range(OCTETS // WORD)
+    ],
+    "settings": lambda dice: [([b"--settings", settings(dice)], b"") for _ in range(OCTETS // WORD)],
+}
+
+
+class Figures:
+    def __init__(self):
+        self.runs, self.ends, self.seconds, self.kib, self.wrong = 0, {}, 0.0, 0, 0
+
+
+def run(program, words, text, figures):
+    """One run, its figures added; what was wrong, if something was."""
+    figures.runs += 1
+    with tempfile.NamedTemporaryFile() as resident:
+        timed = ["timeout", str(SECONDS), "/usr/bin/time", "-f", "%M", "-o", resident.name]
+        begin = time.monotonic()
+        ended = subprocess.run([*timed, program, *words], input=text, capture_output=True)
+        figures.seconds = max(figures.seconds, time.monotonic() - begin)
+        last = resident.read().split()[-1:]
+    if ended.returncode == 124 or not last:
+        return "no end within %d s" % SECONDS
+    kib = int(last[0])
+    figures.ends[ended.returncode] = figures.ends.get(ended.returncode, 0) + 1
+    figures.kib = max(figures.kib, kib)
+    return fault_of(ended.returncode, ended.stdout, ended.stderr, kib)
+
+
+def fault_of(status, said, told, kib):
+    if status not in (0, 1, 2):
+        return "status %d" % status
+    if status < 2 and (told or not LAST_LINE.search(said)):
+        return "status %d, and no report at the end" % status
+    if status == 2 and not (FAULT.match(told) or told.startswith((b"error: ", b"pdregress: the arguments"))):
+        return "status 2, and no fault named: %r" % told[:80]
+    if kib > MOST_KIB:
+        return "%d KiB" % kib
+    return None
+
+
+def main():
+    program, rounds, seed = sys.argv[1], int(sys.argv[2]), int(sys.argv[3])
+    wrong = 0
+    for kind, make in KINDS.items():
+        figures = Figures()
+        for number in range(seed, seed + rounds):
+            for words, text in make(random.Random(f"{kind} {number}")):
+                fault = run(program, words, text, figures)
+                if fault:
+                    wrong += 1
+                    print(f"{kind}, seed {number}: {fault}")
+        ends = ", ".join(f"{count} with status {status}" for status, count in sorted(figures.ends.items()))
+        print(f"{kind}: {figures.runs} runs, {ends}; {figures.seconds:.2f} s at most, {figures.kib} KiB at most")
+    print(f"{wrong} wrong, bound {MOST_KIB} KiB and {SECONDS} s a run")
+    sys.exit(1 if wrong else 0)
+
+
+main()

@@ -1,0 +1,12 @@
+#!/bin/sh
+# Gives the built program random input, a million octets a run: as commands, as scripts and as settings texts. Each run
+# has to end by itself within a minute, with status 0, 1 or 2, what it then prints and no more, and less memory than the
+# bound. Prints a line a kind: its runs, how they ended, the longest time and the most memory.
+# Outside the gate: needs Python and GNU time.
+#
+#   tools/soak.sh [ROUNDS [SEED]]      10 rounds from seed 1 if nothing is said; a round is a run of each kind
+set -eu
+top=$(cd "$(dirname "$0")/.." && pwd)
+program=$top/crates/pdregress/out/pdregress
+[ -x "$program" ] || "$top/pdregress" </dev/null >/dev/null
+exec python3 "$top/tools/soak.py" "$program" "${1:-10}" "${2:-1}"
