@@ -1,5 +1,5 @@
 -- The lines of a text, found by number.
-use Rattle.std.proofs.Common.{◌≡◌, ℕ, ◌-◌, ◌<◌, ◌≤◌, true, cond, nat_le, List, [], length, get_or, Some, None, sym, ◌∙◌, arith, ◌⊎◌, inl, inr}
+use Rattle.std.proofs.Common.{◌≡◌, ℕ, ◌-◌, ◌<◌, ◌≤◌, Bool, true, false, cond, nat_le, List, [], length, get_or, Option, Some, None, refl, sym, ◌∙◌, arith, ◌⊎◌, inl, inr}
 use Rattle.std.specs.List.{slice_get}
 use Rattle.std.proofs.lemmas.Option.{get_or_from_slice_get, slice_get_within, slice_get_cases}
 use Rattle.std.proofs.lemmas.Bool.Decides.{nat_tests}
@@ -21,3 +21,11 @@ module _ (lines : List (List ℕ)) (n : ℕ) (one : 1 ≤ n) where
       by_cases : slice_get lines (n - 1) ≡ None → (((x : List ℕ) × (n - 1 < length lines) × (slice_get lines (n - 1) ≡ Some x) × (get_or lines (n - 1) x ≡ x)) ⊎ ((length lines ≤ n - 1) × (slice_get lines (n - 1) ≡ None))) → length lines < n
       by_cases none (inl found) = absurd (let e = sym none ∙ found.2 in cc)
       by_cases none (inr past) = omega (arith, past.0)
+
+-- a line that was found has a number
+pub line_from_one : (n : ℕ) (line : List ℕ) (found : Option (List ℕ)) → Some line ≡ cond (nat_le 1 n) found None → 1 ≤ n
+line_from_one n line found e = by_test (nat_le 1 n) refl
+  where
+    by_test : (t : Bool) → nat_le 1 n ≡ t → 1 ≤ n
+    by_test true h = grind (arith, nat_tests)
+    by_test false h = absurd (let none = rw h at e in cc)

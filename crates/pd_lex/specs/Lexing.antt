@@ -27,10 +27,10 @@ items lines p = items_within (length (octets_from lines p)) (max 1 (length lines
 
 -- a token of the code as one of these
 unfoldable pub lexeme_of : List (List ℕ) → Token → Lexeme
-lexeme_of lines t = record { kind = t.kind; text = between lines t.span.from t.span.to; from = t.span.from }
+lexeme_of lines t = record { kind = t.kind; text = between lines t.from t.to; from = t.from }
 
--- the answer is the next item, and the place behind it that from which the others follow
+-- the answer is the next item, and the others follow from the place behind it
 abbrev pub IsNext : List (List ℕ) → Place → Lexed → Type 0
-IsNext lines p (lexed.Token t after) = items lines p ≡ lexeme (lexeme_of lines t) ∷ items lines after
+IsNext lines p (lexed.Token t) = items lines p ≡ lexeme (lexeme_of lines t) ∷ items lines t.to
 IsNext lines p lexed.End = items lines p ≡ ending (max 1 (length lines)) ∷ []
 IsNext lines p (lexed.Bad line) = items lines p ≡ bad line ∷ []

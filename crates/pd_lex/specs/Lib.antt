@@ -8,6 +8,7 @@ pub mod Tokens
 pub mod Laws
 pub mod Agreement
 pub mod Kinds
+pub mod Numbers
 pub mod Next
 -- how they are read, piece by piece
 pub mod Pieces

@@ -10,12 +10,11 @@ use Rattle.pd_lex.specs.Lexing.{lexeme_of}
 use Rattle.pd_lex.specs.Spellings.{IsLongest, IsStuck, Skips}
 
 -- behind blanks and comments the token is the longest piece, from its first place up to its last, both places of the text
-pub record IsTokenAt (lines : List (List ℕ)) (p : Place) (t : Token) (after : Place) : Type 0 where
-  pub skipped : Skips (octets_from lines p) (octets_from lines t.span.from)
-  pub longest : IsLongest (octets_from lines t.span.from) (Some t.kind) (between lines t.span.from t.span.to) (octets_from lines after)
-  pub from : IsPlace lines t.span.from
-  pub to : t.span.to ≡ after
-  pub behind : IsPlace lines after
+pub record IsTokenAt (lines : List (List ℕ)) (p : Place) (t : Token) : Type 0 where
+  pub skipped : Skips (octets_from lines p) (octets_from lines t.from)
+  pub longest : IsLongest (octets_from lines t.from) (Some t.kind) (between lines t.from t.to) (octets_from lines t.to)
+  pub from : IsPlace lines t.from
+  pub behind : IsPlace lines t.to
 
 -- behind blanks and comments, in this line, no piece fits
 pub record IsBadAt (lines : List (List ℕ)) (p : Place) (line : ℕ) : Type 0 where
@@ -27,18 +26,18 @@ pub record IsBadAt (lines : List (List ℕ)) (p : Place) (line : ℕ) : Type 0 w
 
 -- the token, the end of the text behind blanks and comments alone, or the bad line
 abbrev pub IsCut : List (List ℕ) → Place → Lexed → Type 0
-IsCut lines p (lexed.Token t after) = IsTokenAt lines p t after
+IsCut lines p (lexed.Token t) = IsTokenAt lines p t
 IsCut lines p lexed.End = Skips (octets_from lines p) []
 IsCut lines p (lexed.Bad line) = IsBadAt lines p line
 
 -- a token and a bad place lie in a line of the text
 abbrev pub HasLine : List (List ℕ) → Lexed → Type 0
-HasLine lines (lexed.Token t after) = (1 ≤ t.line) × (t.line ≤ length lines)
+HasLine lines (lexed.Token t) = (1 ≤ t.from.line) × (t.from.line ≤ length lines)
 HasLine lines lexed.End = Unit {0}
 HasLine lines (lexed.Bad line) = (1 ≤ line) × (line ≤ length lines)
 
 -- a token whose kind stays in its line has its octets
 abbrev pub HasText : List (List ℕ) → Lexed → Type 0
-HasText lines (lexed.Token t after) = stays_in_line t.kind ≡ true → t.text.now ≡ (lexeme_of lines t).text
+HasText lines (lexed.Token t) = stays_in_line t.kind ≡ true → t.text.now ≡ (lexeme_of lines t).text
 HasText lines lexed.End = Unit {0}
 HasText lines (lexed.Bad line) = Unit {0}

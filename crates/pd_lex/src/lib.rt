@@ -4,6 +4,8 @@
 mod ending;
 mod laws;
 mod next;
+mod numbers;
+mod plain;
 mod scan;
 mod standing;
 mod step;
@@ -11,4 +13,5 @@ mod token;
 
 pub use laws::{first_lines, items_behind_tokens, longest_pieces};
 pub use next::{next_token, read_next};
-pub use token::{Lexed, Place, Span, Token, TokenKind};
+pub use numbers::{digit_value, number, value_after};
+pub use token::{Lexed, Place, Token, TokenKind};

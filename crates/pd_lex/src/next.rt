@@ -1,10 +1,14 @@
 //! The next token of a text.
+ghost use Rattle.std.specs.Prelude.{◌≡◌};
+ghost use Rattle.pd_lex.specs.Numbers.{first_octet};
 ghost use Rattle.pd_lex.specs.Lexing.{IsNext};
 ghost use Rattle.pd_lex.specs.Next.{IsCut, HasLine, HasText};
 
+use crate::numbers::number_of;
+use crate::plain::{Plain, plain_at};
 use crate::standing::behind_blanks;
 use crate::step::{Step, step_at};
-use crate::token::{Lexed, Place, Span, Token};
+use crate::token::{Lexed, Place, Token};
 use pd_text::Lines;
 
 /// The first token from a place on, with the place behind it: blanks and comments are passed over.
@@ -24,6 +28,43 @@ pub fn next_token<'a>(lines: &'a Lines, place: Place) -> Lexed<'a>
 
 /// `next_token`, put in the place of what was read before.
 pub fn read_next<'a>(lines: &'a Lines, place: Place, next: &mut Lexed<'a>)
+    ensures next { IsNext lines.now place next.new }
+    ensures cut { IsCut lines.now place next.new }
+    ensures line { HasLine lines.now next.new }
+    ensures text { HasText lines.now next.new }
+{
+    // The common tokens, which stand in the line of the place, need no more.
+    let Some(line) = lines.line(place.line) else {
+        return read_on(lines, place, next);
+    };
+    let at = behind_blanks(line, place.at);
+    if at >= line.len() {
+        return read_on(lines, place, next);
+    }
+    let rest = &line[at..];
+    let Some(Plain { kind, len, number }) = plain_at(rest) else {
+        return read_on(lines, place, next);
+    };
+    let text = &rest[..len];
+    *next = Lexed::Token(Token {
+        kind,
+        symbol: first_octet(text),
+        number,
+        text,
+        from: Place {
+            line: place.line,
+            at,
+        },
+        to: Place {
+            line: place.line,
+            at: at + len,
+        },
+    });
+}
+
+/// The same of any token.
+#[inline(never)]
+fn read_on<'a>(lines: &'a Lines, place: Place, next: &mut Lexed<'a>)
     ensures next { IsNext lines.now place next.new }
     ensures cut { IsCut lines.now place next.new }
     ensures line { HasLine lines.now next.new }
@@ -53,14 +94,15 @@ pub fn read_next<'a>(lines: &'a Lines, place: Place, next: &mut Lexed<'a>)
         };
         match step_at(lines, from, &line[at..]) {
             Step::Gap(after) => here = after,
-            Step::Token(kind, text, after) => {
-                let token = Token {
+            Step::Token(kind, text, to) => {
+                *next = Lexed::Token(Token {
                     kind,
+                    symbol: first_octet(text),
+                    number: number_of(kind, text),
                     text,
-                    span: Span { from, to: after },
-                    line: from.line,
-                };
-                *next = Lexed::Token(token, after);
+                    from,
+                    to,
+                });
                 return;
             }
             Step::Stray => {
@@ -68,5 +110,15 @@ pub fn read_next<'a>(lines: &'a Lines, place: Place, next: &mut Lexed<'a>)
                 return;
             }
         }
+    }
+}
+
+/// The first octet of a token, or 0.
+fn first_octet(text: &[u8]) -> u8
+    ensures { result ≡ first_octet text.now }
+{
+    match text {
+        [octet, ..] => *octet,
+        [] => 0,
     }
 }

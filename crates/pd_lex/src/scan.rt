@@ -45,7 +45,7 @@ pub enum Piece {
     Stray,
 }
 
-fn digit(b: u8) -> bool
+pub fn digit(b: u8) -> bool
     ensures { result ≡ is_digit b }
 {
     b.is_ascii_digit()
@@ -57,7 +57,7 @@ fn hex_digit(b: u8) -> bool
     b.is_ascii_hexdigit()
 }
 
-fn word(b: u8) -> bool
+pub fn word(b: u8) -> bool
     ensures { result ≡ is_word b }
 {
     b.is_ascii_alphanumeric() || b == b'_'
@@ -88,7 +88,7 @@ fn digits_len(s: &[u8]) -> usize
     s.iter().take_while(|b| digit(**b)).count()
 }
 
-fn word_len(s: &[u8]) -> usize
+pub fn word_len(s: &[u8]) -> usize
     ensures len { result ≡ prefix_len is_word s.now }
     ensures within { result ≤ length s.now }
 {
@@ -124,7 +124,7 @@ fn hex(s: &[u8]) -> bool
     }
 }
 
-fn fraction(s: &[u8]) -> usize
+pub fn fraction(s: &[u8]) -> usize
     ensures len { result ≡ fraction_len s.now }
     ensures within { result ≤ length s.now }
 {
@@ -157,7 +157,7 @@ fn value(s: &[u8]) -> usize
 
 /// Whether it begins with a letter, a digit or `_`.
 #[tactic(auto, using(crate::proofs::Words::goes_on_is))]
-fn goes_on(s: &[u8]) -> bool
+pub fn goes_on(s: &[u8]) -> bool
     ensures { result ≡ nat_lt 0 (prefix_len is_word s.now) }
 {
     match s {

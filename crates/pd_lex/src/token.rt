@@ -1,5 +1,7 @@
 //! Tokens, their places, and what the lexer answers.
-ghost use Rattle.std.specs.Prelude.{◌≡◌, true};
+ghost use Rattle.std.specs.Prelude.{◌≡◌, true, [], ◌∷◌};
+ghost use Rattle.pd_lex.specs.declared.token.TokenKind.TheVariants.{Int, Symbol};
+ghost use Rattle.pd_lex.specs.Numbers.{capped_number};
 ghost use Rattle.pd_lex.specs.Kinds.{stays_in_line};
 ghost use Rattle.pd_lex.specs.Places.{first_place};
 
@@ -45,30 +47,28 @@ impl Place {
     }
 }
 
-/// The octets from one place up to another.
-#[derive(Clone, Copy)]
-pub struct Span {
-    pub from: Place,
-    pub to: Place,
-}
-
-/// A token: its kind, its octets, where it stands, and the line of its first octet.
+/// A token: what it is, its octets, where it begins, and the place behind it.
 #[derive(Clone, Copy)]
 pub struct Token<'a> {
     pub kind: TokenKind,
+    /// The octet of a Symbol.
+    pub symbol: u8,
+    /// The number of an Int; one above the greatest `u64` stands as that.
+    pub number: u64,
     /// As written, where its kind stays in its line; of a Str, a Cmd and Code none.
     pub text: &'a [u8],
-    pub span: Span,
-    pub line: usize,
-    ghost line_is: { line ≡ span.from.line },
-    ghost in_line: { stays_in_line kind ≡ true → span.to.line ≡ span.from.line },
+    pub from: Place,
+    pub to: Place,
+    ghost symbol_is: { kind ≡ Symbol → text.now ≡ symbol ∷ [] },
+    ghost number_is: { kind ≡ Int → number ≡ capped_number text.now },
+    ghost in_line: { stays_in_line kind ≡ true → to.line ≡ from.line },
 }
 
 /// What stands at a place, once blanks and comments are passed over.
 #[derive(Clone, Copy)]
 pub enum Lexed<'a> {
-    /// A token, and the place behind it.
-    Token(Token<'a>, Place),
+    /// A token.
+    Token(Token<'a>),
     /// The end of the text.
     End,
     /// Something that begins no token, in this line.

@@ -67,19 +67,19 @@ stop taken now all none end left so_far =
 module _ (lines : List (List ℕ)) (t : Token) (h : stays_in_line t.kind ≡ true → t.text.now ≡ (lexeme_of lines t).text) where
   same_given : given is_header (λ u. header_item u) (lexeme (lexeme_of lines t)) ≡ given is_header (λ u. header_item u) (shown t)
   unfolding lexeme_of
-  same_given = alike (λ (i : Item). given is_header (λ u. header_item u) i) t.kind (between lines t.span.from t.span.to) t.text.now t.span.from (λ stays. sym (h stays)) refl refl refl
+  same_given = alike (λ (i : Item). given is_header (λ u. header_item u) i) t.kind (between lines t.from t.to) t.text.now t.from (λ stays. sym (h stays)) refl refl refl
 
-  there : (place : Place) → list_all is_line lines ≡ true → (p : Place) (after : Place) → IsTokenAt lines p t after → behind place (lexeme (lexeme_of lines t)) ≡ after
+  there : (place : Place) → list_all is_line lines ≡ true → (p : Place) → IsTokenAt lines p t → behind place (lexeme (lexeme_of lines t)) ≡ t.to
   unfolding lexeme_of
-  there place plain p after at = token_behind lines plain p t after at
+  there place plain p at = token_behind lines plain p t at
 
-  pub header_item_there : list_all is_line lines ≡ true → (p : Place) (after : Place) → IsTokenAt lines p t after → items lines p ≡ lexeme (lexeme_of lines t) ∷ items lines after → (item : HeaderItem) → given is_header (λ u. header_item u) (shown t) ≡ Some item → IsItemAt lines p item after
-  header_item_there plain p after at next item e =
+  pub header_item_there : list_all is_line lines ≡ true → (p : Place) → IsTokenAt lines p t → items lines p ≡ lexeme (lexeme_of lines t) ∷ items lines t.to → (item : HeaderItem) → given is_header (λ u. header_item u) (shown t) ≡ Some item → IsItemAt lines p item t.to
+  header_item_there plain p at next item e =
       let G = is_given (lexeme (lexeme_of lines t)) item (same_given ∙ e) in
-      record { token = lexeme (lexeme_of lines t); next = next; test = G.0; value = G.1; end = there p plain p after at }
+      record { token = lexeme (lexeme_of lines t); next = next; test = G.0; value = G.1; end = there p plain p at }
 
-  pub no_header_item : (p : Place) (after : Place) → items lines p ≡ lexeme (lexeme_of lines t) ∷ items lines after → given is_header (λ u. header_item u) (shown t) ≡ None → next_is is_header (items lines p) ≡ false
-  no_header_item p after next e = rw next (is_not_given (lexeme (lexeme_of lines t)) (same_given ∙ e))
+  pub no_header_item : (p : Place) → items lines p ≡ lexeme (lexeme_of lines t) ∷ items lines t.to → given is_header (λ u. header_item u) (shown t) ≡ None → next_is is_header (items lines p) ≡ false
+  no_header_item p next e = rw next (is_not_given (lexeme (lexeme_of lines t)) (same_given ∙ e))
 
 pub header_goes_on : (lines : List (List ℕ)) (taken : Heading) (all : List Item) (item : HeaderItem) (after : Place) → IsItemAt lines taken.end item after → SoFar taken (items lines taken.end) all → SoFar (record { items = taken.items ++ item ∷ []; end = after }) (items lines after) all × (length (items lines after) < length (items lines taken.end))
 header_goes_on lines taken all item after at so_far =

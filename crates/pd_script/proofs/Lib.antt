@@ -1,4 +1,5 @@
 -- The lemmas.
+pub mod Symbols
 pub mod Laws
 pub mod Machines
 pub mod Apart

@@ -18,11 +18,11 @@ use Rattle.pd_lex.proofs.Texts.{standing_is_place}
 use Rattle.pd_script.specs.Next.{place_of}
 
 -- the place that the lexer answers behind a token is the one behind its octets
-pub token_behind : (lines : List (List ℕ)) → list_all is_line lines ≡ true → (p : Place) (t : Token) (after : Place) → IsTokenAt lines p t after → place_after t.span.from (between lines t.span.from t.span.to) ≡ after
-token_behind lines plain p t after h =
-    let text = between lines t.span.from t.span.to in
-    let left = advance lines plain t.span.from text (octets_from lines after) h.from h.longest.cut in
-    same_place lines (place_after t.span.from text) after left.place h.behind (ap length left.left)
+pub token_behind : (lines : List (List ℕ)) → list_all is_line lines ≡ true → (p : Place) (t : Token) → IsTokenAt lines p t → place_after t.from (between lines t.from t.to) ≡ t.to
+token_behind lines plain p t h =
+    let text = between lines t.from t.to in
+    let left = advance lines plain t.from text (octets_from lines t.to) h.from h.longest.cut in
+    same_place lines (place_after t.from text) t.to left.place h.behind (ap length left.left)
 
 abbrev pub is_bad : Item → Bool
 is_bad (lexeme x) = false

@@ -53,11 +53,11 @@ alike f kinds.Symbol s t from h str cmd code = ap (λ (l : List ℕ). f (lexeme 
 module _ (lines : List (List ℕ)) (t : Token) (h : stays_in_line t.kind ≡ true → t.text.now ≡ (lexeme_of lines t).text) where
   pairs_alike : (most : ℕ) (pairs : List Bracket) → pairs_after most pairs (lexeme (lexeme_of lines t)) ≡ pairs_after most pairs (shown t)
   unfolding lexeme_of
-  pairs_alike most pairs = alike (λ (i : Item). pairs_after most pairs i) t.kind (between lines t.span.from t.span.to) t.text.now t.span.from (λ stays. sym (h stays)) refl refl refl
+  pairs_alike most pairs = alike (λ (i : Item). pairs_after most pairs i) t.kind (between lines t.from t.to) t.text.now t.from (λ stays. sym (h stays)) refl refl refl
 
-  longer_by : (d : Draft) → ((s r : List ℕ) → longer_draft d (lexeme (record { kind = kinds.Str; text = s; from = t.span.from })) ≡ longer_draft d (lexeme (record { kind = kinds.Str; text = r; from = t.span.from }))) → ((s r : List ℕ) → longer_draft d (lexeme (record { kind = kinds.Cmd; text = s; from = t.span.from })) ≡ longer_draft d (lexeme (record { kind = kinds.Cmd; text = r; from = t.span.from }))) → ((s r : List ℕ) → longer_draft d (lexeme (record { kind = kinds.Code; text = s; from = t.span.from })) ≡ longer_draft d (lexeme (record { kind = kinds.Code; text = r; from = t.span.from }))) → longer_draft d (lexeme (lexeme_of lines t)) ≡ longer_draft d (shown t)
+  longer_by : (d : Draft) → ((s r : List ℕ) → longer_draft d (lexeme (record { kind = kinds.Str; text = s; from = t.from })) ≡ longer_draft d (lexeme (record { kind = kinds.Str; text = r; from = t.from }))) → ((s r : List ℕ) → longer_draft d (lexeme (record { kind = kinds.Cmd; text = s; from = t.from })) ≡ longer_draft d (lexeme (record { kind = kinds.Cmd; text = r; from = t.from }))) → ((s r : List ℕ) → longer_draft d (lexeme (record { kind = kinds.Code; text = s; from = t.from })) ≡ longer_draft d (lexeme (record { kind = kinds.Code; text = r; from = t.from }))) → longer_draft d (lexeme (lexeme_of lines t)) ≡ longer_draft d (shown t)
   unfolding lexeme_of
-  longer_by d str cmd code = alike (λ (i : Item). longer_draft d i) t.kind (between lines t.span.from t.span.to) t.text.now t.span.from (λ stays. sym (h stays)) (str _ _) (cmd _ _) (code _ _)
+  longer_by d str cmd code = alike (λ (i : Item). longer_draft d i) t.kind (between lines t.from t.to) t.text.now t.from (λ stays. sym (h stays)) (str _ _) (cmd _ _) (code _ _)
 
   longer_alike : (d : Draft) → longer_draft d (lexeme (lexeme_of lines t)) ≡ longer_draft d (shown t)
   longer_alike drafts.Empty = longer_by drafts.Empty (λ s r. refl) (λ s r. refl) (λ s r. refl)
@@ -85,18 +85,18 @@ module _ (lines : List (List ℕ)) (t : Token) (h : stays_in_line t.kind ≡ tru
   note_none open_pairs ts p = let x : Item = lexeme (lexeme_of lines t) in ap (λ (r : Option (List Bracket)). note_part_by x ts r) (pairs_alike 15 open_pairs ∙ p)
 
 -- the same for what a cursor has next
-module _ (lines : List (List ℕ)) (next : Lexed) (t : Token) (after : Place) (old : List Item) (is : next ≡ lexed.Token t after) (h : HasText lines next) (o : old ≡ left lines next) where
+module _ (lines : List (List ℕ)) (next : Lexed) (t : Token) (old : List Item) (is : next ≡ lexed.Token t) (h : HasText lines next) (o : old ≡ left lines next) where
   has : stays_in_line t.kind ≡ true → t.text.now ≡ (lexeme_of lines t).text
   has = rw is at h
 
   pub part_ok : (new : List Item) (inside : Inside) (pairs : List Bracket) (draft : Draft) → new ≡ behind_token old → pairs_after 16 inside.pairs (shown t) ≡ Some pairs → draft ≡ longer_draft inside.draft (shown t) → part_at inside old ≡ Ok (record { pairs = pairs; draft = draft }, new)
-  part_ok new inside pairs draft n p d = rw (n, o, is) (part_token lines t has inside pairs draft (items lines after) p d)
+  part_ok new inside pairs draft n p d = rw (n, o, is) (part_token lines t has inside pairs draft (items lines t.to) p d)
 
   pub part_err : (inside : Inside) → pairs_after 16 inside.pairs (shown t) ≡ None → part_at inside old ≡ Err old
-  part_err inside p = rw (o, is) (part_none lines t has inside (items lines after) p)
+  part_err inside p = rw (o, is) (part_none lines t has inside (items lines t.to) p)
 
   pub note_ok : (new : List Item) (open_pairs pairs : List Bracket) → new ≡ behind_token old → pairs_after 15 open_pairs (shown t) ≡ Some pairs → note_part_at open_pairs old ≡ Ok (pairs, new)
-  note_ok new open_pairs pairs n p = rw (n, o, is) (note_token lines t has open_pairs pairs (items lines after) p)
+  note_ok new open_pairs pairs n p = rw (n, o, is) (note_token lines t has open_pairs pairs (items lines t.to) p)
 
   pub note_err : (open_pairs : List Bracket) → pairs_after 15 open_pairs (shown t) ≡ None → note_part_at open_pairs old ≡ Err old
-  note_err open_pairs p = rw (o, is) (note_none lines t has open_pairs (items lines after) p)
+  note_err open_pairs p = rw (o, is) (note_none lines t has open_pairs (items lines t.to) p)

@@ -1,12 +1,10 @@
 -- A cursor over the items of a text.
 use Rattle.std.specs.Prelude.{◌≡◌, ℕ, Bool, false, List, [], ◌∷◌, length, max, Option, Result, Ok, Err}
-use Rattle.pd_lex.specs.declared.token.Place.{Place}
 use Rattle.pd_lex.specs.declared.token.Token.{Token}
 use Rattle.pd_lex.specs.declared.token.Lexed.{Lexed}
 use Rattle.pd_lex.specs.declared.token.Lexed.TheVariants as lexed
 use Rattle.pd_lex.specs.Tokens.{Item, lexeme, ending, bad}
-use Rattle.pd_lex.specs.Lexing.{items, lexeme_of, IsNext}
-use Rattle.pd_lex.specs.Next.{HasText}
+use Rattle.pd_lex.specs.Lexing.{items, lexeme_of}
 use Rattle.pd_script.specs.declared.stops.Stop.{Stop}
 use Rattle.pd_script.specs.declared.stops.Stop.TheVariants as stops
 use Rattle.pd_script.specs.Items.{next_given}
@@ -14,18 +12,13 @@ use Rattle.pd_script.specs.Reader.{Read, one, done, ◌>>=◌}
 
 -- the items that are left: the next, as the lexer answered it, and those behind it
 abbrev pub left : List (List ℕ) → Lexed → List Item
-left lines (lexed.Token t after) = lexeme (lexeme_of lines t) ∷ items lines after
+left lines (lexed.Token t) = lexeme (lexeme_of lines t) ∷ items lines t.to
 left lines lexed.End = ending (max 1 (length lines)) ∷ []
 left lines (lexed.Bad line) = bad line ∷ []
 
--- the next item is that at this place, and it has its octets
-pub record IsNextAt (lines : List (List ℕ)) (place : Place) (next : Lexed) : Type 0 where
-  pub next_is : IsNext lines place next
-  pub text : HasText lines next
-
 -- a token with the octets that it has itself
 abbrev pub shown : Token → Item
-shown t = lexeme (record { kind = t.kind; text = t.text.now; from = t.span.from })
+shown t = lexeme (record { kind = t.kind; text = t.text.now; from = t.from })
 
 -- neither the end nor a bad place passes a test
 abbrev pub IsOfTokens : (Item → Bool) → Type 0

@@ -13,7 +13,7 @@ use crate::brackets::{MAX_DEPTH, OpenPairs};
 use crate::calls::{ErrorName, Function};
 use crate::drafts::Inside;
 use crate::names::{OptionName, error_named, function_named, option_named};
-use crate::numbers::{GREATEST, TIME_LIMIT, hex_number, microseconds, number};
+use crate::numbers::{GREATEST, TIME_LIMIT, hex_number, microseconds};
 use crate::packets::{Flags, are_flags};
 use crate::script_events::Action;
 use crate::stops::Stop;
@@ -25,20 +25,20 @@ use std::marker::Model;
 #[derive(Drop)]
 pub struct Cursor<'a> {
     lines: &'a Lines,
-    place: Place,
     next: Lexed<'a>,
 }
 
 impl<'a> Model for Cursor<'a> {
     ghost use Rattle.std.specs.Prelude.{List};
     ghost use Rattle.pd_lex.specs.Tokens.{Item};
-    ghost use Rattle.pd_script.specs.Cursor.{left, IsNextAt};
+    ghost use Rattle.pd_script.specs.Cursor.{left};
+    ghost use Rattle.pd_lex.specs.Next.{HasText};
 
     ghost Value = { List Item };
 
     ghost view = { λ c. left c.lines.now c.next };
 
-    ghost invariant = { λ c. IsNextAt c.lines.now c.place c.next };
+    ghost invariant = { λ c. HasText c.lines.now c.next };
 }
 
 impl<'a> Cursor<'a> {
@@ -48,7 +48,6 @@ impl<'a> Cursor<'a> {
     {
         Cursor {
             lines,
-            place,
             next: next_token(lines, place),
         }
     }
@@ -59,7 +58,7 @@ impl<'a> Cursor<'a> {
         ensures { result ≡ next_line self.now }
     {
         match self.next {
-            Lexed::Token(token, _) => token.line,
+            Lexed::Token(token) => token.from.line,
             Lexed::End => self.lines.len().max(1),
             Lexed::Bad(line) => line,
         }
@@ -71,7 +70,7 @@ impl<'a> Cursor<'a> {
         ensures { result ≡ next_place self.now }
     {
         match self.next {
-            Lexed::Token(token, _) => token.span.from,
+            Lexed::Token(token) => token.from,
             Lexed::End => Place {
                 line: self.lines.len().max(1) + 1,
                 at: 0,
@@ -90,9 +89,8 @@ impl<'a> Cursor<'a> {
     pub fn take(&mut self)
         ensures { self.new ≡ behind_token self.old }
     {
-        if let Lexed::Token(_, after) = self.next {
-            self.place = after;
-            read_next(self.lines, after, &mut self.next);
+        if let Lexed::Token(token) = self.next {
+            read_next(self.lines, token.to, &mut self.next);
         }
     }
 
@@ -113,13 +111,13 @@ impl<'a> Cursor<'a> {
 /// What the next token is.
 impl<'a> Cursor<'a> {
     /// The symbol of this octet.
-    #[tactic(auto, unfolding(pd_lex::specs::Lexing::lexeme_of))]
+    #[tactic(auto, using(crate::proofs::Symbols::one_octet), unfolding(pd_lex::specs::Lexing::lexeme_of))]
     pub fn is_symbol(&self, octet: u8) -> bool
         ensures { result ≡ next_is (is_symbol octet) self.now }
     {
         match &self.next {
-            Lexed::Token(token, _) => {
-                matches!(token.kind, TokenKind::Symbol) && token.text == [octet].as_slice()
+            Lexed::Token(token) => {
+                matches!(token.kind, TokenKind::Symbol) && token.symbol == octet
             },
             _ => false,
         }
@@ -131,8 +129,8 @@ impl<'a> Cursor<'a> {
         ensures { result ≡ next_is is_int self.now }
     {
         match &self.next {
-            Lexed::Token(token, _) => {
-                matches!(token.kind, TokenKind::Int) && number(token.text) <= GREATEST
+            Lexed::Token(token) => {
+                matches!(token.kind, TokenKind::Int) && token.number <= GREATEST
             },
             _ => false,
         }
@@ -144,7 +142,7 @@ impl<'a> Cursor<'a> {
         ensures { result ≡ next_is is_hex self.now }
     {
         match &self.next {
-            Lexed::Token(token, _) => {
+            Lexed::Token(token) => {
                 matches!(token.kind, TokenKind::Hex) && hex_number(token.text) <= GREATEST
             },
             _ => false,
@@ -157,7 +155,7 @@ impl<'a> Cursor<'a> {
         ensures { result ≡ next_is is_num self.now }
     {
         match &self.next {
-            Lexed::Token(token, _) => {
+            Lexed::Token(token) => {
                 matches!(token.kind, TokenKind::Int | TokenKind::Decimal)
                     && microseconds(token.text) < TIME_LIMIT
             },
@@ -170,7 +168,7 @@ impl<'a> Cursor<'a> {
         ensures { result ≡ next_is is_word self.now }
     {
         match &self.next {
-            Lexed::Token(token, _) => matches!(token.kind, TokenKind::Word),
+            Lexed::Token(token) => matches!(token.kind, TokenKind::Word),
             _ => false,
         }
     }
@@ -181,7 +179,7 @@ impl<'a> Cursor<'a> {
         ensures { result ≡ next_is (is_named name.now) self.now }
     {
         match &self.next {
-            Lexed::Token(token, _) => matches!(token.kind, TokenKind::Word) && token.text == name,
+            Lexed::Token(token) => matches!(token.kind, TokenKind::Word) && token.text == name,
             _ => false,
         }
     }
@@ -192,7 +190,7 @@ impl<'a> Cursor<'a> {
         ensures { result ≡ next_is is_dots self.now }
     {
         match &self.next {
-            Lexed::Token(token, _) => matches!(token.kind, TokenKind::Dots),
+            Lexed::Token(token) => matches!(token.kind, TokenKind::Dots),
             _ => false,
         }
     }
@@ -203,7 +201,7 @@ impl<'a> Cursor<'a> {
         ensures { result ≡ next_is is_command self.now }
     {
         match &self.next {
-            Lexed::Token(token, _) => matches!(token.kind, TokenKind::Cmd),
+            Lexed::Token(token) => matches!(token.kind, TokenKind::Cmd),
             _ => false,
         }
     }
@@ -213,7 +211,7 @@ impl<'a> Cursor<'a> {
         ensures { result ≡ next_is is_code self.now }
     {
         match &self.next {
-            Lexed::Token(token, _) => matches!(token.kind, TokenKind::Code),
+            Lexed::Token(token) => matches!(token.kind, TokenKind::Code),
             _ => false,
         }
     }
@@ -225,15 +223,15 @@ impl<'a> Cursor<'a> {
         self.is_num() || self.is_symbol(b'+') || self.is_symbol(b'*')
     }
 
-    #[tactic(auto, unfolding(pd_lex::specs::Lexing::lexeme_of))]
+    #[tactic(auto, using(crate::proofs::Symbols::one_octet), unfolding(pd_lex::specs::Lexing::lexeme_of))]
     pub fn next_symbol(&self, octet: u8) -> Option<usize>
         ensures { result ≡ next_given (is_symbol octet) (λ t. line_of t) self.now }
     {
-        let Lexed::Token(token, _) = self.next else {
+        let Lexed::Token(token) = self.next else {
             return None;
         };
-        if matches!(token.kind, TokenKind::Symbol) && token.text == [octet].as_slice() {
-            Some(token.line)
+        if matches!(token.kind, TokenKind::Symbol) && token.symbol == octet {
+            Some(token.from.line)
         } else {
             None
         }
@@ -243,26 +241,26 @@ impl<'a> Cursor<'a> {
     pub fn next_int(&self) -> Option<u32>
         ensures { result ≡ next_given is_int (λ t. number (text_of t)) self.now }
     {
-        let Lexed::Token(token, _) = self.next else {
+        let Lexed::Token(token) = self.next else {
             return None;
         };
         if !matches!(token.kind, TokenKind::Int) {
             return None;
         }
-        u32::try_from(number(token.text)).ok()
+        u32::try_from(token.number).ok()
     }
 
     #[tactic(auto, unfolding(pd_lex::specs::Lexing::lexeme_of))]
     pub fn next_int_from(&self, least: u32) -> Option<u32>
         ensures { result ≡ next_given (is_int_from least) (λ t. number (text_of t)) self.now }
     {
-        let Lexed::Token(token, _) = self.next else {
+        let Lexed::Token(token) = self.next else {
             return None;
         };
         if !matches!(token.kind, TokenKind::Int) {
             return None;
         }
-        let number = u32::try_from(number(token.text)).ok()?;
+        let number = u32::try_from(token.number).ok()?;
         if least <= number { Some(number) } else { None }
     }
 
@@ -270,13 +268,13 @@ impl<'a> Cursor<'a> {
     pub fn next_int_equal(&self, wanted: u32) -> Option<u32>
         ensures { result ≡ next_given (is_int_of wanted) (λ t. number (text_of t)) self.now }
     {
-        let Lexed::Token(token, _) = self.next else {
+        let Lexed::Token(token) = self.next else {
             return None;
         };
         if !matches!(token.kind, TokenKind::Int) {
             return None;
         }
-        let number = u32::try_from(number(token.text)).ok()?;
+        let number = u32::try_from(token.number).ok()?;
         if number == wanted { Some(number) } else { None }
     }
 
@@ -284,7 +282,7 @@ impl<'a> Cursor<'a> {
     pub fn next_hex(&self) -> Option<u32>
         ensures { result ≡ next_given is_hex (λ t. hex_number (text_of t)) self.now }
     {
-        let Lexed::Token(token, _) = self.next else {
+        let Lexed::Token(token) = self.next else {
             return None;
         };
         if !matches!(token.kind, TokenKind::Hex) {
@@ -298,7 +296,7 @@ impl<'a> Cursor<'a> {
     pub fn next_num(&self) -> Option<(usize, u64)>
         ensures { result ≡ next_given is_num (λ t. (line_of t, microseconds (text_of t))) self.now }
     {
-        let Lexed::Token(token, _) = self.next else {
+        let Lexed::Token(token) = self.next else {
             return None;
         };
         if !matches!(token.kind, TokenKind::Int | TokenKind::Decimal) {
@@ -306,7 +304,7 @@ impl<'a> Cursor<'a> {
         }
         let time = microseconds(token.text);
         if time < TIME_LIMIT {
-            Some((token.line, time))
+            Some((token.from.line, time))
         } else {
             None
         }
@@ -316,7 +314,7 @@ impl<'a> Cursor<'a> {
     pub fn next_num_from(&self, least: u64) -> Option<u64>
         ensures { result ≡ next_given (is_num_from least) (λ t. microseconds (text_of t)) self.now }
     {
-        let Lexed::Token(token, _) = self.next else {
+        let Lexed::Token(token) = self.next else {
             return None;
         };
         if !matches!(token.kind, TokenKind::Int | TokenKind::Decimal) {
@@ -334,7 +332,7 @@ impl<'a> Cursor<'a> {
     pub fn next_flags(&self) -> Option<Flags>
         ensures { result ≡ next_given is_flags (λ t. flags_of (text_of t)) self.now }
     {
-        let Lexed::Token(token, _) = self.next else {
+        let Lexed::Token(token) = self.next else {
             return None;
         };
         if matches!(token.kind, TokenKind::Word) && are_flags(token.text) {
@@ -348,7 +346,7 @@ impl<'a> Cursor<'a> {
     pub fn next_option_name(&self) -> Option<OptionName>
         ensures { result ≡ next_given is_option (λ t. unwrap_or (option_named (text_of t)) OptionName.Nop) self.now }
     {
-        let Lexed::Token(token, _) = self.next else {
+        let Lexed::Token(token) = self.next else {
             return None;
         };
         if !matches!(token.kind, TokenKind::Word) {
@@ -361,7 +359,7 @@ impl<'a> Cursor<'a> {
     pub fn next_function(&self) -> Option<Function>
         ensures { result ≡ next_given is_word (λ t. function_named (text_of t)) self.now }
     {
-        let Lexed::Token(token, _) = self.next else {
+        let Lexed::Token(token) = self.next else {
             return None;
         };
         if !matches!(token.kind, TokenKind::Word) {
@@ -374,7 +372,7 @@ impl<'a> Cursor<'a> {
     pub fn next_error(&self) -> Option<ErrorName>
         ensures { result ≡ next_given is_word (λ t. error_named (text_of t)) self.now }
     {
-        let Lexed::Token(token, _) = self.next else {
+        let Lexed::Token(token) = self.next else {
             return None;
         };
         if !matches!(token.kind, TokenKind::Word) {
@@ -387,7 +385,7 @@ impl<'a> Cursor<'a> {
     pub fn next_dots(&self) -> Option<()>
         ensures { result ≡ next_given is_dots (λ t. tt) self.now }
     {
-        let Lexed::Token(token, _) = self.next else {
+        let Lexed::Token(token) = self.next else {
             return None;
         };
         if matches!(token.kind, TokenKind::Dots) {
@@ -401,7 +399,7 @@ impl<'a> Cursor<'a> {
     pub fn next_named(&self, name: &[u8]) -> Option<()>
         ensures { result ≡ next_given (is_named name.now) (λ t. tt) self.now }
     {
-        let Lexed::Token(token, _) = self.next else {
+        let Lexed::Token(token) = self.next else {
             return None;
         };
         if matches!(token.kind, TokenKind::Word) && token.text == name {
@@ -415,7 +413,7 @@ impl<'a> Cursor<'a> {
     pub fn next_command(&self) -> Option<Action>
         ensures { result ≡ next_given is_command (λ t. Action.Command) self.now }
     {
-        let Lexed::Token(token, _) = self.next else {
+        let Lexed::Token(token) = self.next else {
             return None;
         };
         if matches!(token.kind, TokenKind::Cmd) {
@@ -429,7 +427,7 @@ impl<'a> Cursor<'a> {
     pub fn next_code(&self) -> Option<Action>
         ensures { result ≡ next_given is_code (λ t. Action.Code) self.now }
     {
-        let Lexed::Token(token, _) = self.next else {
+        let Lexed::Token(token) = self.next else {
             return None;
         };
         if matches!(token.kind, TokenKind::Code) {
@@ -446,7 +444,7 @@ impl<'a> Cursor<'a> {
     pub fn note_part(&mut self, pairs: OpenPairs) -> Result<OpenPairs, Stop>
         ensures { Leaves result self.new (note_part_at pairs self.old) }
     {
-        let Lexed::Token(token, _) = self.next else {
+        let Lexed::Token(token) = self.next else {
             return Err(Stop::Syntax);
         };
         let mut pairs = pairs;
@@ -459,7 +457,7 @@ impl<'a> Cursor<'a> {
     pub fn part(&mut self, inside: Inside) -> Result<Inside, Stop>
         ensures { Leaves result self.new (part_at inside self.old) }
     {
-        let Lexed::Token(token, _) = self.next else {
+        let Lexed::Token(token) = self.next else {
             return Err(Stop::Syntax);
         };
         let Inside { mut pairs, draft } = inside;

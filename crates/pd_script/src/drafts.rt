@@ -4,7 +4,6 @@ ghost use Rattle.std.specs.Prelude.{◌≡◌};
 use crate::brackets::OpenPairs;
 use crate::calls::Argument;
 use crate::names::constant_named;
-use crate::numbers::number;
 use crate::tokens::{is_any_int, is_symbol, is_word};
 use pd_lex::Token;
 
@@ -33,7 +32,7 @@ impl Draft {
         ensures { result ≡ single_draft (shown token.now) }
     {
         if is_any_int(token) {
-            Draft::Single(Argument::Int(number(token.text)))
+            Draft::Single(Argument::Int(token.number))
         } else if is_word(token) {
             Draft::Single(Argument::Constant(constant_named(token.text)))
         } else if is_symbol(token, b'[') {
@@ -49,7 +48,7 @@ impl Draft {
     {
         match self {
             Draft::Empty => Draft::single(token),
-            Draft::Opened if is_any_int(token) => Draft::Numbered(number(token.text)),
+            Draft::Opened if is_any_int(token) => Draft::Numbered(token.number),
             Draft::Numbered(n) if is_symbol(token, b']') => Draft::Element(n),
             _ => Draft::Mixed,
         }

@@ -22,7 +22,7 @@ fn header_item(token: &Token) -> Option<HeaderItem>
         _ => return None,
     };
     Some(HeaderItem {
-        line: token.line,
+        line: token.from.line,
         kind,
     })
 }
@@ -35,8 +35,8 @@ fn next_header_item(lines: &Lines, place: Place) -> Option<(HeaderItem, Place)>
     // A look at a line tells that no line holds a newline.
     let _ = lines.line(1);
     match next_token(lines, place) {
-        Lexed::Token(token, after) => match header_item(&token) {
-            Some(item) => Some((item, after)),
+        Lexed::Token(token) => match header_item(&token) {
+            Some(item) => Some((item, token.to)),
             None => None,
         },
         Lexed::End => None,

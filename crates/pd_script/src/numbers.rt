@@ -1,75 +1,18 @@
 //! The numbers that tokens write.
 ghost use Rattle.std.specs.Prelude.{◌≡◌, ◌+◌, ◌-◌, ◌*◌, ◌^◌, ◌≤◌, ◌++◌, min, fold, length, drop, take, replicate};
-ghost use Rattle.std.specs.Char.{digit_value};
-ghost use Rattle.std.specs.Str.Parse.{digits_value, digits_value_after};
 ghost use Rattle.std.specs.List.{list_all};
 ghost use Rattle.pd_lex.specs.Octets.{is_digit};
 ghost use Rattle.pd_script.specs.Items.{is_digits};
-ghost use Rattle.pd_script.specs.Values.{number, hex_number, capped_number, whole_len, microseconds};
-ghost use Rattle.pd_script.specs.TokenReading.{capped_digit, wrapped_digit};
+ghost use Rattle.pd_script.specs.Values.{hex_number, whole_len, microseconds};
+ghost use Rattle.pd_lex.specs.Numbers.{capped_digit};
+
+use pd_lex::{digit_value, number, value_after};
 
 /// A time is below so many microseconds.
 pub const TIME_LIMIT: u64 = 4_294_967_296_000_000;
 
 /// The greatest number of a packet or a result.
 pub const GREATEST: u64 = 4_294_967_295;
-
-/// So many digits write no number above the greatest `u64`.
-const FEW: usize = 9;
-
-/// What an octet stands for as a digit in a base up to 36, or 36.
-fn digit_value(octet: u8) -> u64
-    ensures { result ≡ digit_value octet }
-{
-    match octet {
-        b'0'..=b'9' => u64::from(octet - b'0'),
-        b'A'..=b'Z' => u64::from(octet - b'A') + 10,
-        b'a'..=b'z' => u64::from(octet - b'a') + 10,
-        _ => 36,
-    }
-}
-
-/// The number that the digits write behind those of `value`; one above the greatest `u64` stands as that.
-fn value_after(radix: u64, value: u64, digits: &[u8]) -> u64
-    ensures { result ≡ fold (capped_digit radix) value digits.now }
-{
-    digits.iter().fold(
-        value,
-        |value, digit| value
-            .saturating_mul(radix)
-            .saturating_add(digit_value(*digit)),
-    )
-}
-
-/// The number that digits write, modulo 2^64.
-fn wrapped(digits: &[u8]) -> u64
-    ensures { result ≡ fold wrapped_digit 0 digits.now }
-{
-    digits.iter().fold(
-        0u64,
-        |value, digit| value.wrapping_mul(10).wrapping_add(digit_value(*digit)),
-    )
-}
-
-/// The number in digits, of which there are so few that none of them is too large.
-fn few_digits(digits: &[u8]) -> u64
-    requires { length digits.now ≤ 9 }
-    ensures { result ≡ capped_number digits.now }
-{
-    wrapped(digits)
-}
-
-/// The number in digits; one above the greatest `u64` stands as that.
-#[tactic(auto, using(crate::proofs::Capped::capping))]
-pub fn number(digits: &[u8]) -> u64
-    ensures { result ≡ capped_number digits.now }
-{
-    if digits.len() <= FEW {
-        few_digits(digits)
-    } else {
-        value_after(10, 0, digits)
-    }
-}
 
 /// The digits behind `0x`.
 fn hex_digits(text: &[u8]) -> &[u8]

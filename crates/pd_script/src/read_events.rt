@@ -71,8 +71,9 @@ impl<'a> Cursor<'a> {
     fn outcome(&mut self) -> Result<Outcome, Stop>
         ensures { Leaves result self.new (outcome_at self.old) }
     {
-        if self.is_int() {
-            return Ok(Outcome::Int(self.int()?));
+        if let Some(number) = self.next_int() {
+            self.take();
+            return Ok(Outcome::Int(number));
         }
         if self.is_hex() {
             return Ok(Outcome::Hex(self.hex()?));

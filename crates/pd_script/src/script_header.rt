@@ -2,8 +2,8 @@
 ghost use Rattle.std.specs.Prelude.{◌≡◌, [], ◌∷◌, ◌++◌, length, IfOk, OnOk};
 ghost use Rattle.pd_lex.specs.Places.{first_place};
 
-use crate::numbers::{is_digits, number};
-use pd_lex::Place;
+use crate::numbers::is_digits;
+use pd_lex::{Place, number};
 use std::alloc::{AllocError, Global};
 use std::marker::Model;
 

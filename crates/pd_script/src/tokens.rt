@@ -19,8 +19,9 @@ pub fn is_word(token: &Token) -> bool
 }
 
 /// The symbol of this octet.
+#[tactic(auto, using(crate::proofs::Symbols::one_octet))]
 pub fn is_symbol(token: &Token, octet: u8) -> bool
     ensures { result ≡ is_symbol octet (shown token.now) }
 {
-    matches!(token.kind, TokenKind::Symbol) && token.text == [octet].as_slice()
+    matches!(token.kind, TokenKind::Symbol) && token.symbol == octet
 }

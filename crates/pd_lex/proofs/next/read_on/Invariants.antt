@@ -3,7 +3,7 @@ use Rattle.std.proofs.Common.{◌≡◌, ◌≤◌, length}
 use Rattle.pd_lex.specs.Places.{octets_from}
 use Rattle.pd_lex.specs.Spellings.{Skips}
 use Rattle.pd_lex.specs.Lexing.{items}
-use Rattle.pd_lex.proofs.next.read_next.Given as goal
+use Rattle.pd_lex.proofs.next.read_on.Given as goal
 
 abbrev pub invariant-gaps : goal.invariant-gaps
 invariant-gaps l = record {

@@ -1,0 +1,51 @@
+//! The numbers that digits write.
+ghost use Rattle.std.specs.Prelude.{◌≡◌, ◌≤◌, fold, length};
+ghost use Rattle.std.specs.Char.{digit_value};
+ghost use Rattle.pd_lex.specs.declared.token.TokenKind.TheVariants.{Int};
+ghost use Rattle.pd_lex.specs.Numbers.{capped_digit, wrapped_digit, capped_number};
+
+use crate::token::TokenKind;
+
+/// What an octet stands for as a digit in a base up to 36, or 36.
+pub fn digit_value(octet: u8) -> u64
+    ensures { result ≡ digit_value octet }
+{
+    if octet.is_ascii_digit() {
+        return u64::from(octet - b'0');
+    }
+    match octet {
+        b'A'..=b'Z' => u64::from(octet - b'A') + 10,
+        b'a'..=b'z' => u64::from(octet - b'a') + 10,
+        _ => 36,
+    }
+}
+
+/// The number that the digits write behind those of `value`; one above the greatest `u64` stands as that.
+pub fn value_after(radix: u64, value: u64, digits: &[u8]) -> u64
+    ensures { result ≡ fold (capped_digit radix) value digits.now }
+{
+    digits.iter().fold(
+        value,
+        |value, digit| value
+            .saturating_mul(radix)
+            .saturating_add(digit_value(*digit)),
+    )
+}
+
+/// The number in digits; one above the greatest `u64` stands as that.
+#[tactic(auto, using(crate::proofs::Capped::capping))]
+pub fn number(digits: &[u8]) -> u64
+    ensures { result ≡ capped_number digits.now }
+{
+    value_after(10, 0, digits)
+}
+
+/// The number of an Int.
+pub fn number_of(kind: TokenKind, text: &[u8]) -> u64
+    ensures { kind ≡ Int → result ≡ capped_number text.now }
+{
+    match kind {
+        TokenKind::Int => number(text),
+        _ => 0,
+    }
+}
