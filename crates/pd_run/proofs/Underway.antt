@@ -1,11 +1,8 @@
 -- How far along a run is.
-use Rattle.std.proofs.Common.{◌≡◌, ℕ, ◌+◌, ◌*◌, ◌≤◌, Option, Some, None, is_none, find, List, Ok, refl, subst, arith}
-use Rattle.pd_settings.specs.declared.fields.Settings.{Settings}
-use Rattle.pd_script.specs.declared.script_events.Event.{Event}
+use Rattle.std.proofs.Common.{◌≡◌, ◌+◌, ◌*◌, ◌≤◌, Option, Some, None, is_none, find, refl, subst, arith}
 use Rattle.pd_script.specs.declared.script_header.HeaderItem.{HeaderItem}
 use Rattle.pd_run.specs.Laws.{SenderIsLawful, IsUnderway, StartsUnderway, StepsGoOn}
-use Rattle.pd_run.specs.Run.{start_of, tolerance_in}
-use Rattle.pd_run.specs.Step.{Running, step}
+use Rattle.pd_run.specs.Run.{tolerance_in}
 use Rattle.pd_run.proofs.Bounds.{IsWithin, given, step_within}
 use Rattle.pd_run.proofs.Queued.{end_of, step_queues}
 
