@@ -16,7 +16,7 @@ use Rattle.pd_book.specs.declared.act.Ruling.{Ruling}
 use Rattle.pd_book.specs.declared.faults.BookFault.TheVariants.{HistoryFull}
 use Rattle.pd_book.specs.declared.script.Script.{Script}
 use Rattle.pd_book.specs.declared.script.State.TheVariants.{Pending, Running}
-use Rattle.pd_book.specs.declared.task.Task.{Task}
+use Rattle.pd_track.specs.declared.task.Task.{Task}
 use Rattle.pd_book.specs.Acts.{texts, text_of, now, without, jobs, job, started, next, ruling}
 use Rattle.pd_book.specs.Legal.{May}
 use Rattle.pd_book.specs.Story.{Story}

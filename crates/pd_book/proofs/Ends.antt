@@ -11,7 +11,7 @@ use Rattle.pd_book.specs.declared.act.Ruling.{Ruling}
 use Rattle.pd_book.specs.declared.act.Ruling.TheVariants.{Taken, Stale}
 use Rattle.pd_book.specs.declared.script.State.{State}
 use Rattle.pd_book.specs.declared.script.State.TheVariants.{Pending, Running, Answered}
-use Rattle.pd_book.specs.declared.task.Task.{Task}
+use Rattle.pd_track.specs.declared.task.Task.{Task}
 use Rattle.pd_book.specs.Acts.{stands, since, finished, ended, job, jobs, fresh}
 use Rattle.pd_book.specs.Legal.{Legal}
 use Rattle.pd_book.specs.Kept.{Entry, in_state}

@@ -15,7 +15,7 @@ use Rattle.pd_book.specs.declared.act.Ruling.TheVariants.{Taken, Stale}
 use Rattle.pd_book.specs.declared.script.Script.{Script}
 use Rattle.pd_book.specs.declared.script.State.{State}
 use Rattle.pd_book.specs.declared.script.State.TheVariants.{Pending, Running}
-use Rattle.pd_book.specs.declared.task.Task.{Task}
+use Rattle.pd_track.specs.declared.task.Task.{Task}
 use Rattle.pd_book.specs.Acts.{Named, edited_at, texts, stands, job}
 use Rattle.pd_book.specs.Kept.{Entry, with_state, with_edit, without_name, all_pending, in_state, runs}
 use Rattle.pd_book.specs.Replay.{scripts_of, settle, give_up}

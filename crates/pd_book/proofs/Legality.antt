@@ -14,7 +14,7 @@ use Rattle.pd_book.specs.declared.act.Act.{Act}
 use Rattle.pd_book.specs.declared.act.Act.TheVariants.{Add, Edit, Remove, Set, Start}
 use Rattle.pd_book.specs.declared.faults.BookFault.{BookFault}
 use Rattle.pd_book.specs.declared.faults.BookFault.TheVariants.{BadName, NameTaken, TooManyScripts, NoSuchScript, BadValue}
-use Rattle.pd_book.specs.declared.task.Task.{Task}
+use Rattle.pd_track.specs.declared.task.Task.{Task}
 use Rattle.pd_book.specs.Acts.{Named, texts, present, text_of, stands, now, started, jobs, job, next}
 use Rattle.pd_book.specs.Legal.{May, HasRoom, Legal}
 use Rattle.pd_book.specs.Story.{Story}

@@ -5,7 +5,7 @@ use Rattle.std.proofs.lemmas.Bool.Decides.{Decides-eqb}
 use Rattle.pd_settings.specs.declared.fields.Settings.{Settings}
 use Rattle.pd_book.specs.declared.act.Act.{Act}
 use Rattle.pd_book.specs.declared.act.Act.TheVariants.{Add, Edit, Remove, Set, Start, Finish, Abandon}
-use Rattle.pd_book.specs.declared.task.Task.{Task}
+use Rattle.pd_track.specs.declared.task.Task.{Task}
 use Rattle.pd_book.specs.Acts.{jobs, job, without, started, ended, finished}
 use Rattle.pd_book.specs.Legal.{Legal}
 use Rattle.pd_book.proofs.Searches.{all_push, all_imp, all_filter, find_is, find_all, find_last, find_filter, found_kept, not_not, not_true, or_false, only_if, apart, differs}

@@ -14,7 +14,7 @@ use Rattle.pd_book.specs.declared.act.Ruling.TheVariants.{Taken, Stale}
 use Rattle.pd_book.specs.declared.script.Script.{Script}
 use Rattle.pd_book.specs.declared.script.State.{State}
 use Rattle.pd_book.specs.declared.script.State.TheVariants.{Pending, Running, Answered}
-use Rattle.pd_book.specs.declared.task.Task.{Task}
+use Rattle.pd_track.specs.declared.task.Task.{Task}
 use Rattle.pd_book.specs.Acts.{Named, texts, stands, text_of, since, answered, busy, ended, fresh, job, next, waits, ruling}
 use Rattle.pd_book.specs.Legal.{Legal}
 use Rattle.pd_book.specs.Kept.{Entry, is_pending, pending_state, runs, with_state}

@@ -1,7 +1,7 @@
 -- Settling comes to its end, and leaves what it says.
 use Rattle.std.proofs.Common.{◌≡◌, ℕ, ◌+◌, ◌≤◌, Option, Some, None, Result, Ok, Err, refl, ap, subst, arith, suc, zero}
 use Rattle.pd_book.specs.declared.faults.BookFault.{BookFault}
-use Rattle.pd_book.specs.declared.task.Task.{Task}
+use Rattle.pd_track.specs.declared.task.Task.{Task}
 use Rattle.pd_book.specs.Acts.{next}
 use Rattle.pd_book.specs.Report.{owed}
 use Rattle.pd_book.specs.Story.{Story}

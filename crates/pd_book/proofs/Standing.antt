@@ -16,7 +16,7 @@ use Rattle.pd_book.specs.declared.act.Act.{Act}
 use Rattle.pd_book.specs.declared.act.Act.TheVariants.{Add, Edit, Remove, Set, Start}
 use Rattle.pd_book.specs.declared.script.State.{State}
 use Rattle.pd_book.specs.declared.script.State.TheVariants.{Pending, Running, Answered}
-use Rattle.pd_book.specs.declared.task.Task.{Task}
+use Rattle.pd_track.specs.declared.task.Task.{Task}
 use Rattle.pd_book.specs.Acts.{edited_at, texts, stands, text_of, now, since, starts, finished, ended, busy, job, jobs, started}
 use Rattle.pd_book.specs.Legal.{Legal}
 use Rattle.pd_book.specs.Kept.{Entry, in_state}

@@ -16,7 +16,7 @@ use Rattle.pd_book.specs.declared.act.Act.TheVariants.{Add, Edit, Remove, Set, S
 use Rattle.pd_book.specs.declared.act.Ruling.{Ruling}
 use Rattle.pd_book.specs.declared.script.State.{State}
 use Rattle.pd_book.specs.declared.script.State.TheVariants.{Pending, Running, Answered}
-use Rattle.pd_book.specs.declared.task.Task.{Task}
+use Rattle.pd_track.specs.declared.task.Task.{Task}
 use Rattle.pd_book.specs.Acts.{Named, edited_at, texts, stands, now, since, starts, finished, started, answered, busy, waits, next, jobs, job, ruling}
 use Rattle.pd_book.specs.Report.{row, shown, owed}
 use Rattle.pd_book.specs.Legal.{Legal}

@@ -8,9 +8,10 @@ use Rattle.pd_book.specs.declared.act.Ruling.{Ruling}
 use Rattle.pd_book.specs.declared.faults.BookFault.{BookFault}
 use Rattle.pd_book.specs.declared.faults.FinishFault.{FinishFault}
 use Rattle.pd_book.specs.declared.faults.FinishFault.TheVariants.{NoSuchJob}
-use Rattle.pd_book.specs.declared.task.Task.{Task}
+use Rattle.pd_track.specs.declared.task.Task.{Task}
 use Rattle.pd_book.specs.Acts.{job, next, ruling}
-use Rattle.pd_book.specs.Story.{Story, Handed, handed_task, told, told_start}
+use Rattle.pd_track.specs.Reuse.{Handed}
+use Rattle.pd_book.specs.Story.{Story, handed_task, told, told_start}
 use Rattle.pd_book.specs.Refusals.{add_refusal, edit_refusal, remove_refusal, set_refusal, start_refusal, next_job, fault_of, finish_fault}
 
 -- a change: where it isn't refused its act is recorded, else the reply is the refusal, or want of memory

@@ -6,7 +6,7 @@ use Rattle.pd_book.specs.declared.act.Act.TheVariants.{Start, Finish}
 use Rattle.pd_book.specs.declared.act.Ruling.{Ruling}
 use Rattle.pd_book.specs.declared.act.Ruling.TheVariants.{Taken}
 use Rattle.pd_book.specs.declared.row.Row.{Row}
-use Rattle.pd_book.specs.declared.task.Task.{Task}
+use Rattle.pd_track.specs.declared.task.Task.{Task}
 use Rattle.pd_book.specs.Acts.{changes, texts, now, job, ruling}
 use Rattle.pd_book.specs.Report.{Shown, IsRunUnder, scratch, owed}
 

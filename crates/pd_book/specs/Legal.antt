@@ -7,7 +7,7 @@ use Rattle.pd_settings.specs.Settings.{replaced}
 use Rattle.pd_settings.specs.declared.fields.Settings.{Settings}
 use Rattle.pd_book.specs.declared.act.Act.{Act}
 use Rattle.pd_book.specs.declared.act.Act.TheVariants.{Add, Edit, Remove, Set, Start, Finish, Abandon}
-use Rattle.pd_book.specs.declared.task.Task.{Task}
+use Rattle.pd_track.specs.declared.task.Task.{Task}
 use Rattle.pd_book.specs.Acts.{texts, stands, text_of, now, next, started, jobs, job, ruling}
 
 -- lines, none of which holds a newline, within the limits of a text

@@ -4,7 +4,9 @@ pub use Rattle.pd_text.specs.Name
 pub use Rattle.pd_settings.specs.Keys
 pub use Rattle.pd_settings.specs.Settings
 pub use Rattle.pd_run.specs.Run
+pub use Rattle.pd_track.specs.Reuse
 pub mod Acts
+pub mod Tracks
 pub mod Report
 pub mod Legal
 pub mod Story

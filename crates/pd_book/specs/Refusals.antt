@@ -14,7 +14,7 @@ use Rattle.pd_book.specs.declared.faults.BookFault.{BookFault}
 use Rattle.pd_book.specs.declared.faults.BookFault.TheVariants.{UnknownKey, BadValue, BadName, NameTaken, NoSuchScript, TooManyScripts, HistoryFull, OutOfMemory}
 use Rattle.pd_book.specs.declared.faults.FinishFault.{FinishFault}
 use Rattle.pd_book.specs.declared.faults.FinishFault.TheVariants.{NoSuchJob, Foreign}
-use Rattle.pd_book.specs.declared.task.Task.{Task}
+use Rattle.pd_track.specs.declared.task.Task.{Task}
 use Rattle.pd_book.specs.Acts.{Named, texts, present, stands, now, next, started, jobs}
 use Rattle.pd_book.specs.Faults.{of_text}
 use Rattle.pd_book.specs.Story.{Story}

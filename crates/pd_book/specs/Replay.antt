@@ -11,7 +11,7 @@ use Rattle.pd_book.specs.declared.act.Ruling.{Ruling}
 use Rattle.pd_book.specs.declared.act.Ruling.TheVariants.{Taken, Stale}
 use Rattle.pd_book.specs.declared.script.Script.{Script}
 use Rattle.pd_book.specs.declared.script.State.TheVariants.{Pending, Running, Answered}
-use Rattle.pd_book.specs.declared.task.Task.{Task}
+use Rattle.pd_track.specs.declared.task.Task.{Task}
 use Rattle.pd_book.specs.Acts.{now, jobs, job, next, started}
 use Rattle.pd_book.specs.Legal.{Legal}
 use Rattle.pd_book.specs.Kept.{Entry, with_state, with_edit, without_name, all_pending, runs}

@@ -1,23 +1,22 @@
 -- What a book and a job are to their callers.
 use Rattle.std.specs.Prelude.{List, ◌∷◌, Option, Some, None}
+pub use Rattle.pd_track.specs.Reuse.{Handed}
 use Rattle.std.specs.Option.{option_map}
 use Rattle.pd_settings.specs.declared.fields.Settings.{Settings}
+use Rattle.pd_book.specs.Tracks.{Shelf}
 use Rattle.pd_book.specs.declared.act.Act.{Act}
 use Rattle.pd_book.specs.declared.act.Act.TheVariants.{Start}
-use Rattle.pd_book.specs.declared.task.Task.{Task}
+use Rattle.pd_track.specs.declared.task.Task.{Task}
 
 -- the settings at its opening and the acts that it recorded, the newest first
 pub record Story : Type 0 where
   pub opening : Settings
   pub past : List Act
 
--- what a book is: its story; what it keeps to answer sooner stands beside that
+-- what a book is: its story, and beside that the tracks that it keeps to spare steps
 pub record Contents : Type 0 where
   pub story : Story
-
--- what a job is: its task; what is kept to run it sooner stands beside that
-pub record Handed : Type 0 where
-  pub task : Task
+  pub tracks : Shelf
 
 -- the task of a job, if one was handed out
 abbrev pub handed_task : Option Handed → Option Task

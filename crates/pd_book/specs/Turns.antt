@@ -4,7 +4,7 @@ use Rattle.pd_settings.specs.declared.fields.Settings.{Settings}
 use Rattle.pd_book.specs.declared.act.Act.{Act}
 use Rattle.pd_book.specs.declared.act.Act.TheVariants.{Start, Finish}
 use Rattle.pd_book.specs.declared.faults.BookFault.{BookFault}
-use Rattle.pd_book.specs.declared.task.Task.{Task}
+use Rattle.pd_track.specs.declared.task.Task.{Task}
 use Rattle.pd_book.specs.Acts.{texts, now, jobs, job, next, ruling}
 use Rattle.pd_book.specs.Legal.{Legal}
 use Rattle.pd_book.specs.Report.{shown, scratch, owed}

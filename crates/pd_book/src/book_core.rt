@@ -13,17 +13,17 @@ ghost use Rattle.pd_book.specs.Headline.{CurrentWhenAnswered, RowsAreScripts, Ve
 ghost use Rattle.pd_book.specs.Story.{told, told_start, handed_task};
 ghost use Rattle.pd_book.specs.Given.{GivesAdd, GivesEdit, GivesRemove, GivesSet, GivesStart, GivesFinish, GivesAbandon};
 ghost use Rattle.pd_book.specs.Replay.{IsReady};
+ghost use Rattle.pd_book.specs.Tracks.{track_of, without_track, is_kept, HandsOut, Shelves};
 ghost use Rattle.pd_book.specs.Refusals.{full, add_refusal, text_refusal, edit_refusal, remove_refusal, set_refusal, start_refusal, next_job, fault_of, finish_fault};
 
 use crate::act::{Act, Ruling};
-use crate::done::Done;
 use crate::faults::{BookFault, FinishFault};
-use crate::job::Job;
 use crate::recording::{Prepared, Records, record, task_of};
 use crate::report::Report;
-use crate::task::Task;
+use crate::shelf::Tracks;
 use pd_settings::{Key, Settings, Value};
 use pd_text::{LineEdit, Lines, Name, Text, TextFault};
+use pd_track::{Done, Job, Task};
 use std::alloc::{AllocError, Global};
 use std::marker::Model;
 
@@ -41,6 +41,7 @@ pub struct Book {
     pub(crate) settings: Settings,
     numbers: u64,
     records: Records,
+    tracks: Tracks,
 }
 
 impl Model for Book {
@@ -50,22 +51,26 @@ impl Model for Book {
 
     ghost Value = { Contents };
 
-    ghost view = { λ b. record { story = record { opening = b.opening; past = reverse b.records.acts.items } } };
+    ghost view = { λ b. record { story = record { opening = b.opening; past = reverse b.records.acts.items }; tracks = b.tracks } };
 
     ghost invariant = { λ b. IsReplay b.opening (reverse b.records.acts.items) b.settings b.records.scripts b.records.tasks.items b.numbers
         (vec_capacity b.records.acts) };
 }
 
 impl Book {
-    /// A book without scripts under these settings. `_cache` is the number of tracks to keep: none is kept yet.
-    pub fn new(alloc: Global, _cache: usize, settings: Settings) -> Book
-        ensures { result.story ≡ record { opening = settings; past = [] } }
+    /// A book without scripts under these settings, which keeps at most `cache` tracks: 1 to 1,024.
+    pub fn new(alloc: Global, cache: usize, settings: Settings) -> Book
+        requires some { 1 ≤ cache }
+        requires few { cache ≤ 1024 }
+        ensures story { result.story ≡ record { opening = settings; past = [] } }
+        ensures tracks { result.tracks ≡ record { entries = []; most = cache } }
     {
         Book {
             opening: settings,
             settings,
             numbers: 0,
             records: Records::new(alloc),
+            tracks: Tracks::new(cache),
         }
     }
 
@@ -113,6 +118,7 @@ impl Book {
         ensures allowed { OnOk result (add_refusal self.old.story name ≡ None) }
         ensures err { IfErr result (λ e. e ≡ fault_of (add_refusal self.old.story name)) }
         ensures same { OnErr result (self.new ≡ self.old) }
+        ensures tracks { self.new.tracks ≡ self.old.tracks }
     {
         match Text::new(*self.records.acts.allocator(), lines) {
             Ok(text) => self.add_text(name, Some(text)),
@@ -130,6 +136,7 @@ impl Book {
         ensures allowed { OnOk result (add_refusal self.old.story name ≡ None) }
         ensures err { IfErr result (λ e. e ≡ fault_of (add_refusal self.old.story name)) }
         ensures same { OnErr result (self.new ≡ self.old) }
+        ensures tracks { self.new.tracks ≡ self.old.tracks }
     {
         self.add_text(name, Some(text))
     }
@@ -140,6 +147,7 @@ impl Book {
         ensures allowed { OnOk result (add_refusal self.old.story name ≡ None) }
         ensures err { IfErr result (λ e. e ≡ fault_of (add_refusal self.old.story name)) }
         ensures same { OnErr result (self.new ≡ self.old) }
+        ensures tracks { self.new.tracks ≡ self.old.tracks }
     {
         if !name.is_valid() {
             return Err(BookFault::BadName);
@@ -174,6 +182,7 @@ impl Book {
         ensures allowed { OnOk result (set_refusal self.old.story key.now value ≡ None) }
         ensures err { IfErr result (λ e. e ≡ fault_of (set_refusal self.old.story key.now value)) }
         ensures same { OnErr result (self.new ≡ self.old) }
+        ensures tracks { self.new.tracks ≡ self.old.tracks }
     {
         let Some(key) = Key::named(key) else {
             return Err(BookFault::UnknownKey);
@@ -227,6 +236,7 @@ impl Book {
         ensures allowed { OnOk result (edit_refusal self.old.story name.now edit.now ≡ None) }
         ensures err { IfErr result (λ e. e ≡ fault_of (edit_refusal self.old.story name.now edit.now)) }
         ensures same { OnErr result (self.new ≡ self.old) }
+        ensures tracks { self.new.tracks ≡ self.old.tracks }
     {
         let edited = self.edited(name, edit)?;
         if let Some(fault) = self.full(1) {
@@ -253,6 +263,7 @@ impl Book {
         ensures allowed { OnOk result (remove_refusal self.old.story name.now ≡ None) }
         ensures err { IfErr result (λ e. e ≡ fault_of (remove_refusal self.old.story name.now)) }
         ensures same { OnErr result (self.new ≡ self.old) }
+        ensures tracks { OnOk result (self.new.tracks ≡ without_track name.now self.old.tracks) }
     {
         if !self.stands(name) {
             return Err(BookFault::NoSuchScript);
@@ -263,6 +274,7 @@ impl Book {
         self.records.acts.reserve(self.records.tasks.len() + 1)?;
         let act = Act::Remove(name.copy()?);
         self.records.scripts.remove(name);
+        self.tracks.remove(name);
         record(&mut self.records.acts, act);
         Ok(())
     }
@@ -299,6 +311,7 @@ impl Book {
         ensures none { IfOk result (λ p. p ≡ None → next self.now.story.past ≡ None) }
         ensures some { IfOk result (λ p. IfSome p (λ p. IsReady self.now.story.opening self.now.story.past p.job.task p.task p.act)) }
         ensures room { IfOk result (λ p. IfSome p (λ _. full 2 self.now.story ≡ None)) }
+        ensures track { IfOk result (λ p. IfSome p (λ p. p.job.track ≡ track_of p.job.task.name self.now.tracks)) }
         ensures err { IfErr result (λ e. e ≡ fault_of (start_refusal self.now.story)) }
         ensures waits { OnErr result (IsSome (next self.now.story.past)) }
     {
@@ -315,7 +328,11 @@ impl Book {
             settings: self.settings,
         };
         let act = Act::Start(task.number, name.copy()?);
-        let job = Job::of(task.share()?);
+        let track = match self.tracks.track(name) {
+            Some(track) => Some(track.share()?),
+            None => None,
+        };
+        let job = Job::of(task.share()?, track);
         Ok(Some(Prepared { job, task, act }))
     }
 
@@ -333,6 +350,7 @@ impl Book {
         ensures err { IfErr result (λ e. e ≡ fault_of (start_refusal self.old.story)) }
         ensures waits { OnErr result (IsSome (next self.old.story.past)) }
         ensures same { OnErr result (self.new ≡ self.old) }
+        ensures tracks { IfOk result (λ job. HandsOut job self.old.tracks self.new.tracks) }
     {
         let Some(prepared) = self.prepare()? else {
             return Ok(None);
@@ -340,6 +358,7 @@ impl Book {
         self.records.acts.reserve(self.records.tasks.len() + 2)?;
         self.records.tasks.reserve(1)?;
         self.numbers = prepared.job.number();
+        self.tracks.touch(prepared.job.name());
         Ok(Some(self.records.start(prepared)))
     }
 
@@ -385,6 +404,19 @@ impl Book {
         }
     }
 
+    /// Whether the track of this result is kept.
+    fn keeps(&self, done: &Done, ruling: Ruling) -> bool
+        ensures { result ≡ is_kept ruling (present self.now.story.past done.now.name) done.now self.now.tracks }
+    {
+        match ruling {
+            Ruling::Taken => true,
+            Ruling::Stale => match self.text(done.name()) {
+                Some(text) => self.tracks.shares_more(done, text),
+                None => false,
+            },
+        }
+    }
+
     /// Takes the result of an outstanding job: `Stale`, recorded and shown nowhere, where the job's script
     /// changed since the job's start or is gone. A result of another job that agrees in number, name, text
     /// and settings is taken as the job's own.
@@ -399,6 +431,7 @@ impl Book {
         ensures foreign { OnErr result (job self.old.story.opening self.old.story.past done.now.number ≢ Some done.now) }
         ensures err { IfErr result (λ e. e ≡ finish_fault (job self.old.story.opening self.old.story.past done.now.number)) }
         ensures same { OnErr result (self.new ≡ self.old) }
+        ensures tracks { IfOk result (λ r. Shelves r (present self.old.story.past done.now.name) done.now self.old.tracks self.new.tracks) }
     {
         let Some(task) = self.outstanding(done.number()) else {
             return Err(FinishFault::NoSuchJob);
@@ -407,6 +440,9 @@ impl Book {
             return Err(FinishFault::Foreign);
         }
         let ruling = self.ruling(done);
+        let is_kept = self.keeps(done, ruling);
+        self.tracks
+            .shelve(*self.records.acts.allocator(), done, is_kept);
         self.records.finish(done, ruling);
         Ok(ruling)
     }
@@ -422,6 +458,7 @@ impl Book {
         ensures err { IfErr result (λ e. e ≡ FinishFault.NoSuchJob) }
         ensures none { OnErr result (job self.old.story.opening self.old.story.past number ≡ None) }
         ensures same { OnErr result (self.new ≡ self.old) }
+        ensures tracks { self.new.tracks ≡ self.old.tracks }
     {
         let Some(_task) = self.outstanding(number) else {
             return Err(FinishFault::NoSuchJob);

@@ -7,9 +7,7 @@
 
 mod act;
 mod book_core;
-mod done;
 mod faults;
-mod job;
 mod laws;
 mod recording;
 mod refusing;
@@ -17,14 +15,12 @@ mod report;
 mod row;
 mod script;
 mod scripts;
-mod task;
+mod shelf;
 
 pub use act::{Act, Ruling};
 pub use book_core::Book;
-pub use done::{Done, Unfinished, run_job};
 pub use faults::{BookFault, FinishFault};
-pub use job::Job;
 pub use laws::{accepting, headline, settling};
+pub use pd_track::{Done, Job, Task, Track, Unfinished, run_job};
 pub use report::Report;
 pub use row::Row;
-pub use task::Task;

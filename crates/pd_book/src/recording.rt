@@ -6,11 +6,9 @@ ghost use Rattle.pd_book.specs.Kept.{with_state};
 ghost use Rattle.pd_book.specs.Replay.{settle, give_up};
 
 use crate::act::{Act, Ruling};
-use crate::done::Done;
-use crate::job::Job;
 use crate::script::State;
 use crate::scripts::Scripts;
-use crate::task::Task;
+use pd_track::{Done, Job, Task};
 use std::alloc::Global;
 
 /// A job to hand out, its task to keep and its act to record.

@@ -10,9 +10,9 @@ ghost use Rattle.pd_book.specs.Replay.{give_up};
 
 use crate::row::Row;
 use crate::script::{Script, State};
-use crate::task::Task;
 use indexmap::IndexMap;
 use pd_text::{Name, Text};
+use pd_track::Task;
 use std::alloc::{AllocError, Global};
 use std::marker::Model;
 

@@ -1,6 +1,5 @@
 -- Lemmas on tracks and jobs.
 pub mod Fourths
-pub mod Front
 pub mod Greatest
 pub mod Resume
 pub mod Served

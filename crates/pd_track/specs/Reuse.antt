@@ -2,6 +2,7 @@
 use Rattle.std.specs.Prelude.{◌≡◌, ℕ, zero, suc, ◌+◌, ◌-◌, ◌%◌, ◌==◌, nat_le, ◌&&◌, Bool, List, [], ◌∷◌, length, Option, None, Some, if◌then◌else◌}
 use Rattle.std.proofs.Math.Bool.{beq}
 use Rattle.pd_text.specs.Text.{front}
+use Rattle.pd_settings.specs.Uses.{is_same_window}
 use Rattle.pd_settings.specs.declared.fields.Settings.{Settings}
 use Rattle.pd_reparse.specs.Reading.{DecidedScript, reading_of, kept_of}
 use Rattle.pd_run.specs.Run.{states_of, stepped_of, verdict_of}
@@ -55,8 +56,9 @@ reached text settings = length (states_of text settings)
 abbrev pub are_equal : Settings → Settings → Bool
 are_equal a b =
     a.mss == b.mss && beq a.sack b.sack && a.wscale == b.wscale && a.sndbuf == b.sndbuf && a.rcv_wnd == b.rcv_wnd
-    && a.initial_ssthresh == b.initial_ssthresh && a.min_rto_us == b.min_rto_us && a.max_rto_us == b.max_rto_us
-    && a.granularity_us == b.granularity_us && beq a.nagle b.nagle && a.tolerance_us == b.tolerance_us
+    && a.initial_ssthresh == b.initial_ssthresh && is_same_window a.initial_window b.initial_window
+    && a.min_rto_us == b.min_rto_us && a.max_rto_us == b.max_rto_us && a.granularity_us == b.granularity_us
+    && beq a.nagle b.nagle && a.tolerance_us == b.tolerance_us
 
 -- a track has the state after so many events, and a job under these settings may begin with it
 abbrev pub serves : Source → Settings → ℕ → Bool

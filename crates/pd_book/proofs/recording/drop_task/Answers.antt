@@ -1,6 +1,6 @@
 -- What `retain` leaves is the tasks but the one.
 use Rattle.std.proofs.Common.{rules, not, ◌==◌}
-use Rattle.pd_book.specs.declared.task.Task.{Task}
+use Rattle.pd_track.specs.declared.task.Task.{Task}
 use Rattle.pd_book.proofs.Retained.{filter_from_captured}
 use Rattle.pd_book.proofs.recording.drop_task.Goals as goal
 

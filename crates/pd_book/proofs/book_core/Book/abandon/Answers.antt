@@ -1,6 +1,6 @@
 -- The book after an abandonment is the replay of its acts.
 use Rattle.std.proofs.Common.{◌≡◌, ◌∙◌, Option, Some, List, find, ◌==◌, reverse, rules, ap}
-use Rattle.pd_book.specs.declared.task.Task.{Task}
+use Rattle.pd_track.specs.declared.task.Task.{Task}
 use Rattle.pd_book.specs.Acts.{job}
 use Rattle.pd_book.specs.Replay.{give_up}
 use Rattle.pd_book.specs.Story.{Contents}

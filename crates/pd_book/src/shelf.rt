@@ -1,0 +1,117 @@
+//! The tracks that a book keeps, one under a name.
+ghost use Rattle.std.specs.Prelude.{◌≡◌, ◌⊎◌, ◌≤◌, [], option_copied, OnOk, OnErr, if◌then◌else◌};
+ghost use Rattle.std.specs.NonZero.{non_zero_usize_get};
+ghost use Rattle.pd_text.specs.Text.{front};
+ghost use Rattle.pd_book.specs.Tracks.{track_of, used, put_first, without_track, source_of, shares_more};
+
+use lru::LruCache;
+use pd_text::{Name, Text};
+use pd_track::{Done, Track};
+use std::alloc::{AllocError, Global};
+use std::marker::Model;
+use std::num::NonZeroUsize;
+
+/// Tracks under the names of their scripts, the last used first, and only so many of them.
+#[derive(Drop)]
+pub struct Tracks {
+    /// None as long as no track was kept.
+    cache: Option<LruCache<Name, Track>>,
+    most: NonZeroUsize,
+}
+
+impl Model for Tracks {
+    ghost use Rattle.std.specs.Prelude.{[], ◌≡◌, IfSome};
+    ghost use Rattle.std.specs.Option.{option_map_or};
+    ghost use Rattle.std.specs.NonZero.{non_zero_usize_get};
+    ghost use Rattle.pd_book.specs.Tracks.{Shelf};
+
+    ghost Value = { Shelf };
+
+    ghost view = { λ t. record { entries = option_map_or (λ c. c.entries) t.cache []; most = non_zero_usize_get t.most } };
+
+    ghost invariant = { λ t. IfSome t.cache (λ c. c.cap ≡ non_zero_usize_get t.most) };
+}
+
+impl Tracks {
+    /// No tracks; at most so many, and at least one, will be kept.
+    pub fn new(most: usize) -> Tracks
+        requires { 1 ≤ most }
+        ensures { result ≡ record { entries = []; most = most } }
+    {
+        Tracks {
+            cache: None,
+            most: NonZeroUsize::new(most).unwrap_or(NonZeroUsize::MIN),
+        }
+    }
+
+    /// The track under a name; its place in the order stays.
+    pub fn track(&self, name: &Name) -> Option<&Track>
+        ensures { option_copied result ≡ track_of name.now self.now }
+    {
+        match &self.cache {
+            Some(cache) => cache.peek(name),
+            None => None,
+        }
+    }
+
+    /// Moves the track under a name to the front.
+    pub fn touch(&mut self, name: &Name)
+        ensures { self.new ≡ used name.now self.old }
+    {
+        if let Some(cache) = &mut self.cache {
+            let _ = cache.promote(name);
+        }
+    }
+
+    /// Drops the track under a name.
+    pub fn remove(&mut self, name: &Name)
+        ensures { self.new ≡ without_track name.now self.old }
+    {
+        if let Some(cache) = &mut self.cache {
+            let _ = cache.pop(name);
+        }
+    }
+
+    /// Whether the result's track shares more first lines with a text than the track under its name.
+    pub fn shares_more(&self, done: &Done, text: &Text) -> bool
+        ensures { result ≡ shares_more text.now (source_of done.now) (track_of done.now.name self.now) }
+    {
+        match self.track(done.name()) {
+            Some(kept) => shared(kept, text) < shared(done.track(), text),
+            None => true,
+        }
+    }
+
+    /// Keeps the track of a result at the front, if it is to be kept and where there is memory for it.
+    pub fn shelve(&mut self, alloc: Global, done: &Done, is_kept: bool)
+        ensures { (self.new ≡ (if is_kept then put_first done.now.name (source_of done.now) self.old else self.old)) ⊎ (self.new ≡ self.old) }
+    {
+        if is_kept {
+            let _ = self.put(alloc, done);
+        }
+    }
+
+    fn put(&mut self, alloc: Global, done: &Done) -> Result<(), AllocError>
+        ensures put { OnOk result (self.new ≡ put_first done.now.name (source_of done.now) self.old) }
+        ensures same { OnErr result (self.new ≡ self.old) }
+    {
+        let name = done.name().copy()?;
+        let track = done.track().share()?;
+        if self.cache.is_none() {
+            self.cache = Some(LruCache::new(alloc, self.most)?);
+        }
+        if let Some(cache) = &mut self.cache {
+            if cache.put(name, track).is_err() {
+                return Err(AllocError);
+            }
+        }
+        Ok(())
+    }
+}
+
+/// With how many lines the track's text begins as this one does.
+fn shared(track: &Track, text: &Text) -> usize
+    ensures { result ≡ front track.now.text text.now }
+{
+    track.text().lines().same_front(text.lines())
+}
