@@ -1,7 +1,7 @@
 -- What a desk tells those at its seats.
 use Rattle.std.specs.Prelude.{◌≡◌, List, Some, All, IsSome}
 use Rattle.pd_book.specs.declared.row.Row.{Row}
-use Rattle.pd_book.specs.declared.task.Task.{Task}
+use Rattle.pd_track.specs.declared.task.Task.{Task}
 use Rattle.pd_book.specs.Legal.{Legal}
 use Rattle.pd_book.specs.Refusals.{next_job}
 use Rattle.pd_book.specs.Report.{Shown}

@@ -22,7 +22,7 @@ pub struct Desk {
 }
 
 impl Desk {
-    /// A desk for so many workers, with a book without acts, and its seats.
+    /// A desk for so many workers, with a book without acts, which keeps 1 to 1,024 tracks, and its seats.
     ///
     /// # Errors
     /// For want of memory.
@@ -33,7 +33,9 @@ impl Desk {
         workers: usize,
         seats: usize,
     ) -> Result<(Desk, Vec<Seat>), AllocError>
-        requires { 1 ≤ seats }
+        requires some { 1 ≤ cache }
+        requires few { cache ≤ 1024 }
+        requires seats { 1 ≤ seats }
         ensures { IfOk result (λ opened. opened.1.items ≡ new_seats 0 seats) }
     {
         let (held, made) = Held::new(alloc, cache, settings, seats)?;

@@ -1,7 +1,7 @@
 -- Open jobs of which one ends.
 use Rattle.std.proofs.Common.{◌≡◌, ℕ, ◌==◌, ◌+◌, ◌≤◌, ◌<◌, Bool, true, false, not, ◌||◌, cond, List, [], ◌∷◌, length, filter, find, Option, Some, None, IsSome, refl, arith}
 use Rattle.std.specs.List.{list_any}
-use Rattle.pd_book.specs.declared.task.Task.{Task}
+use Rattle.pd_track.specs.declared.task.Task.{Task}
 use Rattle.pd_book.specs.Acts.{without}
 use Rattle.pd_book.proofs.Calls.{fewer}
 

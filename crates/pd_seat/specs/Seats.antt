@@ -29,10 +29,11 @@ abbrev pub new_seats : ℕ → ℕ → List SeatView
 new_seats number zero = []
 new_seats number (suc more) = new_seat number ∷ new_seats (suc number) more
 
--- a book without acts, and so many seats
-pub record IsNew (settings : Settings) (count : ℕ) (held : Noted) : Type 0 where
+-- a book without acts, which keeps at most so many tracks and has none yet, and so many seats
+pub record IsNew (cache : ℕ) (settings : Settings) (count : ℕ) (held : Noted) : Type 0 where
   pub seats : held.seats ≡ count
   pub story : held.book.story ≡ record { opening = settings; past = [] }
+  pub tracks : held.book.tracks ≡ record { entries = []; most = cache }
   pub notes : held.notes ≡ []
 
 -- the acts noted with this number

@@ -3,6 +3,7 @@ ghost use Rattle.std.specs.Prelude.{◌≡◌, ◌↔◌, length, IsTrue, IfOk, 
 ghost use Rattle.pd_book.specs.Legal.{Legal};
 ghost use Rattle.pd_seat.specs.Seats.{EachOnce, Accounts};
 ghost use Rattle.pd_seat.specs.Closing.{Closes, ClosesNot};
+ghost use Rattle.pd_seat.specs.Faults.{close_fault_text};
 
 use crate::comparing::{is_each_below, is_each_once, is_own_of_each};
 use crate::held::Held;
@@ -16,6 +17,18 @@ pub enum CloseFault<H> {
     MissingSeat(H, Vec<Seat>),
     /// The acts that are noted aren't just those of the seats.
     Differs(Book),
+}
+
+impl<H> CloseFault<H> {
+    /// Its number and its name, as they are printed.
+    pub fn text(&self) -> &'static str
+        ensures { result.now ≡ close_fault_text self.now }
+    {
+        match self {
+            CloseFault::MissingSeat(..) => "13 MissingSeat",
+            CloseFault::Differs(_) => "14 Differs",
+        }
+    }
 }
 
 impl Held {

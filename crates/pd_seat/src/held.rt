@@ -1,9 +1,10 @@
 //! What callers share: a book, and the seat that made each of its acts.
 ghost use Rattle.std.specs.Prelude.{◌≡◌, ◌≢◌, ◌↔◌, ◌≤◌, true, [], is_some, option_map, IsTrue, IfOk, IfSome, IfNone, OnOk, OnErr, IsSomeAnd, Err, None};
 ghost use Rattle.pd_settings.specs.Keys.{key_named};
-ghost use Rattle.pd_book.specs.Acts.{next, job};
+ghost use Rattle.pd_book.specs.Acts.{next, job, present};
 ghost use Rattle.pd_book.specs.Refusals.{next_job};
 ghost use Rattle.pd_book.specs.Legal.{Legal};
+ghost use Rattle.pd_book.specs.Tracks.{without_track, HandsOut, Shelves};
 ghost use Rattle.pd_book.specs.Report.{shown, owed};
 ghost use Rattle.pd_book.specs.Given.{GivesAdd, GivesEdit, GivesRemove, GivesSet, GivesStart, GivesFinish, GivesAbandon};
 ghost use Rattle.pd_seat.specs.Seats.{new_seats, IsNew, Records, Unless, is_unended, Agrees, IsShown, IsShownFrom};
@@ -41,15 +42,17 @@ impl Model for Held {
 }
 
 impl Held {
-    /// A book without acts, as `Book::new` gives it, and seats 0 to the last.
+    /// A book without acts, as `Book::new` gives it, which keeps 1 to 1,024 tracks, and seats 0 to the last.
     pub fn new(
         alloc: Global,
         cache: usize,
         settings: Settings,
         seats: usize,
     ) -> Result<(Held, Vec<Seat>), AllocError>
-        requires { 1 ≤ seats }
-        ensures held { IfOk result (λ opened. IsNew settings seats opened.0) }
+        requires some { 1 ≤ cache }
+        requires few { cache ≤ 1024 }
+        requires seats { 1 ≤ seats }
+        ensures held { IfOk result (λ opened. IsNew cache settings seats opened.0) }
         ensures seats { IfOk result (λ opened. opened.1.items ≡ new_seats 0 seats) }
     {
         let mut made = Vec::with_capacity(alloc, seats)?;
@@ -71,6 +74,7 @@ impl Held {
     pub fn add(&mut self, seat: &mut Seat, name: Name, lines: Lines) -> Result<(), BookFault>
         ensures gives { Unless BookFault.OutOfMemory result (GivesAdd self.old.book.story name lines result self.new.book.story) }
         ensures records { OnOk result (Records self.old seat.old (Act.Add name lines) self.new seat.new) }
+        ensures tracks { self.new.book.tracks ≡ self.old.book.tracks }
         ensures refuses { OnErr result ((self.new ≡ self.old) × (seat.new ≡ seat.old)) }
     {
         self.notes.reserve(self.book.outstanding_count() + 1)?;
@@ -91,6 +95,7 @@ impl Held {
     pub fn edit(&mut self, seat: &mut Seat, name: &Name, edit: &LineEdit) -> Result<(), BookFault>
         ensures gives { Unless BookFault.OutOfMemory result (GivesEdit self.old.book.story name.now edit.now result self.new.book.story) }
         ensures records { OnOk result (Records self.old seat.old (Act.Edit name.now edit.now) self.new seat.new) }
+        ensures tracks { self.new.book.tracks ≡ self.old.book.tracks }
         ensures refuses { OnErr result ((self.new ≡ self.old) × (seat.new ≡ seat.old)) }
     {
         self.notes.reserve(self.book.outstanding_count() + 1)?;
@@ -110,6 +115,7 @@ impl Held {
     pub fn remove(&mut self, seat: &mut Seat, name: &Name) -> Result<(), BookFault>
         ensures gives { Unless BookFault.OutOfMemory result (GivesRemove self.old.book.story name.now result self.new.book.story) }
         ensures records { OnOk result (Records self.old seat.old (Act.Remove name.now) self.new seat.new) }
+        ensures tracks { OnOk result (self.new.book.tracks ≡ without_track name.now self.old.book.tracks) }
         ensures refuses { OnErr result ((self.new ≡ self.old) × (seat.new ≡ seat.old)) }
     {
         self.notes.reserve(self.book.outstanding_count() + 1)?;
@@ -129,6 +135,7 @@ impl Held {
     pub fn set(&mut self, seat: &mut Seat, key: &[u8], value: Value) -> Result<(), BookFault>
         ensures gives { Unless BookFault.OutOfMemory result (GivesSet self.old.book.story key.now value result self.new.book.story) }
         ensures records { OnOk result (IsSomeAnd (key_named key.now) (λ key. Records self.old seat.old (Act.Set key value) self.new seat.new)) }
+        ensures tracks { self.new.book.tracks ≡ self.old.book.tracks }
         ensures refuses { OnErr result ((self.new ≡ self.old) × (seat.new ≡ seat.old)) }
     {
         self.notes.reserve(self.book.outstanding_count() + 1)?;
@@ -161,6 +168,7 @@ impl Held {
     pub fn start(&mut self, seat: &mut Seat) -> Result<Option<Job>, BookFault>
         ensures gives { Unless BookFault.OutOfMemory result (GivesStart self.old.book.story result self.new.book.story) }
         ensures records { IfOk result (λ given. IfSome given (λ job. Records self.old seat.old (Act.Start job.task.number job.task.name) self.new seat.new)) }
+        ensures tracks { IfOk result (λ given. HandsOut given self.old.book.tracks self.new.book.tracks) }
         ensures none { IfOk result (λ given. IfNone given ((self.new ≡ self.old) × (seat.new ≡ seat.old))) }
         ensures legal { OnOk result (Legal self.old.book.story.opening self.old.book.story.past) }
         ensures refuses { OnErr result ((self.new ≡ self.old) × (seat.new ≡ seat.old)) }
@@ -188,6 +196,7 @@ impl Held {
     pub fn finish(&mut self, seat: &mut Seat, done: &Done) -> Result<Ruling, FinishFault>
         ensures gives { Unless FinishFault.OutOfMemory result (GivesFinish self.old.book.story done.now result self.new.book.story) }
         ensures records { IfOk result (λ ruling. Records self.old seat.old (Act.Finish done.now.number ruling) self.new seat.new) }
+        ensures tracks { IfOk result (λ ruling. Shelves ruling (present self.old.book.story.past done.now.name) done.now self.old.book.tracks self.new.book.tracks) }
         ensures none { (result ≡ Err FinishFault.NoSuchJob) ↔ (job self.old.book.story.opening self.old.book.story.past done.now.number ≡ None) }
         ensures room { is_unended seat.old.own done.now.number ≡ true → result ≢ Err FinishFault.OutOfMemory }
         ensures refuses { OnErr result ((self.new ≡ self.old) × (seat.new ≡ seat.old)) }
@@ -211,6 +220,7 @@ impl Held {
     pub fn abandon(&mut self, seat: &mut Seat, number: u64) -> Result<(), FinishFault>
         ensures gives { Unless FinishFault.OutOfMemory result (GivesAbandon self.old.book.story number result self.new.book.story) }
         ensures records { OnOk result (Records self.old seat.old (Act.Abandon number) self.new seat.new) }
+        ensures tracks { self.new.book.tracks ≡ self.old.book.tracks }
         ensures none { (result ≡ Err FinishFault.NoSuchJob) ↔ (job self.old.book.story.opening self.old.book.story.past number ≡ None) }
         ensures room { is_unended seat.old.own number ≡ true → result ≢ Err FinishFault.OutOfMemory }
         ensures refuses { OnErr result ((self.new ≡ self.old) × (seat.new ≡ seat.old)) }
