@@ -58,7 +58,7 @@ settings_out workers (Ok p) fault s (Some input) i h = absurd i
 settings_out workers (Err x) fault s (Some input) i h = settings_runs workers x fault s input i h
 
 -- want of memory before anything is read
-memory_runs : (workers : ℕ) (s : Result Settings ProgramFault) (all : Option (List ℕ)) → IfSome all (Runs workers s (Err (Serving OutOfMemory)) [])
+pub memory_runs : (workers : ℕ) (s : Result Settings ProgramFault) (all : Option (List ℕ)) → IfSome all (Runs workers s (Err (Serving OutOfMemory)) [])
 memory_runs workers s None = tt
 memory_runs workers s (Some input) = settings_runs workers (Serving OutOfMemory) (Serving OutOfMemory) s input refl (inr refl)
 

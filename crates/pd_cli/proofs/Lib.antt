@@ -9,8 +9,10 @@ pub mod Ending
 pub mod Fronts
 pub mod Newlines
 pub mod Gather
+pub mod Heard
 pub mod Known
 pub mod Written
 pub mod Settled
+pub mod Telling
 pub mod Passage
 pub mod Possible

@@ -1,32 +1,40 @@
 -- The texts of the options among the program's words.
 use Rattle.std.proofs.Common.{◌≡◌, ◌≢◌, ◌⊎◌, inl, inr, ℕ, List, [], ◌∷◌, Result, Ok, Err, IfErr, IsErrAnd, sym, subst, Option, Some, None, option_map, unwrap_or, true, codes, Bor, refl, ap, ◌∙◌}
-use Rattle.clap.specs.Words.{HasKind, IsAmong, Kinds, is_simple_and_free, kind_of, Text, first_of, first_value, found_of, is_simple, matches_of, HasMatchesOf}
+use Rattle.clap.specs.Words.{App, HasKind, IsAmong, Kinds, is_simple_and_free, kind_of, Text, first_of, first_value, found_of, is_simple, matches_of, HasMatchesOf}
 use Rattle.clap.specs.declared.parser.matches.ArgMatches.{ArgMatches}
 use Rattle.clap.specs.declared.error.Error.{Error}
 use Rattle.clap.specs.declared.error.kind.ErrorKind.{ErrorKind}
 use Rattle.clap.specs.declared.error.kind.ErrorKind.TheVariants.{OutOfMemory}
 use Rattle.clap.proofs.OnLiterals.{clap_on_literals}
 use Rattle.clap.proofs.WalkLemmas.{first_value-rows}
-use Rattle.pd_cli.specs.ProgramWords.{pdregress}
+use Rattle.pd_cli.specs.ProgramWords.{pdregress, pdsteps, option_text}
 
-simple : is_simple pdregress ≡ true
+pub simple_pdregress : is_simple pdregress ≡ true
 unfolding clap_on_literals
-simple = refl
+simple_pdregress = refl
+
+pub simple_pdsteps : is_simple pdsteps ≡ true
+unfolding clap_on_literals
+simple_pdsteps = refl
 
 now_or : (r : Option (Bor (List ℕ))) (d : Bor (List ℕ)) → (unwrap_or r d).now ≡ unwrap_or (option_map (λ (s : Bor (List ℕ)). s.now) r) d.now
 now_or None d = refl
 now_or (Some s) d = refl
 
 -- the text of an option, where one that isn't written is empty
-pub chosen_text : (id : List ℕ) (m : ArgMatches) (words : List Text) (r : Option (Bor (List ℕ))) (d : Bor (List ℕ)) → option_map (λ (s : Bor (List ℕ)). s.now) r ≡ first_value (found_of m) id → HasMatchesOf pdregress words m → d.now ≡ []
-    → (unwrap_or r d).now ≡ unwrap_or (first_of id (matches_of pdregress words)) []
-chosen_text id m words r d e h n =
-    let found : option_map (λ (s : Bor (List ℕ)). s.now) r ≡ first_of id (matches_of pdregress words) = e ∙ (first_value-rows (found_of m) id ∙ ap (first_of id) (h simple).0) in
-    now_or r d ∙ (ap (λ (o : Option (List ℕ)). unwrap_or o d.now) found ∙ ap (λ (t : List ℕ). unwrap_or (first_of id (matches_of pdregress words)) t) n)
+pub chosen_text : (program : App) (id : List ℕ) (m : ArgMatches) (words : List Text) → is_simple program ≡ true → HasMatchesOf program words m → (r : Option (Bor (List ℕ))) (d : Bor (List ℕ)) → option_map (λ (s : Bor (List ℕ)). s.now) r ≡ first_value (found_of m) id → d.now ≡ []
+    → (unwrap_or r d).now ≡ option_text program id words
+chosen_text program id m words simple h r d e n =
+    let found : option_map (λ (s : Bor (List ℕ)). s.now) r ≡ first_of id (matches_of program words) = e ∙ (first_value-rows (found_of m) id ∙ ap (first_of id) (h simple).0) in
+    now_or r d ∙ (ap (λ (o : Option (List ℕ)). unwrap_or o d.now) found ∙ ap (λ (t : List ℕ). unwrap_or (first_of id (matches_of program words)) t) n)
 
-pub free : is_simple_and_free pdregress ≡ true
+pub free_pdregress : is_simple_and_free pdregress ≡ true
 unfolding clap_on_literals
-free = refl
+free_pdregress = refl
+
+pub free_pdsteps : is_simple_and_free pdsteps ≡ true
+unfolding clap_on_literals
+free_pdsteps = refl
 
 among : (kinds : Kinds) (k : ErrorKind) → IsAmong k kinds → kinds ≢ []
 among [] k h e = absurd h

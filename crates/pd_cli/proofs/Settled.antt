@@ -8,7 +8,7 @@ use Rattle.pd_book.specs.declared.act.Ruling.{Ruling}
 use Rattle.pd_book.specs.declared.faults.BookFault.{BookFault}
 use Rattle.pd_book.specs.declared.faults.BookFault.TheVariants as book
 use Rattle.pd_book.specs.declared.faults.FinishFault.{FinishFault}
-use Rattle.pd_book.specs.declared.task.Task.{Task}
+use Rattle.pd_track.specs.declared.task.Task.{Task}
 use Rattle.pd_book.specs.Acts.{job as job_of, ruling, next, Named}
 use Rattle.pd_book.specs.Story.{Story, Contents, Handed, handed_task, told, told_start}
 use Rattle.pd_book.specs.Report.{owed}

@@ -1,6 +1,7 @@
 -- The definitions of the input, the commands, the report and the output.
 pub mod Beside
 pub mod BesideSteps
+pub mod Chosen
 pub mod Commands
 pub mod Input
 pub mod Laws
@@ -12,6 +13,8 @@ pub mod ProgramWords
 pub mod Report
 pub mod Requests
 pub mod ServeFaults
+pub mod StepLines
+pub mod StepProgram
 pub mod Steps
 pub mod TakenLines
 pub mod Taking

@@ -1,4 +1,4 @@
--- The words of the program, in the definitions of `clap`.
+-- The words of the programs, in the definitions of `clap`.
 use Rattle.std.specs.Prelude.{ℕ, nat_le, ◌==◌, ◌&&◌, ◌||◌, List, [], ◌∷◌, codes, if◌then◌else◌, Some, unwrap_or, pos}
 use Rattle.clap.specs.Words.{App, Kinds, Rule, Text, fault_of, first_of, matches_of, new_app, new_rule, with_rule}
 use Rattle.clap.specs.declared.builder.ArgAction.TheVariants.{Set}
@@ -24,12 +24,32 @@ workers_rule = record (new_rule (codes "workers")) {
   parser = Some (parser.Signed (pos 0) (pos 64));
 }
 
-abbrev pub pdregress : App
-pdregress = with_rule (with_rule (new_app (codes "pdregress")) settings_rule) workers_rule
+-- `--cache N`: a number from 1 to 1,024, 64 where it isn't written
+abbrev pub cache_rule : Rule
+cache_rule = record (new_rule (codes "cache")) {
+  long = Some (codes "cache");
+  action = Some Set;
+  value_names = 1;
+  defaults = codes "64" ∷ [];
+  parser = Some (parser.Signed (pos 1) (pos 1024));
+}
 
--- the settings text among words, of which the first is the program's own name
-abbrev pub settings_text : List Text → Text
-settings_text words = unwrap_or (first_of (codes "settings") (matches_of pdregress words)) []
+-- the program that runs scripts
+abbrev pub pdregress : App
+pdregress = with_rule (with_rule (with_rule (new_app (codes "pdregress")) settings_rule) cache_rule) workers_rule
+
+-- the program that tells steps too: it takes no workers
+abbrev pub pdsteps : App
+pdsteps = with_rule (with_rule (new_app (codes "pdsteps")) settings_rule) cache_rule
+
+-- the text of an option among the words of a program, of which the first is its own name; an empty one where the program
+-- hasn't this option
+abbrev pub option_text : App → List ℕ → List Text → Text
+option_text program name words = unwrap_or (first_of name (matches_of program words)) []
+
+-- the settings text among words
+abbrev pub settings_text : App → List Text → Text
+settings_text program words = option_text program (codes "settings") words
 
 -- a word without a sign before it
 abbrev pub without_sign : List ℕ → List ℕ
@@ -43,9 +63,20 @@ workers_in word =
     if are_digits digits && nat_le (number_of digits) 64 then number_of digits else 0
 
 -- how many workers words ask for
-abbrev pub worker_count : List Text → ℕ
-worker_count words = workers_in (unwrap_or (first_of (codes "workers") (matches_of pdregress words)) [])
+abbrev pub worker_count : App → List Text → ℕ
+worker_count program words = workers_in (option_text program (codes "workers") words)
 
--- why words are refused, the request for help among it: the kinds of the first fault, or none
-abbrev pub word_faults : List Text → Kinds
-word_faults words = fault_of pdregress words
+-- the number that a word writes; 64 where that is no number from 1 to 1,024, which `clap` doesn't let through
+abbrev pub cache_in : List ℕ → ℕ
+cache_in word =
+    let digits = without_sign word in
+    let number = number_of digits in
+    if are_digits digits && nat_le 1 number && nat_le number 1024 then number else 64
+
+-- how many tracks words ask for
+abbrev pub cache_size : App → List Text → ℕ
+cache_size program words = cache_in (option_text program (codes "cache") words)
+
+-- why a program refuses words, the request for help among it: the kinds of the first fault, or none
+abbrev pub word_faults : App → List Text → Kinds
+word_faults program words = fault_of program words

@@ -7,4 +7,6 @@ pub struct Options<'a> {
     pub settings: &'a str,
     /// How many workers run the scripts, at most 64; with none the commands are served alone.
     pub workers: usize,
+    /// How many tracks the book keeps, 1 to 1,024.
+    pub cache: usize,
 }

@@ -2,6 +2,7 @@
 #![tactic(auto)]
 
 mod acts;
+mod call_words;
 mod chosen;
 mod command;
 mod desk_acts;
@@ -11,6 +12,8 @@ mod faults;
 mod gathered;
 mod intake;
 mod laws;
+mod lending;
+mod listening;
 mod numbers;
 mod program_faults;
 mod rendering;
@@ -18,11 +21,13 @@ mod requests;
 mod seat_serving;
 mod serving;
 mod settling;
+mod step_program;
 mod whole_program;
 mod word_options;
 mod workers;
 mod writing;
 
+pub use call_words::{arguments, refuse_arguments};
 pub use chosen::Options;
 pub use exits::Exit;
 pub use faults::ServeFault;
@@ -31,6 +36,7 @@ pub use program_faults::ProgramFault;
 pub use rendering::render;
 pub use seat_serving::serve_seat;
 pub use serving::serve_alone;
+pub use step_program::run_steps;
 pub use whole_program::{fail, refuse, run, run_alone};
-pub use word_options::options;
+pub use word_options::{options, step_options};
 pub use workers::serve;

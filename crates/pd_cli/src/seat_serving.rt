@@ -41,7 +41,7 @@ pub fn serve_seat<H: Wait, R: Read, W: Write>(
 {
     let at = AtDesk { rt, alloc, desk };
     let mut intake = Intake::new(alloc);
-    let mut own = Book::new(alloc, 0, settings);
+    let mut own = Book::new(alloc, 1, settings);
     loop {
         match next_command(alloc, &mut intake, reader)? {
             Some(command) => serve_command(&at, seat, &mut own, command, writer)?,

@@ -4,12 +4,14 @@ ghost use Rattle.pd_book.specs.Turns.{TurnsSettle, StartsAreOutstanding, Settles
 ghost use Rattle.pd_cli.specs.Report.{rendered};
 ghost use Rattle.pd_cli.specs.Output.{effect, report, all_pass};
 ghost use Rattle.pd_cli.specs.Steps.{IsQuiet, Turns, SettlesTo, Fails};
+ghost use Rattle.pd_cli.specs.StepLines.{HearsTurn, HearsSettling, HearsNumbered};
 
 use crate::command::Command;
 use crate::faults::ServeFault;
+use crate::listening::Listener;
 use crate::rendering::{Class, render};
 use pd_book::{Book, BookFault, Report, run_job, settling};
-use pd_run::Plain;
+use pd_run::{Plain, Stepper};
 use std::alloc::{AllocError, Global};
 
 /// What the book's laws say of settling it; the function does nothing.
@@ -23,10 +25,11 @@ pub fn at_rest(book: &Book)
     settling();
 }
 
-/// Starts and finishes one job; false says that nothing is owed.
-fn turn(alloc: Global, book: &mut Book) -> Result<bool, ServeFault>
+/// Starts and finishes one job, of which a listener is told; false says that nothing is owed.
+fn turn<L: Listener>(alloc: Global, book: &mut Book, listener: &mut L) -> Result<bool, ServeFault>
     requires { IsQuiet book.old.story }
-    ensures { Turns result book.old.story book.new.story }
+    ensures turns { Turns result book.old.story book.new.story }
+    ensures heard { HearsTurn L.hears result book.old.story listener.old listener.new }
 {
     at_rest(book);
     let job = match book.start() {
@@ -39,18 +42,20 @@ fn turn(alloc: Global, book: &mut Book) -> Result<bool, ServeFault>
     match run_job(alloc, job, &mut stepper) {
         Ok(done) => {
             let _ruling = book.finish(&done).unwrap();
+            listener.finished(done.number(), done.name(), stepper.count())?;
             Ok(true)
         }
         Err(_) => Err(ServeFault::OutOfMemory),
     }
 }
 
-/// Settles a book.
-fn settle(alloc: Global, book: &mut Book) -> Result<(), ServeFault>
+/// Settles a book; a listener is told of the job of each turn.
+fn settle<L: Listener>(alloc: Global, book: &mut Book, listener: &mut L) -> Result<(), ServeFault>
     requires { IsQuiet book.old.story }
-    ensures { SettlesTo result book.old.story book.new.story }
+    ensures settles { SettlesTo result book.old.story book.new.story }
+    ensures heard { HearsSettling L.hears result book.old.story book.new.story listener.old listener.new }
 {
-    while turn(alloc, book)? {}
+    while turn(alloc, book, listener)? {}
     Ok(())
 }
 
@@ -64,14 +69,19 @@ pub fn show(alloc: Global, book: &Book) -> Result<(Vec<u8>, bool), AllocError>
     Ok((octets, all_pass(&report)))
 }
 
-/// Settles a book, and gives its report as `show` does.
-pub fn settle_and_show(alloc: Global, book: &mut Book) -> Result<(Vec<u8>, bool), ServeFault>
+/// Settles a book, and gives its report as `show` does; a listener is told of each job.
+pub fn settle_and_show<L: Listener>(
+    alloc: Global,
+    book: &mut Book,
+    listener: &mut L,
+) -> Result<(Vec<u8>, bool), ServeFault>
     requires { IsQuiet book.old.story }
     ensures octets { IfOk result (λ shown. effect book.old.story Command.Settle ≡ Ok (shown.0.items, book.new.story)) }
     ensures passed { IfOk result (λ shown. shown.1 ≡ all_pass (report book.new.story)) }
     ensures err { IfErr result (λ fault. Fails fault book.old.story Command.Settle) }
+    ensures heard { HearsNumbered L.hears result book.old.story book.new.story listener.old listener.new }
 {
-    settle(alloc, book)?;
+    settle(alloc, book, listener)?;
     Ok(show(alloc, book)?)
 }
 

@@ -3,17 +3,19 @@ ghost use Rattle.std.specs.Prelude.{true, ◌≡◌, ◌≢◌, ◌⊎◌, ◌�
 ghost use Rattle.std.specs.Io.KnownBytes.{Appends};
 ghost use Rattle.clap.specs.Words.{kind_of};
 ghost use Rattle.pd_cli.specs.ProgramFaults.{fault_line, line_of};
-ghost use Rattle.pd_cli.specs.ProgramWords.{settings_text, worker_count, word_faults};
+ghost use Rattle.pd_cli.specs.ProgramWords.{pdregress, settings_text, worker_count, word_faults};
+ghost use Rattle.pd_cli.specs.StepLines.{Counted, AreNumbered, HearsAll};
 ghost use Rattle.pd_cli.specs.Program.{settings_in, Runs, status_of, Says, Refuses, Finishes};
 
 use crate::chosen::Options;
 use crate::exits::Exit;
 use crate::faults::ServeFault;
+use crate::listening::{Listener, Silent};
 use crate::program_faults::ProgramFault;
-use crate::serving::serve_alone;
+use crate::serving::serve_heard;
 use crate::word_options::options;
 use crate::workers::serve;
-use crate::writing::put_all;
+use crate::writing::say;
 use clap::Error;
 use clap::error::ErrorKind;
 use pd_desk::OpenGate;
@@ -24,11 +26,8 @@ use std::io::{Read, Write};
 use std::sync::Wait;
 use std::thread::Threads;
 
-/// How many tracks a book keeps.
-const TRACKS: usize = 64;
-
 /// The status at a fault.
-const FAULT: u8 = 2;
+pub(crate) const FAULT: u8 = 2;
 
 /// Runs the program on its words, of which the first is its own name. Words that `clap` refuses, and `--help`, print
 /// its own text on `err`, with the status 2. It starts threads where the words ask for workers, and no others.
@@ -42,8 +41,8 @@ pub fn run<H: Threads + Wait + Sync, S: AsStr, R: Read, W: Write, E: Write>(
 ) -> Exit
     ensures taken { let words = map S.text words.now in
         let input = R.remaining reader.old in
-        word_faults words ≡ [] → Finishes result (worker_count words) (settings_text words) input (W.contents out.old) (W.contents out.new) (E.contents err.old) (E.contents err.new) }
-    ensures refused { word_faults (map S.text words.now) ≢ [] → Refuses result (W.contents out.old) (W.contents out.new) }
+        word_faults pdregress words ≡ [] → Finishes result (worker_count pdregress words) (settings_text pdregress words) input (W.contents out.old) (W.contents out.new) (E.contents err.old) (E.contents err.new) }
+    ensures refused { word_faults pdregress (map S.text words.now) ≢ [] → Refuses result (W.contents out.old) (W.contents out.new) }
 {
     match options(alloc, words) {
         Ok(options) => run_chosen(rt, alloc, options, reader, out, err),
@@ -51,19 +50,22 @@ pub fn run<H: Threads + Wait + Sync, S: AsStr, R: Read, W: Write, E: Write>(
     }
 }
 
-/// Runs the program without workers, with the settings of a TOML text: it serves the input, or says why it doesn't. It
-/// starts no thread.
+/// Runs the program without workers, with the settings of a TOML text and a book that keeps so many tracks: it serves the
+/// input, or says why it doesn't. It starts no thread.
 pub fn run_alone<R: Read, W: Write, E: Write>(
     alloc: Global,
     text: &str,
+    cache: usize,
     reader: &mut R,
     out: &mut W,
     err: &mut E,
 ) -> Exit
+    requires some { 1 ≤ cache }
+    requires few { cache ≤ 1024 }
     ensures { let input = R.remaining reader.old in
         Finishes result 0 text.now input (W.contents out.old) (W.contents out.new) (E.contents err.old) (E.contents err.new) }
 {
-    match serve_settings(alloc, text, reader, out) {
+    match serve_settings(alloc, text, cache, reader, out, &mut Silent) {
         Ok(passed) => pass(passed),
         Err(fault) => fail(err, fault),
     }
@@ -78,12 +80,14 @@ fn run_chosen<H: Threads + Wait + Sync, R: Read, W: Write, E: Write>(
     out: &mut W,
     err: &mut E,
 ) -> Exit
-    requires { options.workers ≤ 64 }
+    requires few { options.workers ≤ 64 }
+    requires least { 1 ≤ options.cache }
+    requires most { options.cache ≤ 1024 }
     ensures { let input = R.remaining reader.old in
         Finishes result options.entry.workers options.entry.settings.now input (W.contents out.old) (W.contents out.new) (E.contents err.old) (E.contents err.new) }
 {
     if options.workers == 0 {
-        return run_alone(alloc, options.settings, reader, out, err);
+        return run_alone(alloc, options.settings, options.cache, reader, out, err);
     }
     match serve_beside(rt, alloc, options, reader, out) {
         Ok(passed) => pass(passed),
@@ -132,13 +136,6 @@ pub fn fail<E: Write>(err: &mut E, fault: ProgramFault) -> Exit
     }
 }
 
-/// Says octets; false where the writer didn't take all.
-fn say<E: Write>(err: &mut E, octets: &[u8]) -> bool
-    ensures { Says result (E.contents err.old) (E.contents err.new) octets.now }
-{
-    put_all(err, octets).is_ok()
-}
-
 /// Says the line of a fault.
 fn say_line<E: Write>(err: &mut E, text: &str) -> bool
     ensures { Says result (E.contents err.old) (E.contents err.new) (line_of text.now) }
@@ -153,24 +150,29 @@ fn say_line<E: Write>(err: &mut E, text: &str) -> bool
 }
 
 /// The status at the end of the input.
-fn status(passed: bool) -> u8
+pub(crate) fn status(passed: bool) -> u8
     ensures { result ≡ status_of (Ok passed) }
 {
     if passed { 0 } else { 1 }
 }
 
-/// Reads the settings text, then serves the input alone.
-fn serve_settings<R: Read, W: Write>(
+/// Reads the settings text, then serves the input alone; a listener is told of each job.
+pub(crate) fn serve_settings<R: Read, W: Write, L: Listener>(
     alloc: Global,
     text: &str,
+    cache: usize,
     reader: &mut R,
     out: &mut W,
+    listener: &mut L,
 ) -> Result<bool, ProgramFault>
-    ensures { let before = W.contents out.old in
+    requires some { 1 ≤ cache }
+    requires few { cache ≤ 1024 }
+    ensures served { let before = W.contents out.old in
         (octets : List ℕ) × Appends before (W.contents out.new) octets × IfSome (R.remaining reader.old) (Runs 0 (settings_in text.now) result octets) }
+    ensures heard { (jobs : List Counted) × AreNumbered 0 jobs × HearsAll L.hears listener.old listener.new jobs }
 {
     let settings = settings_of(alloc, text)?;
-    let passed = serve_alone(alloc, settings, TRACKS, reader, out)?;
+    let passed = serve_heard(alloc, settings, cache, reader, out, listener)?;
     Ok(passed)
 }
 
@@ -184,6 +186,8 @@ fn serve_beside<H: Threads + Wait + Sync, R: Read, W: Write>(
 ) -> Result<bool, ProgramFault>
     requires some { 1 ≤ options.workers }
     requires few { options.workers ≤ 64 }
+    requires least { 1 ≤ options.cache }
+    requires most { options.cache ≤ 1024 }
     ensures { let before = W.contents out.old in
         (octets : List ℕ) × Appends before (W.contents out.new) octets × IfSome (R.remaining reader.old) (Runs options.entry.workers (settings_in options.entry.settings.now) result octets) }
 {
@@ -192,7 +196,7 @@ fn serve_beside<H: Threads + Wait + Sync, R: Read, W: Write>(
         rt,
         alloc,
         settings,
-        TRACKS,
+        options.cache,
         options.workers,
         reader,
         out,

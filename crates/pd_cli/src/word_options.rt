@@ -1,7 +1,8 @@
-//! The program's words, read by `clap`.
-ghost use Rattle.std.specs.Prelude.{false, ◌≡◌, ◌≢◌, ◌⊎◌, ◌≤◌, [], IfOk, IfErr, map};
-ghost use Rattle.clap.specs.Words.{app_of, kind_of, rule_of};
-ghost use Rattle.pd_cli.specs.ProgramWords.{pdregress, settings_rule, workers_rule, settings_text, without_sign, workers_in, worker_count, word_faults};
+//! The words of the programs, read by `clap`.
+ghost use Rattle.std.specs.Prelude.{true, false, ◌≡◌, ◌≢◌, ◌⊎◌, ◌≤◌, [], IfOk, IfErr, map};
+ghost use Rattle.clap.specs.Words.{app_of, is_simple, is_simple_and_free, kind_of, rule_of};
+ghost use Rattle.pd_cli.specs.ProgramWords.{pdregress, pdsteps, settings_rule, cache_rule, workers_rule, without_sign, workers_in, cache_in, word_faults};
+ghost use Rattle.pd_cli.specs.Chosen.{HasChosen};
 
 use crate::chosen::Options;
 use crate::numbers::number;
@@ -14,6 +15,11 @@ use std::convert::AsStr;
 const ABOUT: &str =
     "Runs packetdrill scripts against a verified TCP sender and prints their verdicts.";
 
+/// What `--help` of the program that tells steps says first.
+const ABOUT_STEPS: &str = "\
+Runs packetdrill scripts against a verified TCP sender, prints their verdicts,
+and tells on standard error how many steps each run took.";
+
 /// What `--help` says last.
 const COMMANDS: &str = "\
 Commands come on standard input, one a line, their words parted by spaces:
@@ -21,7 +27,7 @@ Commands come on standard input, one a line, their words parted by spaces:
   edit NAME FROM REMOVE COUNT  removes REMOVE lines from line FROM on, and
                                inserts the next COUNT lines there
   remove NAME                  removes a script
-  set KEY VALUE                sets a setting: digits, true or false
+  set KEY VALUE                sets a setting: digits, true, false or a word
   show                         prints the report as it stands
   settle                       runs what is owed, and prints the report
 The end of input acts as settle. The status is 0 if each script of the last
@@ -33,34 +39,81 @@ prints
   a pass 1
   total 1 pass 1 fail 0 syntax 0 unsupported 0 limit 0 pending 0";
 
-/// Reads the program's words, of which the first is its own name.
+/// Reads the words of the program that runs scripts, of which the first is its own name.
 ///
 /// # Errors
 /// What `clap` says of the words, the text of `--help` among it.
 pub fn options<'a, S: AsStr>(alloc: Global, words: &'a [S]) -> Result<Options<'a>, Error>
-    ensures chosen { IfOk result (λ options. options.settings.now ≡ settings_text (map S.text words.entry.now)) }
-    ensures workers { IfOk result (λ options. options.workers ≡ worker_count (map S.text words.entry.now)) }
+    ensures chosen { IfOk result (λ options. HasChosen pdregress (map S.text words.entry.now) options) }
     ensures few { IfOk result (λ options. options.workers ≤ 64) }
-    ensures taken { IfOk result (λ _. word_faults (map S.text words.entry.now) ≡ []) }
-    ensures refused { IfErr result (λ error. (kind_of error ≡ ErrorKind.OutOfMemory) ⊎ (word_faults (map S.text words.entry.now) ≢ [])) }
+    ensures some { IfOk result (λ options. 1 ≤ options.cache) }
+    ensures most { IfOk result (λ options. options.cache ≤ 1024) }
+    ensures taken { IfOk result (λ _. word_faults pdregress (map S.text words.entry.now) ≡ []) }
+    ensures refused { IfErr result (λ error. (kind_of error ≡ ErrorKind.OutOfMemory) ⊎ (word_faults pdregress (map S.text words.entry.now) ≢ [])) }
 {
-    let matches = command(alloc)?.try_get_matches_from(words)?;
+    let command = scripts_command(alloc)?;
+    chosen(command, words)
+}
+
+/// Reads the words of the program that tells steps, which takes no workers.
+///
+/// # Errors
+/// What `clap` says of the words, the text of `--help` among it.
+pub fn step_options<'a, S: AsStr>(alloc: Global, words: &'a [S]) -> Result<Options<'a>, Error>
+    ensures chosen { IfOk result (λ options. HasChosen pdsteps (map S.text words.entry.now) options) }
+    ensures some { IfOk result (λ options. 1 ≤ options.cache) }
+    ensures most { IfOk result (λ options. options.cache ≤ 1024) }
+    ensures taken { IfOk result (λ _. word_faults pdsteps (map S.text words.entry.now) ≡ []) }
+    ensures refused { IfErr result (λ error. (kind_of error ≡ ErrorKind.OutOfMemory) ⊎ (word_faults pdsteps (map S.text words.entry.now) ≢ [])) }
+{
+    let command = steps_command(alloc)?;
+    chosen(command, words)
+}
+
+/// What words choose, by what they may be.
+fn chosen<'a, S: AsStr>(command: Command<'a>, words: &'a [S]) -> Result<Options<'a>, Error>
+    requires simple { is_simple (app_of command) ≡ true }
+    requires free { is_simple_and_free (app_of command) ≡ true }
+    ensures chosen { IfOk result (λ options. HasChosen (app_of command.entry) (map S.text words.entry.now) options) }
+    ensures few { IfOk result (λ options. options.workers ≤ 64) }
+    ensures some { IfOk result (λ options. 1 ≤ options.cache) }
+    ensures most { IfOk result (λ options. options.cache ≤ 1024) }
+    ensures taken { IfOk result (λ _. word_faults (app_of command.entry) (map S.text words.entry.now) ≡ []) }
+    ensures refused { IfErr result (λ error. (kind_of error ≡ ErrorKind.OutOfMemory) ⊎ (word_faults (app_of command.entry) (map S.text words.entry.now) ≢ [])) }
+{
+    let matches = command.try_get_matches_from(words)?;
     Ok(Options {
         settings: matches.get_str("settings").unwrap_or(""),
         workers: workers_in(matches.get_str("workers").unwrap_or("").as_bytes()),
+        cache: cache_in(matches.get_str("cache").unwrap_or("").as_bytes()),
     })
 }
 
-/// What the program's words may be.
-fn command<'a>(alloc: Global) -> Result<Command<'a>, Error>
+/// What the words of the program that runs scripts may be.
+fn scripts_command<'a>(alloc: Global) -> Result<Command<'a>, Error>
     ensures words { IfOk result (λ command. app_of command ≡ pdregress) }
     ensures memory { IfErr result (λ error. kind_of error ≡ ErrorKind.OutOfMemory) }
 {
     Ok(
         Command::new(alloc, "pdregress")
             .arg(settings_option(alloc))?
+            .arg(cache_option(alloc))?
             .arg(workers_option(alloc))?
             .about(ABOUT)
+            .after_help(COMMANDS),
+    )
+}
+
+/// What the words of the program that tells steps may be.
+fn steps_command<'a>(alloc: Global) -> Result<Command<'a>, Error>
+    ensures words { IfOk result (λ command. app_of command ≡ pdsteps) }
+    ensures memory { IfErr result (λ error. kind_of error ≡ ErrorKind.OutOfMemory) }
+{
+    Ok(
+        Command::new(alloc, "pdsteps")
+            .arg(settings_option(alloc))?
+            .arg(cache_option(alloc))?
+            .about(ABOUT_STEPS)
             .after_help(COMMANDS),
     )
 }
@@ -90,6 +143,19 @@ fn workers_option<'a>(alloc: Global) -> Arg<'a>
         .action(ArgAction::Set)
 }
 
+fn cache_option<'a>(alloc: Global) -> Arg<'a>
+    ensures rule { rule_of result ≡ cache_rule }
+    ensures local { result.global ≡ false }
+{
+    Arg::new(alloc, "cache")
+        .long("cache")
+        .value_name("N")
+        .help("Scripts of which the last run is kept to shorten the next, 1 to 1024")
+        .default_value("64")
+        .value_parser(value_parser!(u16).range(1..=1024))
+        .action(ArgAction::Set)
+}
+
 /// The number of workers that a word writes, which `clap` let through.
 fn workers_in(word: &[u8]) -> usize
     ensures count { result ≡ workers_in word.now }
@@ -98,6 +164,18 @@ fn workers_in(word: &[u8]) -> usize
     match number(without_sign(word)) {
         Some(count) if count <= 64 => count as usize,
         _ => 0,
+    }
+}
+
+/// The number of tracks that a word writes, which `clap` let through.
+fn cache_in(word: &[u8]) -> usize
+    ensures size { result ≡ cache_in word.now }
+    ensures some { 1 ≤ result }
+    ensures most { result ≤ 1024 }
+{
+    match number(without_sign(word)) {
+        Some(size) if 1 <= size && size <= 1024 => size as usize,
+        _ => 64,
     }
 }
 

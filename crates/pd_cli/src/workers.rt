@@ -3,6 +3,7 @@ ghost use Rattle.std.specs.Prelude.{◌≡◌, ◌≤◌};
 ghost use Rattle.pd_cli.specs.Beside.{ServesBeside};
 
 use crate::faults::ServeFault;
+use crate::lending::take_back;
 use crate::seat_serving::serve_seat;
 use pd_desk::{Desk, Gate};
 use pd_seat::Seat;
@@ -14,7 +15,7 @@ use std::thread;
 use std::thread::Threads;
 
 /// Opens a desk with these settings, and serves the commands of a reader at a seat of it, beside so many workers in threads
-/// of their own. It answers when all of them have left, also where serving stops at a fault.
+/// of their own; the book keeps at most `cache` tracks: 1 to 1,024. It answers when all of them have left, also where serving stops at a fault.
 ///
 /// # Errors
 /// Those of `serve_seat`; `OutOfMemory` where the desk can't be opened or no thread can be started.
@@ -28,7 +29,9 @@ pub fn serve<H: Threads + Wait + Sync, R: Read, W: Write, G: Gate + Sync>(
     writer: &mut W,
     gate: &G,
 ) -> Result<bool, ServeFault>
-    requires { workers ≤ 64 }
+    requires workers { workers ≤ 64 }
+    requires some { 1 ≤ cache }
+    requires few { cache ≤ 1024 }
     ensures { ServesBeside result settings (R.remaining reader.old) (W.contents writer.old) (W.contents writer.new) }
 {
     let (desk, mut seats) = Desk::open(alloc, cache, settings, workers, workers + 1)?;
@@ -161,8 +164,3 @@ fn work_all<H: Threads + Wait + Sync, G: Gate + Sync>(
 ) {
     let _ = desk.pool(rt, alloc, seats.as_mut_slice(), gate);
 }
-
-/// Does nothing: its use ties a reference that comes back to the one that was lent.
-fn take_back<T>(lent: &mut T)
-    ensures { lent.new ≡ lent.old }
-{}

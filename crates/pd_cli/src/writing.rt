@@ -1,6 +1,7 @@
 //! Writing all of some octets, or saying that it can't be done.
 ghost use Rattle.std.specs.Prelude.{◌≡◌, ℕ, OnOk, OnErr, IfErr, take};
 ghost use Rattle.std.specs.Io.KnownBytes.{Appends};
+ghost use Rattle.pd_cli.specs.Program.{Says};
 
 use crate::faults::ServeFault;
 use std::io::Write;
@@ -24,4 +25,11 @@ pub fn put_all<W: Write>(writer: &mut W, octets: &[u8]) -> Result<(), ServeFault
         }
     }
     Ok(())
+}
+
+/// Says octets; false where the writer didn't take all.
+pub fn say<E: Write>(err: &mut E, octets: &[u8]) -> bool
+    ensures { Says result (E.contents err.old) (E.contents err.new) octets.now }
+{
+    put_all(err, octets).is_ok()
 }

@@ -10,7 +10,7 @@ abbrev opened : Settings → Story
 opened settings = record { opening = settings; past = [] }
 
 pub loop-own-init : goal.loop-own-init
-loop-own-init g c = beside_first (opened c.args.settings) c.new-own.result.story c.new-intake.result (g.W.Write.contents c.args.writer.now) (g.R.Read.remaining c.args.reader.now) c.new-own.ensures c.new-intake.ensures
+loop-own-init g c = beside_first (opened c.args.settings) c.new-own.result.story c.new-intake.result (g.W.Write.contents c.args.writer.now) (g.R.Read.remaining c.args.reader.now) c.new-own.ensures.story c.new-intake.ensures
 
 pub returns-in_err-command : goal.returns-in_err-command
 returns-in_err-command g c =

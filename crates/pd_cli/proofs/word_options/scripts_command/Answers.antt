@@ -1,0 +1,12 @@
+use Rattle.std.proofs.Common.{ap, ap₂, codes, ◌≡◌, ◌∙◌}
+use Rattle.clap.specs.Words.{app_of, new_app, with_rule}
+use Rattle.clap.specs.Simple.{app_of_fields}
+use Rattle.pd_cli.specs.ProgramWords.{pdregress, settings_rule, cache_rule}
+use Rattle.pd_cli.proofs.word_options.scripts_command.Goals as goal
+
+pub returns-clause-words : goal.returns-clause-words
+returns-clause-words c =
+    let first : app_of c.in_ok-arg.field-0 ≡ with_rule (new_app (codes "pdregress")) settings_rule = c.in_ok-arg.ensures.shape c.settings_option.ensures.local ∙ ap₂ with_rule c.new.ensures.app c.settings_option.ensures.rule in
+    let second : app_of c.in_ok-arg-2.field-0 ≡ with_rule (with_rule (new_app (codes "pdregress")) settings_rule) cache_rule = c.in_ok-arg-2.ensures.shape c.cache_option.ensures.local ∙ ap₂ with_rule first c.cache_option.ensures.rule in
+    let third : app_of c.in_ok-arg-3.field-0 ≡ pdregress = c.in_ok-arg-3.ensures.shape c.workers_option.ensures.local ∙ ap₂ with_rule second c.workers_option.ensures.rule in
+    ap app_of_fields c.after_help.ensures ∙ (ap app_of_fields c.about.ensures ∙ third)
