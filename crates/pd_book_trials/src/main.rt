@@ -1,5 +1,6 @@
 //! Tries a book, alone and as seats share it, and the parts below it: tells the stories of the input, makes random lists of
-//! calls and compares them with a plain replay, and refuses memory. With the word `memory` it does the last alone.
+//! calls and compares them with a plain replay, and goes on where there is no memory. With the word `memory` it does the
+//! last alone, with the word `stories` the first; a status of 2 says that it wasn't tried to the end.
 #![tactic(auto)]
 
 mod book;
@@ -18,30 +19,44 @@ use std::process::ExitCode;
 use std::rt::Env;
 use std::{env, io};
 
+/// The status where the input or the output failed, or what tells the stories found no memory.
+const NOT_TRIED: u8 = 2;
+
+/// What is tried.
+#[derive(Clone, Copy)]
+enum Asked {
+    All,
+    Memory,
+    Stories,
+}
+
 fn main(rt: HostRuntime) -> ExitCode {
-    let tried = if is_word_given(&rt) {
-        check_memory(&rt)
-    } else {
-        try_all(&rt)
+    let tried = match read_word(&rt)
+        .or_else(|_| read_word(&rt))
+        .unwrap_or(Asked::All)
+    {
+        Asked::All => try_all(&rt),
+        Asked::Memory => check_memory(&rt),
+        Asked::Stories => tell(&rt),
     };
     match tried {
         Ok(true) => ExitCode::SUCCESS,
         Ok(false) => ExitCode::FAILURE,
         Err(_) => {
             let _ = rt.eprint("not tried: the input or the output failed, or there is no memory\n");
-            ExitCode::FAILURE
+            ExitCode::from(NOT_TRIED)
         }
     }
 }
 
-/// Whether a word is given, which is read again where there was no memory for it.
-fn is_word_given(rt: &(impl Env + AllocGlobal)) -> bool {
-    words(rt).or_else(|_| words(rt)).unwrap_or(1) > 1
-}
-
-/// How many words there are, with the program's name.
-fn words(rt: &(impl Env + AllocGlobal)) -> io::Result<usize> {
-    Ok(env::args(rt)?.count())
+/// What the word asks for that stands behind the program's name.
+fn read_word(rt: &(impl Env + AllocGlobal)) -> io::Result<Asked> {
+    let words = env::args(rt)?.collect::<Vec<String>>(rt.alloc())?;
+    Ok(match words.get(1) {
+        None => Asked::All,
+        Some(word) if word.as_str() == "stories" => Asked::Stories,
+        Some(_) => Asked::Memory,
+    })
 }
 
 /// Whether all that was tried agrees.

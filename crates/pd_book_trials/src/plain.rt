@@ -13,9 +13,10 @@ pub struct Ledger {
 }
 
 impl Ledger {
+    /// A book that keeps so many tracks, within what a book may keep.
     pub fn new(alloc: Global, cache: usize) -> Ledger {
         Ledger {
-            book: Book::new(alloc, cache, Settings::new()),
+            book: Book::new(alloc, cache.clamp(1, 1024), Settings::new()),
         }
     }
 

@@ -1,5 +1,5 @@
-//! Random lists of calls on a book: each answer, each report and each history is compared with those of a plain replay of
-//! what was accepted.
+//! Random lists of calls on a book that keeps one to three tracks: each answer, each report, each history and each job's
+//! verdict and steps are compared with those of a plain replay of what was accepted.
 mod answers;
 mod calls;
 mod counts;
@@ -10,6 +10,7 @@ mod kinds;
 mod making;
 mod replay;
 mod reports;
+mod tracks;
 mod trial;
 
 use self::counts::Counts;
@@ -21,7 +22,7 @@ use std::io;
 
 const LISTS: u64 = 1_000;
 
-const CALLS: u64 = 24;
+const CALLS: u64 = 32;
 
 /// Makes the lists and prints the counts; whether nothing differed.
 pub fn make_lists(rt: &(impl Print + AllocGlobal)) -> io::Result<bool> {
@@ -65,11 +66,13 @@ fn make_list(
     dice: &mut Dice,
     counts: &mut Counts,
 ) -> Result<Option<&'static str>, AllocError> {
-    let mut trial = Trial::new(alloc);
+    let tracks = dice.size_below(3).wrapping_add(1);
+    let mut trial = Trial::new(alloc, tracks);
     for _call in 0..CALLS {
         if let Some(difference) = trial.make(dice, counts)? {
             return Ok(Some(difference));
         }
     }
+    counts.spared = counts.spared.wrapping_add(trial.spared());
     trial.compare_histories()
 }

@@ -1,5 +1,6 @@
 //! Runs of the program over memory, and what it said.
 use crate::streams::{Sink, Source};
+use pd_cli::Options;
 use std::alloc::{AllocError, Global};
 
 /// What a run wrote, its exit status, and what it asked of its streams.
@@ -111,7 +112,14 @@ fn run_on(
     errors: &mut Sink,
 ) -> u8 {
     match pd_cli::options(alloc, words) {
-        Ok(options) => pd_cli::run_alone(alloc, options.settings, source, output, errors).status,
+        Ok(options) => {
+            let Options {
+                settings,
+                cache,
+                ..
+            } = options;
+            pd_cli::run_alone(alloc, settings, cache, source, output, errors).status
+        },
         Err(error) => pd_cli::refuse(alloc, &error, errors).status,
     }
 }

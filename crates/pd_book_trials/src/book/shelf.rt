@@ -24,6 +24,13 @@ impl Shelf {
         }
     }
 
+    /// A new book, which keeps so many tracks.
+    pub fn renew(&mut self, cache: usize) -> Result<String, StoryFault> {
+        self.book = Ledger::new(self.alloc, cache);
+        self.tasks = Vec::new(self.alloc);
+        Ok(owned(self.alloc, "ok")?)
+    }
+
     pub fn add(&mut self, mut words: Words<'_>) -> Result<String, StoryFault> {
         let name = name(self.alloc, words.script())?;
         let text = text(self.alloc, words)?;
@@ -115,12 +122,8 @@ impl Shelf {
     }
 
     /// Finishes a job with the result of one that no book handed out.
-    pub fn give(&mut self, mut words: Words<'_>) -> Result<String, StoryFault> {
-        let number = words.number()?;
-        let script = words.script();
-        let tolerance = words.number()?;
-        let lines = text(self.alloc, words)?;
-        let done = foreign(self.alloc, number, script, tolerance, lines)?;
+    pub fn give(&mut self, words: Words<'_>) -> Result<String, StoryFault> {
+        let done = foreign(self.alloc, words)?;
         self.take(&done)
     }
 

@@ -70,6 +70,7 @@ impl Story {
         mut words: Words<'_>,
     ) -> Result<String, StoryFault> {
         match word {
+            "cache" => self.book.renew(words.number()? as usize),
             "fill" => self.book.fill(words.number()?),
             "carry" => self.carry(words.number()? as usize),
             "swap" => self.swap(),
@@ -89,14 +90,15 @@ impl Story {
     }
 
     fn answer_of_looks(&mut self, word: &str, words: Words<'_>) -> Result<String, StoryFault> {
-        match word {
+        let said = match word {
             "show" => self.book.show(),
             "owed" => self.book.owed(),
             "tolerance" => self.book.tolerance(),
             "acts" => self.book.acts(),
             "history" => self.book.history(),
-            _ => self.answer_of_seats(word, words),
-        }
+            _ => return self.answer_of_seats(word, words),
+        };
+        said.map_err(|fault| fault.of_look())
     }
 
     fn answer_of_seats(&mut self, word: &str, mut words: Words<'_>) -> Result<String, StoryFault> {
@@ -121,7 +123,7 @@ impl Story {
 
     fn answer_of_parts(&mut self, word: &str, words: Words<'_>) -> Result<String, StoryFault> {
         match &mut self.parts {
-            Some(parts) => parts.answer(word, words),
+            Some(parts) => parts.answer(word, words).map_err(|fault| fault.of_look()),
             None => Err(StoryFault::OutOfMemory),
         }
     }

@@ -20,15 +20,22 @@ impl Task {
         }
     }
 
-    /// Runs the job, if it wasn't yet, and tells how many steps it took.
+    /// Runs the job, if it wasn't yet, and tells how many steps it took. Where the run found no memory, the job may be
+    /// run again.
     pub fn run(&mut self, alloc: Global) -> Result<u64, StoryFault> {
-        match self.job.take() {
-            Some(job) => {
-                let Ran { done, steps } = ran(alloc, job)?;
+        let Some(job) = self.job.take() else {
+            return Ok(0);
+        };
+        let same = same_job(alloc, &job)?;
+        match ran(alloc, job) {
+            Ok(Ran { done, steps }) => {
                 self.done = Some(done);
                 Ok(steps)
             }
-            None => Ok(0),
+            Err(fault) => {
+                self.job = Some(same);
+                Err(fault)
+            }
         }
     }
 
@@ -44,19 +51,27 @@ impl Task {
 fn ran(alloc: Global, job: Job) -> Result<Ran, StoryFault> {
     match run(alloc, job) {
         Ok(ran) => Ok(ran),
-        Err(_) => Err(StoryFault::OutOfMemory),
+        Err(_) => Err(StoryFault::Refused),
     }
 }
 
-/// The result of a job that no book handed out: a number, a script, a tolerance and a text.
-pub fn foreign(
-    alloc: Global,
-    number: u64,
-    script: &[u8],
-    tolerance: u64,
-    lines: Lines,
-) -> Result<Done, StoryFault> {
-    let job = job_of(alloc, number, script, tolerance, lines)?;
+/// The same job once more.
+fn same_job(alloc: Global, job: &Job) -> Result<Job, AllocError> {
+    let name = name(alloc, job.name().as_slice())?;
+    let text = job.text().share()?;
+    let track = match job.track() {
+        Some(track) => Some(track.share()?),
+        None => None,
+    };
+    Ok(Job::new(job.number(), name, text, job.settings(), track))
+}
+
+/// The result of a job that no book handed out: of a call's words the number, the script, the tolerance and the text.
+pub fn foreign(alloc: Global, mut words: Words<'_>) -> Result<Done, StoryFault> {
+    let number = words.number()?;
+    let script = words.script();
+    let tolerance = words.number()?;
+    let job = job_of(alloc, number, script, tolerance, text(alloc, words)?)?;
     Ok(ran(alloc, job)?.done)
 }
 
@@ -70,7 +85,7 @@ pub fn job_of(
 ) -> Result<Job, AllocError> {
     let name = name(alloc, script)?;
     let text = Text::new(alloc, lines)?;
-    Ok(Job::new(number, name, text, tolerated(tolerance)))
+    Ok(Job::new(number, name, text, tolerated(tolerance), None))
 }
 
 pub const LISTEN: &str =
@@ -79,11 +94,19 @@ pub const LISTEN: &str =
 const FAILS: &str =
     "0 socket(..., SOCK_STREAM, IPPROTO_TCP) = 4 | +0 bind(3, ..., ...) = 0 | +0 listen(3, 1) = 0";
 
+/// A connection that sends: 9 events, all of which pass.
+const SENDS: &str =
+    "0 socket(..., SOCK_STREAM, IPPROTO_TCP) = 3 | +0 bind(3, ..., ...) = 0 | +0 listen(3, 1) = 0 | \
++0.1 < S 0:0(0) win 32792 <mss 1000,sackOK,nop,nop,nop,wscale 7> | +0 > S. 0:0(0) ack 1 <...> | \
++0.1 < . 1:1(0) ack 1 win 257 | +0 accept(3, ..., ...) = 4 | +0 write(4, ..., 1000) = 1000 | \
++0 > P. 1:1001(1000) ack 1";
+
 /// The text that is left of a call: its lines, parted by ` | `, or a word that stands for a text.
 pub fn text(alloc: Global, words: Words<'_>) -> Result<Lines, StoryFault> {
     let written = match words.rest() {
         "listen" => LISTEN,
         "fails" => FAILS,
+        "sends" => SENDS,
         "empty" => "",
         written => written,
     };

@@ -18,7 +18,7 @@ pub fn tokens(alloc: Global, lines: &Lines, mut words: Words<'_>) -> Result<Stri
         let lexed = next_token(lines, place);
         said.push_str(token_said(alloc, lexed)?.as_str())?;
         match lexed {
-            Lexed::Token(_, after) => place = after,
+            Lexed::Token(token) => place = token.to,
             _ => break,
         }
     }
@@ -27,7 +27,7 @@ pub fn tokens(alloc: Global, lines: &Lines, mut words: Words<'_>) -> Result<Stri
 
 fn token_said(alloc: Global, lexed: Lexed) -> Result<String, AllocError> {
     match lexed {
-        Lexed::Token(token, _) => lined(alloc, kind_name(token.kind), " ", token.line, ", "),
+        Lexed::Token(token) => lined(alloc, kind_name(token.kind), " ", token.from.line, ", "),
         Lexed::Bad(line) => lined(alloc, "Bad", "(", line, ")"),
         Lexed::End => owned(alloc, "End"),
     }

@@ -35,32 +35,38 @@ pub enum Foreign {
 
 /// A random call, where so many jobs were given.
 pub fn random_call(alloc: Global, dice: &mut Dice, jobs: u64) -> Result<Call, AllocError> {
-    let script = dice.octet_below(4);
-    Ok(match dice.below(12) {
-        0 | 1 => Call::Add(script, random_text(alloc, dice)?),
-        2 | 3 => Call::Edit(script, random_change(dice)),
-        4 => Call::Remove(script),
-        5 => random_set(dice),
-        6 | 7 => Call::Start,
+    let script = dice.octet_below(3);
+    Ok(match dice.below(24) {
+        0..=2 => Call::Add(script, random_text(alloc, dice)?),
+        3..=8 => Call::Edit(script, random_change(dice)),
+        9 => Call::Remove(script),
+        10 => random_set(dice),
+        11..=15 => Call::Start,
         kind => random_end(dice, kind, script, jobs),
     })
 }
 
 fn random_text(alloc: Global, dice: &mut Dice) -> Result<Vec<u8>, AllocError> {
     let mut kinds = Vec::new(alloc);
-    for _line in 0..dice.below(4) {
-        kinds.push(dice.octet_below(6))?;
+    for _line in 0..dice.below(20) {
+        kinds.push(random_kind(dice))?;
     }
     Ok(kinds)
 }
 
+/// The kind of a line, mostly of one that passes.
+fn random_kind(dice: &mut Dice) -> u8 {
+    let kind = dice.octet_below(60);
+    if kind < 6 { kind } else { 0 }
+}
+
 fn random_change(dice: &mut Dice) -> Change {
-    let from = dice.size_below(5);
+    let from = dice.size_below(20);
     let remove = dice.size_below(3);
     let line = if dice.below(3) == 0 {
         None
     } else {
-        Some(dice.octet_below(6))
+        Some(random_kind(dice))
     };
     Change { from, remove, line }
 }
@@ -74,11 +80,12 @@ fn random_set(dice: &mut Dice) -> Call {
     }
 }
 
-/// A call that ends a job, one that was given or one of another number.
+/// A call that ends a job: one of the last three that were given, any of them, or one of another number.
 fn random_end(dice: &mut Dice, kind: u64, script: u8, jobs: u64) -> Call {
     match kind {
-        8 | 9 => Call::Finish(dice.below(jobs).wrapping_add(1)),
-        10 => {
+        16..=20 => Call::Finish(jobs.saturating_sub(dice.below(3)).max(1)),
+        21 => Call::Finish(dice.below(jobs).wrapping_add(1)),
+        22 => {
             let number = dice.below(jobs.wrapping_add(2));
             Call::Foreign(number, script, random_foreign(dice))
         }

@@ -9,6 +9,8 @@ use std::io;
 #[derive(Drop)]
 pub struct Counts {
     counts: Vec<Count>,
+    /// How many events weren't run again.
+    pub spared: usize,
 }
 
 #[derive(Clone, Copy)]
@@ -22,6 +24,7 @@ impl Counts {
     pub fn new(alloc: Global) -> Counts {
         Counts {
             counts: Vec::new(alloc),
+            spared: 0,
         }
     }
 
@@ -51,7 +54,8 @@ impl Counts {
                 &[count.kind, " ", count.answer, " ", calls.as_str(), "\n"],
             )?;
         }
-        Ok(())
+        let spared = decimal(alloc, self.spared as u64)?;
+        print(rt, &["events not run again ", spared.as_str(), "\n"])
     }
 }
 

@@ -60,3 +60,48 @@ pub fn verdict_of(kinds: &[u8]) -> Verdict {
     }
     Verdict::Pass(events)
 }
+
+/// How many events of a text pass before one that stops its run, and how many are stepped through, that one among them.
+/// A text that is no script has neither.
+pub fn reached_and_stepped(kinds: &[u8]) -> (usize, usize) {
+    if first_of(kinds, 5).is_some() {
+        return (0, 0);
+    }
+    let mut events = 0usize;
+    for kind in kinds {
+        if stop(*kind, 0).is_some() {
+            return (events, events.wrapping_add(1));
+        }
+        if *kind == 0 {
+            events = events.wrapping_add(1);
+        }
+    }
+    (events, events)
+}
+
+/// How many lines two texts begin with alike.
+pub fn front(kinds: &[u8], others: &[u8]) -> usize {
+    let mut same = 0usize;
+    for place in 0..kinds.len() {
+        match (kinds.get(place), others.get(place)) {
+            (Some(kind), Some(other)) if *kind == *other => same = same.wrapping_add(1),
+            _ => return same,
+        }
+    }
+    same
+}
+
+/// How many events of a text have their next token in one of its first lines: each event is a line, and the last one before
+/// the end, or before what is no script, isn't decided by a line of another.
+pub fn kept(kinds: &[u8], lines: usize) -> usize {
+    let mut events = 0usize;
+    for place in 0..lines {
+        match kinds.get(place) {
+            Some(5) => return events.saturating_sub(1),
+            Some(1) => {}
+            Some(_) => events = events.wrapping_add(1),
+            None => {}
+        }
+    }
+    events.saturating_sub(1)
+}

@@ -1,6 +1,6 @@
 //! Names, texts, settings and results of jobs as a book takes them.
 use crate::book::job_of;
-use crate::plain::{applied, run};
+use crate::plain::{Ran, applied, run};
 use crate::random::calls::{Change, Foreign};
 use crate::random::kinds::line;
 use crate::stories::{edit, name};
@@ -47,9 +47,9 @@ pub fn has_lines(alloc: Global, text: &Text, kinds: &[u8]) -> Result<bool, Alloc
 }
 
 /// Runs a job.
-pub fn ran(alloc: Global, job: Job) -> Result<Done, AllocError> {
+pub fn ran(alloc: Global, job: Job) -> Result<Ran, AllocError> {
     match run(alloc, job) {
-        Ok(ran) => Ok(ran.done),
+        Ok(ran) => Ok(ran),
         Err(_) => Err(AllocError),
     }
 }
@@ -67,7 +67,7 @@ pub fn foreign(
         Foreign::Settings => made(alloc, number, script, &[0], 777)?,
         Foreign::Name => made(alloc, number, 9, &[0], tolerance)?,
     };
-    ran(alloc, job)
+    Ok(ran(alloc, job)?.done)
 }
 
 fn made(

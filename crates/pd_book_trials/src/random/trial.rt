@@ -1,37 +1,49 @@
 //! A book and the replay of what it accepted.
-use crate::plain::{Ledger, tolerated};
+use crate::plain::{Ledger, Ran, tolerated, verdict_of};
 use crate::random::answers::Answer;
 use crate::random::calls::{Call, Change, Foreign, random_call};
 use crate::random::counts::Counts;
 use crate::random::deeds::Deeds;
 use crate::random::dice::Dice;
 use crate::random::histories::is_history;
+use crate::random::kinds;
 use crate::random::making::{edit_of, foreign, has_lines, ran, script_name, text_of};
 use crate::random::replay::deed;
 use crate::random::reports::is_report;
-use pd_book::{Done, Job};
+use crate::random::tracks::{Run, Tracks};
+use crate::saying::is_shown;
+use pd_book::{Done, Job, Ruling};
 use pd_settings::Value;
 use std::alloc::{AllocError, Global};
 
-/// A book, the deeds that it accepted, and a result of each job that it gave.
+/// A book, the deeds that it accepted, the tracks that it is to keep, and what each job that it gave was to run, with its
+/// result.
 #[derive(Drop)]
 pub struct Trial {
     alloc: Global,
     book: Ledger,
     deeds: Deeds,
+    tracks: Tracks,
+    runs: Vec<Run>,
     results: Vec<Done>,
     /// Whether each job that it gave had the text and the settings of the replay.
     are_jobs_current: bool,
+    /// Whether each job came to the verdict of its text, in the steps that its track left.
+    are_steps_right: bool,
 }
 
 impl Trial {
-    pub fn new(alloc: Global) -> Trial {
+    /// With a book that keeps so many tracks.
+    pub fn new(alloc: Global, tracks: usize) -> Trial {
         Trial {
             alloc,
-            book: Ledger::new(alloc, 4),
+            book: Ledger::new(alloc, tracks),
             deeds: Deeds::new(alloc),
+            tracks: Tracks::new(alloc, tracks),
+            runs: Vec::new(alloc),
             results: Vec::new(alloc),
             are_jobs_current: true,
+            are_steps_right: true,
         }
     }
 
@@ -53,15 +65,38 @@ impl Trial {
     }
 
     fn keep(&mut self, call: Call, answer: Answer) -> Result<(), AllocError> {
+        match (&call, answer) {
+            (Call::Remove(script), Answer::Done) => self.tracks.remove(*script),
+            (Call::Finish(job), Answer::Ruled(ruling)) => self.shelve(*job, ruling)?,
+            _ => {}
+        }
         if let Some(deed) = deed(call, answer) {
             self.deeds.list.push(deed)?;
         }
         Ok(())
     }
 
+    /// Keeps the track of a job that was finished, where the rules say so.
+    fn shelve(&mut self, job: u64, ruling: Ruling) -> Result<(), AllocError> {
+        let Some(run) = self.runs.get((job as usize).wrapping_sub(1)) else {
+            return Ok(());
+        };
+        let run = run.copy()?;
+        if let Ruling::Taken = ruling {
+            return self.tracks.keep(run);
+        }
+        match self.deeds.text(self.alloc, run.script)? {
+            Some(present) => self.tracks.salvage(run, present.as_slice()),
+            None => Ok(()),
+        }
+    }
+
     fn compare(&self) -> Result<Option<&'static str>, AllocError> {
         if !self.are_jobs_current {
             return Ok(Some("a job"));
+        }
+        if !self.are_steps_right {
+            return Ok(Some("a verdict or the number of steps"));
         }
         let report = self.book.show()?;
         if is_report(self.alloc, &report, self.book.owed(), &self.deeds)? {
@@ -69,6 +104,11 @@ impl Trial {
         } else {
             Ok(Some("a report"))
         }
+    }
+
+    /// How many events the tracks spared.
+    pub fn spared(&self) -> usize {
+        self.tracks.spared
     }
 
     /// Tells whether the history differs.
@@ -127,12 +167,33 @@ impl Trial {
     fn take(&mut self, job: Job) -> Result<Answer, AllocError> {
         let number = job.number();
         let script = self.script_of(&job);
-        if !self.is_current(&job, script)? {
+        match self.deeds.text(self.alloc, script)? {
+            Some(kinds) => self.run(job, script, kinds)?,
+            None => self.are_jobs_current = false,
+        }
+        Ok(Answer::Job(number, script))
+    }
+
+    /// Runs a job, which is to be of this script and text.
+    fn run(&mut self, job: Job, script: u8, kinds: Vec<u8>) -> Result<(), AllocError> {
+        if !self.is_current(&job, kinds.as_slice())? {
             self.are_jobs_current = false;
         }
-        let done = ran(self.alloc, job)?;
+        let tolerance = self.deeds.tolerance();
+        let run = Run {
+            script,
+            kinds,
+            tolerance,
+        };
+        let Ran { done, steps } = ran(self.alloc, job)?;
+        let wanted = kinds::verdict_of(run.kinds.as_slice());
+        let is_right = is_shown(Some(verdict_of(&done)), Some(wanted));
+        if !is_right || steps != self.tracks.steps(&run)? as u64 {
+            self.are_steps_right = false;
+        }
+        self.runs.push(run)?;
         self.results.push(done)?;
-        Ok(Answer::Job(number, script))
+        Ok(())
     }
 
     /// The number that names a job's script.
@@ -143,15 +204,12 @@ impl Trial {
         }
     }
 
-    /// Whether a job has the script's present text and the present settings.
-    fn is_current(&self, job: &Job, script: u8) -> Result<bool, AllocError> {
+    /// Whether a job has a text of lines of these kinds, and the present settings.
+    fn is_current(&self, job: &Job, kinds: &[u8]) -> Result<bool, AllocError> {
         if !job.settings().is_same(&tolerated(self.deeds.tolerance())) {
             return Ok(false);
         }
-        match self.deeds.text(self.alloc, script)? {
-            Some(kinds) => has_lines(self.alloc, job.text(), kinds.as_slice()),
-            None => Ok(false),
-        }
+        has_lines(self.alloc, job.text(), kinds)
     }
 
     /// Finishes a job with its result: one that is outstanding, stale or ended.

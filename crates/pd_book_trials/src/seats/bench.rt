@@ -1,6 +1,6 @@
 //! A book that seats share, in stories. Its calls answer in words.
 use crate::book::answers::{changed, given_up, recorded, ruled, shown, started};
-use crate::book::tasks::{Task, text};
+use crate::book::tasks::{Task, foreign, text};
 use crate::saying::{decimal, joined, owned};
 use crate::stories::{StoryFault, Words, name};
 use pd_book::Job;
@@ -35,7 +35,8 @@ impl Bench {
         if count == 0 {
             return Err(StoryFault::NotANumber);
         }
-        let (held, seats) = Held::new(self.alloc, 64, Settings::new(), count)?;
+        let opened = Held::new(self.alloc, 64, Settings::new(), count);
+        let (held, seats) = opened.or(Err(StoryFault::Refused))?;
         self.held = Some(held);
         self.seats = seats;
         Ok(owned(self.alloc, "ok")?)
@@ -66,6 +67,10 @@ impl Bench {
             "set" => {
                 let key = words.script();
                 Ok(changed(self.alloc, held.set(seat, key, words.value()))?)
+            }
+            "give" => {
+                let done = foreign(self.alloc, words)?;
+                Ok(ruled(self.alloc, held.finish(seat, &done))?)
             }
             "show" => show(self.alloc, held, seat),
             "acts" => acts(self.alloc, seat),

@@ -10,6 +10,8 @@ pub struct Counts {
     pub rows: u64,
     pub differing: u64,
     pub agrees: bool,
+    /// How many calls found no memory, in all tables.
+    pub repeated: u64,
 }
 
 impl Counts {
@@ -19,6 +21,7 @@ impl Counts {
             rows: 0,
             differing: 0,
             agrees: true,
+            repeated: 0,
         }
     }
 

@@ -11,8 +11,14 @@ pub enum StoryFault {
     Missing,
     NotToml,
     NotInLetters,
+    /// The call found no memory and changed nothing.
+    Refused,
+    /// What tells the story found no memory.
     OutOfMemory,
 }
+
+/// The answer of a call that found no memory.
+pub const REFUSED: &str = "19 OutOfMemory";
 
 impl StoryFault {
     /// What is written in the place of the answer.
@@ -24,7 +30,16 @@ impl StoryFault {
             StoryFault::Missing => "(the story has no such thing)",
             StoryFault::NotToml => "(not a table)",
             StoryFault::NotInLetters => "(not in letters)",
+            StoryFault::Refused => REFUSED,
             StoryFault::OutOfMemory => "(out of memory)",
+        }
+    }
+
+    /// The same of a call that changes nothing: who finds no memory for it may make it again.
+    pub fn of_look(self) -> StoryFault {
+        match self {
+            StoryFault::OutOfMemory => StoryFault::Refused,
+            fault => fault,
         }
     }
 }

@@ -2,7 +2,7 @@
 use crate::book::story::Story;
 use crate::saying::{owned, print};
 use crate::stories::counts::Counts;
-use crate::stories::faults::StoryFault;
+use crate::stories::faults::{REFUSED, StoryFault};
 use crate::stories::words::halves;
 use std::alloc::{AllocError, Global};
 use std::io;
@@ -16,6 +16,9 @@ pub fn tell(rt: &(impl Input + Print + AllocGlobal)) -> io::Result<bool> {
         take(rt, rt.alloc(), &mut story, &mut counts, line?.as_str())?;
     }
     counts.close(rt, rt.alloc())?;
+    if counts.repeated != 0 {
+        rt.print("a call that found no memory was made again\n")?;
+    }
     Ok(counts.agrees)
 }
 
@@ -43,7 +46,7 @@ fn take(
     check(rt, alloc, story, counts, line)
 }
 
-/// Makes the call of a row; where the answer differs, prints the row.
+/// Makes the call of a row, and again where it found no memory; where the answer differs, prints the row.
 fn check(
     rt: &impl Print,
     alloc: Global,
@@ -52,19 +55,24 @@ fn check(
     row: &str,
 ) -> io::Result<()> {
     let (call, wanted) = halves(row, " -> ").unwrap_or((row, ""));
-    let said = said(alloc, story.answer(call))?;
-    if said.as_str() == wanted {
+    let mut answer = said(alloc, story.answer(call))?;
+    if answer.as_str() == REFUSED {
+        counts.repeated = counts.repeated.wrapping_add(1);
+        answer = said(alloc, story.answer(call))?;
+    }
+    if answer.as_str() == wanted {
         return Ok(());
     }
     counts.add_difference();
     print(rt, &[row, "\n  SAID "])?;
-    print(rt, &[said.as_str(), "\n"])
+    print(rt, &[answer.as_str(), "\n"])
 }
 
 /// An answer, or why there is none.
 fn said(alloc: Global, answer: Result<String, StoryFault>) -> Result<String, AllocError> {
     match answer {
         Ok(said) => Ok(said),
+        Err(StoryFault::OutOfMemory) => Err(AllocError),
         Err(fault) => owned(alloc, fault.words()),
     }
 }

@@ -1,0 +1,137 @@
+//! Two workers that overlap: one is held at job 1 until the other has begun job 2, and an edit comes once job 1 has begun.
+use crate::saying::print;
+use crate::serving::{Served, served_beside};
+use pd_desk::Gate;
+use std::alloc::Global;
+use std::io::Read;
+use std::sync::Wait;
+use std::sync::atomic::{AtomicBool, Ordering};
+use std::thread::Threads;
+use std::{io, thread};
+
+/// How often a thread looks for what it waits for, and yields: some seconds.
+const TURNS: u64 = 10_000_000;
+
+/// What comes before job 1 is begun.
+const ADD: &[u8] = b"add a 9
+0 socket(..., SOCK_STREAM, IPPROTO_TCP) = 3
++0 bind(3, ..., ...) = 0
++0 listen(3, 1) = 0
++0.1 < S 0:0(0) win 32792 <mss 1000,sackOK,nop,nop,nop,wscale 7>
++0 > S. 0:0(0) ack 1 <...>
++0.1 < . 1:1(0) ack 1 win 257
++0 accept(3, ..., ...) = 4
++0 write(4, ..., 1000) = 1000
++0 > P. 1:1001(1000) ack 1
+";
+
+/// What comes then.
+const EDIT: &[u8] = b"edit a 9 1 1
++0 > P. 1:2001(2000) ack 1
+settle
+";
+
+/// What is to be written.
+const WANTED: &[u8] = b"a fail 9 seq
+total 1 pass 0 fail 1 syntax 0 unsupported 0 limit 0 pending 0
+a fail 9 seq
+total 1 pass 0 fail 1 syntax 0 unsupported 0 limit 0 pending 0
+";
+
+/// Serves beside two workers that overlap; prints and tells whether both began and what was written is as wanted.
+pub fn try_overlap(rt: &(impl Print + AllocGlobal + Threads + Wait + Sync)) -> io::Result<bool> {
+    let gate = HeldGate::new();
+    let served = served_held(rt, rt.alloc(), &gate);
+    let is_late = gate.was_late.load(Ordering::SeqCst);
+    let is_served = served.octets.as_slice() == WANTED && served.passes.is_some();
+    let said = if is_late {
+        "job 2 didn't begin while job 1 was held\n"
+    } else if is_served {
+        "two workers overlap\n"
+    } else {
+        "an edit under a job isn't served\n"
+    };
+    print(rt, &[said])?;
+    Ok(is_served && !is_late)
+}
+
+fn served_held<R: Threads + Wait + Sync>(rt: &R, alloc: Global, gate: &HeldGate) -> Served {
+    let mut reader = HeldReader {
+        now: ADD,
+        later: EDIT,
+        gate,
+    };
+    served_beside(rt, alloc, &mut reader, 2, gate)
+}
+
+/// Waits until this is so; whether it is within the turns.
+fn await_flag(flag: &AtomicBool) -> bool {
+    for _turn in 0..TURNS {
+        if flag.load(Ordering::SeqCst) {
+            return true;
+        }
+        thread::yield_now();
+    }
+    false
+}
+
+/// Holds job 1 until job 2 has begun.
+#[derive(Drop)]
+struct HeldGate {
+    first_begun: AtomicBool,
+    second_begun: AtomicBool,
+    was_late: AtomicBool,
+}
+
+impl HeldGate {
+    fn new() -> HeldGate {
+        HeldGate {
+            first_begun: AtomicBool::new(false),
+            second_begun: AtomicBool::new(false),
+            was_late: AtomicBool::new(false),
+        }
+    }
+
+    /// Waits until this is so, and notes where it isn't within the turns.
+    fn await_or_note(&self, flag: &AtomicBool) {
+        if !await_flag(flag) {
+            self.was_late.store(true, Ordering::SeqCst);
+        }
+    }
+}
+
+impl Gate for HeldGate {
+    fn before(&self, job: u64) {
+        match job {
+            1 => {
+                self.first_begun.store(true, Ordering::SeqCst);
+                self.await_or_note(&self.second_begun);
+            }
+            _ => self.second_begun.store(true, Ordering::SeqCst),
+        }
+    }
+
+    fn after(&self, _job: u64) {}
+}
+
+/// Gives some octets, and others once job 1 has begun.
+#[derive(Drop)]
+struct HeldReader<'a> {
+    now: &'a [u8],
+    later: &'a [u8],
+    gate: &'a HeldGate,
+}
+
+impl<'a> Read for HeldReader<'a> {
+    fn read(&mut self, buf: &mut [u8]) -> io::Result<usize> {
+        if self.now.is_empty() {
+            self.gate.await_or_note(&self.gate.first_begun);
+            self.now = self.later;
+            self.later = b"";
+        }
+        let count = buf.len().min(self.now.len());
+        buf[..count].copy_from_slice(&self.now[..count]);
+        self.now = &self.now[count..];
+        Ok(count)
+    }
+}

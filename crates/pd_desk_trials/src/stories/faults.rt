@@ -1,0 +1,41 @@
+//! Why a call of a story can't be made.
+use pd_text::TextFault;
+use std::alloc::AllocError;
+
+/// Why a call of a story can't be made.
+#[derive(Clone, Copy)]
+pub enum StoryFault {
+    NoSuchCall,
+    NotANumber,
+    NoText,
+    Missing,
+    OutOfMemory,
+}
+
+impl StoryFault {
+    /// What is written in the place of the answer.
+    pub fn words(self) -> &'static str {
+        match self {
+            StoryFault::NoSuchCall => "(no such call)",
+            StoryFault::NotANumber => "(not a number)",
+            StoryFault::NoText => "(over the limits of a text)",
+            StoryFault::Missing => "(the story has no such thing)",
+            StoryFault::OutOfMemory => "(out of memory)",
+        }
+    }
+}
+
+impl From<AllocError> for StoryFault {
+    fn from(_error: AllocError) -> StoryFault {
+        StoryFault::OutOfMemory
+    }
+}
+
+impl From<TextFault> for StoryFault {
+    fn from(fault: TextFault) -> StoryFault {
+        match fault {
+            TextFault::OutOfMemory => StoryFault::OutOfMemory,
+            _ => StoryFault::NoText,
+        }
+    }
+}
