@@ -6,16 +6,7 @@
 scripts=${1:-1000}
 events=${2:-60}
 
-# Each script opens, binds and then listens on the descriptor again and again, at times of its own.
-awk -v scripts="$scripts" -v events="$events" 'BEGIN {
-    for (s = 1; s <= scripts; s++) {
-        print "add script" s, events
-        print "0 socket(..., SOCK_STREAM, IPPROTO_TCP) = 3"
-        print "+0 bind(3, ..., ...) = 0"
-        for (e = 3; e <= events; e++)
-            printf "+0.%03d listen(3, %d) = 0\n", (s * 7 + e * 13) % 1000, e
-    }
-}' >"$work/input"
+generate "$scripts" "$events" >"$work/input"
 
 octets=$(wc -c <"$work/input")
 begin=$(date +%s%N)

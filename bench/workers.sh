@@ -8,19 +8,6 @@
 scripts=${1:-1000}
 events=${2:-2000}
 
-# Each script opens, binds and then listens on the descriptor again and again, at times of its own.
-generate() {
-    awk -v scripts="$1" -v events="$events" 'BEGIN {
-        for (s = 1; s <= scripts; s++) {
-            print "add script" s, events
-            print "0 socket(..., SOCK_STREAM, IPPROTO_TCP) = 3"
-            print "+0 bind(3, ..., ...) = 0"
-            for (e = 3; e <= events; e++)
-                printf "+0.%03d listen(3, %d) = 0\n", (s * 7 + e * 13) % 1000, e
-        }
-    }'
-}
-
 # The nanoseconds of a run with so many workers, whose octets are to be those without.
 took() {
     begin=$(date +%s%N)
@@ -30,7 +17,7 @@ took() {
     echo $((end - begin))
 }
 
-generate "$scripts" >"$work/input"
+generate "$scripts" "$events" >"$work/input"
 alone=$(took 0)
 tail -n 1 "$work/output.0"
 one=$(took 1)
@@ -41,11 +28,7 @@ awk -v alone="$alone" -v one="$one" -v four="$four" 'BEGIN {
 }'
 
 command -v valgrind >/dev/null || exit 0
-generate $(((scripts + 9) / 10)) >"$work/input"
-counted() {
-    valgrind --tool=callgrind --callgrind-out-file="$work/calls" "$program" --workers "$1" <"$work/input" >/dev/null 2>&1
-    sed -n 's/^summary: \([0-9]*\).*/\1/p; s/^totals: \([0-9]*\).*/\1/p' "$work/calls" | head -n 1
-}
-alone=$(counted 0)
-one=$(counted 1)
+generate $(((scripts + 9) / 10)) "$events" >"$work/input"
+alone=$(instructions "$work/input" --workers 0)
+one=$(instructions "$work/input" --workers 1)
 awk -v alone="$alone" -v one="$one" 'BEGIN { printf "instructions with 1 worker: %.3f times those without\n", one / alone }'

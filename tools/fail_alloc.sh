@@ -1,19 +1,29 @@
 #!/bin/sh
-# Refuses each allocation in turn, one a run, the numbers going up until a run meets no refusal:
-#   - of the built program, for each input of examples/ and for those named on the command line. It says so by status 2
-#     and a fault, and what it wrote is a prefix of what it writes with memory; or the refusal made no difference.
-#   - of the program pd_book_trials, and of pd_cases on its file memory.cases (`rt run` leaves them in out/), which let
-#     a first want of memory pass and make the call again.
-# Outside the gate: needs a C compiler.
+# Refuses each allocation in turn, one a run, the numbers going up until a run meets no refusal, and prints a line for
+# each call that is tried, with the refusals met:
+#   - the built program, with no input and with those of examples/ or the ones named on the command line, without
+#     workers, with one and with two. It says so by status 2 and the fault 19 (beside workers also 12, where they all
+#     left), and what it wrote is a prefix of what it writes with memory; or the refusal made no difference.
+#   - the calls below it, table by table of crates/pd_book_trials/memory.txt: a call that is refused is made again, and
+#     it and all calls behind it are to answer as with memory. Where what tells the rows found no memory, no call did.
+#   - the programs pd_book_trials, with its word `memory`, and pd_cases on its file memory.cases, which let a first want
+#     of memory pass and make the call again.
+# No run may take longer than ten seconds. Outside the gate: needs a C compiler, and pd_book_trials and pd_cases as
+# `rt run` leaves them in out/. PROGRAM, TRIALS and CASES name other builds of the three.
 #
 #   tools/fail_alloc.sh [INPUT..]
 set -eu
 top=$(cd "$(dirname "$0")/.." && pwd)
-program=$top/crates/pdregress/out/pdregress
+program=${PROGRAM:-$top/crates/pdregress/out/pdregress}
+cases=${CASES:-$top/crates/pd_cases/out/pd_cases}
+trials=${TRIALS:-$top/crates/pd_book_trials/out/pd_book_trials}
 work=$(mktemp -d)
 trap 'rm -rf "$work"' EXIT
 cc -O2 -shared -fPIC -o "$work/fail_alloc.so" "$top/tools/fail_alloc.c" -ldl
 [ -x "$program" ] || "$top/pdregress" </dev/null >/dev/null
+for built in "$cases" "$trials"; do
+    [ -x "$built" ] || { echo "$built: not built"; exit 2; }
+done
 bad=0
 
 complain() {
@@ -21,13 +31,16 @@ complain() {
     bad=1
 }
 
-refusing() { # N COMMAND..: runs it with its Nth allocation refused; false where it made fewer
+refusing() { # N COMMAND..: runs it on $input with its Nth allocation refused; whether it made so many
     n=$1
     shift
     status=0
     rm -f "$work/met"
-    env LD_PRELOAD="$work/fail_alloc.so" FAIL_AT="$n" FAIL_MARK="$work/met" "$@" \
+    timeout 10 env LD_PRELOAD="$work/fail_alloc.so" FAIL_AT="$n" FAIL_MARK="$work/met" "$@" \
         <"$input" >"$work/out" 2>"$work/error" || status=$?
+    if [ "$status" -ge 124 ]; then
+        complain "$name: allocation $n: hangs, or ended by a signal ($status)"
+    fi
     [ "$n" -le 100000 ] && [ -e "$work/met" ]
 }
 
@@ -35,26 +48,39 @@ is_prefix() { # FILE OF: the octets of FILE begin OF
     cmp -s -n "$(wc -c <"$1")" "$1" "$2"
 }
 
+is_told() { # whether the program told want of memory
+    [ "$status" -eq 2 ] && grep -q '^pdregress: 19 \|^pdregress: 12 \|memory' "$work/error"
+}
+
+# Which of a program's allocations is the Nth depends on its threads, so three numbers in a row have to meet no refusal.
 try_program() { # NAME COMMAND..: NAME says what is run
     name=$1
     shift
-    "$@" <"$input" >"$work/whole" 2>"$work/error" || true
+    whole=0
+    "$@" <"$input" >"$work/whole" 2>"$work/error" || whole=$?
     n=1
-    while refusing "$n" "$@"; do
-        if [ "$status" -ge 128 ]; then
-            complain "$name: allocation $n: ended by a signal ($status)"
-        elif [ "$status" -eq 2 ] && grep -q '^pdregress: \|memory' "$work/error"; then
+    met=0
+    told=0
+    idle=0
+    while [ "$idle" -lt 3 ]; do
+        if refusing "$n" "$@"; then
+            met=$((met + 1))
+            idle=0
+        else
+            idle=$((idle + 1))
+        fi
+        if is_told; then
+            told=$((told + 1))
             is_prefix "$work/out" "$work/whole" || complain "$name: allocation $n: no prefix was written"
-        elif ! cmp -s "$work/out" "$work/whole"; then
+        elif [ "$status" -ne "$whole" ] || ! cmp -s "$work/out" "$work/whole"; then
             complain "$name: allocation $n: other output, status $status: $(cat "$work/error")"
         fi
         n=$((n + 1))
     done
-    cmp -s "$work/out" "$work/whole" || complain "$name: other output with memory"
-    echo "$name: $((n - 1)) allocations refused, one a run"
+    echo "$name: $met refusals met, one a run; $told times told"
 }
 
-try_test() { # NAME COMMAND..
+try_test() { # NAME COMMAND..: a test that makes again what is refused
     name=$1
     shift
     n=1
@@ -63,29 +89,46 @@ try_test() { # NAME COMMAND..
         n=$((n + 1))
     done
     [ "$status" -eq 0 ] || complain "$name: fails with memory"
-    echo "$name: $((n - 1)) allocations refused, one a run"
+    echo "$name: $((n - 1)) refusals met, one a run"
 }
 
-[ $# -gt 0 ] || set -- "$top"/examples/*.txt
-for input in "$@"; do
-    try_program "$input" "$program"
+try_rows() { # NAME: the rows of $input
+    name=$1
+    n=1
+    again=0
+    while refusing "$n" "$trials" stories; do
+        case $status in
+            0) ! grep -q 'was made again' "$work/out" || again=$((again + 1)) ;;
+            2) ! grep -q 'SAID\|differ$' "$work/out" || complain "$name: allocation $n: ended late" ;;
+            *) complain "$name: allocation $n: status $status: $(grep -B1 SAID "$work/out")" ;;
+        esac
+        n=$((n + 1))
+    done
+    [ "$status" -eq 0 ] || complain "$name: fails with memory"
+    echo "$name: $((n - 1)) refusals met, one a run; $again of them by a call, which was made again"
+}
+
+awk -v work="$work/table" '/^== / { file = work sprintf("%02d", ++tables) } { print > file }' \
+    "$top/crates/pd_book_trials/memory.txt"
+for input in "$work"/table*; do
+    try_rows "$(sed -n 's/^== //p' "$input")"
+done
+
+input=/dev/null
+try_test "pd_book_trials memory" "$trials" memory
+echo memory.cases >"$work/files"
+input=$work/files
+cd "$top/crates/pd_cases/data"
+try_program "pd_cases memory.cases" "$cases"
+grep -q ' 1 runs, 0 wrong$' "$work/whole" || complain "pd_cases memory.cases: fails with memory"
+
+cd "$top"
+[ $# -gt 0 ] || set -- examples/*.txt
+for input in /dev/null "$@"; do
+    try_program "the program, $input" "$program"
+    try_program "the program, $input, --workers 1" "$program" --workers 1
+    try_program "the program, $input, --workers 2" "$program" --workers 2
 done
 input=/dev/null
-cases=$top/crates/pd_cases/out/pd_cases
-if [ -x "$cases" ]; then
-    echo memory.cases >"$work/files"
-    input=$work/files
-    cd "$top/crates/pd_cases/data"
-    try_program "pd_cases memory.cases" "$cases"
-    grep -q ' 1 runs, 0 wrong$' "$work/whole" || complain "pd_cases memory.cases: fails with memory"
-    input=/dev/null
-else
-    complain "pd_cases memory.cases: not built, so not tried"
-fi
-trials=$top/crates/pd_book_trials/out/pd_book_trials
-if [ -x "$trials" ]; then
-    try_test "pd_book_trials memory" "$trials" memory
-else
-    complain "pd_book_trials memory: not built, so not tried"
-fi
+try_program "the program, --settings" "$program" --settings 'min_rto_us = 200000'
 exit $bad

@@ -1,5 +1,6 @@
 """Runs a program on random input of several kinds and says how it fared; tools/soak.sh calls it."""
 
+import os
 import random
 import re
 import subprocess
@@ -11,6 +12,9 @@ OCTETS = 1_000_000
 SECONDS = 60
 # The bound on the memory of a run, in KiB. The program holds its input's texts and what it read of one of them.
 MOST_KIB = 16 * 1024
+# How many workers there are beside a stream, and how many streams a round has.
+WORKERS = 8
+STREAMS = 100
 # What a word of the program can hold: the system takes no longer one, and none with a zero in it.
 WORD = 125_000
 LAST_LINE = re.compile(
@@ -131,6 +135,29 @@ def settings(dice):
     return b"".join(parts).replace(b"\0", b"0")[:WORD]
 
 
+def stream(dice):
+    """Up to sixty commands without `show`, on scripts of up to 20,000 octets; one in five ends in what is no command."""
+    parts = []
+    for _ in range(dice.randrange(1, 60)):
+        draw, name = dice.random(), dice.choice(NAMES)
+        if draw < 0.4:
+            part = added(name, traffic(dice, dice.choice((1, 200, 2_000, 20_000))))
+        elif draw < 0.7:
+            lines = [dice.choice((b"+0 close(4) = 0", b"+0 > . 1:1001(1000) ack 1", b"/*", b"*/", b"x"))][: dice.randrange(2)]
+            part = b"edit %s %d %d %d\n" % (name, dice.randrange(12), dice.randrange(4), len(lines))
+            part += b"".join(line + b"\n" for line in lines)
+        elif draw < 0.8:
+            part = b"remove %s\n" % name
+        elif draw < 0.95:
+            part = b"set %s %s\n" % (dice.choice(KEYS), dice.choice(VALUES + RIGHT))
+        else:
+            part = b"settle\n"
+        parts.append(part)
+    if dice.random() < 0.2:
+        parts.append(dice.choice((b"bye\n", b"add z 3\nx\n", dice.randbytes(20))))
+    return b"".join(parts)
+
+
 KINDS = {
     "octets as commands": lambda dice: [([], octets_of(dice, OCTETS))],
     "commands": lambda dice: [([], commands(dice))],
@@ -146,24 +173,88 @@ KINDS = {
 
 class Figures:
     def __init__(self):
-        self.runs, self.ends, self.seconds, self.kib, self.wrong = 0, {}, 0.0, 0, 0
+        self.runs, self.ends, self.seconds, self.kib, self.last_kib, self.octets = 0, {}, 0.0, 0, 0, 0
+
+
+def timed(words, text, figures):
+    """Runs a program, its time and memory added to the figures; how it ended, or none where it came to no end."""
+    with tempfile.NamedTemporaryFile() as resident:
+        bound = ["timeout", str(SECONDS), "/usr/bin/time", "-f", "%M", "-o", resident.name]
+        begin = time.monotonic()
+        ended = subprocess.run([*bound, *words], input=text, capture_output=True)
+        figures.seconds = max(figures.seconds, time.monotonic() - begin)
+        last = resident.read().split()[-1:]
+    if ended.returncode == 124 or not last:
+        return None
+    figures.last_kib = int(last[0])
+    figures.kib = max(figures.kib, figures.last_kib)
+    return ended
 
 
 def run(program, words, text, figures):
     """One run, its figures added; what was wrong, if something was."""
     figures.runs += 1
-    with tempfile.NamedTemporaryFile() as resident:
-        timed = ["timeout", str(SECONDS), "/usr/bin/time", "-f", "%M", "-o", resident.name]
-        begin = time.monotonic()
-        ended = subprocess.run([*timed, program, *words], input=text, capture_output=True)
-        figures.seconds = max(figures.seconds, time.monotonic() - begin)
-        last = resident.read().split()[-1:]
-    if ended.returncode == 124 or not last:
+    ended = timed([program, *words], text, figures)
+    if ended is None:
         return "no end within %d s" % SECONDS
-    kib = int(last[0])
     figures.ends[ended.returncode] = figures.ends.get(ended.returncode, 0) + 1
-    figures.kib = max(figures.kib, kib)
-    return fault_of(ended.returncode, ended.stdout, ended.stderr, kib)
+    return fault_of(ended.returncode, ended.stdout, ended.stderr, figures.last_kib)
+
+
+def run_beside(program, text, figures):
+    """One stream without workers and with some; what the second says otherwise, if something."""
+    said = []
+    for workers in (0, WORKERS):
+        ended = timed([program, "--workers", str(workers)], text, figures)
+        if ended is None:
+            return "no end within %d s with %d workers" % (SECONDS, workers)
+        if figures.last_kib > MOST_KIB:
+            return "%d KiB with %d workers" % (figures.last_kib, workers)
+        said.append((ended.returncode, ended.stdout, ended.stderr))
+    status, output, told = said[0]
+    figures.runs += 1
+    figures.ends[status] = figures.ends.get(status, 0) + 1
+    figures.octets += len(output)
+    if said[1] != said[0]:
+        return "status %d, then %d beside workers, which say another thing" % (status, said[1][0])
+    if status not in (0, 1, 2) or (status == 2) != bool(FAULT.match(told)):
+        return "status %d, and told %r" % (status, told[:80])
+    return None
+
+
+def run_closed(program, text, workers):
+    """One stream whose output or whose input fails; what is said otherwise than the fault, if something."""
+    words = [program, "--workers", str(workers)]
+    with open("/dev/full", "wb") as full:
+        ended = subprocess.run(words, input=text + b"settle\n", stdout=full, stderr=subprocess.PIPE, timeout=SECONDS)
+    if (ended.returncode, ended.stderr) != (2, b"pdregress: 18 Write\n"):
+        return "an output that takes nothing: status %d, told %r" % (ended.returncode, ended.stderr[:80])
+    folder = os.open("/", os.O_RDONLY)
+    try:
+        ended = subprocess.run(words, stdin=folder, capture_output=True, timeout=SECONDS)
+    finally:
+        os.close(folder)
+    if (ended.returncode, ended.stdout, ended.stderr) != (2, b"", b"pdregress: 17 Read\n"):
+        return "an input that can't be read: status %d, told %r" % (ended.returncode, ended.stderr[:80])
+    return None
+
+
+def soak_beside(program, rounds, seed):
+    """Streams without workers and beside some, and streams that fail; prints a line and gives how many were wrong."""
+    figures, wrong = Figures(), 0
+    for number in range(seed, seed + rounds):
+        dice = random.Random(f"beside {number}")
+        faults = [run_beside(program, stream(dice), figures) for _ in range(STREAMS)]
+        faults += [run_closed(program, added(b"a", traffic(dice, 200)), workers) for workers in (0, WORKERS)]
+        for fault in filter(None, faults):
+            wrong += 1
+            print(f"beside workers, seed {number}: {fault}")
+    ends = ", ".join(f"{count} with status {status}" for status, count in sorted(figures.ends.items()))
+    print(
+        f"beside {WORKERS} workers: {figures.runs} streams, {ends}, {figures.octets} octets the same; "
+        f"{figures.seconds:.2f} s at most, {figures.kib} KiB at most"
+    )
+    return wrong
 
 
 def fault_of(status, said, told, kib):
@@ -191,6 +282,7 @@ def main():
                     print(f"{kind}, seed {number}: {fault}")
         ends = ", ".join(f"{count} with status {status}" for status, count in sorted(figures.ends.items()))
         print(f"{kind}: {figures.runs} runs, {ends}; {figures.seconds:.2f} s at most, {figures.kib} KiB at most")
+    wrong += soak_beside(program, rounds, seed)
     print(f"{wrong} wrong, bound {MOST_KIB} KiB and {SECONDS} s a run")
     sys.exit(1 if wrong else 0)
 
