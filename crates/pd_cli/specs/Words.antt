@@ -4,7 +4,8 @@ use Rattle.std.specs.Char.{is_ascii_digit}
 use Rattle.std.specs.List.{slice_split, list_all}
 use Rattle.std.specs.Str.{bytes_eq}
 use Rattle.pd_settings.specs.declared.values.Value.{Value}
-use Rattle.pd_settings.specs.declared.values.Value.TheVariants.{Number, Truth, Other}
+use Rattle.pd_settings.specs.declared.values.Value.TheVariants.{Number, Truth}
+use Rattle.pd_settings.specs.Words.{word_value}
 
 -- the words of a line are parted by spaces, the octet 32 alone
 abbrev pub words_of : List ℕ → List (List ℕ)
@@ -22,9 +23,9 @@ is_count word = are_digits word && nat_le (length word) 6
 abbrev pub number_of : List ℕ → ℕ
 number_of word = fold (λ n digit. n * 10 + (digit - 48)) 0 word
 
--- a word for a setting: a number below 2^64, a truth value, or anything else
+-- a word for a setting: a number below 2^64, a truth value, or what else it says
 abbrev pub value_of : List ℕ → Value
 value_of word =
     if are_digits word && nat_lt (number_of word) (2 ^ 64) then Number (number_of word) else (
     if bytes_eq word (codes "true") then Truth true else (
-    if bytes_eq word (codes "false") then Truth false else Other))
+    if bytes_eq word (codes "false") then Truth false else word_value word))

@@ -58,5 +58,5 @@ pub fn value(word: &[u8]) -> Value
     if word == b"false".as_slice() {
         return Value::Truth(false);
     }
-    Value::Other
+    Value::from_word(word)
 }

@@ -21,7 +21,7 @@ Commands come on standard input, one a line, their words parted by spaces:
   edit NAME FROM REMOVE COUNT  removes REMOVE lines from line FROM on, and
                                inserts the next COUNT lines there
   remove NAME                  removes a script
-  set KEY VALUE                sets a setting: digits, true or false
+  set KEY VALUE                sets a setting: digits, true, false or a word
   show                         prints the report as it stands
   settle                       runs what is owed, and prints the report
 The end of input acts as settle. The status is 0 if each script of the last

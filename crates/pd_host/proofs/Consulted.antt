@@ -5,6 +5,7 @@ use Rattle.pd_board.specs.Scoreboard.{opened}
 use Rattle.pd_recover.specs.Congestion as congestion
 use Rattle.pd_settings.specs.Uses.{Agree}
 use Rattle.pd_settings.specs.declared.fields.Settings.{Settings}
+use Rattle.pd_settings.specs.declared.initial_window.InitialWindow.{InitialWindow}
 use Rattle.pd_settings.specs.declared.use_set.UseSet.{UseSet}
 use Rattle.pd_seg.specs.declared.segments.Segment.{Segment}
 use Rattle.pd_seg.specs.declared.segments.Sent.{Sent}
@@ -82,9 +83,9 @@ opening true segment now s t b h agree =
     ∙ beside_again b (record s { uses = syn_uses s.uses }) (put_out now (syn_ack_of c) (record s.endpoint { connection = Some c }))
 opening false segment now s t b h agree = refl
 
--- the establishment depends on three settings alone
-abbrev established_so : Bool → ℕ → ℕ → ℕ → Segment → ControlBlock → ControlBlock
-established_so nagle granularity threshold now segment c = record (with_timer_settled (with_sample now granularity 1 (syn_acked c))) {
+-- the establishment depends on four settings alone
+abbrev established_so : Bool → ℕ → InitialWindow → ℕ → ℕ → Segment → ControlBlock → ControlBlock
+established_so nagle granularity rule threshold now segment c = record (with_timer_settled (with_sample now granularity 1 (syn_acked c))) {
   widest = max c.widest (window_in c segment);
   established = Some (record {
     rwnd = window_in c segment;
@@ -92,19 +93,20 @@ established_so nagle granularity threshold now segment c = record (with_timer_se
     wl2 = segment.ack;
     nagle = nagle;
     granularity_us = granularity;
-    congestion = congestion.begun threshold c.board.smss c.resent;
+    congestion = congestion.begun rule threshold c.board.smss c.resent;
     stream = Waiting;
     peer_fin = Awaited;
   });
 }
 
 established_same : (a b : Settings) (now : ℕ) (segment : Segment) (c : ControlBlock)
-    → a.nagle ≡ b.nagle → a.granularity_us ≡ b.granularity_us → a.initial_ssthresh ≡ b.initial_ssthresh
+    → a.nagle ≡ b.nagle → a.granularity_us ≡ b.granularity_us → a.initial_window ≡ b.initial_window → a.initial_ssthresh ≡ b.initial_ssthresh
     → established_by now b segment c ≡ established_by now a segment c
-established_same a b now segment c n g i =
-    ap (λ (x : Bool). established_so x b.granularity_us b.initial_ssthresh now segment c) (sym n)
-    ∙ ap (λ (x : ℕ). established_so a.nagle x b.initial_ssthresh now segment c) (sym g)
-    ∙ ap (λ (x : ℕ). established_so a.nagle a.granularity_us x now segment c) (sym i)
+established_same a b now segment c n g r i =
+    ap (λ (x : Bool). established_so x b.granularity_us b.initial_window b.initial_ssthresh now segment c) (sym n)
+    ∙ ap (λ (x : ℕ). established_so a.nagle x b.initial_window b.initial_ssthresh now segment c) (sym g)
+    ∙ ap (λ (x : InitialWindow). established_so a.nagle a.granularity_us x b.initial_ssthresh now segment c) (sym r)
+    ∙ ap (λ (x : ℕ). established_so a.nagle a.granularity_us a.initial_window x now segment c) (sym i)
 
 by_ruling : (r : Option Ruling) (segment : Segment) (now : ℕ) (s t : State) (c : ControlBlock) (b : Settings)
     → ruled now segment c s r ≡ Ok t
@@ -119,7 +121,7 @@ by_ruling (Some WithoutAck) segment now s t c b h agree = refl
 by_ruling (Some FirstAck) segment now s t c b h agree =
     let uses : t.uses ≡ establishment_uses s.uses = cc in
     let same : established_by now b segment c ≡ established_by now s.settings segment c =
-    established_same s.settings b now segment c (agree.nagle (ap (λ (u : UseSet). u.nagle) uses)) (agree.granularity_us (ap (λ (u : UseSet). u.granularity_us) uses)) (agree.initial_ssthresh (ap (λ (u : UseSet). u.initial_ssthresh) uses)) in
+    established_same s.settings b now segment c (agree.nagle (ap (λ (u : UseSet). u.nagle) uses)) (agree.granularity_us (ap (λ (u : UseSet). u.granularity_us) uses)) (agree.initial_window (ap (λ (u : UseSet). u.initial_window) uses)) (agree.initial_ssthresh (ap (λ (u : UseSet). u.initial_ssthresh) uses)) in
     ap (λ (x : ControlBlock). Ok (record s {
       settings = b;
       uses = establishment_uses s.uses;

@@ -1,22 +1,21 @@
 -- The part of a connection that its state's name depends on, and what leaves it.
-use Rattle.std.proofs.Common.{◌≡◌, ℕ, ◌==◌, max, Bool, true, false, if◌then◌else◌, Option, None, Some, refl, sym, ap, ◌∙◌}
+use Rattle.std.proofs.Common.{◌≡◌, ℕ, ◌==◌, max, Bool, if◌then◌else◌, Option, None, Some, refl, sym, ap, ◌∙◌}
 use Rattle.std.specs.Prelude.{option_map}
 use Rattle.pd_seg.specs.declared.segments.Segment.{Segment}
-use Rattle.pd_recover.specs.declared.responses.Then.{Then}
-use Rattle.pd_host.specs.Acknowledgments.{newly_acked, is_current, with_number, with_blocks, with_timing, with_new_window, with_ack, answering, taking}
+use Rattle.pd_host.specs.Acknowledgments.{newly_acked, is_current, with_number, with_blocks, with_timing, with_ack, answering, taking}
 use Rattle.pd_host.specs.Arrivals.{with_peer_fin}
 use Rattle.pd_host.specs.ConnStates.{synchronized, state_since, state_of, state_on}
 use Rattle.pd_host.specs.ControlBlock.{ControlBlock}
-use Rattle.pd_host.specs.Handshake.{established_by, syn_acked, window_in, with_window}
+use Rattle.pd_host.specs.Handshake.{window_in, with_window}
 use Rattle.pd_host.specs.declared.conn_states.ConnState.{ConnState}
 use Rattle.pd_host.specs.declared.conn_states.ConnState.TheVariants.{Closed, SynReceived}
 use Rattle.pd_host.specs.declared.established.Established.{Established}
 use Rattle.pd_host.specs.declared.listeners.Listener.{Listener}
 use Rattle.pd_host.specs.declared.peer_fins.PeerFin.{PeerFin}
-use Rattle.pd_host.specs.declared.peer_fins.PeerFin.TheVariants.{Awaited, BeforeOurs, BehindOurs}
+use Rattle.pd_host.specs.declared.peer_fins.PeerFin.TheVariants.{BeforeOurs, BehindOurs}
 use Rattle.pd_host.specs.declared.sender_state.State.{State}
 use Rattle.pd_host.proofs.SentOn.{IsSentOn, still, stills, at_rest}
-use Rattle.pd_host.proofs.Taken.{same_either, timing_keeps, taking_keeps, measured_keeps, basic}
+use Rattle.pd_host.proofs.Taken.{same_either, timing_keeps, taking_keeps}
 
 -- whether an RST came, the peer's FIN from the establishment on, whether ours is queued, and whether all that is queued is
 -- acknowledged

@@ -6,12 +6,12 @@ use Rattle.pd_script.specs.declared.calls.Call.{Call}
 use Rattle.pd_seg.specs.declared.answers.Answer.{Answer}
 use Rattle.pd_seg.specs.declared.answers.Answer.TheVariants.{Number, Error}
 use Rattle.pd_seg.specs.declared.answers.Errno.TheVariants.{Eagain, Epipe}
-use Rattle.pd_host.specs.Calls.{Reply, answered, with_listener, with_stored, with_answer, socket_reply, bind_reply, listen_reply, accept_reply, handed_out, no_delay_reply, free_of, with_queued, write_uses, queued, written_on, write_reply, closed_stream, with_fin, closed_on, close_reply, operated, on_open, opened, reply_to, requested, called, is_open, is_pending, is_waiting, is_stream_open, stream_in, stream_of, with_stream, with_nagle}
+use Rattle.pd_host.specs.Calls.{answered, with_listener, with_stored, socket_reply, bind_reply, listen_reply, accept_reply, handed_out, no_delay_reply, free_of, with_queued, write_uses, queued, written_on, write_reply, closed_stream, with_fin, closed_on, close_reply, operated, on_open, opened, requested, called, is_open, is_pending, is_waiting, is_stream_open, stream_in, stream_of, with_stream, with_nagle}
 use Rattle.pd_host.specs.ConnStates.{synchronized, state_since, state_of, state_on, conn_state}
 use Rattle.pd_host.specs.ControlBlock.{ControlBlock, peer_fin_in}
 use Rattle.pd_host.specs.Expiries.{block_expired, expired, advanced}
 use Rattle.pd_host.specs.Figure.{MovesByCall}
-use Rattle.pd_host.specs.Invariants.{IsEnding, IsReached, IsLawful}
+use Rattle.pd_host.specs.Invariants.{IsReached, IsLawful}
 use Rattle.pd_host.specs.Requests.{request_of}
 use Rattle.pd_host.specs.Sending.{ordinary_outside_recovery, places_left}
 use Rattle.pd_host.specs.declared.conn_states.ConnState.{ConnState}
@@ -35,9 +35,9 @@ use Rattle.pd_host.proofs.Advances.{expiry_finds, expiry_sends}
 use Rattle.pd_host.proofs.Boards.{sure}
 use Rattle.pd_host.proofs.CallsBehind.{Replies, reply_leaves, either_reply, queued_sends, outside_sends}
 use Rattle.pd_host.proofs.CallsKept.{connected}
-use Rattle.pd_host.proofs.Faces.{Face, peer_of, face, faces, since, since_of, named, state_named, same_state, sent_faces}
+use Rattle.pd_host.proofs.Faces.{peer_of, face, faces, since, state_named, same_state, sent_faces}
 use Rattle.pd_host.proofs.Kept.{by_test}
-use Rattle.pd_host.proofs.Outcomes.{Leaves, came, leaves_too, either, kept}
+use Rattle.pd_host.proofs.Outcomes.{came, leaves_too, either, kept}
 use Rattle.pd_host.proofs.Reached.{at_some}
 use Rattle.pd_host.proofs.SentOn.{IsSentOn}
 

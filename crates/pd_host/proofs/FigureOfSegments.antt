@@ -1,23 +1,22 @@
 -- A segment moves the state along one edge, or along two.
-use Rattle.std.proofs.Common.{◌≡◌, ◌⊎◌, inl, inr, ℕ, ◌≤◌, ◌==◌, ◌&&◌, ◌||◌, nat_lt, nat_le, not, length, Bool, true, false, if◌then◌else◌, List, Option, None, Some, Result, Ok, Err, refl, sym, ap, subst, ◌∙◌, arith}
+use Rattle.std.proofs.Common.{◌≡◌, ◌⊎◌, inl, inr, ℕ, ◌≤◌, ◌==◌, ◌&&◌, ◌||◌, nat_lt, nat_le, not, length, Bool, true, false, if◌then◌else◌, List, Option, None, Some, Ok, Err, refl, sym, ap, subst, ◌∙◌, arith}
 use Rattle.std.specs.Prelude.{is_some}
 use Rattle.std.proofs.lemmas.Bool.Decides.{nat_tests}
 use Rattle.pd_settings.specs.declared.fields.Settings.{Settings}
 use Rattle.pd_seg.specs.declared.segments.Segment.{Segment}
 use Rattle.pd_seg.specs.declared.segments.Sent.{Sent}
 use Rattle.pd_host.specs.Acknowledgments.{taking, taken}
-use Rattle.pd_host.specs.Arrivals.{is_in_window, is_awaited, is_next_fin, is_stray_fin, ruling_of, reset_of, ruled, goes_on, with_peer_fin, finished_by, passed_on, arrived_on, arrived}
+use Rattle.pd_host.specs.Arrivals.{is_in_window, is_awaited, is_stray_fin, ruling_of, ruled, goes_on, with_peer_fin, finished_by, passed_on, arrived_on, arrived}
 use Rattle.pd_host.specs.Calls.{stream_in}
-use Rattle.pd_host.specs.ConnStates.{synchronized, state_since, state_of, state_on, conn_state, is_closed}
+use Rattle.pd_host.specs.ConnStates.{state_since, state_of, state_on, conn_state, is_closed}
 use Rattle.pd_host.specs.ControlBlock.{ControlBlock, peer_fin_in, rcv_nxt}
 use Rattle.pd_host.specs.Figure.{MovesBySegment}
-use Rattle.pd_host.specs.Handshake.{is_listening, is_syn_alone, length_of, offered_mss, is_mss_run, is_opening, begun, answered_syn, syn_uses, established_by, syn_acked}
+use Rattle.pd_host.specs.Handshake.{is_listening, length_of, is_opening, begun, answered_syn, syn_uses, established_by, syn_acked}
 use Rattle.pd_host.specs.Invariants.{IsReached, IsLawful}
 use Rattle.pd_host.specs.Sender.{beside, with_outbox}
 use Rattle.pd_host.specs.Sending.{with_block}
 use Rattle.pd_host.specs.declared.conn_states.ConnState.{ConnState}
 use Rattle.pd_host.specs.declared.conn_states.ConnState.TheVariants.{Closed, Listen, SynReceived, Established as Stands, CloseWait}
-use Rattle.pd_host.specs.declared.endpoint.Endpoint.{Endpoint}
 use Rattle.pd_host.specs.declared.established.Established.{Established}
 use Rattle.pd_host.specs.declared.halts.Halt.TheVariants.{Limit, Unsupported}
 use Rattle.pd_host.specs.declared.listeners.Listener.{Listener}
@@ -27,12 +26,12 @@ use Rattle.pd_host.specs.declared.rulings.Ruling.{Ruling}
 use Rattle.pd_host.specs.declared.rulings.Ruling.TheVariants.{NotRun, StrayRst, OutsideWindow, ExactRst, ChallengedRst, WithoutAck, FirstAck, RefusedAck, EarlyAck, OldAck}
 use Rattle.pd_host.specs.declared.sender_state.State.{State}
 use Rattle.pd_host.specs.declared.streams.Stream.TheVariants as stream
-use Rattle.pd_host.proofs.AckedBelow.{first_of_two, second_of_two}
+use Rattle.pd_host.proofs.AckedBelow.{first_of_two}
 use Rattle.pd_host.proofs.Boards.{sure}
 use Rattle.pd_host.proofs.ExactRst.{at_rcv_nxt}
-use Rattle.pd_host.proofs.Faces.{Face, peer_of, face, faces, since, since_of, named, state_named, state_at, sent_faces, face_with, is_all_acked, taking_face, noted, finished, finished_face}
-use Rattle.pd_host.proofs.Finishes.{after_fin, finished_where}
-use Rattle.pd_host.proofs.Outcomes.{Leaves, came, leaves_too, either, then_leaves}
+use Rattle.pd_host.proofs.Faces.{Face, peer_of, face, faces, since, named, state_named, state_at, sent_faces, face_with, is_all_acked, taking_face, noted, finished, finished_face}
+use Rattle.pd_host.proofs.Finishes.{finished_where}
+use Rattle.pd_host.proofs.Outcomes.{Leaves, came, leaves_too, then_leaves}
 use Rattle.pd_host.proofs.Passed.{checks, open_live, passes, first_comes}
 use Rattle.pd_host.proofs.Reached.{at_some}
 use Rattle.pd_host.proofs.SentOn.{IsSentOn}

@@ -1,5 +1,5 @@
 -- What holds of an arrival behind the peer's FIN.
-use Rattle.std.proofs.Common.{◌≡◌, ℕ, ◌&&◌, nat_lt, length, Bool, true, false, if◌then◌else◌, List, [], ◌∷◌, ◌++◌, Option, None, Some, Result, Ok, Err, refl}
+use Rattle.std.proofs.Common.{◌≡◌, ℕ, ◌&&◌, nat_lt, length, Bool, true, false, if◌then◌else◌, [], ◌∷◌, ◌++◌, Option, None, Some, Result, Ok, Err, refl}
 use Rattle.pd_seg.specs.declared.segments.Segment.{Segment}
 use Rattle.pd_host.specs.Arrivals.{ruled, goes_on, with_connection, with_peer_fin, finished_on, finished_by, passed_on}
 use Rattle.pd_host.specs.ControlBlock.{ControlBlock}

@@ -3,9 +3,8 @@ use Rattle.std.proofs.Common.{◌≡◌, refl, ℕ, ◌≤◌, ◌&&◌, Bool, t
 use Rattle.std.specs.Prelude.{is_some, IfNone}
 use Rattle.std.proofs.lemmas.Bool.Decides.{nat_tests}
 use Rattle.pd_seg.specs.declared.segments.Segment.{Segment}
-use Rattle.pd_host.specs.Arrivals.{first_ruling, ruling_of, check_contents, is_in_window}
+use Rattle.pd_host.specs.Arrivals.{first_ruling, ruling_of, is_in_window}
 use Rattle.pd_host.specs.ControlBlock.{ControlBlock}
-use Rattle.pd_host.specs.declared.rulings.Ruling.{Ruling}
 use Rattle.pd_host.specs.declared.rulings.Ruling.TheVariants.{NotRun, StrayRst, OutsideWindow, ExactRst, ChallengedRst, WithoutAck, FirstAck, RefusedAck, EarlyAck, OldAck}
 
 -- the checks that rule so

@@ -58,3 +58,4 @@ pub mod Taken
 pub mod Timely
 pub mod Told
 pub mod Within
+pub mod Noted

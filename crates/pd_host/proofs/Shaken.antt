@@ -87,7 +87,7 @@ module _ (b : Settings) (now : ℕ) where
           phase = omega arith;
           fin = (λ queued. ap stream_in (sym is) ∙ h.fin.0 queued, λ no. absurd cc);
           bounds = record {
-            windows = windows.first b.initial_ssthresh c.board.smss c.resent h.board.smss_high b.initial_ssthresh_in_range.1;
+            windows = windows.first b.initial_window b.initial_ssthresh c.board.smss c.resent h.board.smss_high b.initial_ssthresh_in_range.1;
             widest = omega arith;
             recovery_point = omega arith;
             high_rxt = omega arith;

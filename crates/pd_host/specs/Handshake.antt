@@ -158,8 +158,8 @@ abbrev pub with_window : ℕ → Segment → Established → Established
 with_window window segment e = record e { rwnd = window; wl1 = segment.start; wl2 = segment.ack }
 
 -- what a connection has from the end of its handshake on: the window, Nagle's algorithm and the clock's granularity as the
--- settings say, the initial congestion window (RFC 5681, section 3.1), a descriptor that `accept` has still to hand out, and
--- the peer's FIN still to come
+-- settings say, the initial congestion window (RFC 5681, section 3.1; RFC 6928, section 2), a descriptor that `accept` has
+-- still to hand out, and the peer's FIN still to come
 abbrev pub established_with : Settings → Segment → ControlBlock → Established
 established_with settings segment c = record {
   rwnd = window_in c segment;
@@ -167,7 +167,7 @@ established_with settings segment c = record {
   wl2 = segment.ack;
   nagle = settings.nagle;
   granularity_us = settings.granularity_us;
-  congestion = congestion.begun settings.initial_ssthresh c.board.smss c.resent;
+  congestion = congestion.begun settings.initial_window settings.initial_ssthresh c.board.smss c.resent;
   stream = Waiting;
   peer_fin = Awaited;
 }
@@ -186,4 +186,4 @@ established_by now settings segment c = record (with_timer_settled (with_sample 
 
 -- the settings that the establishment consults
 abbrev pub establishment_uses : UseSet → UseSet
-establishment_uses uses = record uses { nagle = true; initial_ssthresh = true; granularity_us = true }
+establishment_uses uses = record uses { nagle = true; initial_ssthresh = true; initial_window = true; granularity_us = true }

@@ -1,7 +1,7 @@
 -- What holds of every arrival, call and expiry, whatever the checks and their order.
 use Rattle.std.specs.Prelude.{◌≡◌, ℕ, true, false, List, ◌++◌, Some, Ok}
 use Rattle.std.specs.List.{AllByRecursion}
-use Rattle.pd_settings.specs.Uses.{Agree}
+use Rattle.pd_settings.specs.Uses.{Agree, Includes}
 use Rattle.pd_settings.specs.declared.fields.Settings.{Settings}
 use Rattle.pd_script.specs.declared.calls.Call.{Call}
 use Rattle.pd_seg.specs.declared.answers.Answer.{Answer}
@@ -12,6 +12,7 @@ use Rattle.pd_host.specs.Calls.{called}
 use Rattle.pd_host.specs.ControlBlock.{ControlBlock, rcv_nxt}
 use Rattle.pd_host.specs.Expiries.{advanced}
 use Rattle.pd_host.specs.Laws.{AreInOrder}
+use Rattle.pd_host.specs.Sender.{Sender}
 use Rattle.pd_host.specs.declared.sender_state.State.{State}
 
 -- a segment with a number outside the receive window leaves the connection as it is (RFC 5961: blind attacks)
@@ -58,6 +59,10 @@ AdvancesPutOutBehind =
 abbrev pub rebound : Settings → State → State
 rebound settings s = record s { settings = settings }
 
+-- the same host with other settings held
+abbrev pub rebound_host : Settings → Sender → Sender
+rebound_host settings host = record host { state = rebound settings host.state }
+
 -- other settings that agree on all that was consulted up to after an arrival give that arrival
 abbrev pub OnlyUsesMatter : Type 0
 OnlyUsesMatter =
@@ -80,3 +85,20 @@ AdvancesUseNone =
     (until : ℕ) (s t : State) (settings : Settings)
     → advanced until s ≡ Ok t
     → advanced until (rebound settings s) ≡ Ok (rebound settings t)
+
+-- settings stay as they are, and what was consulted stays noted
+pub record Notes (s t : State) : Type 0 where
+  pub settings : t.settings ≡ s.settings
+  pub uses : Includes t.uses s.uses
+
+-- so it is in an arrival
+abbrev pub ArrivalsNote : Type 0
+ArrivalsNote = (segment : Segment) (now : ℕ) (s t : State) → arrived segment now s ≡ Ok t → Notes s t
+
+-- in a call
+abbrev pub CallsNote : Type 0
+CallsNote = (call : Call) (now : ℕ) (s t : State) (answer : Answer) → called call now s ≡ Ok (t, answer) → Notes s t
+
+-- and in expiries
+abbrev pub AdvancesNote : Type 0
+AdvancesNote = (until : ℕ) (s t : State) → advanced until s ≡ Ok t → Notes s t

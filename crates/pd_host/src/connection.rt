@@ -1,12 +1,13 @@
 //! A connection: what was agreed, the numbers that it sends by, and how far it has come.
-ghost use Rattle.std.specs.Prelude.{◌≡◌, ◌+◌, ◌≤◌, ◌<◌, ◌^◌, true, is_some};
+ghost use Rattle.std.specs.Prelude.{◌≡◌, ◌+◌, ◌≤◌, ◌<◌, ◌^◌, true, is_some, max, Some};
 ghost use Rattle.pd_host.specs.Arrivals.{reset_of, with_peer_fin};
 ghost use Rattle.pd_host.specs.Calls.{stream_of, with_stream, with_nagle, free_of, with_queued, with_fin};
 ghost use Rattle.pd_host.specs.ControlBlock.{IsScalable, peer_fin_in, rcv_nxt};
-ghost use Rattle.pd_host.specs.Handshake.{offered_mss, is_mss_run, smss_of, scaling_of, begun, window_in, established_by};
+ghost use Rattle.pd_host.specs.Handshake.{offered_mss, is_mss_run, smss_of, scaling_of, begun, window_in, syn_acked, established_with, established_by};
 ghost use Rattle.pd_host.specs.Sending.{is_recovering};
 ghost use Rattle.pd_host.specs.declared.streams.Stream.TheVariants.{Open as StreamOpen, Closed as StreamClosed};
 ghost use Rattle.pd_host.specs.Packets.{peer_count};
+ghost use Rattle.pd_host.specs.Timing.{with_sample, with_timer_settled};
 
 mod acknowledgments;
 mod checks;
@@ -136,13 +137,44 @@ impl Connection {
         requires sent { 1 ≤ self.old.board.top }
         ensures { self.new ≡ established_by now settings.now segment.now self.old }
     {
-        let window = self.window_in(segment);
+        let established = self.established_with(settings, segment);
+        let widest = self.widest_with(established.rwnd);
+        self.take_syn_ack(settings.granularity_us, now);
+        self.finish_handshake(widest, established);
+    }
+
+    /// The largest window seen, with this one, in octets.
+    fn widest_with(&self, window: u32) -> u32
+        ensures { result ≡ max self.now.widest window }
+    {
+        self.widest.max(window)
+    }
+
+    /// Our SYN is acknowledged at a moment.
+    fn take_syn_ack(&mut self, granularity_us: u64, now: u64)
+        requires early { now < 2 ^ 62 }
+        requires begun { self.old.board.una ≤ 1 }
+        requires sent { 1 ≤ self.old.board.top }
+        ensures { self.new ≡ with_timer_settled (with_sample now granularity_us 1 (syn_acked self.old)) }
+    {
         self.board.take_ack(1);
-        self.sample(now, settings.granularity_us, 1);
+        self.sample(now, granularity_us, 1);
         self.settle_timer();
-        self.widest = self.widest.max(window);
-        self.established = Some(Established {
-            rwnd: window,
+    }
+
+    fn finish_handshake(&mut self, widest: u32, established: Established)
+        ensures { self.new ≡ record self.old { widest = widest; established = Some established } }
+    {
+        self.widest = widest;
+        self.established = Some(established);
+    }
+
+    /// What the connection has once this segment has finished the handshake.
+    fn established_with(&self, settings: &Settings, segment: &Segment) -> Established
+        ensures { result ≡ established_with settings.now segment.now self.now }
+    {
+        Established {
+            rwnd: self.window_in(segment),
             wl1: segment.start,
             wl2: segment.ack,
             nagle: settings.nagle,
@@ -150,7 +182,7 @@ impl Connection {
             congestion: Cong::new(settings, self.board.smss(), self.resent),
             stream: Stream::Waiting,
             peer_fin: PeerFin::Awaited,
-        });
+        }
     }
 
     /// The window that a segment tells, in octets.

@@ -5,6 +5,7 @@ ghost use Rattle.pd_host.specs.Calls.{called};
 ghost use Rattle.pd_host.specs.ConnStates.{conn_state};
 ghost use Rattle.pd_host.specs.Outcome.{Goes, Answers};
 ghost use Rattle.pd_host.specs.Expiries.{advanced, deadline_of};
+ghost use Rattle.pd_host.specs.InputLaws.{rebound_host};
 ghost use Rattle.pd_host.specs.Sender.{IsShort, fresh, without_oldest, exhausted, end_of};
 ghost use Rattle.pd_host.specs.declared.halts.Ending.TheVariants.{OutOfMemory};
 
@@ -133,6 +134,30 @@ impl Host {
         ensures rest { self.new ≡ without_oldest self.old }
     {
         self.state.endpoint.outbox.take()
+    }
+
+    /// The settings that it is under.
+    pub fn settings(&self) -> &Settings
+        ensures { result.now ≡ self.now.state.settings }
+    {
+        &self.state.settings
+    }
+
+    /// Which of them were consulted so far.
+    pub fn uses(&self) -> UseSet
+        ensures { result ≡ self.now.state.uses }
+    {
+        self.state.uses
+    }
+
+    /// Puts the host under other settings. Where they agree with the former on all that was consulted, it is what it would
+    /// be had it been under them from the beginning.
+    ///
+    /// Takes no memory.
+    pub fn rebind(&mut self, settings: &Settings)
+        ensures { self.new ≡ rebound_host settings.now self.old }
+    {
+        self.state.settings = *settings;
     }
 
     /// Why the host has ended, if it has.

@@ -3,7 +3,7 @@ ghost use Rattle.pd_host.specs.Growth.{ExpiriesQueueNothing, ArrivalsQueueOurSyn
 ghost use Rattle.pd_host.specs.Figure.{FollowsFigure};
 ghost use Rattle.pd_host.specs.Laws.{StartsUpToDate, AdvancesKeepUp, ArrivalsKeepUp, CallsKeepUp, TakingKeepsUp};
 ghost use Rattle.pd_host.specs.Invariants.{StartsLawful, AdvancesStayLawful, ArrivalsStayLawful, CallsStayLawful, TakingStaysLawful, BoardsAreScoreboards, CallsStayInRange, EndsForGood};
-ghost use Rattle.pd_host.specs.InputLaws.{OutsideIsHarmless, OnlyAnExactRstResets, PutsOutBehind, OnlyUsesMatter, CallsPutOutBehind, CallsOnlyUse, AdvancesPutOutBehind, AdvancesUseNone};
+ghost use Rattle.pd_host.specs.InputLaws.{OutsideIsHarmless, OnlyAnExactRstResets, PutsOutBehind, OnlyUsesMatter, CallsPutOutBehind, CallsOnlyUse, AdvancesPutOutBehind, AdvancesUseNone, ArrivalsNote, CallsNote, AdvancesNote};
 ghost use Rattle.pd_host.specs.SendingLaws.{ControlsFlow, StaysInWindow, ControlsCongestion, KeepsToWindow, SendsAllThatMay, TimesOnce, MeasuresWhatIsSentOnce, EndsWithFin, SparesWhatArrived, EndsRecovery};
 
 use pd_recover::recovery_is_lawful;
@@ -15,18 +15,21 @@ pub fn arrivals_are_lawful()
     ensures resets { OnlyAnExactRstResets }
     ensures packets { PutsOutBehind }
     ensures settings { OnlyUsesMatter }
+    ensures uses { ArrivalsNote }
 {}
 
 /// What holds of every call, whatever it asks.
 pub fn calls_are_lawful()
     ensures packets { CallsPutOutBehind }
     ensures settings { CallsOnlyUse }
+    ensures uses { CallsNote }
 {}
 
 /// What holds of all expiries up to a moment.
 pub fn advances_are_lawful()
     ensures packets { AdvancesPutOutBehind }
     ensures settings { AdvancesUseNone }
+    ensures uses { AdvancesNote }
 {}
 
 /// What holds of all that is sent, whatever came in.

@@ -27,6 +27,7 @@ pub fn with_establishment(uses: UseSet) -> UseSet
     UseSet {
         nagle: true,
         initial_ssthresh: true,
+        initial_window: true,
         granularity_us: true,
         ..uses
     }

@@ -4,8 +4,10 @@ use Rattle.pd_recover.specs.declared.feedback.Ack.{Ack}
 use Rattle.pd_recover.specs.declared.feedback.News.{News}
 use Rattle.pd_recover.specs.declared.responses.Then.{Then}
 use Rattle.pd_seg.specs.declared.sack_blocks.Span.{Span}
+use Rattle.pd_settings.specs.declared.initial_window.InitialWindow.{InitialWindow}
+use Rattle.pd_settings.specs.declared.initial_window.InitialWindow.TheVariants.{Rfc5681, Rfc6928}
 use Rattle.pd_recover.specs.Acks.{acked, renewed, told, told_by_sack, told_by_number, selective_duplicate, plain_duplicate, sent_limited, counted, grown_by, advanced, entered, recovered, retransmitted, new_segment, is_duplicate}
-use Rattle.pd_recover.specs.Congestion.{Congestion, first_segments, widened, growth}
+use Rattle.pd_recover.specs.Congestion.{Congestion, first_segments, window_by, first_window, widened, growth}
 use Rattle.pd_recover.specs.Laws.{IsWithin, StaysWithin}
 
 -- what holds of both branches holds of the choice
@@ -26,14 +28,22 @@ half_to flight smss small few = omega arith
 half_initial : (initial flight smss : ℕ) → min (2 * smss) initial ≤ half flight smss
 half_initial initial flight smss = omega arith
 
-first_window : (smss : ℕ) (resent : Bool) → smss ≤ 65495 → (smss ≤ first_segments smss resent * smss) × (first_segments smss resent * smss ≤ 2 ^ 30)
-first_window smss true small = (omega arith, omega arith)
-first_window smss false small = first (nat_lt 2190 smss) (nat_lt 1095 smss)
+-- a window lies between one segment and 2^30
+abbrev IsInRange : ℕ → ℕ → Type 0
+IsInRange smss window = (smss ≤ window) × (window ≤ 2 ^ 30)
+
+in_range : (rule : InitialWindow) (smss : ℕ) → smss ≤ 65495 → IsInRange smss (window_by rule smss)
+in_range Rfc6928 smss small = (omega arith, omega (arith, small))
+in_range Rfc5681 smss small = first (nat_lt 2190 smss) (nat_lt 1095 smss)
   where
     first : (a b : Bool) → (smss ≤ (if a then 2 else if b then 3 else 4) * smss) × ((if a then 2 else if b then 3 else 4) * smss ≤ 2 ^ 30)
     first true b = (omega arith, omega arith)
     first false true = (omega arith, omega arith)
     first false false = (omega arith, omega arith)
+
+first_in_range : (rule : InitialWindow) (smss : ℕ) (resent : Bool) → smss ≤ 65495 → IsInRange smss (first_window rule smss resent)
+first_in_range rule smss true small = (omega arith, omega (arith, small))
+first_in_range rule smss false small = in_range rule smss small
 
 module _ (initial smss : ℕ) (small : smss ≤ 65495) where
   widened-within : (octets : ℕ) (w : Congestion) → IsWithin smss initial w → IsWithin smss initial (widened octets w)
@@ -166,9 +176,9 @@ after_expiry initial smss flight w false small few h =
 
 pub stays_within : StaysWithin
 stays_within = record {
-  first = λ initial smss resent small high. record {
-    cwnd_from = (first_window smss resent small).0;
-    cwnd_to = (first_window smss resent small).1;
+  first = λ rule initial smss resent small high. record {
+    cwnd_from = (first_in_range rule smss resent small).0;
+    cwnd_to = (first_in_range rule smss resent small).1;
     ssthresh_from = omega arith;
     ssthresh_to = high;
     recovering = λ e. cc;

@@ -1,5 +1,7 @@
 -- The congestion window (RFC 5681), and what loss recovery keeps (RFC 6675). All sizes are in octets.
 use Rattle.std.specs.Prelude.{ℕ, ◌+◌, ◌-◌, ◌*◌, ◌/◌, ◌^◌, ◌≤◌, nat_lt, min, max, Bool, true, false, if◌then◌else◌}
+use Rattle.pd_settings.specs.declared.initial_window.InitialWindow.{InitialWindow}
+use Rattle.pd_settings.specs.declared.initial_window.InitialWindow.TheVariants.{Rfc5681, Rfc6928}
 
 pub record Congestion : Type 0 where
   -- the congestion window and the slow start threshold
@@ -31,18 +33,27 @@ pub record IsRanged (cwnd ssthresh dup_acks limited : ℕ) : Type 0 where
 abbrev pub IsCongestion : Congestion → Type 0
 IsCongestion w = IsRanged w.cwnd w.ssthresh w.dup_acks w.limited
 
--- how many segments the initial window holds (RFC 5681, section 3.1)
-abbrev pub first_segments : ℕ → Bool → ℕ
-first_segments smss resent =
-    if resent then 1
-    else if nat_lt 2190 smss then 2
+-- how many segments the initial window of RFC 5681 holds (section 3.1)
+abbrev pub first_segments : ℕ → ℕ
+first_segments smss =
+    if nat_lt 2190 smss then 2
     else if nat_lt 1095 smss then 3
     else 4
 
--- the state at establishment; whether the SYN/ACK was sent again counts (RFC 5681, section 3.1)
-abbrev pub begun : ℕ → ℕ → Bool → Congestion
-begun initial_ssthresh smss resent = record {
-  cwnd = first_segments smss resent * smss;
+-- the initial window by the rule of the settings (RFC 5681, section 3.1; RFC 6928, section 2)
+abbrev pub window_by : InitialWindow → ℕ → ℕ
+window_by Rfc5681 smss = first_segments smss * smss
+window_by Rfc6928 smss = min (10 * smss) (max (2 * smss) 14600)
+
+-- the same, or one segment where the SYN/ACK was sent again (RFC 5681, section 3.1)
+abbrev pub first_window : InitialWindow → ℕ → Bool → ℕ
+first_window rule smss resent = if resent then smss else window_by rule smss
+
+-- the state at establishment, by the settings' rule for the initial window and their first threshold; whether the SYN/ACK
+-- was sent again counts
+abbrev pub begun : InitialWindow → ℕ → ℕ → Bool → Congestion
+begun rule initial_ssthresh smss resent = record {
+  cwnd = first_window rule smss resent;
   ssthresh = initial_ssthresh;
   dup_acks = 0;
   limited = 0;

@@ -1,6 +1,7 @@
 -- What holds of every state that the rules reach.
 use Rattle.std.specs.Prelude.{◌≡◌, ◌≢◌, ◌↔◌, Some, ℕ, ◌+◌, ◌-◌, ◌*◌, ◌^◌, ◌<◌, ◌≤◌, min, Bool, true, false, None, IsSome}
 use Rattle.pd_seg.specs.declared.sack_blocks.Span.{Span}
+use Rattle.pd_settings.specs.declared.initial_window.InitialWindow.{InitialWindow}
 use Rattle.pd_board.specs.Choice.{run_at}
 use Rattle.pd_board.specs.Octets.{contains}
 use Rattle.pd_board.specs.Scoreboard.{Scoreboard, IsScoreboard}
@@ -23,9 +24,9 @@ pub record IsWithin (smss initial_ssthresh : ℕ) (w : Congestion) : Type 0 wher
 -- the window and the threshold stay there where at most 2^20 octets are queued, beside the FIN (RFC 5681, section 3.1)
 pub record StaysWithin : Type 0 where
   pub first :
-      (initial_ssthresh smss : ℕ) (resent : Bool)
+      (rule : InitialWindow) (initial_ssthresh smss : ℕ) (resent : Bool)
       → smss ≤ 65495 → initial_ssthresh ≤ 2 ^ 30
-      → IsWithin smss initial_ssthresh (begun initial_ssthresh smss resent)
+      → IsWithin smss initial_ssthresh (begun rule initial_ssthresh smss resent)
   pub ack :
       (initial_ssthresh : ℕ) (ack : Ack) (w : Congestion)
       → ack.smss ≤ 65495 → ack.top - ack.una ≤ 2 ^ 20 + 1

@@ -1,11 +1,11 @@
 //! The congestion window and what loss recovery keeps.
 ghost use Rattle.std.specs.Prelude.{◌≡◌, ◌<◌, ◌≤◌, ◌^◌};
-ghost use Rattle.pd_recover.specs.Congestion.{IsCongestion, first_segments, begun, timed_out, entered_to, with_limited};
+ghost use Rattle.pd_recover.specs.Congestion.{IsCongestion, first_segments, window_by, first_window, begun, timed_out, entered_to, with_limited};
 
 mod acks;
 mod choice;
 
-use pd_settings::Settings;
+use pd_settings::{InitialWindow, Settings};
 use std::alloc::AllocError;
 use std::marker::Model;
 
@@ -47,13 +47,14 @@ impl Clone for Cong {
 
 impl Copy for Cong {}
 
-/// How many segments the initial window holds, at this SMSS in octets (RFC 5681, section 3.1).
-fn first_segments(smss: u16, resent: bool) -> u32
-    ensures { result ≡ first_segments smss resent }
+/// The octets from which on RFC 6928's initial window is less than ten segments (section 2).
+const MOST_FIRST: u32 = 14_600;
+
+/// How many segments the initial window of RFC 5681 holds, at this SMSS in octets (section 3.1).
+fn first_segments(smss: u16) -> u32
+    ensures { result ≡ first_segments smss }
 {
-    if resent {
-        1
-    } else if smss > 2_190 {
+    if smss > 2_190 {
         2
     } else if smss > 1_095 {
         3
@@ -62,18 +63,41 @@ fn first_segments(smss: u16, resent: bool) -> u32
     }
 }
 
+/// The initial window by a rule, in octets as SMSS is.
+fn window_by(rule: InitialWindow, smss: u16) -> u32
+    ensures { result ≡ window_by rule smss }
+{
+    let segment = u32::from(smss);
+    match rule {
+        InitialWindow::Rfc5681 => first_segments(smss) * segment,
+        InitialWindow::Rfc6928 => (10 * segment).min((2 * segment).max(MOST_FIRST)),
+    }
+}
+
+/// The same, or one segment where the SYN/ACK was sent again.
+fn first_window(rule: InitialWindow, smss: u16, resent: bool) -> u32
+    ensures { result ≡ first_window rule smss resent }
+{
+    if resent {
+        u32::from(smss)
+    } else {
+        window_by(rule, smss)
+    }
+}
+
 impl Cong {
-    /// The state at establishment: the initial window (RFC 5681, section 3.1), one segment where the SYN/ACK was
-    /// sent again. SMSS is in octets. Of the settings it looks at `initial_ssthresh` alone.
+    /// The state at establishment: the initial window (RFC 5681, section 3.1; RFC 6928, section 2), one segment where
+    /// the SYN/ACK was sent again. SMSS is in octets. Of the settings it looks at `initial_window` and
+    /// `initial_ssthresh` alone.
     pub fn new(settings: &Settings, smss: u16, resent: bool) -> Cong
         requires from { 64 ≤ smss }
         requires to { smss ≤ 65495 }
-        ensures value { result ≡ begun settings.now.initial_ssthresh smss resent }
+        ensures value { result ≡ begun settings.now.initial_window settings.now.initial_ssthresh smss resent }
         ensures known { IsCongestion result }
     {
         let _ranges = *settings;
         Cong {
-            cwnd: first_segments(smss, resent) * u32::from(smss),
+            cwnd: first_window(settings.initial_window, smss, resent),
             ssthresh: settings.initial_ssthresh,
             dup_acks: 0,
             limited: 0,

@@ -29,7 +29,7 @@ use Rattle.pd_run.specs.Inbound.{segment_in}
 use Rattle.pd_run.specs.Laws.{SenderIsLawful}
 use Rattle.pd_run.specs.Limits.{is_long, written_times, written_until, is_action_over, is_over_limit}
 use Rattle.pd_run.specs.Shapes.{is_run}
-use Rattle.pd_run.specs.Step.{Running, IsUpToDate, on_step, judged, with_state, acts_at, acted, arrives, on_arrival, answers, on_answer, on_expiry, expires, awaited, taken, performed, step}
+use Rattle.pd_run.specs.Step.{Running, IsUpToDate, tolerance_of, noted, on_step, judged, with_state, acts_at, acted, arrives, on_arrival, answers, on_answer, on_expiry, expires, awaited, taken, performed, step}
 use Rattle.pd_run.specs.Times.{is_single, moment_of, moments_of, is_backwards, is_in_reach, base_after}
 use Rattle.pd_run.specs.declared.verdicts.Verdict.{Verdict}
 use Rattle.pd_run.specs.declared.verdicts.Verdict.TheVariants.{Fail, Unsupported, Limit}
@@ -182,7 +182,7 @@ taken_within : SenderIsLawful → (n : ℕ) (r s : Running) (e : Event) (p : Pac
 taken_within laws n r s e p None is within moment h = absurd cc
 taken_within laws n r s e p (Some sent) is within moment h =
     let next : Running = record r { host = without_oldest r.host; base = base_after r.base e.time sent.at } in
-    let same : next ≡ s = agreed e.line next s (mismatch p (moments_of r.base e.time) sent r.tolerance) h in
+    let same : next ≡ s = agreed e.line next s (mismatch p (moments_of r.base e.time) sent (tolerance_of r)) h in
     let clock : r.clock ≤ n = within.clock in
     let left : sent.at ≤ r.clock = oldest r.clock r.host.state.endpoint.outbox sent within.up_to.packets is in
     subst (IsWithin n) same (record {
@@ -222,7 +222,7 @@ expires_within : SenderIsLawful → (n : ℕ) (r s : Running) (e : Event) (o : O
 expires_within laws n r s e None is_due within h = absurd cc
 expires_within laws n r s e (Some at) is_due within h =
     expired laws n at r s e (advanced at r.host.state) refl is_due within
-    (in_reach (is_in_reach (moments_of r.base e.time) r.tolerance at) e.line (on_expiry r e at (advanced at r.host.state)) s h)
+    (in_reach (is_in_reach (moments_of r.base e.time) (tolerance_of r) at) e.line (on_expiry r e at (advanced at r.host.state)) s h)
 
 later : (n : ℕ) (r : Running) → IsWithin n r → IsWithin (n + 3600000000) r
 later n r within =
@@ -248,7 +248,9 @@ leaves_within laws n r s e p (Err v) is within moment h = absurd cc
 performed_within : SenderIsLawful → (n : ℕ) (r s : Running) (e : Event) (action : Action)
     → IsWithin n r → moment_of r.base e.time ≤ n + 3600000000 → performed r e action ≡ Ok s → IsWithin (n + 3600000000) s
 performed_within laws n r s e (Inbound p) within moment h = arrival_within laws n r s e p (arrives r e p) refl within moment h
-performed_within laws n r s e (Outbound p) within moment h = leaves_within laws n r s e p (awaited r e) refl within moment h
+performed_within laws n r s e (Outbound p) within moment h =
+    leaves_within laws n (noted r) s e p (awaited (noted r) e) refl
+    (record { live = within.live; clock = within.clock; base = within.base; up_to = within.up_to }) moment h
 performed_within laws n r s e (Calls call) within moment h = answer_within laws n r s e call (answers r e call) refl within moment h
 performed_within laws n r s e Command within moment h = absurd cc
 performed_within laws n r s e Code within moment h = absurd cc

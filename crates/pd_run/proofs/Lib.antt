@@ -1,5 +1,6 @@
 -- Lemmas on runs.
 pub mod Bounds
+pub mod Consulted
 pub mod HeaderItems
 pub mod Passed
 pub mod Queued

@@ -28,7 +28,7 @@ use Rattle.pd_match.specs.Packets.{mismatch}
 use Rattle.pd_run.specs.Inbound.{segment_in}
 use Rattle.pd_run.specs.Laws.{SenderIsLawful}
 use Rattle.pd_run.specs.Limits.{is_write, is_count_over, is_action_over}
-use Rattle.pd_run.specs.Step.{Running, on_step, with_state, acts_at, acted, arrives, on_arrival, answers, on_answer, on_expiry, expires, awaited, taken, performed, step}
+use Rattle.pd_run.specs.Step.{Running, tolerance_of, noted, on_step, with_state, acts_at, acted, arrives, on_arrival, answers, on_answer, on_expiry, expires, awaited, taken, performed, step}
 use Rattle.pd_run.specs.Times.{moments_of, base_after, is_in_reach}
 use Rattle.pd_run.specs.declared.verdicts.Verdict.{Verdict}
 use Rattle.pd_run.proofs.Bounds.{given, agreed, both, action_within, in_reach, step_performs, step_unlimited}
@@ -139,7 +139,7 @@ after_taking : (r s : Running) (e : Event) (p : Packet) (first : Option Sent) �
 after_taking r s e p None h = absurd cc
 after_taking r s e p (Some sent) h =
     let next : Running = record r { host = without_oldest r.host; base = base_after r.base e.time sent.at } in
-    ap end_of (sym (agreed e.line next s (mismatch p (moments_of r.base e.time) sent r.tolerance) h))
+    ap end_of (sym (agreed e.line next s (mismatch p (moments_of r.base e.time) sent (tolerance_of r)) h))
 
 after_expiry : SenderIsLawful → (r s : Running) (e : Event) (at : ℕ) (came : Result State Halt) → advanced at r.host.state ≡ came
     → on_expiry r e at came ≡ Ok s → end_of s ≡ end_of r
@@ -151,7 +151,7 @@ after_due : SenderIsLawful → (r s : Running) (e : Event) (o : Option ℕ) → 
 after_due laws r s e None h = absurd cc
 after_due laws r s e (Some at) h =
     after_expiry laws r s e at (advanced at r.host.state) refl
-    (in_reach (is_in_reach (moments_of r.base e.time) r.tolerance at) e.line (on_expiry r e at (advanced at r.host.state)) s h)
+    (in_reach (is_in_reach (moments_of r.base e.time) (tolerance_of r) at) e.line (on_expiry r e at (advanced at r.host.state)) s h)
 
 after_wait : SenderIsLawful → (r s : Running) (e : Event) (empty : Bool) → (if empty then expires r e (deadline_of r.host.state) else Ok r) ≡ Ok s
     → end_of s ≡ end_of r
@@ -170,7 +170,7 @@ after_leaving laws r s e p (Err v) is h = absurd cc
 after_action : SenderIsLawful → (r s : Running) (e : Event) (action : Action) → is_action_over action ≡ false → performed r e action ≡ Ok s
     → end_of s ≤ end_of r + 262144
 after_action laws r s e (Inbound p) within h = after_arrival laws r s e p (arrives r e p) refl h
-after_action laws r s e (Outbound p) within h = after_leaving laws r s e p (awaited r e) refl h
+after_action laws r s e (Outbound p) within h = after_leaving laws (noted r) s e p (awaited (noted r) e) refl h
 after_action laws r s e (Calls call) within h = after_call laws r s e call (answers r e call) refl within h
 after_action laws r s e Command within h = absurd cc
 after_action laws r s e Code within h = absurd cc

@@ -16,7 +16,7 @@ use Rattle.pd_host.specs.declared.sender_state.State.{State}
 use Rattle.pd_match.specs.Agreement.{Agrees, IsResult}
 use Rattle.pd_match.specs.Packets.{compared}
 use Rattle.pd_run.specs.Run.{start_of}
-use Rattle.pd_run.specs.Step.{Running, answers, awaited, step}
+use Rattle.pd_run.specs.Step.{Running, tolerance_of, noted, answers, awaited, step}
 use Rattle.pd_run.specs.Times.{moments_of}
 
 -- what runs rest on: the sender stays up to date, and no input queues more than it names
@@ -38,9 +38,9 @@ PassedPacketsAgree =
     → step r e ≡ Ok s
     → (t : Running)
     × (sent : Sent)
-    × (awaited r e ≡ Ok t)
+    × (awaited (noted r) e ≡ Ok t)
     × (slice_get t.host.state.endpoint.outbox 0 ≡ Some sent)
-    × AllByRecursion (Agrees p (moments_of t.base e.time) sent t.tolerance) compared
+    × AllByRecursion (Agrees p (moments_of t.base e.time) sent (tolerance_of t)) compared
 
 -- where a call passes, the sender answered the written result
 abbrev pub PassedCallsAnswer : Type 0
@@ -52,7 +52,7 @@ PassedCallsAnswer =
 
 -- no event changes the tolerance
 abbrev pub ToleranceStays : Type 0
-ToleranceStays = (r s : Running) (e : Event) → step r e ≡ Ok s → s.tolerance ≡ r.tolerance
+ToleranceStays = (r s : Running) (e : Event) → step r e ≡ Ok s → tolerance_of s ≡ tolerance_of r
 
 -- a run that goes on, after n events: its sender hasn't ended and is up to date, the clock and the base lie at most 3,600
 -- seconds an event after the start, and at most 262,144 octets an event were queued

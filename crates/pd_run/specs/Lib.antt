@@ -9,3 +9,4 @@ pub mod Shapes
 pub mod Step
 pub mod Run
 pub mod Laws
+pub mod Consulted

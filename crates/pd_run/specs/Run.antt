@@ -1,5 +1,5 @@
 -- A run of a script, its verdict, and the states on its way.
-use Rattle.std.specs.Prelude.{ℕ, ◌+◌, Option, Some, None, is_none, unwrap_or, List, [], ◌∷◌, find, Result, Ok, Err}
+use Rattle.std.specs.Prelude.{ℕ, ◌+◌, false, Option, Some, None, is_none, List, [], ◌∷◌, find, Result, Ok, Err}
 use Rattle.std.specs.List.{filter_map, last_or}
 use Rattle.pd_settings.specs.declared.fields.Settings.{Settings}
 use Rattle.pd_script.specs.Script.{script_of}
@@ -21,8 +21,8 @@ tolerance_written _ = None
 abbrev pub tolerance_in : HeaderItem → Option ℕ
 tolerance_in item = tolerance_written item.kind
 
--- the state before the first event: a fresh host, and the last tolerance of the header, else the setting's. The first
--- header item that is no valid tolerance isn't run
+-- the state before the first event: a fresh host, and the last tolerance of the header. The first header item that is no
+-- valid tolerance isn't run
 abbrev pub start_of : List HeaderItem → Settings → Result Running Verdict
 start_of header settings = started (find (λ item. is_none (tolerance_in item)) header)
   where
@@ -32,7 +32,8 @@ start_of header settings = started (find (λ item. is_none (tolerance_in item)) 
       host = fresh settings;
       clock = 0;
       base = 0;
-      tolerance = unwrap_or (last_or None (filter_map tolerance_in header)) settings.tolerance_us;
+      written = last_or None (filter_map tolerance_in header);
+      compared = false;
     })
 
 -- the states after one, two, .. events, up to the stop

@@ -1,5 +1,5 @@
 -- One event of a run: its checks in order, and what it does.
-use Rattle.std.specs.Prelude.{◌≡◌, ℕ, ◌==◌, max, not, length, slice_get, Option, Some, None, Result, Ok, Err, alloc_error, if◌then◌else◌}
+use Rattle.std.specs.Prelude.{◌≡◌, ℕ, ◌==◌, max, Bool, not, ◌||◌, length, slice_get, Option, Some, None, is_none, unwrap_or, Result, Ok, Err, alloc_error, if◌then◌else◌}
 use Rattle.std.specs.declared.alloc.AllocError.{AllocError}
 use Rattle.pd_script.specs.declared.calls.Call.{Call}
 use Rattle.pd_script.specs.declared.packets.Packet.{Packet}
@@ -31,13 +31,22 @@ use Rattle.pd_run.specs.declared.stepping.StepEnd.TheVariants.{Go, Stop}
 use Rattle.pd_run.specs.declared.verdicts.Verdict.{Verdict}
 use Rattle.pd_run.specs.declared.verdicts.Verdict.TheVariants.{Fail, Unsupported, Limit}
 
--- what a run holds between two events: the sender, and in microseconds the clock, the base of relative times and the
--- tolerance
+-- what a run holds between two events: the sender, in microseconds the clock, the base of relative times and the tolerance
+-- that the header sets, if it does, and whether a packet was expected without one
 pub record Running : Type 0 where
   pub host : Sender
   pub clock : ℕ
   pub base : ℕ
-  pub tolerance : ℕ
+  pub written : Option ℕ
+  pub compared : Bool
+
+-- the tolerance in microseconds: the header's, else the setting's
+abbrev pub tolerance_of : Running → ℕ
+tolerance_of r = unwrap_or r.written r.host.state.settings.tolerance_us
+
+-- a packet is expected: without a header's tolerance that consults the setting's
+abbrev pub noted : Running → Running
+noted r = record r { compared = r.compared || is_none r.written }
 
 -- the sender of a run that goes on is up to date at the run's clock
 abbrev pub IsUpToDate : Sender → ℕ → Type 0
@@ -101,7 +110,7 @@ on_expiry r e at (Err h) = Err (verdict_by e.line h)
 abbrev pub expires : Running → Event → Option ℕ → Result Running Verdict
 expires r e None = Err (Fail e.line Missing)
 expires r e (Some at) =
-    if is_in_reach (moments_of r.base e.time) r.tolerance at
+    if is_in_reach (moments_of r.base e.time) (tolerance_of r) at
     then on_expiry r e at (advanced at r.host.state)
     else Err (Fail e.line Missing)
 
@@ -114,7 +123,7 @@ abbrev pub taken : Event → Packet → Running → Option Sent → Result Runni
 taken e p r None = Err (Fail e.line Missing)
 taken e p r (Some sent) =
     judged e.line (record r { host = without_oldest r.host; base = base_after r.base e.time sent.at })
-    (mismatch p (moments_of r.base e.time) sent r.tolerance)
+    (mismatch p (moments_of r.base e.time) sent (tolerance_of r))
 
 -- a packet is expected to have left
 abbrev pub leaves : Running → Event → Packet → Result Running Verdict
@@ -123,7 +132,7 @@ leaves r e p = on_step (λ s. taken e p s (slice_get s.host.state.endpoint.outbo
 -- what an action of a shape that is run does
 abbrev pub performed : Running → Event → Action → Result Running Verdict
 performed r e (Inbound p) = on_arrival r e (arrives r e p)
-performed r e (Outbound p) = leaves r e p
+performed r e (Outbound p) = leaves (noted r) e p
 performed r e (Calls call) = on_answer r e call (answers r e call)
 performed r e _ = Err (Unsupported e.line)
 

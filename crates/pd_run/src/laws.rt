@@ -1,7 +1,11 @@
 //! Laws of runs: functions whose contracts are the laws; they call those that they rest on.
+ghost use Rattle.pd_run.specs.Consulted.{InputsOnlyUse, StepsNote, StepsOnlyUse, RunsOnlyUse};
 ghost use Rattle.pd_run.specs.Laws.{SenderIsLawful, PassedPacketsAgree, PassedCallsAnswer, ToleranceStays, StartsUnderway, StepsGoOn};
 
-use pd_host::{growth_is_lawful, moments_are_lawful};
+use pd_host::{
+    advances_are_lawful, arrivals_are_lawful, calls_are_lawful, growth_is_lawful,
+    moments_are_lawful,
+};
 use pd_match::comparisons_are_lawful;
 
 /// What runs rest on: what the sender keeps, whatever comes in.
@@ -19,6 +23,7 @@ pub fn steps_are_lawful()
     ensures tolerance { ToleranceStays }
 {
     comparisons_are_lawful();
+    inputs_only_use();
 }
 
 /// How far along a run is after so many events: within the bounds that a step asks for, up to 4,096 of them.
@@ -27,4 +32,22 @@ pub fn runs_are_bounded()
     ensures step { StepsGoOn }
 {
     sender_is_lawful();
+}
+
+/// What runs rest on: that the sender consults no settings but those that it notes.
+pub(crate) fn inputs_only_use()
+    ensures { InputsOnlyUse }
+{
+    arrivals_are_lawful();
+    calls_are_lawful();
+    advances_are_lawful();
+}
+
+/// Only consulted settings matter: to a step, and to the first steps of a text's run.
+pub fn runs_only_use()
+    ensures notes { StepsNote }
+    ensures steps { StepsOnlyUse }
+    ensures runs { RunsOnlyUse }
+{
+    inputs_only_use();
 }

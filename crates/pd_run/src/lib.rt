@@ -12,7 +12,7 @@ mod stepping;
 mod times;
 mod verdicts;
 
-pub use laws::{runs_are_bounded, steps_are_lawful};
+pub use laws::{runs_are_bounded, runs_only_use, steps_are_lawful};
 pub use pd_host::ConnState;
 pub use pd_match::Kind;
 pub use run_state::RunState;

@@ -8,7 +8,8 @@ ghost use Rattle.pd_host.specs.declared.halts.Ending.TheVariants.{OutOfMemory};
 ghost use Rattle.pd_run.specs.Limits.{is_long, written_times, is_packet_over};
 ghost use Rattle.pd_run.specs.Times.{moment_of};
 ghost use Rattle.pd_run.specs.Run.{start_of};
-ghost use Rattle.pd_run.specs.Step.{acts_at, arrives, on_arrival, answers, on_answer, on_expiry, awaited, taken, leaves, Tells, Steps};
+ghost use Rattle.pd_run.specs.Consulted.{uses_of, rebound_run};
+ghost use Rattle.pd_run.specs.Step.{tolerance_of, noted, acts_at, arrives, on_arrival, answers, on_answer, on_expiry, awaited, taken, leaves, Tells, Steps};
 
 use crate::acting::{answer, arrive};
 use crate::laws::sender_is_lawful;
@@ -20,12 +21,12 @@ use crate::verdicts::Verdict;
 use pd_host::{ConnState, Host};
 use pd_match::{Expect, Kind, check_call, check_packet};
 use pd_script::{Action, Call, Event, Header, HeaderKind, Packet, Time};
-use pd_settings::Settings;
+use pd_settings::{Settings, UseSet};
 use std::alloc::{AllocError, Global};
 use std::marker::Model;
 
-/// What a run holds between two events: the host, and in microseconds the clock, the base of relative times and the
-/// tolerance.
+/// What a run holds between two events: the host, in microseconds the clock, the base of relative times and the tolerance
+/// that the header sets, if it does, and whether a packet was expected without one.
 ///
 /// A run that has found no memory answers that to each further step.
 #[derive(Drop)]
@@ -33,7 +34,8 @@ pub struct RunState {
     host: Host,
     clock: u64,
     base: u64,
-    tolerance: u64,
+    written: Option<u64>,
+    compared: bool,
 }
 
 impl Model for RunState {
@@ -41,7 +43,7 @@ impl Model for RunState {
 
     ghost Value = { Running };
 
-    ghost view = { λ r. record { host = r.host; clock = r.clock; base = r.base; tolerance = r.tolerance } };
+    ghost view = { λ r. record { host = r.host; clock = r.clock; base = r.base; written = r.written; compared = r.compared } };
 
     ghost invariant = { λ r. IsUpToDate r.host r.clock };
 }
@@ -54,10 +56,10 @@ impl RunState {
     pub fn new(alloc: Global, header: &Header, settings: &Settings) -> Result<RunState, Verdict>
         ensures { result ≡ start_of header.now.items settings.now }
     {
-        let mut tolerance = settings.tolerance_us;
+        let mut written = None;
         for item in header.as_slice() {
             match item.kind {
-                HeaderKind::Tolerance(microseconds) => tolerance = microseconds,
+                HeaderKind::Tolerance(microseconds) => written = Some(microseconds),
                 _ => return Err(Verdict::Unsupported(item.line)),
             }
         }
@@ -65,7 +67,8 @@ impl RunState {
             host: Host::new(alloc, settings),
             clock: 0,
             base: 0,
-            tolerance,
+            written,
+            compared: false,
         })
     }
 
@@ -82,8 +85,30 @@ impl RunState {
             host: self.host.copy()?,
             clock: self.clock,
             base: self.base,
-            tolerance: self.tolerance,
+            written: self.written,
+            compared: self.compared,
         })
+    }
+
+    /// Which of the settings were consulted so far.
+    pub fn uses(&self) -> UseSet
+        ensures { result ≡ uses_of self.now }
+    {
+        let uses = self.host.uses();
+        UseSet {
+            tolerance_us: uses.tolerance_us || self.compared,
+            ..uses
+        }
+    }
+
+    /// Puts the run under other settings. Where they agree with the former on all that was consulted, it is what it would
+    /// be had it been under them from the beginning.
+    ///
+    /// Takes no memory.
+    pub fn rebind(&mut self, settings: &Settings)
+        ensures { self.new ≡ rebound_run settings.now self.old }
+    {
+        self.host.rebind(settings);
     }
 
     /// The state of the run's sender.
@@ -116,12 +141,29 @@ impl RunState {
         }
         match &event.action {
             Action::Inbound(packet) => self.arrive(event, packet),
-            Action::Outbound(packet) => self.expect(event, packet),
+            Action::Outbound(packet) => {
+                self.note();
+                self.expect(event, packet)
+            }
             Action::Call(call) => self.call(event, call),
             Action::Command | Action::Code => {
                 Ok(StepEnd::Stop(Verdict::Unsupported(event.line)))
             }
         }
+    }
+
+    /// The tolerance, in microseconds.
+    fn tolerance(&self) -> u64
+        ensures { result ≡ tolerance_of self.now }
+    {
+        self.written.unwrap_or(self.host.settings().tolerance_us)
+    }
+
+    /// A packet is expected.
+    fn note(&mut self)
+        ensures { self.new ≡ noted self.old }
+    {
+        self.compared = self.compared || self.written.is_none();
     }
 
     /// The moment at which a packet arrives or a call is made.
@@ -214,7 +256,7 @@ impl RunState {
         }
         let moments = moments_of(self.base, event.time);
         match self.host.deadline() {
-            Some(at) if is_in_reach(moments, self.tolerance, at) => self.expire(event, at),
+            Some(at) if is_in_reach(moments, self.tolerance(), at) => self.expire(event, at),
             _ => Ok(StepEnd::Stop(Verdict::Fail(event.line, Kind::Missing))),
         }
     }
@@ -251,7 +293,7 @@ impl RunState {
             packet,
             moments: moments_of(self.base, event.time),
         };
-        if let Some(kind) = check_packet(&expect, &sent, self.tolerance) {
+        if let Some(kind) = check_packet(&expect, &sent, self.tolerance()) {
             return StepEnd::Stop(Verdict::Fail(event.line, kind));
         }
         self.base = base_after(self.base, event.time, sent.at);

@@ -5,10 +5,11 @@ use mathlib.Core.Logic.{dite}
 use Rattle.pd_settings.specs.declared.domains.Domain.{Domain}
 use Rattle.pd_settings.specs.declared.domains.Domain.TheVariants.{Numbers}
 use Rattle.pd_settings.specs.declared.fields.Settings.{Settings}
+use Rattle.pd_settings.specs.declared.initial_window.InitialWindow.{InitialWindow as Window}
 use Rattle.pd_settings.specs.declared.keys.Key.{Key}
-use Rattle.pd_settings.specs.declared.keys.Key.TheVariants.{Mss, Sack, Wscale, Sndbuf, RcvWnd, InitialSsthresh, MinRtoUs, MaxRtoUs, GranularityUs, Nagle, ToleranceUs}
+use Rattle.pd_settings.specs.declared.keys.Key.TheVariants.{Mss, Sack, Wscale, Sndbuf, RcvWnd, InitialSsthresh, InitialWindow, MinRtoUs, MaxRtoUs, GranularityUs, Nagle, ToleranceUs}
 use Rattle.pd_settings.specs.declared.values.Value.{Value}
-use Rattle.pd_settings.specs.declared.values.Value.TheVariants.{Number, Truth, Other}
+use Rattle.pd_settings.specs.declared.values.Value.TheVariants.{Number, Truth, Word, Other}
 use Rattle.pd_settings.specs.Keys.{Takes, domain_of, decided, taken}
 use Rattle.pd_settings.specs.Settings.{replaced, value_at, ChangesOnly}
 
@@ -21,6 +22,7 @@ numbers_accepted least greatest (Number n) f = go (decided (Numbers least greate
     go (yes h) = (λ _. h, λ _. refl)
     go (no k) = (λ e. absurd cc, λ h. absurd (k h))
 numbers_accepted least greatest (Truth b) f = (λ e. absurd cc, λ h. absurd h)
+numbers_accepted least greatest (Word w) f = (λ e. absurd cc, λ h. absurd h)
 numbers_accepted least greatest Other f = (λ e. absurd cc, λ h. absurd h)
 
 -- a change is accepted exactly where the key takes the value
@@ -36,10 +38,16 @@ replaced_accepted s GranularityUs v = numbers_accepted _ _ v (λ n h. record s {
 replaced_accepted s ToleranceUs v = numbers_accepted _ _ v (λ n h. record s { tolerance_us = n; tolerance_us_in_range = h })
 replaced_accepted s Sack (Truth b) = (λ _. tt, λ _. refl)
 replaced_accepted s Sack (Number n) = (λ e. absurd cc, λ h. absurd h)
+replaced_accepted s Sack (Word w) = (λ e. absurd cc, λ h. absurd h)
 replaced_accepted s Sack Other = (λ e. absurd cc, λ h. absurd h)
 replaced_accepted s Nagle (Truth b) = (λ _. tt, λ _. refl)
 replaced_accepted s Nagle (Number n) = (λ e. absurd cc, λ h. absurd h)
+replaced_accepted s Nagle (Word w) = (λ e. absurd cc, λ h. absurd h)
 replaced_accepted s Nagle Other = (λ e. absurd cc, λ h. absurd h)
+replaced_accepted s InitialWindow (Word w) = (λ _. tt, λ _. refl)
+replaced_accepted s InitialWindow (Number n) = (λ e. absurd cc, λ h. absurd h)
+replaced_accepted s InitialWindow (Truth b) = (λ e. absurd cc, λ h. absurd h)
+replaced_accepted s InitialWindow Other = (λ e. absurd cc, λ h. absurd h)
 
 -- what holds of each number that the domain takes holds of the answer
 if_taken : (d : Domain) (v : Value) (f : (n : ℕ) → Takes d (Number n) → Settings) (P : Settings → Type 0)
@@ -50,6 +58,7 @@ if_taken d (Number n) f P each = go (decided d n)
     go (yes h) = each n h refl
     go (no k) = tt
 if_taken d (Truth b) f P each = tt
+if_taken d (Word w) f P each = tt
 if_taken d Other f P each = tt
 
 besides_mss : (s : Settings) (n : ℕ) (h : Takes (domain_of Mss) (Number n)) (other : Key) → other ≢ Mss
@@ -105,6 +114,11 @@ besides_nagle : (s : Settings) (b : Bool) (other : Key) → other ≢ Nagle → 
 besides_nagle s b Nagle apart = absurd (apart refl)
 besides_nagle s b _ apart = refl
 
+besides_initial_window : (s : Settings) (w : Window) (other : Key) → other ≢ InitialWindow
+    → value_at (record s { initial_window = w }) other ≡ value_at s other
+besides_initial_window s w InitialWindow apart = absurd (apart refl)
+besides_initial_window s w _ apart = refl
+
 -- an accepted change changes that key alone
 pub replaced_changes : (s : Settings) (key : Key) (v : Value) → IfSome (replaced s key v) (ChangesOnly s key v)
 replaced_changes s Mss v =
@@ -136,7 +150,13 @@ replaced_changes s ToleranceUs v =
     (λ n h e. record { at_key = sym e; elsewhere = besides_tolerance_us s n h })
 replaced_changes s Sack (Truth b) = record { at_key = refl; elsewhere = besides_sack s b }
 replaced_changes s Sack (Number n) = tt
+replaced_changes s Sack (Word w) = tt
 replaced_changes s Sack Other = tt
 replaced_changes s Nagle (Truth b) = record { at_key = refl; elsewhere = besides_nagle s b }
 replaced_changes s Nagle (Number n) = tt
+replaced_changes s Nagle (Word w) = tt
 replaced_changes s Nagle Other = tt
+replaced_changes s InitialWindow (Word w) = record { at_key = refl; elsewhere = besides_initial_window s w }
+replaced_changes s InitialWindow (Number n) = tt
+replaced_changes s InitialWindow (Truth b) = tt
+replaced_changes s InitialWindow Other = tt

@@ -5,3 +5,4 @@ pub mod Overlays
 pub mod SameFields
 pub mod Taken
 pub mod ByName
+pub mod Agreements

@@ -4,7 +4,7 @@ use Rattle.std.specs.Prelude.{find}
 use Rattle.std.specs.Str.{bytes_eq}
 use Rattle.std.proofs.lemmas.Slice.Eq.{bytes_eq-Decides}
 use Rattle.pd_settings.specs.declared.keys.Key.{Key}
-use Rattle.pd_settings.specs.declared.keys.Key.TheVariants.{Mss, Sack, Wscale, Sndbuf, RcvWnd, InitialSsthresh, MinRtoUs, MaxRtoUs, GranularityUs, Nagle, ToleranceUs}
+use Rattle.pd_settings.specs.declared.keys.Key.TheVariants.{Mss, Sack, Wscale, Sndbuf, RcvWnd, InitialSsthresh, InitialWindow, MinRtoUs, MaxRtoUs, GranularityUs, Nagle, ToleranceUs}
 use Rattle.pd_settings.specs.Keys.{name_of, all_keys, key_named}
 
 -- what is found passes the test
@@ -26,6 +26,7 @@ named-name_of Wscale = refl
 named-name_of Sndbuf = refl
 named-name_of RcvWnd = refl
 named-name_of InitialSsthresh = refl
+named-name_of InitialWindow = refl
 named-name_of MinRtoUs = refl
 named-name_of MaxRtoUs = refl
 named-name_of GranularityUs = refl

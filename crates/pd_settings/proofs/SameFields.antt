@@ -16,10 +16,10 @@ in_prop : (key : Key) (n : ℕ) → IsProp (In key n)
 in_prop key n = takes_prop (domain_of key) n
 
 pub same_fields : (s t : Settings) → s.mss ≡ t.mss → s.sack ≡ t.sack → s.wscale ≡ t.wscale → s.sndbuf ≡ t.sndbuf
-    → s.rcv_wnd ≡ t.rcv_wnd → s.initial_ssthresh ≡ t.initial_ssthresh → s.min_rto_us ≡ t.min_rto_us
+    → s.rcv_wnd ≡ t.rcv_wnd → s.initial_ssthresh ≡ t.initial_ssthresh → s.initial_window ≡ t.initial_window → s.min_rto_us ≡ t.min_rto_us
     → s.max_rto_us ≡ t.max_rto_us → s.granularity_us ≡ t.granularity_us → s.nagle ≡ t.nagle
     → s.tolerance_us ≡ t.tolerance_us → s ≡ t
-same_fields s t mss sack wscale sndbuf rcv_wnd initial_ssthresh min_rto_us max_rto_us granularity_us nagle tolerance_us =
+same_fields s t mss sack wscale sndbuf rcv_wnd initial_ssthresh initial_window min_rto_us max_rto_us granularity_us nagle tolerance_us =
     λ i. record {
       mss = mss i;
       sack = sack i;
@@ -27,6 +27,7 @@ same_fields s t mss sack wscale sndbuf rcv_wnd initial_ssthresh min_rto_us max_r
       sndbuf = sndbuf i;
       rcv_wnd = rcv_wnd i;
       initial_ssthresh = initial_ssthresh i;
+      initial_window = initial_window i;
       min_rto_us = min_rto_us i;
       max_rto_us = max_rto_us i;
       granularity_us = granularity_us i;

@@ -1,5 +1,6 @@
 -- The definitions that the contracts cite.
 pub mod Faults
+pub mod Words
 pub mod Keys
 pub mod Settings
 pub mod Change

@@ -4,10 +4,11 @@ use Rattle.std.proofs.Common.{lit≤}
 use Rattle.pd_settings.specs.declared.faults.SettingsFault.{SettingsFault}
 use Rattle.pd_settings.specs.declared.faults.SettingsFault.TheVariants.{UnknownKey, BadValue}
 use Rattle.pd_settings.specs.declared.fields.Settings.{Settings}
+use Rattle.pd_settings.specs.declared.initial_window.InitialWindow.TheVariants.{Rfc5681}
 use Rattle.pd_settings.specs.declared.keys.Key.{Key}
-use Rattle.pd_settings.specs.declared.keys.Key.TheVariants.{Mss, Sack, Wscale, Sndbuf, RcvWnd, InitialSsthresh, MinRtoUs, MaxRtoUs, GranularityUs, Nagle, ToleranceUs}
+use Rattle.pd_settings.specs.declared.keys.Key.TheVariants.{Mss, Sack, Wscale, Sndbuf, RcvWnd, InitialSsthresh, InitialWindow, MinRtoUs, MaxRtoUs, GranularityUs, Nagle, ToleranceUs}
 use Rattle.pd_settings.specs.declared.values.Value.{Value}
-use Rattle.pd_settings.specs.declared.values.Value.TheVariants.{Number, Truth}
+use Rattle.pd_settings.specs.declared.values.Value.TheVariants.{Number, Truth, Word}
 use Rattle.pd_settings.specs.Keys.{key_named, domain_of, taken}
 
 -- the settings that nobody changed
@@ -19,6 +20,7 @@ defaults = record {
   sndbuf = 262144;
   rcv_wnd = 65535;
   initial_ssthresh = 1073741824;
+  initial_window = Rfc5681;
   min_rto_us = 1000000;
   max_rto_us = 60000000;
   granularity_us = 1000;
@@ -43,6 +45,7 @@ value_at s Wscale = Number s.wscale
 value_at s Sndbuf = Number s.sndbuf
 value_at s RcvWnd = Number s.rcv_wnd
 value_at s InitialSsthresh = Number s.initial_ssthresh
+value_at s InitialWindow = Word s.initial_window
 value_at s MinRtoUs = Number s.min_rto_us
 value_at s MaxRtoUs = Number s.max_rto_us
 value_at s GranularityUs = Number s.granularity_us
@@ -70,6 +73,7 @@ replaced s ToleranceUs v =
     taken (domain_of ToleranceUs) v (λ n h. record s { tolerance_us = n; tolerance_us_in_range = h })
 replaced s Sack (Truth b) = Some (record s { sack = b })
 replaced s Nagle (Truth b) = Some (record s { nagle = b })
+replaced s InitialWindow (Word w) = Some (record s { initial_window = w })
 replaced s _ _ = None
 
 -- the settings with the key's field replaced by the value: refused where the name was no key's, then where the key

@@ -2,20 +2,23 @@
 use Rattle.std.specs.Prelude.{◌≡◌, ◌⊎◌, ⊤, ℕ, pos, if◌then◌else◌, List, Option, Some, None, unwrap_or, Result, Ok, Err}
 use Rattle.std.specs.Option.{option_or}
 use Rattle.std.specs.Str.{bytes_eq}
-use Rattle.toml.specs.Data.{Data, integer, boolean, Members, no_members, member}
+use Rattle.toml.specs.Data.{Data, string, integer, boolean, Members, no_members, member}
 use Rattle.pd_settings.specs.declared.faults.SettingsFault.{SettingsFault}
 use Rattle.pd_settings.specs.declared.fields.Settings.{Settings}
 use Rattle.pd_settings.specs.declared.keys.Key.{Key}
 use Rattle.pd_settings.specs.declared.values.Value.{Value}
 use Rattle.pd_settings.specs.declared.values.Value.TheVariants.{Number, Truth, Other}
+use Rattle.pd_settings.specs.Words.{word_value}
 use Rattle.pd_settings.specs.Keys.{name_of}
 use Rattle.pd_settings.specs.Change.{IsAccepted, IsRefused}
 use Rattle.pd_settings.specs.Settings.{defaults, value_at, with_value}
 
--- a TOML whole number from 0 on is a number, a TOML truth value is a truth value, and all else is neither
+-- a TOML whole number from 0 on is a number, a TOML truth value is a truth value, a TOML string is a word, and all
+-- else is none of these
 abbrev pub value_of : Data → Value
 value_of (integer (pos n)) = Number n
 value_of (boolean b) = Truth b
+value_of (string word) = word_value word
 value_of _ = Other
 
 -- a refusal stays; accepted settings go on

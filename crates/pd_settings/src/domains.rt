@@ -10,6 +10,8 @@ pub enum Domain {
     Numbers(u64, u64),
     /// The truth values.
     Truths,
+    /// The rules for the initial window.
+    Windows,
 }
 
 impl Domain {
@@ -19,7 +21,7 @@ impl Domain {
     {
         match self {
             Domain::Numbers(least, greatest) => *least <= number && number <= *greatest,
-            Domain::Truths => false,
+            Domain::Truths | Domain::Windows => false,
         }
     }
 }

@@ -2,9 +2,10 @@
 ghost use Rattle.std.specs.Prelude.{◌≡◌, ◌↔◌, IsTrue, IsSome, IfSome, MatchResult};
 ghost use Rattle.pd_settings.specs.Keys.{Takes, domain_of};
 ghost use Rattle.pd_settings.specs.declared.keys.Key.TheVariants.{Mss, Wscale, Sndbuf, RcvWnd, InitialSsthresh, MinRtoUs, MaxRtoUs, GranularityUs, ToleranceUs};
-ghost use Rattle.pd_settings.specs.declared.values.Value.TheVariants.{Number, Truth};
+ghost use Rattle.pd_settings.specs.declared.values.Value.TheVariants.{Number, Truth, Word};
 
 use crate::faults::SettingsFault;
+use crate::initial_window::InitialWindow;
 use crate::keys::Key;
 use crate::values::Value;
 use toml::Table;
@@ -24,6 +25,8 @@ pub struct Settings {
     pub rcv_wnd: u32,
     /// The slow start threshold at establishment, in octets (RFC 5681, section 3.1): 128 to 1,073,741,824.
     pub initial_ssthresh: u32,
+    /// The rule for the congestion window at establishment (RFC 5681, section 3.1; RFC 6928, section 2).
+    pub initial_window: InitialWindow,
     /// The least retransmission timeout, in microseconds (RFC 6298, section 2.4): 1,000 to 60,000,000.
     pub min_rto_us: u64,
     /// The greatest retransmission timeout, in microseconds (RFC 6298, section 2.5): 60,000,000 to
@@ -73,6 +76,7 @@ impl Settings {
             sndbuf: 262_144,
             rcv_wnd: 65_535,
             initial_ssthresh: 1_073_741_824,
+            initial_window: InitialWindow::Rfc5681,
             min_rto_us: 1_000_000,
             max_rto_us: 60_000_000,
             granularity_us: 1_000,
@@ -107,6 +111,7 @@ impl Settings {
                 self.replace_number(key, number)
             }
             Value::Truth(truth) => self.replace_truth(key, truth),
+            Value::Word(window) => self.replace_word(key, window),
             _ => None,
         }
     }
@@ -125,7 +130,7 @@ impl Settings {
             Key::MaxRtoUs => with_field!(self, max_rto_us, number),
             Key::GranularityUs => with_field!(self, granularity_us, number),
             Key::ToleranceUs => with_field!(self, tolerance_us, number),
-            Key::Sack | Key::Nagle => None,
+            Key::Sack | Key::Nagle | Key::InitialWindow => None,
         }
     }
 
@@ -135,6 +140,15 @@ impl Settings {
         match key {
             Key::Sack => with_field!(self, sack, truth),
             Key::Nagle => with_field!(self, nagle, truth),
+            _ => None,
+        }
+    }
+
+    fn replace_word(&self, key: Key, window: InitialWindow) -> Option<Settings>
+        ensures { result ≡ replaced self.now key (Word window) }
+    {
+        match key {
+            Key::InitialWindow => with_field!(self, initial_window, window),
             _ => None,
         }
     }

@@ -13,6 +13,7 @@ pub enum Key {
     Sndbuf,
     RcvWnd,
     InitialSsthresh,
+    InitialWindow,
     MinRtoUs,
     MaxRtoUs,
     GranularityUs,
@@ -22,13 +23,14 @@ pub enum Key {
 
 impl Key {
     /// All settings, in the order of the fields of `Settings`.
-    pub const ALL: [Key; 11] = [
+    pub const ALL: [Key; 12] = [
         Key::Mss,
         Key::Sack,
         Key::Wscale,
         Key::Sndbuf,
         Key::RcvWnd,
         Key::InitialSsthresh,
+        Key::InitialWindow,
         Key::MinRtoUs,
         Key::MaxRtoUs,
         Key::GranularityUs,
@@ -54,6 +56,7 @@ impl Key {
             Key::Sndbuf => b"sndbuf",
             Key::RcvWnd => b"rcv_wnd",
             Key::InitialSsthresh => b"initial_ssthresh",
+            Key::InitialWindow => b"initial_window",
             Key::MinRtoUs => b"min_rto_us",
             Key::MaxRtoUs => b"max_rto_us",
             Key::GranularityUs => b"granularity_us",
@@ -73,6 +76,7 @@ impl Key {
             Key::Sndbuf => Domain::Numbers(1_024, 1_048_576),
             Key::RcvWnd => Domain::Numbers(1, 1_073_725_440),
             Key::InitialSsthresh => Domain::Numbers(128, 1_073_741_824),
+            Key::InitialWindow => Domain::Windows,
             Key::MinRtoUs => Domain::Numbers(1_000, 60_000_000),
             Key::MaxRtoUs => Domain::Numbers(60_000_000, 3_600_000_000),
             Key::GranularityUs => Domain::Numbers(1, 1_000_000),

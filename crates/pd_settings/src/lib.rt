@@ -1,9 +1,11 @@
-//! The settings of a run: eleven fields, each in its range, and how a key and a value change one of them.
+//! The settings of a run: twelve fields, each in its range, and how a key and a value change one of them.
 #![tactic(auto)]
 
+mod agreement;
 mod domains;
 mod faults;
 mod fields;
+mod initial_window;
 mod keys;
 mod use_set;
 mod values;
@@ -11,6 +13,7 @@ mod values;
 pub use domains::Domain;
 pub use faults::SettingsFault;
 pub use fields::Settings;
+pub use initial_window::InitialWindow;
 pub use keys::Key;
 pub use use_set::UseSet;
 pub use values::Value;

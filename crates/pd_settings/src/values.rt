@@ -1,7 +1,10 @@
 //! What a setting can be set to.
 ghost use Rattle.std.specs.Prelude.{◌≡◌};
 ghost use Rattle.pd_settings.specs.Table.{value_of};
+ghost use Rattle.pd_settings.specs.Words.{word_value};
 ghost use Rattle.toml.specs.View.{view};
+
+use crate::initial_window::InitialWindow;
 
 /// A value for a setting, as written.
 #[derive(Clone, Copy, PartialEq, Eq)]
@@ -10,12 +13,24 @@ pub enum Value {
     Number(u64),
     /// `true` or `false`.
     Truth(bool),
+    /// The word of a rule for the initial window.
+    Word(InitialWindow),
     /// Anything else, which each setting refuses.
     Other,
 }
 
 impl Value {
-    /// What a TOML value says: a whole number from 0 on, a truth value, or neither.
+    /// What a word says: the rule that it names, or nothing that a setting takes.
+    pub fn from_word(word: &[u8]) -> Value
+        ensures { result ≡ word_value word.now }
+    {
+        match InitialWindow::named(word) {
+            Some(window) => Value::Word(window),
+            None => Value::Other,
+        }
+    }
+
+    /// What a TOML value says: a whole number from 0 on, a truth value, a word, or none of these.
     pub fn from_toml(value: &toml::Value) -> Value
         ensures { result ≡ value_of (view value.now) }
     {
@@ -25,6 +40,7 @@ impl Value {
                 Err(_) => Value::Other,
             },
             toml::Value::Boolean(truth) => Value::Truth(*truth),
+            toml::Value::String(word) => Value::from_word(word.as_bytes()),
             _ => Value::Other,
         }
     }

@@ -2,6 +2,7 @@
 pub mod Fourths
 pub mod Front
 pub mod Greatest
+pub mod Rebound
 pub mod Resume
 pub mod Served
 pub mod Steps

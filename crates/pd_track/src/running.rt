@@ -12,7 +12,7 @@ use crate::snap::Snap;
 use crate::task::Task;
 use crate::track::Track;
 use pd_reparse::{Decided, Reading, Reread, readings};
-use pd_run::{RunState, Stepper, Verdict};
+use pd_run::{RunState, Stepper, Verdict, runs_only_use};
 use std::alloc::{AllocError, Global};
 
 /// What a run came to, what was read, and the states on its way.
@@ -104,6 +104,7 @@ fn go_on<S: Stepper>(
     ensures few { OnOk result (S.counted stepper.new ≤ S.counted stepper.old + 4096) }
 {
     readings();
+    runs_only_use();
     let mut progress = progress;
     let rest = after(reading.events(), progress.passed);
     let verdict = progress.run(alloc, rest, &job.settings(), stepper)?;

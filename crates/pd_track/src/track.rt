@@ -1,6 +1,7 @@
 //! Tracks: what is kept of a run for a later one.
-ghost use Rattle.std.specs.Prelude.{◌≡◌, ◌+◌, ◌*◌, IfOk, slice_get, option_copied};
+ghost use Rattle.std.specs.Prelude.{◌≡◌, ◌+◌, ◌*◌, IfOk, map, slice_get, option_map, option_copied};
 ghost use Rattle.pd_reparse.specs.Reading.{reading_of};
+ghost use Rattle.pd_run.specs.Consulted.{rebound_run};
 ghost use Rattle.pd_run.specs.Run.{states_of};
 ghost use Rattle.pd_track.specs.Reuse.{fourths};
 
@@ -76,16 +77,17 @@ impl Track {
         self.trail.reading()
     }
 
-    /// The states after 4, 8, 12 .. events that passed.
+    /// The states after 4, 8, 12 .. events that passed, but for the settings held in them.
     pub(crate) fn snaps(&self) -> &[Snap]
-        ensures { result.now ≡ fourths 3 (states_of self.now.text self.now.settings) }
+        ensures { map (rebound_run self.now.settings) result.now ≡ fourths 3 (states_of self.now.text self.now.settings) }
     {
         self.trail.snaps()
     }
 
-    /// The state after 4k + 4 events of the text under the settings, where that many passed.
+    /// The state after 4k + 4 events of the text under the settings, but for the settings held in it, where that many
+    /// passed.
     pub fn snap(&self, k: usize) -> Option<&Snap>
-        ensures { option_copied result ≡ slice_get (states_of self.now.text self.now.settings) (4 * k + 3) }
+        ensures { option_map (rebound_run self.now.settings) (option_copied result) ≡ slice_get (states_of self.now.text self.now.settings) (4 * k + 3) }
     {
         snap_at(self.snaps(), k)
     }

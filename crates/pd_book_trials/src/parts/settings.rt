@@ -2,7 +2,7 @@
 use crate::plain::with;
 use crate::saying::{decimal, joined, owned};
 use crate::stories::{StoryFault, Words};
-use pd_settings::{Key, Settings, SettingsFault, Value};
+use pd_settings::{InitialWindow, Key, Settings, SettingsFault, Value};
 use std::alloc::{AllocError, Global};
 
 /// What a setting is set to.
@@ -17,12 +17,20 @@ fn value_of(alloc: Global, settings: &Settings, key: Key) -> Result<String, Allo
     match key {
         Key::Sack => owned(alloc, truth(settings.sack)),
         Key::Nagle => owned(alloc, truth(settings.nagle)),
+        Key::InitialWindow => owned(alloc, word(settings.initial_window)),
         _ => decimal(alloc, number_of(settings, key)),
     }
 }
 
 fn truth(holds: bool) -> &'static str {
     if holds { "true" } else { "false" }
+}
+
+fn word(window: InitialWindow) -> &'static str {
+    match window {
+        InitialWindow::Rfc5681 => "rfc5681",
+        InitialWindow::Rfc6928 => "rfc6928",
+    }
 }
 
 fn number_of(settings: &Settings, key: Key) -> u64 {
@@ -36,7 +44,7 @@ fn number_of(settings: &Settings, key: Key) -> u64 {
         Key::MaxRtoUs => settings.max_rto_us,
         Key::GranularityUs => settings.granularity_us,
         Key::ToleranceUs => settings.tolerance_us,
-        Key::Sack | Key::Nagle => 0,
+        Key::Sack | Key::Nagle | Key::InitialWindow => 0,
     }
 }
 

@@ -61,7 +61,7 @@ impl<'a> Words<'a> {
             "false" => Value::Truth(false),
             word => match number(word) {
                 Some(number) => Value::Number(number),
-                None => Value::Other,
+                None => Value::from_word(word.as_bytes()),
             },
         }
     }

@@ -3,6 +3,7 @@ use Rattle.pd_host.proofs.Behind.{puts_out_behind}
 use Rattle.pd_host.proofs.Consulted.{only_uses_matter}
 use Rattle.pd_host.proofs.ExactRst.{only_an_exact_rst_resets}
 use Rattle.pd_host.proofs.Harmless.{outside_is_harmless}
+use Rattle.pd_host.proofs.Noted.{arrivals_note}
 use Rattle.pd_host.proofs.laws.arrivals_are_lawful.Goals as goal
 
 pub returns : goal.returns
@@ -11,4 +12,5 @@ returns c = record {
   resets = only_an_exact_rst_resets;
   packets = puts_out_behind;
   settings = only_uses_matter;
+  uses = arrivals_note;
 }

@@ -14,7 +14,7 @@ came g c =
     c.after-rest.ensures.rest
     ∙ (ap (λ ds. drop c.args.progress.passed (events_of ds)) (c.events.ensures.value ∙ ap (λ (r : DecidedScript). r.events) c.requires.reading)
     ∙ ap (λ (p : Parsed). drop c.args.progress.passed p.events) (c.readings.ensures c.args.job.now.task.text)) in
-    whole c.args.job.now c.args.reading c.args.progress.passed c.args.progress.state c.args.progress.snaps.items c.run.new.self.snaps.items
+    whole c.runs_only_use.ensures.notes c.args.job.now c.args.reading c.args.progress.passed c.args.progress.state c.args.progress.snaps.items c.run.new.self.snaps.items
     (events_of c.after-rest.result.now) c.in_ok-verdict.verdict (stepped_from (events_of c.after-rest.result.now) c.args.progress.state)
     c.requires.reading rest c.requires.passed c.requires.resumes c.in_ok-verdict.ensures.verdict c.in_ok-verdict.ensures.snaps refl
 

@@ -7,7 +7,5 @@ use Rattle.pd_run.proofs.run_state.RunState.new.Given as goal
 abbrev pub invariant-loop-item : goal.invariant-loop-item
 invariant-loop-item l = record {
   tested : find (λ item. is_none (tolerance_in item)) (drop l.item-index l.item-items) ≡ find (λ item. is_none (tolerance_in item)) l.item-items;
-  last :
-      unwrap_or (last_or None (filter_map tolerance_in (drop l.item-index l.item-items))) l.tolerance
-      ≡ unwrap_or (last_or None (filter_map tolerance_in l.item-items)) l.settings.tolerance_us;
+  last : last_or l.written (filter_map tolerance_in (drop l.item-index l.item-items)) ≡ last_or None (filter_map tolerance_in l.item-items);
 }

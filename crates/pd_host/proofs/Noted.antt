@@ -1,0 +1,257 @@
+-- Settings stay as they are, and what was consulted stays noted.
+use Rattle.std.proofs.Common.{◌≡◌, ℕ, ◌==◌, min, Bool, not, ◌&&◌, if◌then◌else◌, Option, None, Some, is_some, option_map, Result, Ok, Err, refl, sym, subst, ◌∙◌}
+use Rattle.pd_settings.specs.Uses.{Includes}
+use Rattle.pd_settings.specs.declared.use_set.UseSet.{UseSet}
+use Rattle.pd_seg.specs.declared.answers.Answer.{Answer}
+use Rattle.pd_seg.specs.declared.answers.Answer.TheVariants.{Number, Error}
+use Rattle.pd_seg.specs.declared.answers.Errno.TheVariants.{Eagain, Epipe}
+use Rattle.pd_seg.specs.declared.segments.Segment.{Segment}
+use Rattle.pd_host.specs.Acknowledgments.{taking, taken}
+use Rattle.pd_host.specs.Arrivals.{ruled, arrived_on, arrived, ruling_of, reset_of}
+use Rattle.pd_host.specs.Calls.{Reply, answered, with_listener, with_stored, socket_reply, bind_reply, listen_reply, accept_reply, handed_out, no_delay_reply, free_of, with_queued, write_uses, queued, written_on, write_reply, closed_stream, closed_on, close_reply, operated, on_open, opened, reply_to, requested, called, is_pending, is_waiting, stream_of, with_stream, with_nagle}
+use Rattle.pd_host.specs.ControlBlock.{ControlBlock}
+use Rattle.pd_host.specs.Expiries.{expired, advanced}
+use Rattle.pd_host.specs.Handshake.{is_opening, begun, answered_syn, syn_uses, establishment_uses}
+use Rattle.pd_host.specs.InputLaws.{Notes, ArrivalsNote, CallsNote, AdvancesNote}
+use Rattle.pd_host.specs.Requests.{request_of}
+use Rattle.pd_host.specs.Sender.{beside}
+use Rattle.pd_host.specs.Sending.{ordinary_outside_recovery, places_left, with_block}
+use Rattle.pd_host.specs.declared.descriptors.Descriptor.{Descriptor}
+use Rattle.pd_host.specs.declared.descriptors.Descriptor.TheVariants.{Listening, Connected}
+use Rattle.pd_host.specs.declared.endpoint.Endpoint.{Endpoint}
+use Rattle.pd_host.specs.declared.halts.Halt.{Halt}
+use Rattle.pd_host.specs.declared.halts.Halt.TheVariants.{Unsupported}
+use Rattle.pd_host.specs.declared.listeners.Listener.{Listener}
+use Rattle.pd_host.specs.declared.listeners.Listener.TheVariants.{Absent, Open, Bound, Listens, Closed}
+use Rattle.pd_host.specs.declared.requests.Operation.{Operation}
+use Rattle.pd_host.specs.declared.requests.Operation.TheVariants.{Bind, Listen, Accept, ReuseAddress, NoDelay, SetFlags, Write, Close}
+use Rattle.pd_host.specs.declared.requests.Request.{Request}
+use Rattle.pd_host.specs.declared.requests.Request.TheVariants.{Socket, On}
+use Rattle.pd_host.specs.declared.rulings.Ruling.{Ruling}
+use Rattle.pd_host.specs.declared.rulings.Ruling.TheVariants.{NotRun, StrayRst, OutsideWindow, ExactRst, ChallengedRst, WithoutAck, FirstAck, RefusedAck, EarlyAck, OldAck}
+use Rattle.pd_host.specs.declared.sender_state.State.{State}
+use Rattle.pd_host.specs.declared.streams.Stream.TheVariants as stream
+use Rattle.pd_host.proofs.Advances.{expiry_finds, expiry_sends}
+use Rattle.pd_host.proofs.CallsBehind.{Replies, reply_leaves, either_reply, outside_sends, queued_sends}
+use Rattle.pd_host.proofs.Finishes.{passed_leaves}
+use Rattle.pd_host.proofs.Outcomes.{Leaves, came, leaves_too, either, kept}
+use Rattle.pd_host.proofs.SentOn.{IsSentOn}
+use Rattle.pd_host.proofs.Taken.{taken_sends}
+
+-- What is noted
+
+all_of : (uses : UseSet) → Includes uses uses
+all_of uses = record {
+  mss = λ e. e;
+  sack = λ e. e;
+  wscale = λ e. e;
+  sndbuf = λ e. e;
+  rcv_wnd = λ e. e;
+  initial_ssthresh = λ e. e;
+  initial_window = λ e. e;
+  min_rto_us = λ e. e;
+  max_rto_us = λ e. e;
+  granularity_us = λ e. e;
+  nagle = λ e. e;
+  tolerance_us = λ e. e;
+}
+
+more_by_syn : (uses : UseSet) → Includes (syn_uses uses) uses
+more_by_syn uses = record {
+  mss = λ e. refl;
+  sack = λ e. refl;
+  wscale = λ e. refl;
+  sndbuf = λ e. e;
+  rcv_wnd = λ e. refl;
+  initial_ssthresh = λ e. e;
+  initial_window = λ e. e;
+  min_rto_us = λ e. refl;
+  max_rto_us = λ e. refl;
+  granularity_us = λ e. e;
+  nagle = λ e. e;
+  tolerance_us = λ e. e;
+}
+
+more_by_establishment : (uses : UseSet) → Includes (establishment_uses uses) uses
+more_by_establishment uses = record {
+  mss = λ e. e;
+  sack = λ e. e;
+  wscale = λ e. e;
+  sndbuf = λ e. e;
+  rcv_wnd = λ e. e;
+  initial_ssthresh = λ e. refl;
+  initial_window = λ e. refl;
+  min_rto_us = λ e. e;
+  max_rto_us = λ e. e;
+  granularity_us = λ e. refl;
+  nagle = λ e. refl;
+  tolerance_us = λ e. e;
+}
+
+more_by_write : (uses : UseSet) → Includes (write_uses uses) uses
+more_by_write uses = record {
+  mss = λ e. e;
+  sack = λ e. e;
+  wscale = λ e. e;
+  sndbuf = λ e. refl;
+  rcv_wnd = λ e. e;
+  initial_ssthresh = λ e. e;
+  initial_window = λ e. e;
+  min_rto_us = λ e. e;
+  max_rto_us = λ e. e;
+  granularity_us = λ e. e;
+  nagle = λ e. e;
+  tolerance_us = λ e. e;
+}
+
+same_notes : (s t : State) → t.settings ≡ s.settings → t.uses ≡ s.uses → Notes s t
+same_notes s t settings uses = record {
+  settings = settings;
+  uses = subst (λ (x : UseSet). Includes x s.uses) (sym uses) (all_of s.uses);
+}
+
+-- what was sent on from there changes neither
+sent_notes : (now : ℕ) (s u t : State) → Notes s u → IsSentOn now u t → Notes s t
+sent_notes now s u t h sent = record {
+  settings = sent.settings ∙ h.settings;
+  uses = subst (λ (x : UseSet). Includes x s.uses) (sym sent.uses) h.uses;
+}
+
+-- Arrivals
+
+-- the endpoint's rules leave both
+beside_notes : (s u : State) (r : Result Endpoint Halt) → Notes s u → Leaves (Notes s) (beside u r)
+beside_notes s u (Ok e) h = record { settings = h.settings; uses = h.uses }
+beside_notes s u (Err halt) h = tt
+
+here : (s : State) → Notes s s
+here s = same_notes s s refl refl
+
+by_ruling : (r : Option Ruling) (segment : Segment) (now : ℕ) (s : State) (c : ControlBlock) → Leaves (Notes s) (ruled now segment c s r)
+by_ruling (Some NotRun) segment now s c = tt
+by_ruling (Some StrayRst) segment now s c = here s
+by_ruling (Some OutsideWindow) segment now s c = beside_notes s s _ (here s)
+by_ruling (Some ExactRst) segment now s c = same_notes s (with_block (reset_of c) s) refl refl
+by_ruling (Some ChallengedRst) segment now s c = beside_notes s s _ (here s)
+by_ruling (Some WithoutAck) segment now s c = here s
+by_ruling (Some FirstAck) segment now s c = record { settings = refl; uses = more_by_establishment s.uses }
+by_ruling (Some RefusedAck) segment now s c = beside_notes s s _ (here s)
+by_ruling (Some EarlyAck) segment now s c = beside_notes s s _ (here s)
+by_ruling (Some OldAck) segment now s c = here s
+by_ruling None segment now s c =
+    let left : State = with_block (taking now segment c c.established).0 s in
+    leaves_too (IsSentOn now left) (Notes s) (taken now segment c s c.established)
+    (λ t h. sent_notes now s left t (same_notes s left refl refl) h) (taken_sends now segment c s c.established)
+
+opening : (now : ℕ) (c : ControlBlock) (s : State) → Leaves (Notes s) (answered_syn now c s)
+opening now c s =
+    let noted : State = record s { uses = syn_uses s.uses } in
+    beside_notes s noted _ (record { settings = refl; uses = more_by_syn s.uses })
+
+on_connection : (o : Option ControlBlock) (segment : Segment) (now : ℕ) (s : State) → Leaves (Notes s) (arrived_on now segment s o)
+on_connection None segment now s =
+    either (Notes s) (is_opening s.endpoint.listener segment) (answered_syn now (begun now s.settings segment) s) (Err Unsupported)
+    (opening now (begun now s.settings segment) s) tt
+on_connection (Some c) segment now s =
+    passed_leaves (Notes s) now segment c s (ruling_of c segment) (λ u d e k. record { settings = k.settings; uses = k.uses })
+    (by_ruling (ruling_of c segment) segment now s c)
+
+pub arrivals_note : ArrivalsNote
+arrivals_note segment now s t h = came (Notes s) (arrived segment now s) t h (on_connection s.endpoint.connection segment now s)
+
+-- Calls
+
+socket_notes : (now : ℕ) (s : State) (l : Listener) → Replies (Notes s) (socket_reply s l)
+socket_notes now s Absent = same_notes s (with_listener Open s) refl refl
+socket_notes now s _ = tt
+
+bind_notes : (now : ℕ) (s : State) (l : Listener) (d : Descriptor) → Replies (Notes s) (bind_reply s l d)
+bind_notes now s Open Listening = same_notes s (with_listener Bound s) refl refl
+bind_notes now s _ _ = same_notes s s refl refl
+
+listen_notes : (now : ℕ) (s : State) (l : Listener) (d : Descriptor) → Replies (Notes s) (listen_reply s l d)
+listen_notes now s Bound Listening = same_notes s (with_listener Listens s) refl refl
+listen_notes now s Listens Listening = same_notes s s refl refl
+listen_notes now s _ _ = same_notes s s refl refl
+
+handed_notes : (now : ℕ) (s : State) (c : Option ControlBlock) → Replies (Notes s) (handed_out s c)
+handed_notes now s None = same_notes s s refl refl
+handed_notes now s (Some c) =
+    let handed : State = with_stored (Some (with_stream stream.Open c)) s in
+    either_reply (Notes s) (is_some c.established && is_waiting (stream_of c)) (answered handed (Number 4)) (answered s (Error Eagain))
+    (same_notes s handed refl refl) (same_notes s s refl refl)
+
+accept_notes : (now : ℕ) (s : State) (l : Listener) (d : Descriptor) → Replies (Notes s) (accept_reply s l d)
+accept_notes now s Listens Listening = handed_notes now s s.endpoint.connection
+accept_notes now s _ _ = same_notes s s refl refl
+
+no_delay_notes : (now : ℕ) (s : State) (set : Bool) (d : Descriptor) → Replies (Notes s) (no_delay_reply s set d)
+no_delay_notes now s set Listening = same_notes s s refl refl
+no_delay_notes now s set Connected =
+    same_notes s (with_stored (option_map (with_nagle (not set)) s.endpoint.connection) s) refl refl
+
+written_notes : (now n : ℕ) (s : State) (o : Option ControlBlock) → Replies (Notes s) (written_on now n o s)
+written_notes now n s None = same_notes s s refl refl
+written_notes now n s (Some c) =
+    let noted : State = record s { uses = write_uses s.uses } in
+    let wrote : Notes s noted = record { settings = refl; uses = more_by_write s.uses } in
+    let free : ℕ = free_of s.settings.sndbuf c in
+    let rest : Reply = if n == 0 then answered s (Number 0) else queued now n free c noted in
+    either_reply (Notes s) c.reset (answered s (Error Epipe)) rest (same_notes s s refl refl)
+    (either_reply (Notes s) (n == 0) (answered s (Number 0)) (queued now n free c noted) (same_notes s s refl refl)
+    (queued_sends now n free c noted (Notes s) wrote (λ t h. sent_notes now s (with_stored (Some (with_queued (min n free) c)) noted) t (record { settings = wrote.settings; uses = wrote.uses }) h)))
+
+write_notes : (now : ℕ) (s : State) (n : ℕ) (d : Descriptor) → Replies (Notes s) (write_reply now s n d)
+write_notes now s n Listening = same_notes s s refl refl
+write_notes now s n Connected = written_notes now n s s.endpoint.connection
+
+closed_notes : (now : ℕ) (s : State) (o : Option ControlBlock) → Replies (Notes s) (closed_on now o s)
+closed_notes now s None = same_notes s s refl refl
+closed_notes now s (Some c) =
+    let closed : State = with_stored (Some (closed_stream c)) s in
+    let r : Result State Halt = if c.reset then Ok closed else ordinary_outside_recovery now c closed in
+    reply_leaves (Notes s) (Number 0) r
+    (either (Notes s) c.reset (Ok closed) (ordinary_outside_recovery now c closed) (same_notes s closed refl refl)
+    (leaves_too (IsSentOn now closed) (Notes s) (ordinary_outside_recovery now c closed) (λ t h. sent_notes now s closed t (same_notes s closed refl refl) h) (outside_sends now c closed)))
+
+close_notes : (now : ℕ) (s : State) (d : Descriptor) → Replies (Notes s) (close_reply now s d)
+close_notes now s Listening =
+    either_reply (Notes s) (is_pending s.endpoint.connection) (Err Unsupported) (answered (with_listener Closed s) (Number 0)) tt
+    (same_notes s (with_listener Closed s) refl refl)
+close_notes now s Connected = closed_notes now s s.endpoint.connection
+
+operated_notes : (now : ℕ) (s : State) (d : Descriptor) (o : Operation) → Replies (Notes s) (operated now s d o)
+operated_notes now s d Bind = bind_notes now s s.endpoint.listener d
+operated_notes now s d Listen = listen_notes now s s.endpoint.listener d
+operated_notes now s d Accept = accept_notes now s s.endpoint.listener d
+operated_notes now s d ReuseAddress = same_notes s s refl refl
+operated_notes now s d (NoDelay set) = no_delay_notes now s set d
+operated_notes now s d SetFlags = same_notes s s refl refl
+operated_notes now s d (Write n) = write_notes now s n d
+operated_notes now s d Close = close_notes now s d
+
+open_notes : (now : ℕ) (s : State) (o : Operation) (d : Option Descriptor) → Replies (Notes s) (on_open now s o d)
+open_notes now s o None = same_notes s s refl refl
+open_notes now s o (Some d) = operated_notes now s d o
+
+reply_notes : (now : ℕ) (s : State) (r : Request) → Replies (Notes s) (reply_to now s r)
+reply_notes now s Socket = socket_notes now s s.endpoint.listener
+reply_notes now s (On fd o) = open_notes now s o (opened s.endpoint fd)
+
+requested_notes : (now : ℕ) (s : State) (r : Option Request) → Replies (Notes s) (requested now s r)
+requested_notes now s None = tt
+requested_notes now s (Some r) = reply_notes now s r
+
+pub calls_note : CallsNote
+calls_note call now s t a h = came (λ (x : State × Answer). Notes s x.0) (called call now s) (t, a) h (requested_notes now s (request_of call))
+
+-- Expiries
+
+expired_notes : (at : ℕ) (s t : State) (o : Option ControlBlock) → Notes s t → Notes s (expired at o t)
+expired_notes at s t None h = h
+expired_notes at s t (Some c) h = record { settings = h.settings; uses = h.uses }
+
+pub advances_note : AdvancesNote
+advances_note until s t h =
+    came (Notes s) (advanced until s) t h
+    (kept (Notes s) (expiry_finds until) expiry_sends (λ at u e k. expired_notes at s u u.endpoint.connection k) (places_left s) s (here s))

@@ -1,0 +1,496 @@
+-- Only consulted settings matter to a run.
+use Rattle.std.proofs.Common.{◌≡◌, ℕ, zero, suc, ◌==◌, Bool, true, false, not, ◌||◌, if◌then◌else◌, Option, Some, None, is_none, unwrap_or, List, [], ◌∷◌, length, take, map, slice_get, find, Result, Ok, Err, refl, sym, ap, subst, ◌∙◌}
+use Rattle.pd_settings.specs.Uses.{Agree, Includes}
+use Rattle.pd_settings.specs.declared.fields.Settings.{Settings}
+use Rattle.pd_settings.specs.declared.use_set.UseSet.{UseSet}
+use Rattle.pd_script.specs.Script.{script_of}
+use Rattle.pd_script.specs.declared.calls.Call.{Call}
+use Rattle.pd_script.specs.declared.packets.Packet.{Packet}
+use Rattle.pd_script.specs.declared.parsing.Parsed.{Parsed}
+use Rattle.pd_script.specs.declared.script_events.Action.{Action}
+use Rattle.pd_script.specs.declared.script_events.Action.TheVariants.{Inbound, Outbound, Call as Calls, Command, Code}
+use Rattle.pd_script.specs.declared.script_events.Event.{Event}
+use Rattle.pd_script.specs.declared.script_header.HeaderItem.{HeaderItem}
+use Rattle.pd_seg.specs.declared.answers.Answer.{Answer}
+use Rattle.pd_seg.specs.declared.segments.Sent.{Sent}
+use Rattle.pd_host.specs.Arrivals.{arrived}
+use Rattle.pd_host.specs.Calls.{called}
+use Rattle.pd_host.specs.Expiries.{advanced, deadline_of}
+use Rattle.pd_host.specs.InputLaws.{Notes, rebound}
+use Rattle.pd_host.specs.Sender.{then_on, without_oldest}
+use Rattle.pd_host.specs.declared.halts.Halt.{Halt}
+use Rattle.pd_host.specs.declared.sender_state.State.{State}
+use Rattle.pd_match.specs.Calls.{result_mismatch}
+use Rattle.pd_match.specs.Packets.{mismatch}
+use Rattle.pd_match.specs.declared.kinds.Kind.{Kind}
+use Rattle.pd_run.specs.Consulted.{uses_of, rebound_run, InputsOnlyUse, StepsNote, StepsOnlyUse, RunsOnlyUse}
+use Rattle.pd_run.specs.Inbound.{segment_in}
+use Rattle.pd_run.specs.Laws.{ToleranceStays}
+use Rattle.pd_run.specs.Limits.{is_over_limit}
+use Rattle.pd_run.specs.Run.{start_of, tolerance_in, states_from, states_in}
+use Rattle.pd_run.specs.Shapes.{is_run}
+use Rattle.pd_run.specs.Step.{Running, tolerance_of, noted, on_step, judged, with_state, acts_at, acted, arrives, on_arrival, answers, on_answer, on_expiry, expires, awaited, taken, leaves, performed, step}
+use Rattle.pd_run.specs.Times.{moments_of, base_after, is_backwards, is_in_reach}
+use Rattle.pd_run.specs.declared.verdicts.Verdict.{Verdict}
+use Rattle.pd_run.specs.declared.verdicts.Verdict.TheVariants.{Fail, Unsupported, Limit}
+use Rattle.pd_match.specs.declared.kinds.Kind.TheVariants.{Missing, Backwards}
+use Rattle.pd_run.proofs.Bounds.{given, agreed, both, in_reach, step_performs}
+
+-- Sets of settings
+
+includes_itself : (u : UseSet) → Includes u u
+includes_itself u = record {
+  mss = λ e. e;
+  sack = λ e. e;
+  wscale = λ e. e;
+  sndbuf = λ e. e;
+  rcv_wnd = λ e. e;
+  initial_ssthresh = λ e. e;
+  initial_window = λ e. e;
+  min_rto_us = λ e. e;
+  max_rto_us = λ e. e;
+  granularity_us = λ e. e;
+  nagle = λ e. e;
+  tolerance_us = λ e. e;
+}
+
+includes_too : (u v w : UseSet) → Includes u v → Includes v w → Includes u w
+includes_too u v w a b = record {
+  mss = λ e. a.mss (b.mss e);
+  sack = λ e. a.sack (b.sack e);
+  wscale = λ e. a.wscale (b.wscale e);
+  sndbuf = λ e. a.sndbuf (b.sndbuf e);
+  rcv_wnd = λ e. a.rcv_wnd (b.rcv_wnd e);
+  initial_ssthresh = λ e. a.initial_ssthresh (b.initial_ssthresh e);
+  initial_window = λ e. a.initial_window (b.initial_window e);
+  min_rto_us = λ e. a.min_rto_us (b.min_rto_us e);
+  max_rto_us = λ e. a.max_rto_us (b.max_rto_us e);
+  granularity_us = λ e. a.granularity_us (b.granularity_us e);
+  nagle = λ e. a.nagle (b.nagle e);
+  tolerance_us = λ e. a.tolerance_us (b.tolerance_us e);
+}
+
+agree_on_fewer : (more fewer : UseSet) (a b : Settings) → Includes more fewer → Agree more a b → Agree fewer a b
+agree_on_fewer more fewer a b i h = record {
+  mss = λ e. h.mss (i.mss e);
+  sack = λ e. h.sack (i.sack e);
+  wscale = λ e. h.wscale (i.wscale e);
+  sndbuf = λ e. h.sndbuf (i.sndbuf e);
+  rcv_wnd = λ e. h.rcv_wnd (i.rcv_wnd e);
+  initial_ssthresh = λ e. h.initial_ssthresh (i.initial_ssthresh e);
+  initial_window = λ e. h.initial_window (i.initial_window e);
+  min_rto_us = λ e. h.min_rto_us (i.min_rto_us e);
+  max_rto_us = λ e. h.max_rto_us (i.max_rto_us e);
+  granularity_us = λ e. h.granularity_us (i.granularity_us e);
+  nagle = λ e. h.nagle (i.nagle e);
+  tolerance_us = λ e. h.tolerance_us (i.tolerance_us e);
+}
+
+or_first : (a b : Bool) → a ≡ true → (a || b) ≡ true
+or_first true b h = refl
+or_first false b h = absurd cc
+
+or_last : (a b : Bool) → b ≡ true → (a || b) ≡ true
+or_last true b h = refl
+or_last false b h = h
+
+or_more : (a b c d : Bool) → (a ≡ true → c ≡ true) → (b ≡ true → d ≡ true) → (a || b) ≡ true → (c || d) ≡ true
+or_more true b c d first last h = or_first c d (first refl)
+or_more false b c d first last h = or_last c d (last h)
+
+-- what the sender noted is part of what the run consulted
+host_uses : (r : Running) → Includes (uses_of r) r.host.state.uses
+host_uses r = record {
+  mss = λ e. e;
+  sack = λ e. e;
+  wscale = λ e. e;
+  sndbuf = λ e. e;
+  rcv_wnd = λ e. e;
+  initial_ssthresh = λ e. e;
+  initial_window = λ e. e;
+  min_rto_us = λ e. e;
+  max_rto_us = λ e. e;
+  granularity_us = λ e. e;
+  nagle = λ e. e;
+  tolerance_us = λ e. or_first r.host.state.uses.tolerance_us r.compared e;
+}
+
+-- What a step keeps
+
+-- settings and the header's tolerance stay, and what the sender noted stays noted
+record Keeps (r s : Running) : Type 0 where
+  pub settings : s.host.state.settings ≡ r.host.state.settings
+  pub uses : Includes s.host.state.uses r.host.state.uses
+  pub written : s.written ≡ r.written
+  pub compared : s.compared ≡ r.compared
+
+itself : (r : Running) → Keeps r r
+itself r = record { settings = refl; uses = includes_itself r.host.state.uses; written = refl; compared = refl }
+
+keeps_too : (r s t : Running) → Keeps r s → Keeps s t → Keeps r t
+keeps_too r s t a b = record {
+  settings = b.settings ∙ a.settings;
+  uses = includes_too t.host.state.uses s.host.state.uses r.host.state.uses b.uses a.uses;
+  written = b.written ∙ a.written;
+  compared = b.compared ∙ a.compared;
+}
+
+notes_too : (s u t : State) → Notes s u → Notes u t → Notes s t
+notes_too s u t a b = record { settings = b.settings ∙ a.settings; uses = includes_too t.uses u.uses s.uses b.uses a.uses }
+
+arrival_keeps : InputsOnlyUse → (r s : Running) (e : Event) (p : Packet) (came : Result State Halt) → arrives r e p ≡ came
+    → on_arrival r e came ≡ Ok s → Keeps r s
+arrival_keeps laws r s e p (Ok t) is h =
+    let came = both (arrived (segment_in p) (acts_at r e)) (advanced (acts_at r e) r.host.state) t is in
+    let notes : Notes r.host.state t =
+    notes_too r.host.state came.0 t (laws.advances_note (acts_at r e) r.host.state came.0 came.1) (laws.arrivals_note (segment_in p) (acts_at r e) came.0 t came.2) in
+    subst (Keeps r) (given (acted r e t) s h) (record { settings = notes.settings; uses = notes.uses; written = refl; compared = refl })
+arrival_keeps laws r s e p (Err halt) is h = absurd cc
+
+answer_keeps : InputsOnlyUse → (r s : Running) (e : Event) (call : Call) (came : Result (State × Answer) Halt) → answers r e call ≡ came
+    → on_answer r e call came ≡ Ok s → Keeps r s
+answer_keeps laws r s e call (Ok (t, a)) is h =
+    let came = both (called call (acts_at r e)) (advanced (acts_at r e) r.host.state) (t, a) is in
+    let notes : Notes r.host.state t =
+    notes_too r.host.state came.0 t (laws.advances_note (acts_at r e) r.host.state came.0 came.1) (laws.calls_note call (acts_at r e) came.0 t a came.2) in
+    subst (Keeps r) (agreed e.line (acted r e t) s (result_mismatch call.result a) h)
+    (record { settings = notes.settings; uses = notes.uses; written = refl; compared = refl })
+answer_keeps laws r s e call (Err halt) is h = absurd cc
+
+taken_keeps : (r s : Running) (e : Event) (p : Packet) (first : Option Sent) → taken e p r first ≡ Ok s → Keeps r s
+taken_keeps r s e p None h = absurd cc
+taken_keeps r s e p (Some sent) h =
+    let next : Running = record r { host = without_oldest r.host; base = base_after r.base e.time sent.at } in
+    subst (Keeps r) (agreed e.line next s (mismatch p (moments_of r.base e.time) sent (tolerance_of r)) h)
+    (record { settings = refl; uses = includes_itself r.host.state.uses; written = refl; compared = refl })
+
+expiry_keeps : InputsOnlyUse → (r s : Running) (e : Event) (at : ℕ) (came : Result State Halt) → advanced at r.host.state ≡ came
+    → on_expiry r e at came ≡ Ok s → Keeps r s
+expiry_keeps laws r s e at (Ok t) is h =
+    let notes : Notes r.host.state t = laws.advances_note at r.host.state t is in
+    subst (Keeps r) (given (record (with_state r t) { clock = at }) s h)
+    (record { settings = notes.settings; uses = notes.uses; written = refl; compared = refl })
+expiry_keeps laws r s e at (Err halt) is h = absurd cc
+
+expires_keeps : InputsOnlyUse → (r s : Running) (e : Event) (o : Option ℕ) → expires r e o ≡ Ok s → Keeps r s
+expires_keeps laws r s e None h = absurd cc
+expires_keeps laws r s e (Some at) h =
+    expiry_keeps laws r s e at (advanced at r.host.state) refl
+    (in_reach (is_in_reach (moments_of r.base e.time) (tolerance_of r) at) e.line (on_expiry r e at (advanced at r.host.state)) s h)
+
+awaited_keeps : InputsOnlyUse → (r s : Running) (e : Event) (empty : Bool)
+    → (if empty then expires r e (deadline_of r.host.state) else Ok r) ≡ Ok s → Keeps r s
+awaited_keeps laws r s e true h = expires_keeps laws r s e (deadline_of r.host.state) h
+awaited_keeps laws r s e false h = subst (Keeps r) (given r s h) (itself r)
+
+-- an expected packet is taken after it was awaited
+abbrev take_first : Event → Packet → Running → Result Running Verdict
+take_first e p q = taken e p q (slice_get q.host.state.endpoint.outbox 0)
+
+of_awaited : (e : Event) (p : Packet) (s : Running) (came : Result Running Verdict)
+    → on_step (take_first e p) (λ v. Err v) came ≡ Ok s
+    → (t : Running) × (came ≡ Ok t) × (take_first e p t ≡ Ok s)
+of_awaited e p s (Ok t) h = (t, refl, h)
+of_awaited e p s (Err v) h = absurd cc
+
+leaves_keeps : InputsOnlyUse → (r s : Running) (e : Event) (p : Packet) → leaves r e p ≡ Ok s → Keeps r s
+leaves_keeps laws r s e p h =
+    let came = of_awaited e p s (awaited r e) h in
+    keeps_too r came.0 s (awaited_keeps laws r came.0 e (length r.host.state.endpoint.outbox == 0) came.1)
+    (taken_keeps came.0 s e p (slice_get came.0.host.state.endpoint.outbox 0) came.2)
+
+-- what a step leaves of all that
+record Leaves (r s : Running) : Type 0 where
+  pub settings : s.host.state.settings ≡ r.host.state.settings
+  pub uses : Includes (uses_of s) (uses_of r)
+  pub written : s.written ≡ r.written
+
+leaves_of : (r n s : Running) → n.host ≡ r.host → n.written ≡ r.written → (r.compared ≡ true → n.compared ≡ true) → Keeps n s → Leaves r s
+leaves_of r n s host written more k =
+    let settings : s.host.state.settings ≡ r.host.state.settings = k.settings ∙ ap (λ h. h.state.settings) host in
+    let uses : Includes s.host.state.uses r.host.state.uses = subst (λ h. Includes s.host.state.uses h.state.uses) host k.uses in
+    let compared : s.compared ≡ n.compared = k.compared in
+    record {
+      settings = settings;
+      written = k.written ∙ written;
+      uses = record {
+        mss = uses.mss;
+        sack = uses.sack;
+        wscale = uses.wscale;
+        sndbuf = uses.sndbuf;
+        rcv_wnd = uses.rcv_wnd;
+        initial_ssthresh = uses.initial_ssthresh;
+        initial_window = uses.initial_window;
+        min_rto_us = uses.min_rto_us;
+        max_rto_us = uses.max_rto_us;
+        granularity_us = uses.granularity_us;
+        nagle = uses.nagle;
+        tolerance_us = or_more r.host.state.uses.tolerance_us r.compared s.host.state.uses.tolerance_us s.compared uses.tolerance_us (λ e. compared ∙ more e);
+      };
+    }
+
+performed_leaves : InputsOnlyUse → (r s : Running) (e : Event) (action : Action) → performed r e action ≡ Ok s → Leaves r s
+performed_leaves laws r s e (Inbound p) h = leaves_of r r s refl refl (λ e. e) (arrival_keeps laws r s e p (arrives r e p) refl h)
+performed_leaves laws r s e (Outbound p) h =
+    leaves_of r (noted r) s refl refl (λ e. or_first r.compared (is_none r.written) e) (leaves_keeps laws (noted r) s e p h)
+performed_leaves laws r s e (Calls call) h = leaves_of r r s refl refl (λ e. e) (answer_keeps laws r s e call (answers r e call) refl h)
+performed_leaves laws r s e Command h = absurd cc
+performed_leaves laws r s e Code h = absurd cc
+
+step_leaves : InputsOnlyUse → (r s : Running) (e : Event) → step r e ≡ Ok s → Leaves r s
+step_leaves laws r s e h = performed_leaves laws r s e e.action (step_performs r s e h)
+
+pub steps_note : InputsOnlyUse → StepsNote
+steps_note laws r s e h = let left : Leaves r s = step_leaves laws r s e h in (left.settings, left.uses)
+
+abbrev tolerance_by : Option ℕ → Settings → ℕ
+tolerance_by written settings = unwrap_or written settings.tolerance_us
+
+pub tolerance_stays : InputsOnlyUse → ToleranceStays
+tolerance_stays laws r s e h =
+    let left : Leaves r s = step_leaves laws r s e h in
+    ap (λ (o : Option ℕ). tolerance_by o s.host.state.settings) left.written ∙ ap (tolerance_by r.written) left.settings
+
+-- The same step under other settings
+
+abbrev again : Settings → Running → Result Running Verdict
+again b s = Ok (rebound_run b s)
+
+same_run : (b : Settings) (r s : Running) → r ≡ s → again b r ≡ again b s
+same_run b r s h = ap (again b) h
+
+judged_again : (line : ℕ) (r s : Running) (b : Settings) (kind : Option Kind) → judged line r kind ≡ Ok s
+    → judged line (rebound_run b r) kind ≡ again b s
+judged_again line r s b None h = same_run b r s (given r s h)
+judged_again line r s b (Some kind) h = absurd cc
+
+-- what holds of the settings after a step holds of those before it
+agree_before : (u : UseSet) (x y b : Settings) → x ≡ y → Agree u y b → Agree u x b
+agree_before u x y b same h = subst (λ (z : Settings). Agree u z b) (sym same) h
+
+arrival_again : InputsOnlyUse → (r s : Running) (e : Event) (p : Packet) (b : Settings) (came : Result State Halt) → arrives r e p ≡ came
+    → on_arrival r e came ≡ Ok s → Agree (uses_of s) r.host.state.settings b
+    → on_arrival (rebound_run b r) e (arrives (rebound_run b r) e p) ≡ again b s
+arrival_again laws r s e p b (Ok t) is h agree =
+    let at : ℕ = acts_at r e in
+    let came = both (arrived (segment_in p) at) (advanced at r.host.state) t is in
+    let same : acted r e t ≡ s = given (acted r e t) s h in
+    let after : Agree (uses_of (acted r e t)) r.host.state.settings b = subst (λ (q : Running). Agree (uses_of q) r.host.state.settings b) (sym same) agree in
+    let noted_here : Agree t.uses r.host.state.settings b = agree_on_fewer (uses_of (acted r e t)) t.uses r.host.state.settings b (host_uses (acted r e t)) after in
+    let first : advanced at (rebound b r.host.state) ≡ Ok (rebound b came.0) = laws.advances at r.host.state came.0 b came.1 in
+    let next : arrived (segment_in p) at (rebound b came.0) ≡ Ok (rebound b t) =
+    laws.arrivals (segment_in p) at came.0 t b came.2
+    (agree_before t.uses came.0.settings r.host.state.settings b (laws.advances_note at r.host.state came.0 came.1).settings noted_here) in
+    ap (λ (x : Result State Halt). on_arrival (rebound_run b r) e (then_on (arrived (segment_in p) at) x)) first
+    ∙ ap (on_arrival (rebound_run b r) e) next
+    ∙ same_run b (acted r e t) s same
+arrival_again laws r s e p b (Err halt) is h agree = absurd cc
+
+answer_again : InputsOnlyUse → (r s : Running) (e : Event) (call : Call) (b : Settings) (came : Result (State × Answer) Halt) → answers r e call ≡ came
+    → on_answer r e call came ≡ Ok s → Agree (uses_of s) r.host.state.settings b
+    → on_answer (rebound_run b r) e call (answers (rebound_run b r) e call) ≡ again b s
+answer_again laws r s e call b (Ok (t, a)) is h agree =
+    let at : ℕ = acts_at r e in
+    let came = both (called call at) (advanced at r.host.state) (t, a) is in
+    let same : acted r e t ≡ s = agreed e.line (acted r e t) s (result_mismatch call.result a) h in
+    let after : Agree (uses_of (acted r e t)) r.host.state.settings b = subst (λ (q : Running). Agree (uses_of q) r.host.state.settings b) (sym same) agree in
+    let noted_here : Agree t.uses r.host.state.settings b = agree_on_fewer (uses_of (acted r e t)) t.uses r.host.state.settings b (host_uses (acted r e t)) after in
+    let first : advanced at (rebound b r.host.state) ≡ Ok (rebound b came.0) = laws.advances at r.host.state came.0 b came.1 in
+    let next : called call at (rebound b came.0) ≡ Ok (rebound b t, a) =
+    laws.calls call at came.0 t a b came.2
+    (agree_before t.uses came.0.settings r.host.state.settings b (laws.advances_note at r.host.state came.0 came.1).settings noted_here) in
+    ap (λ (x : Result State Halt). on_answer (rebound_run b r) e call (then_on (called call at) x)) first
+    ∙ ap (on_answer (rebound_run b r) e call) next
+    ∙ judged_again e.line (acted r e t) s b (result_mismatch call.result a) h
+answer_again laws r s e call b (Err halt) is h agree = absurd cc
+
+-- the tolerance is the same
+abbrev SameTolerance : Settings → Running → Type 0
+SameTolerance b r = tolerance_of (rebound_run b r) ≡ tolerance_of r
+
+by_writing : (o : Option ℕ) (x y : ℕ) → (is_none o ≡ true → x ≡ y) → unwrap_or o y ≡ unwrap_or o x
+by_writing None x y h = sym (h refl)
+by_writing (Some t) x y h = refl
+
+-- it stays so where settings and the header's tolerance stay
+same_later : (b : Settings) (r t : Running) → Keeps r t → SameTolerance b r → SameTolerance b t
+same_later b r t k same =
+    ap (λ (o : Option ℕ). tolerance_by o b) k.written
+    ∙ same
+    ∙ sym (ap (λ (o : Option ℕ). tolerance_by o t.host.state.settings) k.written ∙ ap (tolerance_by r.written) k.settings)
+
+taken_again : (r s : Running) (e : Event) (p : Packet) (b : Settings) (first : Option Sent) → SameTolerance b r
+    → taken e p r first ≡ Ok s → taken e p (rebound_run b r) first ≡ again b s
+taken_again r s e p b None same h = absurd cc
+taken_again r s e p b (Some sent) same h =
+    let next : Running = record r { host = without_oldest r.host; base = base_after r.base e.time sent.at } in
+    let moments = moments_of r.base e.time in
+    ap (λ (x : ℕ). judged e.line (rebound_run b next) (mismatch p moments sent x)) same
+    ∙ judged_again e.line next s b (mismatch p moments sent (tolerance_of r)) h
+
+reach_again : (c : Bool) (line : ℕ) (x y : Result Running Verdict) (s u : Running) → (x ≡ Ok s → y ≡ Ok u)
+    → (if c then x else Err (Fail line Missing)) ≡ Ok s → (if c then y else Err (Fail line Missing)) ≡ Ok u
+reach_again true line x y s u more h = more h
+reach_again false line x y s u more h = absurd cc
+
+expiry_again : InputsOnlyUse → (r s : Running) (e : Event) (at : ℕ) (b : Settings) (came : Result State Halt) → advanced at r.host.state ≡ came
+    → on_expiry r e at came ≡ Ok s → on_expiry (rebound_run b r) e at (advanced at (rebound b r.host.state)) ≡ again b s
+expiry_again laws r s e at b (Ok t) is h =
+    ap (on_expiry (rebound_run b r) e at) (laws.advances at r.host.state t b is)
+    ∙ same_run b (record (with_state r t) { clock = at }) s (given (record (with_state r t) { clock = at }) s h)
+expiry_again laws r s e at b (Err halt) is h = absurd cc
+
+expires_again : InputsOnlyUse → (r s : Running) (e : Event) (b : Settings) (o : Option ℕ) → SameTolerance b r
+    → expires r e o ≡ Ok s → expires (rebound_run b r) e o ≡ again b s
+expires_again laws r s e b None same h = absurd cc
+expires_again laws r s e b (Some at) same h =
+    let moments = moments_of r.base e.time in
+    let here : Result Running Verdict = on_expiry r e at (advanced at r.host.state) in
+    let there : Result Running Verdict = on_expiry (rebound_run b r) e at (advanced at (rebound b r.host.state)) in
+    ap (λ (x : ℕ). if is_in_reach moments x at then there else Err (Fail e.line Missing)) same
+    ∙ reach_again (is_in_reach moments (tolerance_of r) at) e.line here there s (rebound_run b s)
+    (λ k. expiry_again laws r s e at b (advanced at r.host.state) refl k) h
+
+awaited_again : InputsOnlyUse → (r s : Running) (e : Event) (b : Settings) (empty : Bool) → SameTolerance b r
+    → (if empty then expires r e (deadline_of r.host.state) else Ok r) ≡ Ok s
+    → (if empty then expires (rebound_run b r) e (deadline_of r.host.state) else Ok (rebound_run b r)) ≡ again b s
+awaited_again laws r s e b true same h = expires_again laws r s e b (deadline_of r.host.state) same h
+awaited_again laws r s e b false same h = same_run b r s (given r s h)
+
+leaves_again : InputsOnlyUse → (r s : Running) (e : Event) (p : Packet) (b : Settings) → SameTolerance b r
+    → leaves r e p ≡ Ok s → leaves (rebound_run b r) e p ≡ again b s
+leaves_again laws r s e p b same h =
+    let came = of_awaited e p s (awaited r e) h in
+    let empty : Bool = length r.host.state.endpoint.outbox == 0 in
+    ap (on_step (take_first e p) (λ v. Err v)) (awaited_again laws r came.0 e b empty same came.1)
+    ∙ taken_again came.0 s e p b (slice_get came.0.host.state.endpoint.outbox 0)
+    (same_later b r came.0 (awaited_keeps laws r came.0 e empty came.1) same) came.2
+
+-- an expected packet consulted the tolerance, unless the header sets it
+consulted : InputsOnlyUse → (r s : Running) (e : Event) (p : Packet) (b : Settings) → leaves (noted r) e p ≡ Ok s
+    → Agree (uses_of s) r.host.state.settings b → SameTolerance b (noted r)
+consulted laws r s e p b h agree =
+    let k : Keeps (noted r) s = leaves_keeps laws (noted r) s e p h in
+    by_writing r.written r.host.state.settings.tolerance_us b.tolerance_us
+    (λ none. agree.tolerance_us (or_last s.host.state.uses.tolerance_us s.compared (k.compared ∙ or_last r.compared (is_none r.written) none)))
+
+performed_again : InputsOnlyUse → (r s : Running) (e : Event) (action : Action) (b : Settings) → performed r e action ≡ Ok s
+    → Agree (uses_of s) r.host.state.settings b → performed (rebound_run b r) e action ≡ again b s
+performed_again laws r s e (Inbound p) b h agree = arrival_again laws r s e p b (arrives r e p) refl h agree
+performed_again laws r s e (Outbound p) b h agree = leaves_again laws (noted r) s e p b (consulted laws r s e p b h agree) h
+performed_again laws r s e (Calls call) b h agree = answer_again laws r s e call b (answers r e call) refl h agree
+performed_again laws r s e Command b h agree = absurd cc
+performed_again laws r s e Code b h agree = absurd cc
+
+-- where a refusal doesn't come first, it doesn't there
+passes_too : (c : Bool) (v : Verdict) (x y : Result Running Verdict) (s u : Running) → (x ≡ Ok s → y ≡ Ok u)
+    → (if c then Err v else x) ≡ Ok s → (if c then Err v else y) ≡ Ok u
+passes_too true v x y s u more h = absurd cc
+passes_too false v x y s u more h = more h
+
+pub steps_only_use : InputsOnlyUse → StepsOnlyUse
+steps_only_use laws r s e b h agree =
+    let u : Running = rebound_run b r in
+    let v : Running = rebound_run b s in
+    let shaped : Running → Result Running Verdict = λ q. if is_backwards r.base e.time then Err (Fail e.line Backwards) else performed q e e.action in
+    let unlimited : Running → Result Running Verdict = λ q. if not (is_run e) then Err (Unsupported e.line) else shaped q in
+    passes_too (is_over_limit e) (Limit e.line) (unlimited r) (unlimited u) s v
+    (passes_too (not (is_run e)) (Unsupported e.line) (shaped r) (shaped u) s v
+    (passes_too (is_backwards r.base e.time) (Fail e.line Backwards) (performed r e e.action) (performed u e e.action) s v
+    (λ k. performed_again laws r s e e.action b k agree)))
+    h
+
+-- Whole runs
+
+abbrev Grows : Running → Running → Type 0
+Grows r s = (s.host.state.settings ≡ r.host.state.settings) × Includes (uses_of s) (uses_of r)
+
+grows_too : (r s t : Running) → Grows r s → Grows s t → Grows r t
+grows_too r s t a b = (b.0 ∙ a.0, includes_too (uses_of t) (uses_of s) (uses_of r) b.1 a.1)
+
+-- the states after a step
+abbrev states_after : List Event → Result Running Verdict → List Running
+states_after es o = on_step (λ t. t ∷ states_from es t) (λ v. []) o
+
+-- each state of a run has consulted what the first has
+states_grow : InputsOnlyUse → (es : List Event) (m : ℕ) (r s : Running) → slice_get (states_from es r) m ≡ Some s → Grows r s
+states_grow laws [] m r s h = absurd cc
+states_grow laws (e ∷ es) m r s h = go (states_grow laws es) m (step r e) refl h
+  where
+    go : ((m : ℕ) (r s : Running) → slice_get (states_from es r) m ≡ Some s → Grows r s)
+        → (m : ℕ) (o : Result Running Verdict) → step r e ≡ o → slice_get (states_after es o) m ≡ Some s → Grows r s
+    go ih zero (Ok t) o h = let same : t ≡ s = cc in subst (Grows r) same (steps_note laws r t e o)
+    go ih (suc m) (Ok t) o h = grows_too r t s (steps_note laws r t e o) (ih m t s h)
+    go ih m (Err v) o h = absurd cc
+
+same_states : InputsOnlyUse → (es : List Event) (m : ℕ) (r s : Running) (b : Settings)
+    → slice_get (states_from es r) m ≡ Some s → Agree (uses_of s) r.host.state.settings b
+    → take (suc m) (states_from es (rebound_run b r)) ≡ map (rebound_run b) (take (suc m) (states_from es r))
+same_states laws [] m r s b h agree = absurd cc
+same_states laws (e ∷ es) m r s b h agree = go (λ k t u. same_states laws es k t u b) m (step r e) refl h
+  where
+    agree_at : (t : Running) → Grows t s → Agree (uses_of t) r.host.state.settings b
+    agree_at t grows = agree_on_fewer (uses_of s) (uses_of t) r.host.state.settings b grows.1 agree
+
+    stepped : (m : ℕ) (t : Running) → step r e ≡ Ok t → Grows t s
+        → take (suc m) (rebound_run b t ∷ states_from es (rebound_run b t)) ≡ map (rebound_run b) (take (suc m) (t ∷ states_from es t))
+        → take (suc m) (states_after es (step (rebound_run b r) e)) ≡ map (rebound_run b) (take (suc m) (t ∷ states_from es t))
+    stepped m t o grows rest =
+        ap (λ (x : Result Running Verdict). take (suc m) (states_after es x)) (steps_only_use laws r t e b o (agree_at t grows)) ∙ rest
+
+    go : ((k : ℕ) (t u : Running) → slice_get (states_from es t) k ≡ Some u → Agree (uses_of u) t.host.state.settings b
+        → take (suc k) (states_from es (rebound_run b t)) ≡ map (rebound_run b) (take (suc k) (states_from es t)))
+        → (m : ℕ) (o : Result Running Verdict) → step r e ≡ o → slice_get (states_after es o) m ≡ Some s
+        → take (suc m) (states_after es (step (rebound_run b r) e)) ≡ map (rebound_run b) (take (suc m) (states_after es o))
+    go ih zero (Ok t) o h =
+        let same : t ≡ s = cc in
+        stepped zero t o (subst (Grows t) same (refl, includes_itself (uses_of t))) refl
+    go ih (suc m) (Ok t) o h =
+        let note = steps_note laws r t e o in
+        stepped (suc m) t o (states_grow laws es m t s h)
+        (ap (λ (w : List Running). rebound_run b t ∷ w)
+        (ih m t s h (subst (λ (x : Settings). Agree (uses_of s) x b) (sym note.0) agree)))
+    go ih m (Err v) o h = absurd cc
+
+-- a text's run begins the same, but for the settings held
+pub start_again : (header : List HeaderItem) (a b : Settings) (r : Running) → start_of header a ≡ Ok r
+    → (start_of header b ≡ Ok (rebound_run b r)) × (r.host.state.settings ≡ a)
+start_again header a b r h = go (find (λ (item : HeaderItem). is_none (tolerance_in item)) header) refl
+  where
+    go : (o : Option HeaderItem) → find (λ (item : HeaderItem). is_none (tolerance_in item)) header ≡ o
+        → (start_of header b ≡ Ok (rebound_run b r)) × (r.host.state.settings ≡ a)
+    go None is =
+        let begun = given _ r (rw is at h) in
+        (rw is (same_run b _ r begun), ap (λ (q : Running). q.host.state.settings) (sym begun))
+    go (Some item) is = absurd (let refused = rw is at h in cc)
+
+-- a run with a state on its way has begun
+has_begun : (settings : Settings) (p : Parsed) (n : ℕ) (s : Running) → slice_get (states_in settings p) n ≡ Some s
+    → (p.fault ≡ None) × (r : Running) × (start_of p.header.items settings ≡ Ok r)
+has_begun settings p n s h = by_fault p.fault refl
+  where
+    by_start : p.fault ≡ None → (o : Result Running Verdict) → start_of p.header.items settings ≡ o
+        → (p.fault ≡ None) × (r : Running) × (start_of p.header.items settings ≡ Ok r)
+    by_start none (Ok r) is = (none, r, is)
+    by_start none (Err v) is = absurd (let nothing = rw (none, is) at h in cc)
+
+    by_fault : (o : Option ℕ) → p.fault ≡ o → (p.fault ≡ None) × (r : Running) × (start_of p.header.items settings ≡ Ok r)
+    by_fault None is = by_start is (start_of p.header.items settings) refl
+    by_fault (Some line) is = absurd (let nothing = rw is at h in cc)
+
+states_begun : (settings : Settings) (p : Parsed) (r : Running) → p.fault ≡ None → start_of p.header.items settings ≡ Ok r
+    → states_in settings p ≡ states_from p.events r
+states_begun settings p r fault start = rw (fault, start) refl
+
+pub runs_only_use : InputsOnlyUse → RunsOnlyUse
+runs_only_use laws text a b n s h agree =
+    let p : Parsed = script_of text in
+    let begun = has_begun a p n s h in
+    let r : Running = begun.1 in
+    let other = start_again p.header.items a b r begun.2 in
+    let here : states_in a p ≡ states_from p.events r = states_begun a p r begun.0 begun.2 in
+    let there : states_in b p ≡ states_from p.events (rebound_run b r) = states_begun b p (rebound_run b r) begun.0 other.0 in
+    let found : slice_get (states_from p.events r) n ≡ Some s = ap (λ (l : List Running). slice_get l n) (sym here) ∙ h in
+    ap (take (suc n)) there
+    ∙ same_states laws p.events n r s b found (subst (λ (x : Settings). Agree (uses_of s) x b) (sym other.1) agree)
+    ∙ sym (ap (λ (l : List Running). map (rebound_run b) (take (suc n) l)) here)
