@@ -1,5 +1,5 @@
 -- What each rule keeps of a connection, arrivals keep.
-use Rattle.std.proofs.Common.{◌≡◌, ℕ, ◌&&◌, nat_lt, length, Bool, true, false, if◌then◌else◌, List, Option, Some, None, Result, Ok, Err, refl}
+use Rattle.std.proofs.Common.{◌≡◌, ℕ, ◌&&◌, nat_lt, length, Bool, true, false, if◌then◌else◌, List, Option, Some, None, Result, Ok, Err, refl, sym, subst}
 use Rattle.std.specs.Prelude.{IfSome}
 use Rattle.pd_settings.specs.declared.fields.Settings.{Settings}
 use Rattle.pd_seg.specs.declared.sack_blocks.Span.{Span}
@@ -23,7 +23,7 @@ use Rattle.pd_host.specs.declared.rulings.Ruling.{Ruling}
 use Rattle.pd_host.specs.declared.rulings.Ruling.TheVariants.{NotRun, StrayRst, OutsideWindow, ExactRst, ChallengedRst, WithoutAck, FirstAck, RefusedAck, EarlyAck, OldAck}
 use Rattle.pd_host.specs.declared.sender_state.State.{State}
 use Rattle.pd_host.proofs.Kept.{Comes, by_test, came, comes_more, comes_then, repeated_holds}
-use Rattle.pd_host.proofs.Rules.{Holds, KeptByArrivals, first_run}
+use Rattle.pd_host.proofs.Rules.{Holds, HoldsFirst, KeptByArrivals, first_run}
 use Rattle.pd_host.proofs.SendingKept.{TakesOne, placed, ordinary_holds}
 
 -- what holds of the sender that a state of loss recovery has
@@ -149,21 +149,34 @@ module _ (now : ℕ) (O : List Sent → Type 0) (C D : Settings → ControlBlock
         by_test (Comes All) (goes_on r && segment.flags.fin) (finished_on now s s.endpoint.connection) (Ok s)
         (λ _. finished_on_holds s s.endpoint.connection h h.connection) (λ _. h)
 
-    opened_holds : (segment : Segment) (s : State) → All s → Comes All (arrived_on now segment s None)
-    opened_holds segment s h =
-        by_test (Comes All) (is_opening s.endpoint.listener segment) _ (Err Unsupported)
-        (λ e. answers_with (syn_ack_of (begun now s.settings segment)) (record s { uses = syn_uses s.uses })
-        (record s.endpoint { connection = Some (begun now s.settings segment) }) h.packets
-        ((rules s.settings).begun s.endpoint.listener segment e))
-        (λ _. tt)
-
-    arrived_on_holds : (o : Option ControlBlock) (segment : Segment) (s : State) → All s → IfSome o (C s.settings) → s.endpoint.connection ≡ o
-        → Comes All (arrived_on now segment s o)
-    arrived_on_holds None segment s h d is = opened_holds segment s h
-    arrived_on_holds (Some c) segment s h d is =
+    passed_holds : (segment : Segment) (c : ControlBlock) (s : State) → All s → C s.settings c → s.endpoint.connection ≡ Some c
+        → Comes All (arrived_on now segment s (Some c))
+    passed_holds segment c s h d is =
         comes_then All All (finished_by now segment (ruling_of c segment)) (finished_holds segment (ruling_of c segment))
         (ruled now segment c s (ruling_of c segment)) (ruled_holds (ruling_of c segment) segment c s h d is refl)
 
-    pub arrived_holds : (segment : Segment) (s t : State) → All s → arrived segment now s ≡ Ok t → All t
-    arrived_holds segment s t h is =
-        came All (arrived segment now s) t (arrived_on_holds s.endpoint.connection segment s h h.connection refl) is
+    -- on a connection
+    pub arrived_later : (segment : Segment) (c : ControlBlock) (s t : State) → s.endpoint.connection ≡ Some c → All s → arrived segment now s ≡ Ok t
+        → All t
+    arrived_later segment c s t on h is =
+        came All (arrived segment now s) t
+        (subst (λ o. Comes All (arrived_on now segment s o)) (sym on)
+        (passed_holds segment c s h (subst (λ o. IfSome o (C s.settings)) on h.connection) on)) is
+
+    module _ (first : HoldsFirst now C) where
+      opened_holds : (segment : Segment) (s : State) → All s → Comes All (arrived_on now segment s None)
+      opened_holds segment s h =
+          by_test (Comes All) (is_opening s.endpoint.listener segment) _ (Err Unsupported)
+          (λ e. answers_with (syn_ack_of (begun now s.settings segment)) (record s { uses = syn_uses s.uses })
+          (record s.endpoint { connection = Some (begun now s.settings segment) }) h.packets
+          (first s.settings s.endpoint.listener segment e))
+          (λ _. tt)
+
+      arrived_on_holds : (o : Option ControlBlock) (segment : Segment) (s : State) → All s → IfSome o (C s.settings) → s.endpoint.connection ≡ o
+          → Comes All (arrived_on now segment s o)
+      arrived_on_holds None segment s h d is = opened_holds segment s h
+      arrived_on_holds (Some c) segment s h d is = passed_holds segment c s h d is
+
+      pub arrived_holds : (segment : Segment) (s t : State) → All s → arrived segment now s ≡ Ok t → All t
+      arrived_holds segment s t h is =
+          came All (arrived segment now s) t (arrived_on_holds s.endpoint.connection segment s h h.connection refl) is

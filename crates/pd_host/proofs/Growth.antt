@@ -121,8 +121,8 @@ alike n from to same h = subst (λ m. m ≤ n) (sym same) h
 sending : (now n : ℕ) → KeptBySending now (IsUpToPlace n)
 sending now n = record { ready = λ c h. h; sent = λ c segment h e. h }
 
-arrivals : (now n : ℕ) → 1 ≤ n → (b : Settings) → KeptByArrivals now b (IsUpToPlace n) (IsUpToPlace n)
-arrivals now n some b = record {
+arrivals : (now n : ℕ) (b : Settings) → KeptByArrivals now b (IsUpToPlace n) (IsUpToPlace n)
+arrivals now n b = record {
   sending = sending now n;
   sent = λ c h. h;
   acks = record {
@@ -134,7 +134,6 @@ arrivals now n some b = record {
     new_segment = λ segment c new h passed e. alike n _ _ (taking_end now segment c c.established) h;
     again = λ segment c first h passed e. alike n _ _ (taking_end now segment c c.established) h;
   };
-  begun = λ listener segment e. some;
   established = λ segment c h e. alike n _ _ (measured_end now b.granularity_us 1 (syn_acked c) c.timed) h;
   reset = λ c h. h;
   finished = λ c h. h;
@@ -162,7 +161,8 @@ pub arrivals_queue_our_syn : ArrivalsQueueOurSyn
 arrivals_queue_our_syn segment now s t is =
     let n : ℕ = queued_to s.endpoint.connection + 1 in
     let after : Sparse n t =
-    arrived_holds now (λ _. Unit {0}) (λ _ c. IsUpToPlace n c) (λ _ c. IsUpToPlace n c) (λ packets p e h. tt) (arrivals now n (omega arith)) segment s t (sparse n s (omega arith)) is in
+    arrived_holds now (λ _. Unit {0}) (λ _ c. IsUpToPlace n c) (λ _ c. IsUpToPlace n c) (λ packets p e h. tt) (arrivals now n)
+    (λ b listener segment e. omega arith) segment s t (sparse n s (omega arith)) is in
     to_end n t.endpoint.connection after.connection
 
 -- Expiries

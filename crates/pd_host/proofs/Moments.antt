@@ -1,20 +1,24 @@
 -- At which moments packets left, and where the next expiry lies.
-use Rattle.std.proofs.Common.{◌≡◌, ℕ, ◌≤◌, nat_le, List, [], ◌∷◌, ◌++◌, drop, Bool, true, false, if◌then◌else◌, Option, Some, None, refl, arith}
+use Rattle.std.proofs.Common.{◌≡◌, ℕ, ◌≤◌, nat_le, List, [], ◌∷◌, ◌++◌, drop, Bool, true, false, if◌then◌else◌, Option, Some, None, Ok, refl, sym, subst, arith}
 use Rattle.std.specs.Prelude.{IfSome}
 use Rattle.std.specs.List.{AllByRecursion}
 use Rattle.std.proofs.lemmas.Bool.Decides.{nat_tests}
 use Rattle.pd_settings.specs.declared.fields.Settings.{Settings}
+use Rattle.pd_seg.specs.declared.segments.Segment.{Segment}
 use Rattle.pd_seg.specs.declared.segments.Sent.{Sent}
 use Rattle.pd_timer.specs.Laws.{GoesBy, StaysWithin}
+use Rattle.pd_host.specs.Arrivals.{arrived}
 use Rattle.pd_host.specs.ControlBlock.{ControlBlock}
 use Rattle.pd_host.specs.Expiries.{deadline_on, due_by}
-use Rattle.pd_host.specs.Laws.{AreInOrder, IsUpTo, StartsUpToDate, AdvancesKeepUp, ArrivalsKeepUp, CallsKeepUp, TakingKeepsUp}
+use Rattle.pd_host.specs.InputLaws.{RebindingKeepsUp}
+use Rattle.pd_host.specs.Laws.{AreInOrder, IsUpTo, begun_under, StartsUpToDate, AdvancesKeepUp, ArrivalsKeepUp, CallsKeepUp, TakingKeepsUp}
 use Rattle.pd_host.specs.declared.sender_state.State.{State}
-use Rattle.pd_host.proofs.ArrivalsKept.{arrived_holds}
+use Rattle.pd_host.proofs.ArrivalsKept.{arrived_holds, arrived_later}
 use Rattle.pd_host.proofs.CallsKept.{called_holds}
 use Rattle.pd_host.proofs.ExpiriesKept.{advanced_holds}
+use Rattle.pd_host.proofs.Noted.{arrivals_note}
 use Rattle.pd_host.proofs.Rules.{Holds, KeptByExpiries}
-use Rattle.pd_host.proofs.Timely.{IsAhead, IsTimely, backed_off_timely, arrivals_timely, calls_timely}
+use Rattle.pd_host.proofs.Timely.{IsAhead, IsTimely, backed_off_timely, first_timely, arrivals_timely, calls_timely}
 
 pub later : (now until : ℕ) (packets : List Sent) → now ≤ until → AreInOrder now packets → AreInOrder until packets
 later now until [] le h = tt
@@ -47,17 +51,17 @@ deadline_in : (b : Settings) (now : ℕ) (o : Option ControlBlock) → IfSome o 
 deadline_in b now None h = tt
 deadline_in b now (Some c) h = h.deadline
 
-abbrev pub Good : ℕ → State → Type 0
-Good now s = Holds (AreInOrder now) (λ b c. IsTimely b now c.timer) s
+abbrev pub Good : Settings → ℕ → State → Type 0
+Good b now s = Holds (AreInOrder now) (λ _ c. IsTimely b now c.timer) s
 
-pub good : (now : ℕ) (s : State) → IsUpTo now s → Good now s
-good now s h = record { packets = h.packets; connection = joined s.settings now s.endpoint.connection h.timer h.deadline }
+pub good : (b : Settings) (now : ℕ) (s : State) → IsUpTo b now s → Good b now s
+good b now s h = record { packets = h.packets; connection = joined b now s.endpoint.connection h.timer h.deadline }
 
-pub up_to : (now : ℕ) (s : State) → Good now s → IsUpTo now s
-up_to now s h = record {
+pub up_to : (b : Settings) (now : ℕ) (s : State) → Good b now s → IsUpTo b now s
+up_to b now s h = record {
   packets = h.packets;
-  timer = bounds_of s.settings now s.endpoint.connection h.connection;
-  deadline = deadline_in s.settings now s.endpoint.connection h.connection;
+  timer = bounds_of b now s.endpoint.connection h.connection;
+  deadline = deadline_in b now s.endpoint.connection h.connection;
 }
 
 -- expiries
@@ -75,35 +79,61 @@ still_ahead : (b : Settings) (now until : ℕ) (o : Option ℕ) → now ≤ unti
 still_ahead b now until None le h e = tt
 still_ahead b now until (Some d) le h e = not_due b now until d (nat_le d until) refl e le h
 
-pub expiries : StaysWithin → KeptByExpiries AreInOrder (λ b now c. IsTimely b now c.timer)
-expiries within = record {
+-- by the settings held, or by others
+pub expiries : StaysWithin → (which : Settings → Settings) → KeptByExpiries AreInOrder (λ held now c. IsTimely (which held) now c.timer)
+expiries within which = record {
   packets = λ now at packets p le e h. one_more at packets p e (later now at packets le h);
   rest = λ now until packets le h. later now until packets le h;
-  ahead = λ b now at c h e. ahead_of b now at c.timer.deadline h.deadline e;
-  handshake = λ b now at c h e is. backed_off_timely within b at c.timer h.bounds;
-  expired = λ b now at c e h d is. backed_off_timely within b at c.timer h.bounds;
-  idle = λ b now until c le h e. record { bounds = h.bounds; deadline = still_ahead b now until c.timer.deadline le h.deadline e };
+  ahead = λ held now at c h e. ahead_of (which held) now at c.timer.deadline h.deadline e;
+  handshake = λ held now at c h e is. backed_off_timely within (which held) at c.timer h.bounds;
+  expired = λ held now at c e h d is. backed_off_timely within (which held) at c.timer h.bounds;
+  idle = λ held now until c le h e.
+      record { bounds = h.bounds; deadline = still_ahead (which held) now until c.timer.deadline le h.deadline e };
 }
 
 pub starts_up_to_date : StartsUpToDate
 starts_up_to_date settings = record { packets = tt; timer = tt; deadline = tt }
 
 pub advances_keep_up : StaysWithin → AdvancesKeepUp
-advances_keep_up within now until s t le h came =
-    up_to until t (advanced_holds AreInOrder (λ b now c. IsTimely b now c.timer) (expiries within) until now s t le (good now s h) came)
+advances_keep_up within b now until s t le h came =
+    up_to b until t
+    (advanced_holds AreInOrder (λ _ now c. IsTimely b now c.timer) (expiries within (λ _. b)) until now s t le (good b now s h) came)
+
+-- a connection that begins goes by the settings held,
+first_arrival : StaysWithin → (segment : Segment) (now : ℕ) (s t : State) → s.endpoint.connection ≡ None → AreInOrder now s.endpoint.outbox
+    → arrived segment now s ≡ Ok t → IsUpTo s.settings now t
+first_arrival within segment now s t none packets came =
+    let after : Holds (AreInOrder now) (λ b c. IsTimely b now c.timer) t =
+    arrived_holds now (AreInOrder now) (λ b c. IsTimely b now c.timer) (λ b c. IsTimely b now c.timer) (one_more now) (λ b. arrivals_timely within now b b)
+    (first_timely within now) segment s t (record { packets = packets; connection = subst (λ o. IfSome o (λ c. IsTimely s.settings now c.timer)) (sym none) tt }) came in
+    subst (λ b. IsUpTo b now t) (arrivals_note segment now s t came).settings (up_to t.settings now t (record { packets = after.packets; connection = after.connection }))
+
+-- and one that was begun goes on by its own
+later_arrival : StaysWithin → (b : Settings) (segment : Segment) (now : ℕ) (c : ControlBlock) (s t : State) → s.endpoint.connection ≡ Some c
+    → IsUpTo b now s → arrived segment now s ≡ Ok t → IsUpTo b now t
+later_arrival within b segment now c s t on h came =
+    up_to b now t (arrived_later now (AreInOrder now) (λ _ c. IsTimely b now c.timer) (λ _ c. IsTimely b now c.timer) (one_more now)
+    (arrivals_timely within now b) segment c s t on (good b now s h) came)
 
 pub arrivals_keep_up : StaysWithin → ArrivalsKeepUp
-arrivals_keep_up within segment now s t h came =
-    up_to now t (arrived_holds now (AreInOrder now) (λ b c. IsTimely b now c.timer) (λ b c. IsTimely b now c.timer) (one_more now) (arrivals_timely within now) segment s t (good now s h) came)
+arrivals_keep_up within b segment now s t h came = go s.endpoint.connection refl
+  where
+    go : (o : Option ControlBlock) → s.endpoint.connection ≡ o → IsUpTo (begun_under s.settings b o) now t
+    go None on = first_arrival within segment now s t on h.packets came
+    go (Some c) on = later_arrival within b segment now c s t on h came
 
 pub anything : (o : Option ControlBlock) → IfSome o (λ _. Unit {0})
 anything None = tt
 anything (Some c) = tt
 
 pub calls_keep_up : StaysWithin → CallsKeepUp
-calls_keep_up within call now s t answer h came =
-    up_to now t (called_holds now (AreInOrder now) (λ b c. IsTimely b now c.timer) (λ b c. IsTimely b now c.timer) (λ _. Unit {0}) (one_more now) (calls_timely within now)
-    call s t answer (anything s.endpoint.connection) (good now s h) came)
+calls_keep_up within b call now s t answer h came =
+    up_to b now t (called_holds now (AreInOrder now) (λ _ c. IsTimely b now c.timer) (λ _ c. IsTimely b now c.timer) (λ _. Unit {0}) (one_more now)
+    (calls_timely within now b) call s t answer (anything s.endpoint.connection) (good b now s h) came)
 
 pub taking_keeps_up : TakingKeepsUp
-taking_keeps_up now sender h = record { packets = one_less now sender.state.endpoint.outbox h.packets; timer = h.timer; deadline = h.deadline }
+taking_keeps_up b now sender h =
+    record { packets = one_less now sender.state.endpoint.outbox h.packets; timer = h.timer; deadline = h.deadline }
+
+pub rebinding_keeps_up : RebindingKeepsUp
+rebinding_keeps_up b settings now s h = record { packets = h.packets; timer = h.timer; deadline = h.deadline }

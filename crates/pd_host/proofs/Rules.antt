@@ -57,12 +57,15 @@ pub record KeptByAcks (now : ℕ) (C D : ControlBlock → Type 0) : Type 0 where
       (segment : Segment) (c : ControlBlock) (first : Span) → C c → ruling_of c segment ≡ None
       → (taking now segment c c.established).1 ≡ FastRetransmit first → D (clocked now first (taking now segment c c.established).0)
 
--- arrivals: C holds between inputs, and D while one is answered by data
+-- a connection begins
+abbrev pub HoldsFirst : ℕ → (Settings → ControlBlock → Type 0) → Type 0
+HoldsFirst now C = (b : Settings) (listener : Listener) (segment : Segment) → is_opening listener segment ≡ true → C b (begun now b segment)
+
+-- arrivals on a connection: C holds between inputs, and D while one is answered by data
 pub record KeptByArrivals (now : ℕ) (b : Settings) (C D : ControlBlock → Type 0) : Type 0 where
   pub sending : KeptBySending now D
   pub sent : (c : ControlBlock) → D c → C c
   pub acks : KeptByAcks now C D
-  pub begun : (listener : Listener) (segment : Segment) → is_opening listener segment ≡ true → C (begun now b segment)
   pub established : (segment : Segment) (c : ControlBlock) → C c → ruling_of c segment ≡ Some FirstAck → C (established_by now b segment c)
   pub reset : (c : ControlBlock) → C c → C (reset_of c)
   pub finished : (c : ControlBlock) → C c → C (with_peer_fin c)

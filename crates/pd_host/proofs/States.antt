@@ -23,9 +23,9 @@ use Rattle.pd_host.proofs.Moments.{Good, good, up_to, anything, expiries, one_mo
 use Rattle.pd_host.proofs.Queued.{accepted_reached, nagle_reached, finned_reached, queued_live, finished_live, abandoned_reached}
 use Rattle.pd_host.proofs.Reached.{IsLive, sending_live, step_c_live, limited_live, entry_live, entry_alone_live}
 use Rattle.pd_host.proofs.Recovers.{taking_below, noted_below, counted_below, entered_below, stream_below, nagle_below, finned_below}
-use Rattle.pd_host.proofs.Rules.{Holds, KeptBySending, KeptByArrivals, KeptByCalls, KeptByExpiries, first_run}
+use Rattle.pd_host.proofs.Rules.{Holds, HoldsFirst, KeptBySending, KeptByArrivals, KeptByCalls, KeptByExpiries, first_run}
 use Rattle.pd_host.proofs.Shaken.{begun_reached, reset_reached, established_reached}
-use Rattle.pd_host.proofs.Timely.{IsTimely, arrivals_timely, calls_timely}
+use Rattle.pd_host.proofs.Timely.{IsTimely, first_timely, arrivals_timely, calls_timely}
 
 -- a connection between two inputs
 record IsKnown (b : Settings) (now : ℕ) (c : ControlBlock) : Type 0 where
@@ -47,9 +47,9 @@ closed_below c h =
 module _ (bounds : Bounds) (windows : Windows) where
   sending_known : (now : ℕ) (b : Settings) → KeptBySending now (IsSending b now)
   sending_known now b = record {
-    ready = λ c h. record { timely = (arrivals_timely bounds now b).sending.ready c h.timely; live = (sending_live b now).ready c h.live; below = h.below };
+    ready = λ c h. record { timely = (arrivals_timely bounds now b b).sending.ready c h.timely; live = (sending_live b now).ready c h.live; below = h.below };
     sent = λ c segment h e. record {
-      timely = (arrivals_timely bounds now b).sending.sent c segment h.timely e;
+      timely = (arrivals_timely bounds now b b).sending.sent c segment h.timely e;
       live = (sending_live b now).sent c segment h.live e;
       below = h.below;
     };
@@ -57,7 +57,7 @@ module _ (bounds : Bounds) (windows : Windows) where
 
   arrivals_known : (now : ℕ) (b : Settings) → KeptByArrivals now b (IsKnown b now) (IsSending b now)
   arrivals_known now b =
-      let t = arrivals_timely bounds now b in
+      let t = arrivals_timely bounds now b b in
       record {
         sending = sending_known now b;
         sent = λ c h. record { timely = h.timely; reached = h.live.reached; below = h.below };
@@ -98,7 +98,6 @@ module _ (bounds : Bounds) (windows : Windows) where
             below = taking_below now segment c c.established h.below;
           };
         };
-        begun = λ listener segment e. record { timely = t.begun listener segment e; reached = begun_reached b now listener segment e; below = λ sack. tt };
         established = λ segment c h e. record {
           timely = t.established segment c h.timely e;
           reached = established_reached b now windows segment c h.reached e;
@@ -108,9 +107,13 @@ module _ (bounds : Bounds) (windows : Windows) where
         finished = λ c h. record { timely = t.finished c h.timely; reached = finned_reached b now c h.reached; below = finned_below c h.below };
       }
 
+  first_known : (now : ℕ) → HoldsFirst now (λ b c. IsKnown b now c)
+  first_known now b listener segment e =
+      record { timely = first_timely bounds now b listener segment e; reached = begun_reached b now listener segment e; below = λ sack. tt }
+
   calls_known : (now : ℕ) (b : Settings) → KeptByCalls now b (λ _. Unit {0}) (IsKnown b now) (IsSending b now)
   calls_known now b =
-      let t = calls_timely bounds now b in
+      let t = calls_timely bounds now b b in
       record {
         sending = sending_known now b;
         sent = λ c h. record { timely = h.timely; reached = h.live.reached; below = h.below };
@@ -139,7 +142,7 @@ module _ (bounds : Bounds) (windows : Windows) where
 
   expiries_known : KeptByExpiries AreInOrder IsKnown
   expiries_known =
-      let t = expiries bounds in
+      let t = expiries bounds (λ b. b) in
       record {
         packets = t.packets;
         rest = t.rest;
@@ -185,12 +188,12 @@ HoldsAt now s = Holds (AreInOrder now) (λ b c. IsKnown b now c) s
 
 holds : (now : ℕ) (s : State) → IsLawful now s → HoldsAt now s
 holds now s h =
-    let k : Good now s = good now s h.moments in
+    let k : Good s.settings now s = good s.settings now s h.moments in
     record { packets = k.packets; connection = known s.settings now s.endpoint.connection k.connection h.connection h.recovery }
 
 lawful : (now : ℕ) (s : State) → HoldsAt now s → IsLawful now s
 lawful now s h = record {
-  moments = up_to now s (record { packets = h.packets; connection = timely_of s.settings now s.endpoint.connection h.connection });
+  moments = up_to s.settings now s (record { packets = h.packets; connection = timely_of s.settings now s.endpoint.connection h.connection });
   connection = reached_of s.settings now s.endpoint.connection h.connection;
   recovery = below_of s.settings now s.endpoint.connection h.connection;
 }
@@ -205,7 +208,7 @@ advances_stay_lawful bounds windows now until s t le h came =
 pub arrivals_stay_lawful : Bounds → Windows → ArrivalsStayLawful
 arrivals_stay_lawful bounds windows segment now s t h came =
     lawful now t (arrived_holds now (AreInOrder now) (λ b c. IsKnown b now c) (λ b c. IsSending b now c) (one_more now) (arrivals_known bounds windows now)
-    segment s t (holds now s h) came)
+    (first_known bounds windows now) segment s t (holds now s h) came)
 
 pub calls_stay_lawful : Bounds → Windows → CallsStayLawful
 calls_stay_lawful bounds windows call now s t answer h came =
@@ -213,4 +216,4 @@ calls_stay_lawful bounds windows call now s t answer h came =
     (calls_known bounds windows now) call s t answer (anything s.endpoint.connection) (holds now s h) came)
 
 pub taking_stays_lawful : TakingStaysLawful
-taking_stays_lawful now sender h = record { moments = taking_keeps_up now sender h.moments; connection = h.connection; recovery = h.recovery }
+taking_stays_lawful now sender h = record { moments = taking_keeps_up sender.state.settings now sender h.moments; connection = h.connection; recovery = h.recovery }

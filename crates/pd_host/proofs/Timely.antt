@@ -17,7 +17,7 @@ use Rattle.pd_host.specs.Sending.{sent_on}
 use Rattle.pd_host.specs.declared.established.Established.{Established}
 use Rattle.pd_host.specs.declared.timings.Timing.{Timing}
 use Rattle.pd_host.proofs.Kept.{by_test}
-use Rattle.pd_host.proofs.Rules.{KeptBySending, KeptByArrivals, KeptByCalls, first_run}
+use Rattle.pd_host.proofs.Rules.{HoldsFirst, KeptBySending, KeptByArrivals, KeptByCalls, first_run}
 
 -- a moment ahead, by at most the greatest timeout
 abbrev pub IsAhead : Settings → ℕ → ℕ → Type 0
@@ -140,34 +140,37 @@ module _ (within : StaysWithin) where
     sent = λ c segment h e. clocked_timely b now segment c h;
   }
 
-  pub arrivals_timely : (now : ℕ) (b : Settings) → KeptByArrivals now b (Timely b now) (Timely b now)
-  arrivals_timely now b = record {
-    sending = sending_timely b now;
+  -- a connection that begins goes by the settings held; one that was begun goes on by its own, whatever is held
+  pub first_timely : (now : ℕ) → HoldsFirst now (λ b c. Timely b now c)
+  first_timely now b _ segment _ = initial_timely b now
+
+  pub arrivals_timely : (now : ℕ) (a b : Settings) → KeptByArrivals now b (Timely a now) (Timely a now)
+  arrivals_timely now a b = record {
+    sending = sending_timely a now;
     sent = λ c h. h;
     acks = record {
-      step_c = λ pipe c sent h e. noted_timely b now sent (sent_as now sent c) c.established (sent_timely b now sent c h);
-      limited = λ pipe c segment h e. counted_timely b now (octets_of segment) (sent_on now segment c) c.established (clocked_timely b now segment c h);
-      entry = λ c h e. entered_timely b now (first_run c) (clocked now (first_run c) c) c.established (clocked_timely b now (first_run c) c h);
-      entry_alone = λ c h. entered_timely b now (first_run c) c c.established h;
-      ack = λ segment c h passed. taking_timely b now segment c c.established h;
-      new_segment = λ segment c new h passed e. clocked_timely b now new (taking now segment c c.established).0 (taking_timely b now segment c c.established h);
-      again = λ segment c first h passed e. clocked_timely b now first (taking now segment c c.established).0 (taking_timely b now segment c c.established h);
+      step_c = λ pipe c sent h e. noted_timely a now sent (sent_as now sent c) c.established (sent_timely a now sent c h);
+      limited = λ pipe c segment h e. counted_timely a now (octets_of segment) (sent_on now segment c) c.established (clocked_timely a now segment c h);
+      entry = λ c h e. entered_timely a now (first_run c) (clocked now (first_run c) c) c.established (clocked_timely a now (first_run c) c h);
+      entry_alone = λ c h. entered_timely a now (first_run c) c c.established h;
+      ack = λ segment c h passed. taking_timely a now segment c c.established h;
+      new_segment = λ segment c new h passed e. clocked_timely a now new (taking now segment c c.established).0 (taking_timely a now segment c c.established h);
+      again = λ segment c first h passed e. clocked_timely a now first (taking now segment c c.established).0 (taking_timely a now segment c c.established h);
     };
-    begun = λ listener segment e. initial_timely b now;
     established = λ segment c h e.
-        settled_timely b now (with_sample now b.granularity_us 1 (syn_acked c)).resent _
-        (measured_timely b now b.granularity_us 1 (syn_acked c) c.timed h);
-    reset = λ c h. stopped_timely b now c.timer h.bounds;
+        settled_timely a now (with_sample now b.granularity_us 1 (syn_acked c)).resent _
+        (measured_timely a now b.granularity_us 1 (syn_acked c) c.timed h);
+    reset = λ c h. stopped_timely a now c.timer h.bounds;
     finished = λ c h. h;
   }
 
-  pub calls_timely : (now : ℕ) (b : Settings) → KeptByCalls now b (λ _. Unit {0}) (Timely b now) (Timely b now)
-  calls_timely now b = record {
-    sending = sending_timely b now;
+  pub calls_timely : (now : ℕ) (a b : Settings) → KeptByCalls now b (λ _. Unit {0}) (Timely a now) (Timely a now)
+  calls_timely now a b = record {
+    sending = sending_timely a now;
     sent = λ c h. h;
     accepted = λ c h e. h;
     nagle = λ on c h. h;
     queued = λ n c q h unclosed still. h;
-    finished = λ c q h unclosed still. closed_timely b now c h;
-    abandoned = λ c h unclosed was. closed_timely b now c h;
+    finished = λ c q h unclosed still. closed_timely a now c h;
+    abandoned = λ c h unclosed was. closed_timely a now c h;
   }

@@ -11,7 +11,7 @@ use Rattle.pd_host.specs.Arrivals.{is_in_window, arrived}
 use Rattle.pd_host.specs.Calls.{called}
 use Rattle.pd_host.specs.ControlBlock.{ControlBlock, rcv_nxt}
 use Rattle.pd_host.specs.Expiries.{advanced}
-use Rattle.pd_host.specs.Laws.{AreInOrder}
+use Rattle.pd_host.specs.Laws.{AreInOrder, IsUpTo}
 use Rattle.pd_host.specs.Sender.{Sender}
 use Rattle.pd_host.specs.declared.sender_state.State.{State}
 
@@ -62,6 +62,10 @@ rebound settings s = record s { settings = settings }
 -- the same host with other settings held
 abbrev pub rebound_host : Settings → Sender → Sender
 rebound_host settings host = record host { state = rebound settings host.state }
+
+-- other settings that are held leave a connection's timer and the packets as they are
+abbrev pub RebindingKeepsUp : Type 0
+RebindingKeepsUp = (b settings : Settings) (now : ℕ) (s : State) → IsUpTo b now s → IsUpTo b now (rebound settings s)
 
 -- other settings that agree on all that was consulted up to after an arrival give that arrival
 abbrev pub OnlyUsesMatter : Type 0

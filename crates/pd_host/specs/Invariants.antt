@@ -92,7 +92,7 @@ IsBelowPoint c = c.sack ≡ true → RecoversBelow c.board.una c.established
 
 -- a state that the rules reach at a moment
 pub record IsLawful (now : ℕ) (s : State) : Type 0 where
-  pub moments : IsUpTo now s
+  pub moments : IsUpTo s.settings now s
   pub connection : IfSome s.endpoint.connection (IsReached s.settings now)
   pub recovery : IfSome s.endpoint.connection IsBelowPoint
 

@@ -1,5 +1,5 @@
 -- At which moments packets left and the next expiry lies, whatever came in.
-use Rattle.std.specs.Prelude.{◌≡◌, ℕ, ◌+◌, ◌<◌, ◌≤◌, ⊤, List, [], ◌∷◌, Ok, IfSome}
+use Rattle.std.specs.Prelude.{◌≡◌, ℕ, ◌+◌, ◌<◌, ◌≤◌, ⊤, List, [], ◌∷◌, Option, Some, None, Ok, IfSome}
 use Rattle.std.specs.List.{AllByRecursion}
 use Rattle.pd_settings.specs.declared.fields.Settings.{Settings}
 use Rattle.pd_script.specs.declared.calls.Call.{Call}
@@ -9,6 +9,7 @@ use Rattle.pd_seg.specs.declared.segments.Sent.{Sent}
 use Rattle.pd_timer.specs.Laws.{GoesBy}
 use Rattle.pd_host.specs.Arrivals.{arrived}
 use Rattle.pd_host.specs.Calls.{called}
+use Rattle.pd_host.specs.ControlBlock.{ControlBlock}
 use Rattle.pd_host.specs.Expiries.{advanced, deadline_of}
 use Rattle.pd_host.specs.Sender.{Sender, fresh, without_oldest}
 use Rattle.pd_host.specs.declared.sender_state.State.{State}
@@ -18,30 +19,40 @@ abbrev pub AreInOrder : ℕ → List Sent → Type 0
 AreInOrder now [] = ⊤
 AreInOrder now (p ∷ packets) = (p.at ≤ now) × (AllByRecursion (λ q. p.at ≤ q.at) packets × AreInOrder now packets)
 
--- the state of a sender at a moment, with all expiries up to it performed: the packets are in order, a connection's timeout
--- lies within the bounds that the settings say, and the next expiry lies ahead, by at most the greatest timeout
-pub record IsUpTo (now : ℕ) (s : State) : Type 0 where
+-- the state of a sender at a moment, with all expiries up to it performed, whose connection was begun under these settings: the
+-- packets are in order, the connection's timeout lies within the bounds that the settings say, and the next expiry lies ahead,
+-- by at most the greatest timeout
+pub record IsUpTo (b : Settings) (now : ℕ) (s : State) : Type 0 where
   pub packets : AreInOrder now s.endpoint.outbox
-  pub timer : IfSome s.endpoint.connection (λ c. GoesBy s.settings c.timer)
-  pub deadline : IfSome (deadline_of s) (λ at. (now < at) × (at ≤ now + s.settings.max_rto_us))
+  pub timer : IfSome s.endpoint.connection (λ c. GoesBy b c.timer)
+  pub deadline : IfSome (deadline_of s) (λ at. (now < at) × (at ≤ now + b.max_rto_us))
 
--- so it is at the start,
+-- so it is at the start, where no connection was begun,
 abbrev pub StartsUpToDate : Type 0
-StartsUpToDate = (settings : Settings) → IsUpTo 0 (fresh settings).state
+StartsUpToDate = (settings : Settings) → IsUpTo settings 0 (fresh settings).state
 
 -- at a later moment after all expiries up to it,
 abbrev pub AdvancesKeepUp : Type 0
 AdvancesKeepUp =
-    (now until : ℕ) (s t : State) → now ≤ until → IsUpTo now s → advanced until s ≡ Ok t → IsUpTo until t
+    (b : Settings) (now until : ℕ) (s t : State) → now ≤ until → IsUpTo b now s → advanced until s ≡ Ok t → IsUpTo b until t
 
--- after an arrival and a call at that moment,
+-- after an arrival at that moment: a connection that the arrival begins goes by the settings held then, and one that was begun
+-- before goes on by its own,
+abbrev pub begun_under : (held b : Settings) → Option ControlBlock → Settings
+begun_under held b None = held
+begun_under held b (Some c) = b
+
 abbrev pub ArrivalsKeepUp : Type 0
-ArrivalsKeepUp = (segment : Segment) (now : ℕ) (s t : State) → IsUpTo now s → arrived segment now s ≡ Ok t → IsUpTo now t
+ArrivalsKeepUp =
+    (b : Settings) (segment : Segment) (now : ℕ) (s t : State) → IsUpTo b now s → arrived segment now s ≡ Ok t
+    → IsUpTo (begun_under s.settings b s.endpoint.connection) now t
 
+-- after a call at that moment,
 abbrev pub CallsKeepUp : Type 0
 CallsKeepUp =
-    (call : Call) (now : ℕ) (s t : State) (answer : Answer) → IsUpTo now s → called call now s ≡ Ok (t, answer) → IsUpTo now t
+    (b : Settings) (call : Call) (now : ℕ) (s t : State) (answer : Answer) → IsUpTo b now s → called call now s ≡ Ok (t, answer)
+    → IsUpTo b now t
 
 -- and without its oldest packet
 abbrev pub TakingKeepsUp : Type 0
-TakingKeepsUp = (now : ℕ) (sender : Sender) → IsUpTo now sender.state → IsUpTo now (without_oldest sender).state
+TakingKeepsUp = (b : Settings) (now : ℕ) (sender : Sender) → IsUpTo b now sender.state → IsUpTo b now (without_oldest sender).state

@@ -3,7 +3,7 @@ ghost use Rattle.pd_host.specs.Growth.{ExpiriesQueueNothing, ArrivalsQueueOurSyn
 ghost use Rattle.pd_host.specs.Figure.{FollowsFigure};
 ghost use Rattle.pd_host.specs.Laws.{StartsUpToDate, AdvancesKeepUp, ArrivalsKeepUp, CallsKeepUp, TakingKeepsUp};
 ghost use Rattle.pd_host.specs.Invariants.{StartsLawful, AdvancesStayLawful, ArrivalsStayLawful, CallsStayLawful, TakingStaysLawful, BoardsAreScoreboards, CallsStayInRange, EndsForGood};
-ghost use Rattle.pd_host.specs.InputLaws.{OutsideIsHarmless, OnlyAnExactRstResets, PutsOutBehind, OnlyUsesMatter, CallsPutOutBehind, CallsOnlyUse, AdvancesPutOutBehind, AdvancesUseNone, ArrivalsNote, CallsNote, AdvancesNote};
+ghost use Rattle.pd_host.specs.InputLaws.{OutsideIsHarmless, OnlyAnExactRstResets, PutsOutBehind, OnlyUsesMatter, RebindingKeepsUp, CallsPutOutBehind, CallsOnlyUse, AdvancesPutOutBehind, AdvancesUseNone, ArrivalsNote, CallsNote, AdvancesNote};
 ghost use Rattle.pd_host.specs.SendingLaws.{ControlsFlow, StaysInWindow, ControlsCongestion, KeepsToWindow, SendsAllThatMay, TimesOnce, MeasuresWhatIsSentOnce, EndsWithFin, SparesWhatArrived, EndsRecovery};
 
 use pd_recover::recovery_is_lawful;
@@ -55,6 +55,7 @@ pub fn moments_are_lawful()
     ensures arrivals { ArrivalsKeepUp }
     ensures calls { CallsKeepUp }
     ensures taking { TakingKeepsUp }
+    ensures rebinding { RebindingKeepsUp }
 {
     timers_are_lawful();
 }

@@ -2,7 +2,6 @@
 use Rattle.std.proofs.Common.{◌≡◌, ℕ, ◌+◌, ◌<◌, ◌≤◌, ◌==◌, max, Bool, true, false, not, ◌||◌, if◌then◌else◌, Option, Some, None, List, [], ◌∷◌, length, slice_get, Result, Ok, Err, refl, sym, subst, arith}
 use Rattle.std.proofs.lemmas.Bool.Decides.{nat_tests}
 use Rattle.std.specs.List.{list_any}
-use Rattle.std.specs.Prelude.{IfSome}
 use Rattle.pd_script.specs.declared.calls.Call.{Call}
 use Rattle.pd_script.specs.declared.packets.Packet.{Packet}
 use Rattle.pd_script.specs.declared.script_events.Action.{Action}
@@ -15,7 +14,7 @@ use Rattle.pd_seg.specs.declared.segments.Segment.{Segment}
 use Rattle.pd_seg.specs.declared.segments.Sent.{Sent}
 use Rattle.pd_host.specs.Arrivals.{arrived}
 use Rattle.pd_host.specs.Calls.{called}
-use Rattle.pd_host.specs.Laws.{AreInOrder, IsUpTo}
+use Rattle.pd_host.specs.Laws.{AreInOrder}
 use Rattle.pd_host.specs.Outcome.{Goes, GoesFrom, Answers, AnswersFrom}
 use Rattle.pd_host.specs.Expiries.{advanced, deadline_of}
 use Rattle.pd_host.specs.Sender.{Sender, then_on, without_oldest}
@@ -26,20 +25,29 @@ use Rattle.pd_match.specs.Packets.{mismatch}
 use Rattle.pd_match.specs.declared.kinds.Kind.{Kind}
 use Rattle.pd_match.specs.declared.kinds.Kind.TheVariants.{Missing, Backwards}
 use Rattle.pd_run.specs.Inbound.{segment_in}
-use Rattle.pd_run.specs.Laws.{SenderIsLawful}
 use Rattle.pd_run.specs.Limits.{is_long, written_times, written_until, is_action_over, is_over_limit}
 use Rattle.pd_run.specs.Shapes.{is_run}
-use Rattle.pd_run.specs.Step.{Running, IsUpToDate, tolerance_of, noted, on_step, judged, with_state, acts_at, acted, arrives, on_arrival, answers, on_answer, on_expiry, expires, awaited, taken, performed, step}
+use Rattle.pd_run.specs.Step.{Running, tolerance_of, noted, on_step, judged, with_state, acts_at, acted, arrives, on_arrival, answers, on_answer, on_expiry, expires, awaited, taken, performed, step}
 use Rattle.pd_run.specs.Times.{is_single, moment_of, moments_of, is_backwards, is_in_reach, base_after}
 use Rattle.pd_run.specs.declared.verdicts.Verdict.{Verdict}
 use Rattle.pd_run.specs.declared.verdicts.Verdict.TheVariants.{Fail, Unsupported, Limit}
 
--- the clock and the base of a run that goes on lie at or before a moment, and its sender is up to date
-pub record IsWithin (n : ℕ) (r : Running) : Type 0 where
+-- what is known of the sender's state at the clock is kept by all that a step does: the packets are in order by it, and the
+-- next expiry lies at most an hour ahead
+pub record IsKept (K : ℕ → State → Type 0) : Type 0 where
+  pub advances : (now until : ℕ) (s t : State) → now ≤ until → K now s → advanced until s ≡ Ok t → K until t
+  pub arrivals : (segment : Segment) (now : ℕ) (s t : State) → K now s → arrived segment now s ≡ Ok t → K now t
+  pub calls : (call : Call) (now : ℕ) (s t : State) (answer : Answer) → K now s → called call now s ≡ Ok (t, answer) → K now t
+  pub taking : (now : ℕ) (sender : Sender) → K now sender.state → K now (without_oldest sender).state
+  pub ordered : (now : ℕ) (s : State) → K now s → AreInOrder now s.endpoint.outbox
+  pub soon : (now at : ℕ) (s : State) → K now s → deadline_of s ≡ Some at → (now < at) × (at ≤ now + 3600000000)
+
+-- the clock and the base of a run that goes on lie at or before a moment, and that is known of its sender
+pub record IsWithin (K : ℕ → State → Type 0) (n : ℕ) (r : Running) : Type 0 where
   pub live : r.host.ended ≡ None
   pub clock : r.clock ≤ n
   pub base : r.base ≤ n
-  pub up_to : IsUpTo r.clock r.host.state
+  pub up_to : K r.clock r.host.state
 
 -- where a refusal comes first, an `Ok` means that it didn't
 let_through : (b : Bool) (v : Verdict) (rest : Result Running Verdict) (s : Running)
@@ -87,61 +95,12 @@ pub both : {A B : Type 0} (next : A → Result B Halt) (came : Result A Halt) (t
 both next (Ok s) t h = (s, refl, h)
 both next (Err halt) t h = absurd cc
 
--- a packet that arrives, and a call, after all expiries up to a later moment
-pub arrival_keeps_up : SenderIsLawful → (segment : Segment) (clock moment : ℕ) (s t : State) → clock ≤ moment → IsUpTo clock s
-    → then_on (arrived segment moment) (advanced moment s) ≡ Ok t → IsUpTo moment t
-arrival_keeps_up laws segment clock moment s t le up h =
-    let came = both (arrived segment moment) (advanced moment s) t h in
-    laws.arrivals segment moment came.0 t (laws.advances clock moment s came.0 le up came.1) came.2
-
-pub call_keeps_up : SenderIsLawful → (call : Call) (clock moment : ℕ) (s t : State) (answer : Answer) → clock ≤ moment → IsUpTo clock s
-    → then_on (called call moment) (advanced moment s) ≡ Ok (t, answer) → IsUpTo moment t
-call_keeps_up laws call clock moment s t answer le up h =
-    let came = both (called call moment) (advanced moment s) (t, answer) h in
-    laws.calls call moment came.0 t answer (laws.advances clock moment s came.0 le up came.1) came.2
-
 -- of a host that hasn't ended an input tells
 goes_on : (old new : Sender) (rule : State → Result State Halt) (u : Unit {0}) → old.ended ≡ None → Goes old rule (Ok u) new → rule old.state ≡ Ok new.state
 goes_on old new rule u live h = let told : GoesFrom None old rule (Ok u) new = subst (λ o. GoesFrom o old rule (Ok u) new) live h in told.0
 
 answers_on : (old new : Sender) (rule : State → Result (State × Answer) Halt) (a : Answer) → old.ended ≡ None → Answers old rule (Ok a) new → rule old.state ≡ Ok (new.state, a)
 answers_on old new rule a live h = let told : AnswersFrom None old rule (Ok a) new = subst (λ o. AnswersFrom o old rule (Ok a) new) live h in told.0
-
--- so the sender is up to date at the moment of the packet, and of the call
-pub host_after_arrival : SenderIsLawful → (old new : Sender) (segment : Segment) (clock moment : ℕ) (u : Unit {0})
-    → IsUpToDate old clock → old.ended ≡ None → clock ≤ moment
-    → Goes old (λ s. then_on (arrived segment moment) (advanced moment s)) (Ok u) new
-    → IsUpToDate new moment
-host_after_arrival laws old new segment clock moment u up live le h =
-    λ _. arrival_keeps_up laws segment clock moment old.state new.state le (up live) (goes_on old new (λ s. then_on (arrived segment moment) (advanced moment s)) u live h)
-
-pub host_after_call : SenderIsLawful → (old new : Sender) (call : Call) (clock moment : ℕ) (answer : Answer)
-    → IsUpToDate old clock → old.ended ≡ None → clock ≤ moment
-    → Answers old (λ s. then_on (called call moment) (advanced moment s)) (Ok answer) new
-    → IsUpToDate new moment
-host_after_call laws old new call clock moment answer up live le h =
-    λ _. call_keeps_up laws call clock moment old.state new.state answer le (up live) (answers_on old new (λ s. then_on (called call moment) (advanced moment s)) answer live h)
-
--- where the next expiry lies
-ahead : (clock most at : ℕ) (o : Option ℕ) → IfSome o (λ x. (clock < x) × (x ≤ clock + most)) → o ≡ Some at → (clock < at) × (at ≤ clock + most)
-ahead clock most at None h is = absurd cc
-ahead clock most at (Some x) h is = let same : x ≡ at = cc in subst (λ (y : ℕ). (clock < y) × (y ≤ clock + most)) same h
-
--- it lies at most an hour ahead
-due : (clock at : ℕ) (s : State) → IsUpTo clock s → deadline_of s ≡ Some at → (clock < at) × (at ≤ clock + 3600000000)
-due clock at s up is =
-    let reach : (clock < at) × (at ≤ clock + s.settings.max_rto_us) = ahead clock s.settings.max_rto_us at (deadline_of s) up.deadline is in
-    let most : s.settings.max_rto_us ≤ 3600000000 = s.settings.max_rto_us_in_range.1 in
-    (reach.0, omega (arith, reach.1, most))
-
--- and the sender is up to date there
-pub host_after_expiry : SenderIsLawful → (old new : Sender) (clock at : ℕ) (u : Unit {0})
-    → IsUpToDate old clock → old.ended ≡ None → deadline_of old.state ≡ Some at
-    → Goes old (advanced at) (Ok u) new
-    → IsUpToDate new at
-host_after_expiry laws old new clock at u up live is h =
-    let reach : (clock < at) × (at ≤ clock + 3600000000) = due clock at old.state (up live) is in
-    λ _. laws.advances clock at old.state new.state (omega (arith, reach.0)) (up live) (goes_on old new (advanced at) u live h)
 
 -- an event acts at the clock or later
 pub acts_later : (r : Running) (e : Event) (clock moment : ℕ) → clock ≡ r.clock → moment ≡ acts_at r e → clock ≤ moment
@@ -151,109 +110,9 @@ oldest : (n : ℕ) (packets : List Sent) (p : Sent) → AreInOrder n packets →
 oldest n [] p h is = absurd cc
 oldest n (q ∷ packets) p h is = let same : q ≡ p = cc in subst (λ (x : Sent). x.at ≤ n) same h.0
 
--- after an event that acted
-acted_within : (n : ℕ) (r : Running) (e : Event) (t : State)
-    → IsWithin n r → moment_of r.base e.time ≤ n + 3600000000 → IsUpTo (acts_at r e) t
-    → IsWithin (n + 3600000000) (acted r e t)
-acted_within n r e t within moment up =
-    let clock : r.clock ≤ n = within.clock in
-    record { live = within.live; clock = omega arith; base = moment; up_to = up }
-
-arrival_within : SenderIsLawful → (n : ℕ) (r s : Running) (e : Event) (p : Packet) (came : Result State Halt) → arrives r e p ≡ came
-    → IsWithin n r → moment_of r.base e.time ≤ n + 3600000000
-    → on_arrival r e came ≡ Ok s → IsWithin (n + 3600000000) s
-arrival_within laws n r s e p (Ok t) is within moment h =
-    subst (IsWithin (n + 3600000000)) (given (acted r e t) s h)
-    (acted_within n r e t within moment (arrival_keeps_up laws (segment_in p) r.clock (acts_at r e) r.host.state t (omega arith) within.up_to is))
-arrival_within laws n r s e p (Err halt) is within moment h = absurd cc
-
-answer_within : SenderIsLawful → (n : ℕ) (r s : Running) (e : Event) (call : Call) (came : Result (State × Answer) Halt) → answers r e call ≡ came
-    → IsWithin n r → moment_of r.base e.time ≤ n + 3600000000
-    → on_answer r e call came ≡ Ok s → IsWithin (n + 3600000000) s
-answer_within laws n r s e call (Ok (t, a)) is within moment h =
-    subst (IsWithin (n + 3600000000)) (agreed e.line (acted r e t) s (result_mismatch call.result a) h)
-    (acted_within n r e t within moment (call_keeps_up laws call r.clock (acts_at r e) r.host.state t a (omega arith) within.up_to is))
-answer_within laws n r s e call (Err halt) is within moment h = absurd cc
-
--- after a packet that was taken
-taken_within : SenderIsLawful → (n : ℕ) (r s : Running) (e : Event) (p : Packet) (first : Option Sent) → slice_get r.host.state.endpoint.outbox 0 ≡ first
-    → IsWithin n r → moment_of r.base e.time ≤ n
-    → taken e p r first ≡ Ok s → IsWithin n s
-taken_within laws n r s e p None is within moment h = absurd cc
-taken_within laws n r s e p (Some sent) is within moment h =
-    let next : Running = record r { host = without_oldest r.host; base = base_after r.base e.time sent.at } in
-    let same : next ≡ s = agreed e.line next s (mismatch p (moments_of r.base e.time) sent (tolerance_of r)) h in
-    let clock : r.clock ≤ n = within.clock in
-    let left : sent.at ≤ r.clock = oldest r.clock r.host.state.endpoint.outbox sent within.up_to.packets is in
-    subst (IsWithin n) same (record {
-      live = within.live;
-      clock = within.clock;
-      base = base_within (is_single e.time) (moment_of r.base e.time) r.base sent.at n moment within.base (omega arith);
-      up_to = laws.taking r.clock r.host within.up_to;
-    })
-
--- after an expiry that was awaited: the base stays
-abbrev Waited : ℕ → Running → Running → Type 0
-Waited n r s = IsWithin (n + 3600000000) s × (s.base ≡ r.base)
-
-expired : SenderIsLawful → (n at : ℕ) (r s : Running) (e : Event) (came : Result State Halt) → advanced at r.host.state ≡ came
-    → deadline_of r.host.state ≡ Some at → IsWithin n r → on_expiry r e at came ≡ Ok s → Waited n r s
-expired laws n at r s e (Ok t) is is_due within h =
-    let clock : r.clock ≤ n = within.clock in
-    let base : r.base ≤ n = within.base in
-    let reach : (r.clock < at) × (at ≤ r.clock + 3600000000) = due r.clock at r.host.state within.up_to is_due in
-    subst (Waited n r) (given (record (with_state r t) { clock = at }) s h) (
-      record {
-        live = within.live;
-        clock = omega (arith, clock, reach.1);
-        base = omega (arith, base);
-        up_to = laws.advances r.clock at r.host.state t (omega (arith, reach.0)) within.up_to is;
-      },
-      refl,
-    )
-expired laws n at r s e (Err halt) is is_due within h = absurd cc
-
 pub in_reach : (b : Bool) (line : ℕ) (x : Result Running Verdict) (s : Running) → (if b then x else Err (Fail line Missing)) ≡ Ok s → x ≡ Ok s
 in_reach true line x s h = h
 in_reach false line x s h = absurd cc
-
-expires_within : SenderIsLawful → (n : ℕ) (r s : Running) (e : Event) (o : Option ℕ) → deadline_of r.host.state ≡ o
-    → IsWithin n r → expires r e o ≡ Ok s → Waited n r s
-expires_within laws n r s e None is_due within h = absurd cc
-expires_within laws n r s e (Some at) is_due within h =
-    expired laws n at r s e (advanced at r.host.state) refl is_due within
-    (in_reach (is_in_reach (moments_of r.base e.time) (tolerance_of r) at) e.line (on_expiry r e at (advanced at r.host.state)) s h)
-
-later : (n : ℕ) (r : Running) → IsWithin n r → IsWithin (n + 3600000000) r
-later n r within =
-    let clock : r.clock ≤ n = within.clock in
-    let base : r.base ≤ n = within.base in
-    record { live = within.live; clock = omega arith; base = omega arith; up_to = within.up_to }
-
-awaited_within : SenderIsLawful → (n : ℕ) (r s : Running) (e : Event) (empty : Bool) → IsWithin n r
-    → (if empty then expires r e (deadline_of r.host.state) else Ok r) ≡ Ok s → Waited n r s
-awaited_within laws n r s e true within h = expires_within laws n r s e (deadline_of r.host.state) refl within h
-awaited_within laws n r s e false within h = subst (Waited n r) (given r s h) (later n r within, refl)
-
-leaves_within : SenderIsLawful → (n : ℕ) (r s : Running) (e : Event) (p : Packet) (came : Result Running Verdict) → awaited r e ≡ came
-    → IsWithin n r → moment_of r.base e.time ≤ n + 3600000000
-    → on_step (λ q. taken e p q (slice_get q.host.state.endpoint.outbox 0)) (λ v. Err v) came ≡ Ok s
-    → IsWithin (n + 3600000000) s
-leaves_within laws n r s e p (Ok t) is within moment h =
-    let waited : Waited n r t = awaited_within laws n r t e (length r.host.state.endpoint.outbox == 0) within is in
-    taken_within laws (n + 3600000000) t s e p (slice_get t.host.state.endpoint.outbox 0) refl waited.0
-    (subst (λ (b : ℕ). moment_of b e.time ≤ n + 3600000000) (sym waited.1) moment) h
-leaves_within laws n r s e p (Err v) is within moment h = absurd cc
-
-performed_within : SenderIsLawful → (n : ℕ) (r s : Running) (e : Event) (action : Action)
-    → IsWithin n r → moment_of r.base e.time ≤ n + 3600000000 → performed r e action ≡ Ok s → IsWithin (n + 3600000000) s
-performed_within laws n r s e (Inbound p) within moment h = arrival_within laws n r s e p (arrives r e p) refl within moment h
-performed_within laws n r s e (Outbound p) within moment h =
-    leaves_within laws n (noted r) s e p (awaited (noted r) e) refl
-    (record { live = within.live; clock = within.clock; base = within.base; up_to = within.up_to }) moment h
-performed_within laws n r s e (Calls call) within moment h = answer_within laws n r s e call (answers r e call) refl within moment h
-performed_within laws n r s e Command within moment h = absurd cc
-performed_within laws n r s e Code within moment h = absurd cc
 
 -- a step that goes on performed its event's action
 pub step_performs : (r s : Running) (e : Event) → step r e ≡ Ok s → performed r e e.action ≡ Ok s
@@ -277,8 +136,150 @@ step_unlimited r s e h =
 step_short : (r s : Running) (e : Event) → step r e ≡ Ok s → list_any is_long (written_times e.time) ≡ false
 step_short r s e h = or_false _ _ (or_false _ _ (step_unlimited r s e h))
 
-pub step_within : SenderIsLawful → (n : ℕ) (r s : Running) (e : Event) → IsWithin n r → step r e ≡ Ok s → IsWithin (n + 3600000000) s
-step_within laws n r s e within h =
-    let base : r.base ≤ n = within.base in
-    let moment : moment_of r.base e.time ≤ r.base + 3600000000 = moment_within r.base e.time (step_short r s e h) in
-    performed_within laws n r s e e.action within (omega arith) (step_performs r s e h)
+module _ (K : ℕ → State → Type 0) (laws : IsKept K) where
+  -- of a sender that hasn't ended it is known at a moment
+  abbrev Knows : Sender → ℕ → Type 0
+  Knows host clock = host.ended ≡ None → K clock host.state
+
+  -- a packet that arrives, and a call, after all expiries up to a later moment
+  pub arrival_keeps_up : (segment : Segment) (clock moment : ℕ) (s t : State) → clock ≤ moment → K clock s
+      → then_on (arrived segment moment) (advanced moment s) ≡ Ok t → K moment t
+  arrival_keeps_up segment clock moment s t le up h =
+      let came = both (arrived segment moment) (advanced moment s) t h in
+      laws.arrivals segment moment came.0 t (laws.advances clock moment s came.0 le up came.1) came.2
+
+  pub call_keeps_up : (call : Call) (clock moment : ℕ) (s t : State) (answer : Answer) → clock ≤ moment → K clock s
+      → then_on (called call moment) (advanced moment s) ≡ Ok (t, answer) → K moment t
+  call_keeps_up call clock moment s t answer le up h =
+      let came = both (called call moment) (advanced moment s) (t, answer) h in
+      laws.calls call moment came.0 t answer (laws.advances clock moment s came.0 le up came.1) came.2
+
+  -- so the sender is up to date at the moment of the packet, and of the call
+  pub host_after_arrival : (old new : Sender) (segment : Segment) (clock moment : ℕ) (u : Unit {0})
+      → Knows old clock → old.ended ≡ None → clock ≤ moment
+      → Goes old (λ s. then_on (arrived segment moment) (advanced moment s)) (Ok u) new
+      → Knows new moment
+  host_after_arrival old new segment clock moment u up live le h =
+      λ _. arrival_keeps_up segment clock moment old.state new.state le (up live) (goes_on old new (λ s. then_on (arrived segment moment) (advanced moment s)) u live h)
+
+  pub host_after_call : (old new : Sender) (call : Call) (clock moment : ℕ) (answer : Answer)
+      → Knows old clock → old.ended ≡ None → clock ≤ moment
+      → Answers old (λ s. then_on (called call moment) (advanced moment s)) (Ok answer) new
+      → Knows new moment
+  host_after_call old new call clock moment answer up live le h =
+      λ _. call_keeps_up call clock moment old.state new.state answer le (up live) (answers_on old new (λ s. then_on (called call moment) (advanced moment s)) answer live h)
+
+  -- and the sender is up to date there
+  pub host_after_expiry : (old new : Sender) (clock at : ℕ) (u : Unit {0})
+      → Knows old clock → old.ended ≡ None → deadline_of old.state ≡ Some at
+      → Goes old (advanced at) (Ok u) new
+      → Knows new at
+  host_after_expiry old new clock at u up live is h =
+      let reach : (clock < at) × (at ≤ clock + 3600000000) = laws.soon clock at old.state (up live) is in
+      λ _. laws.advances clock at old.state new.state (omega (arith, reach.0)) (up live) (goes_on old new (advanced at) u live h)
+
+  -- after an event that acted
+  acted_within : (n : ℕ) (r : Running) (e : Event) (t : State)
+      → IsWithin K n r → moment_of r.base e.time ≤ n + 3600000000 → K (acts_at r e) t
+      → IsWithin K (n + 3600000000) (acted r e t)
+  acted_within n r e t within moment up =
+      let clock : r.clock ≤ n = within.clock in
+      record { live = within.live; clock = omega arith; base = moment; up_to = up }
+
+  arrival_within : (n : ℕ) (r s : Running) (e : Event) (p : Packet) (came : Result State Halt) → arrives r e p ≡ came
+      → IsWithin K n r → moment_of r.base e.time ≤ n + 3600000000
+      → on_arrival r e came ≡ Ok s → IsWithin K (n + 3600000000) s
+  arrival_within n r s e p (Ok t) is within moment h =
+      subst (IsWithin K (n + 3600000000)) (given (acted r e t) s h)
+      (acted_within n r e t within moment (arrival_keeps_up (segment_in p) r.clock (acts_at r e) r.host.state t (omega arith) within.up_to is))
+  arrival_within n r s e p (Err halt) is within moment h = absurd cc
+
+  answer_within : (n : ℕ) (r s : Running) (e : Event) (call : Call) (came : Result (State × Answer) Halt) → answers r e call ≡ came
+      → IsWithin K n r → moment_of r.base e.time ≤ n + 3600000000
+      → on_answer r e call came ≡ Ok s → IsWithin K (n + 3600000000) s
+  answer_within n r s e call (Ok (t, a)) is within moment h =
+      subst (IsWithin K (n + 3600000000)) (agreed e.line (acted r e t) s (result_mismatch call.result a) h)
+      (acted_within n r e t within moment (call_keeps_up call r.clock (acts_at r e) r.host.state t a (omega arith) within.up_to is))
+  answer_within n r s e call (Err halt) is within moment h = absurd cc
+
+  -- after a packet that was taken
+  taken_within : (n : ℕ) (r s : Running) (e : Event) (p : Packet) (first : Option Sent) → slice_get r.host.state.endpoint.outbox 0 ≡ first
+      → IsWithin K n r → moment_of r.base e.time ≤ n
+      → taken e p r first ≡ Ok s → IsWithin K n s
+  taken_within n r s e p None is within moment h = absurd cc
+  taken_within n r s e p (Some sent) is within moment h =
+      let next : Running = record r { host = without_oldest r.host; base = base_after r.base e.time sent.at } in
+      let same : next ≡ s = agreed e.line next s (mismatch p (moments_of r.base e.time) sent (tolerance_of r)) h in
+      let clock : r.clock ≤ n = within.clock in
+      let left : sent.at ≤ r.clock = oldest r.clock r.host.state.endpoint.outbox sent (laws.ordered r.clock r.host.state within.up_to) is in
+      subst (IsWithin K n) same (record {
+        live = within.live;
+        clock = within.clock;
+        base = base_within (is_single e.time) (moment_of r.base e.time) r.base sent.at n moment within.base (omega arith);
+        up_to = laws.taking r.clock r.host within.up_to;
+      })
+
+  -- after an expiry that was awaited: the base stays
+  abbrev Waited : ℕ → Running → Running → Type 0
+  Waited n r s = IsWithin K (n + 3600000000) s × (s.base ≡ r.base)
+
+  expired : (n at : ℕ) (r s : Running) (e : Event) (came : Result State Halt) → advanced at r.host.state ≡ came
+      → deadline_of r.host.state ≡ Some at → IsWithin K n r → on_expiry r e at came ≡ Ok s → Waited n r s
+  expired n at r s e (Ok t) is is_due within h =
+      let clock : r.clock ≤ n = within.clock in
+      let base : r.base ≤ n = within.base in
+      let reach : (r.clock < at) × (at ≤ r.clock + 3600000000) = laws.soon r.clock at r.host.state within.up_to is_due in
+      subst (Waited n r) (given (record (with_state r t) { clock = at }) s h) (
+        record {
+          live = within.live;
+          clock = omega (arith, clock, reach.1);
+          base = omega (arith, base);
+          up_to = laws.advances r.clock at r.host.state t (omega (arith, reach.0)) within.up_to is;
+        },
+        refl,
+      )
+  expired n at r s e (Err halt) is is_due within h = absurd cc
+
+  expires_within : (n : ℕ) (r s : Running) (e : Event) (o : Option ℕ) → deadline_of r.host.state ≡ o
+      → IsWithin K n r → expires r e o ≡ Ok s → Waited n r s
+  expires_within n r s e None is_due within h = absurd cc
+  expires_within n r s e (Some at) is_due within h =
+      expired n at r s e (advanced at r.host.state) refl is_due within
+      (in_reach (is_in_reach (moments_of r.base e.time) (tolerance_of r) at) e.line (on_expiry r e at (advanced at r.host.state)) s h)
+
+  later : (n : ℕ) (r : Running) → IsWithin K n r → IsWithin K (n + 3600000000) r
+  later n r within =
+      let clock : r.clock ≤ n = within.clock in
+      let base : r.base ≤ n = within.base in
+      record { live = within.live; clock = omega arith; base = omega arith; up_to = within.up_to }
+
+  awaited_within : (n : ℕ) (r s : Running) (e : Event) (empty : Bool) → IsWithin K n r
+      → (if empty then expires r e (deadline_of r.host.state) else Ok r) ≡ Ok s → Waited n r s
+  awaited_within n r s e true within h = expires_within n r s e (deadline_of r.host.state) refl within h
+  awaited_within n r s e false within h = subst (Waited n r) (given r s h) (later n r within, refl)
+
+  leaves_within : (n : ℕ) (r s : Running) (e : Event) (p : Packet) (came : Result Running Verdict) → awaited r e ≡ came
+      → IsWithin K n r → moment_of r.base e.time ≤ n + 3600000000
+      → on_step (λ q. taken e p q (slice_get q.host.state.endpoint.outbox 0)) (λ v. Err v) came ≡ Ok s
+      → IsWithin K (n + 3600000000) s
+  leaves_within n r s e p (Ok t) is within moment h =
+      let waited : Waited n r t = awaited_within n r t e (length r.host.state.endpoint.outbox == 0) within is in
+      taken_within (n + 3600000000) t s e p (slice_get t.host.state.endpoint.outbox 0) refl waited.0
+      (subst (λ (b : ℕ). moment_of b e.time ≤ n + 3600000000) (sym waited.1) moment) h
+  leaves_within n r s e p (Err v) is within moment h = absurd cc
+
+  performed_within : (n : ℕ) (r s : Running) (e : Event) (action : Action)
+      → IsWithin K n r → moment_of r.base e.time ≤ n + 3600000000 → performed r e action ≡ Ok s → IsWithin K (n + 3600000000) s
+  performed_within n r s e (Inbound p) within moment h = arrival_within n r s e p (arrives r e p) refl within moment h
+  performed_within n r s e (Outbound p) within moment h =
+      leaves_within n (noted r) s e p (awaited (noted r) e) refl
+      (record { live = within.live; clock = within.clock; base = within.base; up_to = within.up_to }) moment h
+  performed_within n r s e (Calls call) within moment h = answer_within n r s e call (answers r e call) refl within moment h
+  performed_within n r s e Command within moment h = absurd cc
+  performed_within n r s e Code within moment h = absurd cc
+
+  pub step_within : (n : ℕ) (r s : Running) (e : Event) → IsWithin K n r → step r e ≡ Ok s → IsWithin K (n + 3600000000) s
+  step_within n r s e within h =
+      let base : r.base ≤ n = within.base in
+      let moment : moment_of r.base e.time ≤ r.base + 3600000000 = moment_within r.base e.time (step_short r s e h) in
+      performed_within n r s e e.action within (omega arith) (step_performs r s e h)

@@ -38,7 +38,7 @@ use Rattle.pd_run.proofs.Bounds.{given, agreed, both, in_reach, step_performs}
 
 -- Sets of settings
 
-includes_itself : (u : UseSet) → Includes u u
+pub includes_itself : (u : UseSet) → Includes u u
 includes_itself u = record {
   mss = λ e. e;
   sack = λ e. e;
@@ -54,7 +54,7 @@ includes_itself u = record {
   tolerance_us = λ e. e;
 }
 
-includes_too : (u v w : UseSet) → Includes u v → Includes v w → Includes u w
+pub includes_too : (u v w : UseSet) → Includes u v → Includes v w → Includes u w
 includes_too u v w a b = record {
   mss = λ e. a.mss (b.mss e);
   sack = λ e. a.sack (b.sack e);
@@ -70,7 +70,7 @@ includes_too u v w a b = record {
   tolerance_us = λ e. a.tolerance_us (b.tolerance_us e);
 }
 
-agree_on_fewer : (more fewer : UseSet) (a b : Settings) → Includes more fewer → Agree more a b → Agree fewer a b
+pub agree_on_fewer : (more fewer : UseSet) (a b : Settings) → Includes more fewer → Agree more a b → Agree fewer a b
 agree_on_fewer more fewer a b i h = record {
   mss = λ e. h.mss (i.mss e);
   sack = λ e. h.sack (i.sack e);
@@ -465,7 +465,7 @@ start_again header a b r h = go (find (λ (item : HeaderItem). is_none (toleranc
     go (Some item) is = absurd (let refused = rw is at h in cc)
 
 -- a run with a state on its way has begun
-has_begun : (settings : Settings) (p : Parsed) (n : ℕ) (s : Running) → slice_get (states_in settings p) n ≡ Some s
+pub has_begun : (settings : Settings) (p : Parsed) (n : ℕ) (s : Running) → slice_get (states_in settings p) n ≡ Some s
     → (p.fault ≡ None) × (r : Running) × (start_of p.header.items settings ≡ Ok r)
 has_begun settings p n s h = by_fault p.fault refl
   where
@@ -478,7 +478,7 @@ has_begun settings p n s h = by_fault p.fault refl
     by_fault None is = by_start is (start_of p.header.items settings) refl
     by_fault (Some line) is = absurd (let nothing = rw is at h in cc)
 
-states_begun : (settings : Settings) (p : Parsed) (r : Running) → p.fault ≡ None → start_of p.header.items settings ≡ Ok r
+pub states_begun : (settings : Settings) (p : Parsed) (r : Running) → p.fault ≡ None → start_of p.header.items settings ≡ Ok r
     → states_in settings p ≡ states_from p.events r
 states_begun settings p r fault start = rw (fault, start) refl
 

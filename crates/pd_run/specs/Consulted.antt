@@ -1,11 +1,12 @@
 -- Which settings a run has consulted, and what it is under others.
-use Rattle.std.specs.Prelude.{◌≡◌, ℕ, suc, ◌||◌, List, map, take, slice_get, Some, Ok}
+use Rattle.std.specs.Prelude.{◌≡◌, ℕ, suc, ◌+◌, ◌||◌, List, map, take, drop, slice_get, Some, Ok}
 use Rattle.pd_settings.specs.Uses.{Agree, Includes}
 use Rattle.pd_settings.specs.declared.fields.Settings.{Settings}
 use Rattle.pd_settings.specs.declared.use_set.UseSet.{UseSet}
+use Rattle.pd_script.specs.Script.{script_of}
 use Rattle.pd_script.specs.declared.script_events.Event.{Event}
 use Rattle.pd_host.specs.InputLaws.{OnlyUsesMatter, CallsOnlyUse, AdvancesUseNone, ArrivalsNote, CallsNote, AdvancesNote, rebound_host}
-use Rattle.pd_run.specs.Run.{states_of}
+use Rattle.pd_run.specs.Run.{verdict_from, stepped_from, verdict_of, stepped_of, states_of}
 use Rattle.pd_run.specs.Step.{Running, step}
 
 -- the settings that were consulted: those that the sender noted, and the tolerance where a packet was expected without a
@@ -13,7 +14,7 @@ use Rattle.pd_run.specs.Step.{Running, step}
 abbrev pub uses_of : Running → UseSet
 uses_of r = record r.host.state.uses { tolerance_us = r.host.state.uses.tolerance_us || r.compared }
 
--- the same run with other settings held
+-- the same run with other settings held, so that the tolerance is theirs where the header sets none
 abbrev pub rebound_run : Settings → Running → Running
 rebound_run settings r = record r { host = rebound_host settings r.host }
 
@@ -49,3 +50,19 @@ RunsOnlyUse =
     → slice_get (states_of text a) n ≡ Some s
     → Agree (uses_of s) a b
     → take (suc n) (states_of text b) ≡ map (rebound_run b) (take (suc n) (states_of text a))
+
+-- a run of a text under settings passes through this state behind its first n + 1 events, and its verdict and steps are those
+-- of going on from there
+pub record PassesBy (text : List (List ℕ)) (settings : Settings) (n : ℕ) (s : Running) : Type 0 where
+  pub state : slice_get (states_of text settings) n ≡ Some s
+  pub verdict : verdict_of text settings ≡ verdict_from (suc n) (drop (suc n) (script_of text).events) s
+  pub steps : stepped_of text settings ≡ suc n + stepped_from (drop (suc n) (script_of text).events) s
+
+-- so a run may begin where one under other settings had come to, if they agree on all that was consulted until there, with the
+-- settings held replaced
+abbrev pub RunsGoOnUnder : Type 0
+RunsGoOnUnder =
+    (text : List (List ℕ)) (a b : Settings) (n : ℕ) (s : Running)
+    → slice_get (states_of text a) n ≡ Some s
+    → Agree (uses_of s) a b
+    → PassesBy text b n (rebound_run b s)

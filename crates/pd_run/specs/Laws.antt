@@ -10,13 +10,15 @@ use Rattle.pd_script.specs.declared.script_header.HeaderItem.{HeaderItem}
 use Rattle.pd_seg.specs.declared.answers.Answer.{Answer}
 use Rattle.pd_seg.specs.declared.segments.Sent.{Sent}
 use Rattle.pd_host.specs.Growth.{ExpiriesQueueNothing, ArrivalsQueueOurSyn, CallsQueueWhatTheyAsk}
+use Rattle.pd_host.specs.InputLaws.{RebindingKeepsUp}
 use Rattle.pd_host.specs.Laws.{IsUpTo, StartsUpToDate, AdvancesKeepUp, ArrivalsKeepUp, CallsKeepUp, TakingKeepsUp}
 use Rattle.pd_host.specs.Sender.{queued_to}
 use Rattle.pd_host.specs.declared.sender_state.State.{State}
 use Rattle.pd_match.specs.Agreement.{Agrees, IsResult}
 use Rattle.pd_match.specs.Packets.{compared}
 use Rattle.pd_run.specs.Run.{start_of}
-use Rattle.pd_run.specs.Step.{Running, tolerance_of, noted, answers, awaited, step}
+use Rattle.pd_run.specs.Consulted.{rebound_run}
+use Rattle.pd_run.specs.Step.{Running, KeepsTime, tolerance_of, noted, answers, awaited, step}
 use Rattle.pd_run.specs.Times.{moments_of}
 
 -- what runs rest on: the sender stays up to date, and no input queues more than it names
@@ -26,6 +28,7 @@ pub record SenderIsLawful : Type 0 where
   pub arrivals : ArrivalsKeepUp
   pub calls : CallsKeepUp
   pub taking : TakingKeepsUp
+  pub rebinding : RebindingKeepsUp
   pub queued_by_expiries : ExpiriesQueueNothing
   pub queued_by_arrivals : ArrivalsQueueOurSyn
   pub queued_by_calls : CallsQueueWhatTheyAsk
@@ -60,7 +63,7 @@ pub record IsUnderway (n : ℕ) (r : Running) : Type 0 where
   pub live : r.host.ended ≡ None
   pub clock : r.clock ≤ 3600000000 * n
   pub base : r.base ≤ 3600000000 * n
-  pub up_to : IsUpTo r.clock r.host.state
+  pub up_to : KeepsTime r.clock r.host.state
   pub queued : queued_to r.host.state.endpoint.connection ≤ 262144 * n
 
 -- so it is before the first event,
@@ -70,3 +73,19 @@ StartsUnderway = (header : List HeaderItem) (settings : Settings) (r : Running) 
 -- and after each step that goes on
 abbrev pub StepsGoOn : Type 0
 StepsGoOn = (n : ℕ) (r s : Running) (e : Event) → IsUnderway n r → step r e ≡ Ok s → IsUnderway (n + 1) s
+
+-- it stays so under other settings
+abbrev pub RebindingGoesOn : Type 0
+RebindingGoesOn = (n : ℕ) (r : Running) (settings : Settings) → IsUnderway n r → IsUnderway n (rebound_run settings r)
+
+-- a run that holds the settings that its connection was begun under: the timeout lies within the bounds that they say,
+-- and the next expiry lies ahead, by at most the greatest timeout
+abbrev pub IsHeldUnder : Running → Type 0
+IsHeldUnder r = IsUpTo r.host.state.settings r.clock r.host.state
+
+-- so it is before the first event, and after each step where it was so
+abbrev pub StartsHeld : Type 0
+StartsHeld = (header : List HeaderItem) (settings : Settings) (r : Running) → start_of header settings ≡ Ok r → IsHeldUnder r
+
+abbrev pub StepsStayHeld : Type 0
+StepsStayHeld = (n : ℕ) (r s : Running) (e : Event) → IsUnderway n r → IsHeldUnder r → step r e ≡ Ok s → IsHeldUnder s

@@ -1,6 +1,7 @@
 -- One event of a run: its checks in order, and what it does.
 use Rattle.std.specs.Prelude.{◌≡◌, ℕ, ◌==◌, max, Bool, not, ◌||◌, length, slice_get, Option, Some, None, is_none, unwrap_or, Result, Ok, Err, alloc_error, if◌then◌else◌}
 use Rattle.std.specs.declared.alloc.AllocError.{AllocError}
+use Rattle.pd_settings.specs.declared.fields.Settings.{Settings}
 use Rattle.pd_script.specs.declared.calls.Call.{Call}
 use Rattle.pd_script.specs.declared.packets.Packet.{Packet}
 use Rattle.pd_script.specs.declared.script_events.Action.{Action}
@@ -48,9 +49,15 @@ tolerance_of r = unwrap_or r.written r.host.state.settings.tolerance_us
 abbrev pub noted : Running → Running
 noted r = record r { compared = r.compared || is_none r.written }
 
+-- a sender's state is up to date at a moment, under the settings that its connection was begun under: these need not be held
+-- any more
+pub record KeepsTime (now : ℕ) (s : State) : Type 0 where
+  pub begun : Settings
+  pub up_to : IsUpTo begun now s
+
 -- the sender of a run that goes on is up to date at the run's clock
 abbrev pub IsUpToDate : Sender → ℕ → Type 0
-IsUpToDate host clock = host.ended ≡ None → IsUpTo clock host.state
+IsUpToDate host clock = host.ended ≡ None → KeepsTime clock host.state
 
 -- what follows a step: goes on from its state, or stops with its verdict
 abbrev pub on_step : {A : Type 0} → (Running → A) → (Verdict → A) → Result Running Verdict → A

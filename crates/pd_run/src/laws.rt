@@ -1,6 +1,6 @@
 //! Laws of runs: functions whose contracts are the laws; they call those that they rest on.
-ghost use Rattle.pd_run.specs.Consulted.{InputsOnlyUse, StepsNote, StepsOnlyUse, RunsOnlyUse};
-ghost use Rattle.pd_run.specs.Laws.{SenderIsLawful, PassedPacketsAgree, PassedCallsAnswer, ToleranceStays, StartsUnderway, StepsGoOn};
+ghost use Rattle.pd_run.specs.Consulted.{InputsOnlyUse, StepsNote, StepsOnlyUse, RunsOnlyUse, RunsGoOnUnder};
+ghost use Rattle.pd_run.specs.Laws.{SenderIsLawful, PassedPacketsAgree, PassedCallsAnswer, ToleranceStays, StartsUnderway, StepsGoOn, RebindingGoesOn, StartsHeld, StepsStayHeld};
 
 use pd_host::{
     advances_are_lawful, arrivals_are_lawful, calls_are_lawful, growth_is_lawful,
@@ -26,12 +26,18 @@ pub fn steps_are_lawful()
     inputs_only_use();
 }
 
-/// How far along a run is after so many events: within the bounds that a step asks for, up to 4,096 of them.
+/// How far along a run is after so many events: within the bounds that a step asks for, up to 4,096 of them, whatever
+/// settings it is put under on its way. And the timer of a run that is put under no others goes by those that it began
+/// under.
 pub fn runs_are_bounded()
     ensures start { StartsUnderway }
     ensures step { StepsGoOn }
+    ensures rebinding { RebindingGoesOn }
+    ensures start_held { StartsHeld }
+    ensures step_held { StepsStayHeld }
 {
     sender_is_lawful();
+    inputs_only_use();
 }
 
 /// What runs rest on: that the sender consults no settings but those that it notes.
@@ -48,6 +54,7 @@ pub fn runs_only_use()
     ensures notes { StepsNote }
     ensures steps { StepsOnlyUse }
     ensures runs { RunsOnlyUse }
+    ensures onwards { RunsGoOnUnder }
 {
     inputs_only_use();
 }

@@ -8,7 +8,7 @@ ghost use Rattle.pd_host.specs.declared.halts.Ending.TheVariants.{OutOfMemory};
 ghost use Rattle.pd_run.specs.Limits.{is_long, written_times, is_packet_over};
 ghost use Rattle.pd_run.specs.Times.{moment_of};
 ghost use Rattle.pd_run.specs.Run.{start_of};
-ghost use Rattle.pd_run.specs.Consulted.{uses_of};
+ghost use Rattle.pd_run.specs.Consulted.{uses_of, rebound_run};
 ghost use Rattle.pd_run.specs.Step.{tolerance_of, noted, acts_at, arrives, on_arrival, answers, on_answer, on_expiry, awaited, taken, leaves, Tells, Steps};
 
 use crate::acting::{answer, arrive};
@@ -99,6 +99,18 @@ impl RunState {
             tolerance_us: uses.tolerance_us || self.compared,
             ..uses
         }
+    }
+
+    /// Puts the run under other settings: the host holds them, and the tolerance is theirs unless the header sets one. Where
+    /// they agree with the former ones on all that was consulted, the run is what it would be had it been under them from
+    /// the beginning.
+    ///
+    /// Takes no memory.
+    pub fn rebind(&mut self, settings: &Settings)
+        ensures { self.new ≡ rebound_run settings.now self.old }
+    {
+        sender_is_lawful();
+        self.host.rebind(settings);
     }
 
     /// The state of the run's sender.

@@ -1,5 +1,5 @@
 -- The laws hold.
-use Rattle.pd_host.proofs.Moments.{starts_up_to_date, advances_keep_up, arrivals_keep_up, calls_keep_up, taking_keeps_up}
+use Rattle.pd_host.proofs.Moments.{starts_up_to_date, advances_keep_up, arrivals_keep_up, calls_keep_up, taking_keeps_up, rebinding_keeps_up}
 use Rattle.pd_host.proofs.laws.moments_are_lawful.Goals as goal
 
 pub returns : goal.returns
@@ -9,4 +9,5 @@ returns c = record {
   arrivals = arrivals_keep_up c.timers_are_lawful.ensures.bounds;
   calls = calls_keep_up c.timers_are_lawful.ensures.bounds;
   taking = taking_keeps_up;
+  rebinding = rebinding_keeps_up;
 }

@@ -8,6 +8,7 @@ returns c = record {
   arrivals = c.moments_are_lawful.ensures.arrivals;
   calls = c.moments_are_lawful.ensures.calls;
   taking = c.moments_are_lawful.ensures.taking;
+  rebinding = c.moments_are_lawful.ensures.rebinding;
   queued_by_expiries = c.growth_is_lawful.ensures.expiries;
   queued_by_arrivals = c.growth_is_lawful.ensures.arrivals;
   queued_by_calls = c.growth_is_lawful.ensures.calls;
