@@ -10,12 +10,15 @@ use Rattle.pd_lex.specs.declared.token.Place.{Place}
 use Rattle.pd_lex.specs.Octets.{is_blank}
 use Rattle.pd_lex.specs.Places.{first_place, line_at, standing, octets_from, IsPlace}
 use Rattle.pd_lex.specs.Pieces.{piece, gap, front}
-use Rattle.pd_lex.specs.Lexing.{items}
+use Rattle.pd_lex.specs.declared.token.Lexed.{Lexed}
+use Rattle.pd_lex.specs.declared.token.Lexed.TheVariants as lexed
+use Rattle.pd_lex.specs.Lexing.{items, IsNext}
+use Rattle.pd_lex.specs.Next.{IsCut}
 use Rattle.pd_lex.specs.Spellings.{Skips, here}
 use Rattle.pd_lex.proofs.Rests.{place_is, standing_place, standing_first}
 use Rattle.pd_lex.proofs.Texts.{octets_standing}
 use Rattle.pd_lex.proofs.Items.{items_from, items_over_gap, gap_shorter}
-use Rattle.pd_lex.proofs.Longest.{longest_gap, Skips-then}
+use Rattle.pd_lex.proofs.Longest.{longest_gap, Skips-then, Skips-over}
 use Rattle.pd_lex.proofs.Steps.{step_blank, step_newline}
 
 not_zero : (n : ℕ) → 1 ≤ n → (n == 0) ≡ false
@@ -114,3 +117,15 @@ module _ (lines : List (List ℕ)) (plain : list_all is_line lines ≡ true) (p 
   line_shorter n e ge =
       let on = to_newline n e ge in
       then_shorter lines plain p (record { line = p.line; at = length (line_at lines p.line) }) (record { line = p.line + 1; at = 0 }) on (newline_gap on.place).1
+
+-- what stands at the second place stands at the first, where the text goes on from it as from there
+module _ (lines : List (List ℕ)) (p q : Place) (same : items lines p ≡ items lines q) (skipped : Skips (octets_from lines p) (octets_from lines q)) where
+  pub next_on : (next : Lexed) → IsNext lines q next → IsNext lines p next
+  next_on (lexed.Token t) h = same ∙ h
+  next_on lexed.End h = same ∙ h
+  next_on (lexed.Bad line) h = same ∙ h
+
+  pub cut_on : (next : Lexed) → IsCut lines q next → IsCut lines p next
+  cut_on (lexed.Token t) h = record { skipped = Skips-over skipped h.skipped; longest = h.longest; from = h.from; behind = h.behind }
+  cut_on lexed.End h = Skips-over skipped h
+  cut_on (lexed.Bad line) h = record { at = h.at; skipped = Skips-over skipped h.skipped; stuck = h.stuck; place = h.place; line_is = h.line_is }

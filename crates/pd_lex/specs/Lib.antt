@@ -2,6 +2,7 @@
 
 -- what the tokens of a text are
 pub mod Octets
+pub mod Classes
 pub mod Spellings
 pub mod Places
 pub mod Tokens

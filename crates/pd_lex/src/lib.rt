@@ -1,6 +1,7 @@
 //! The tokens of a packetdrill script.
 #![tactic(auto)]
 
+mod classes;
 mod ending;
 mod laws;
 mod next;

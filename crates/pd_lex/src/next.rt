@@ -5,7 +5,7 @@ ghost use Rattle.pd_lex.specs.Lexing.{IsNext};
 ghost use Rattle.pd_lex.specs.Next.{IsCut, HasLine, HasText};
 
 use crate::numbers::number_of;
-use crate::plain::{Plain, plain_at};
+use crate::plain::plain_at;
 use crate::standing::behind_blanks;
 use crate::step::{Step, step_at};
 use crate::token::{Lexed, Place, Token};
@@ -33,36 +33,41 @@ pub fn read_next<'a>(lines: &'a Lines, place: Place, next: &mut Lexed<'a>)
     ensures line { HasLine lines.now next.new }
     ensures text { HasText lines.now next.new }
 {
-    // The common tokens, which stand in the line of the place, need no more.
-    let Some(line) = lines.line(place.line) else {
-        return read_on(lines, place, next);
-    };
-    let at = behind_blanks(line, place.at);
-    if at >= line.len() {
-        return read_on(lines, place, next);
-    }
-    let rest = &line[at..];
-    let Some(Plain { kind, len, number }) = plain_at(rest) else {
-        return read_on(lines, place, next);
-    };
-    let text = &rest[..len];
-    *next = Lexed::Token(Token {
-        kind,
-        symbol: first_octet(text),
-        number,
-        text,
-        from: Place {
-            line: place.line,
+    // The common tokens, with blanks and newlines alone before them, need no more.
+    let mut here = place;
+    'lines: loop {
+        let Some(line) = lines.line(here.line) else {
+            return read_on(lines, here, next);
+        };
+        let at = behind_blanks(line, here.at);
+        if at >= line.len() {
+            here = Place::line_start(here.line + 1);
+            continue;
+        }
+        let from = Place {
+            line: here.line,
             at,
-        },
-        to: Place {
-            line: place.line,
-            at: at + len,
-        },
-    });
+        };
+        let rest = &line[at..];
+        let Some(plain) = plain_at(rest) else {
+            return read_on(lines, from, next);
+        };
+        *next = Lexed::Token(Token {
+            kind: plain.kind,
+            symbol: plain.symbol,
+            number: plain.number,
+            text: &rest[..plain.len],
+            from,
+            to: Place {
+                line: from.line,
+                at: at + plain.len,
+            },
+        });
+        return;
+    }
 }
 
-/// The same of any token.
+/// Reads any token, also behind comments.
 #[inline(never)]
 fn read_on<'a>(lines: &'a Lines, place: Place, next: &mut Lexed<'a>)
     ensures next { IsNext lines.now place next.new }
@@ -82,10 +87,7 @@ fn read_on<'a>(lines: &'a Lines, place: Place, next: &mut Lexed<'a>)
         };
         let at = behind_blanks(line, here.at);
         if at >= line.len() {
-            here = Place {
-                line: here.line + 1,
-                at: 0,
-            };
+            here = Place::line_start(here.line + 1);
             continue;
         }
         let from = Place {

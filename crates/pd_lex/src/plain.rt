@@ -1,5 +1,5 @@
 //! The common tokens at the front of a line.
-ghost use Rattle.std.specs.Prelude.{◌≡◌, ◌≤◌, true, Some, length, take, fold, IfSome};
+ghost use Rattle.std.specs.Prelude.{◌≡◌, ◌≤◌, true, [], ◌∷◌, Some, length, take, fold, IfSome};
 ghost use Rattle.std.specs.List.{prefix_len};
 ghost use Rattle.pd_lex.specs.Octets.{is_digit};
 ghost use Rattle.pd_lex.specs.Pieces.{piece};
@@ -8,13 +8,15 @@ ghost use Rattle.pd_lex.specs.Scanned.{begins_name};
 ghost use Rattle.pd_lex.specs.declared.scan.Piece.TheVariants.{Whole};
 ghost use Rattle.pd_lex.specs.declared.token.TokenKind.TheVariants.{Int, Symbol};
 
-use crate::scan::{digit, fraction, goes_on, word, word_len};
+use crate::classes::{Class, class_of};
+use crate::scan::{digit, fraction, goes_on, word_len};
 use crate::token::TokenKind;
 
-/// A token of so many octets of the line, and the number of an Int.
+/// A token of so many octets of the line, with the octet of a Symbol and the number of an Int.
 #[derive(Clone, Copy)]
 pub struct Plain {
     pub kind: TokenKind,
+    pub symbol: u8,
     pub len: usize,
     pub number: u64,
 }
@@ -42,20 +44,34 @@ fn digits_at(s: &[u8]) -> (usize, u64)
     }
 }
 
-/// The Int at the front, if it has few digits.
+/// The Int or the Decimal at the front, if its whole part has few digits.
 #[inline(always)]
-fn int_at(s: &[u8]) -> Option<Plain>
+fn number_at(s: &[u8]) -> Option<Plain>
     ensures piece { IfSome result (λ p. Whole p.kind p.len ≡ piece s.now) }
     ensures within { IfSome result (λ p. p.len ≤ length s.now) }
     ensures number { IfSome result (λ p. p.kind ≡ Int → p.number ≡ capped_number (take p.len s.now)) }
+    ensures symbol { IfSome result (λ p. p.kind ≡ Symbol → take p.len s.now ≡ p.symbol ∷ []) }
 {
     let (len, number) = digits_at(s);
+    if len == 0 || len > FEW {
+        return None;
+    }
     let (_, rest) = s.split_at(len);
-    if len == 0 || len > FEW || fraction(rest) > 0 || goes_on(rest) {
+    let more = fraction(rest);
+    if more > 0 {
+        return Some(Plain {
+            kind: TokenKind::Decimal,
+            symbol: 0,
+            len: len + more,
+            number: 0,
+        });
+    }
+    if goes_on(rest) {
         return None;
     }
     Some(Plain {
         kind: TokenKind::Int,
+        symbol: 0,
         len,
         number,
     })
@@ -68,9 +84,11 @@ fn name(s: &[u8]) -> Option<Plain>
     ensures piece { IfSome result (λ p. Whole p.kind p.len ≡ piece s.now) }
     ensures within { IfSome result (λ p. p.len ≤ length s.now) }
     ensures number { IfSome result (λ p. p.kind ≡ Int → p.number ≡ capped_number (take p.len s.now)) }
+    ensures symbol { IfSome result (λ p. p.kind ≡ Symbol → take p.len s.now ≡ p.symbol ∷ []) }
 {
     Some(Plain {
         kind: TokenKind::Word,
+        symbol: 0,
         len: word_len(s),
         number: 0,
     })
@@ -83,47 +101,49 @@ fn point(s: &[u8]) -> Option<Plain>
     ensures piece { IfSome result (λ p. Whole p.kind p.len ≡ piece s.now) }
     ensures within { IfSome result (λ p. p.len ≤ length s.now) }
     ensures number { IfSome result (λ p. p.kind ≡ Int → p.number ≡ capped_number (take p.len s.now)) }
+    ensures symbol { IfSome result (λ p. p.kind ≡ Symbol → take p.len s.now ≡ p.symbol ∷ []) }
 {
     match s {
         [b'.', b'.', b'.', ..] => Some(Plain {
             kind: TokenKind::Dots,
+            symbol: 0,
             len: 3,
             number: 0,
         }),
-        [b'.', b' ', ..] => symbol(),
+        [b'.', b' ', ..] => symbol(b'.'),
         _ => None,
     }
 }
 
 /// A symbol.
 #[inline(always)]
-fn symbol() -> Option<Plain>
-    ensures { result ≡ Some (record { kind = Symbol; len = 1; number = 0 }) }
+fn symbol(octet: u8) -> Option<Plain>
+    ensures { result ≡ Some (record { kind = Symbol; symbol = octet; len = 1; number = 0 }) }
 {
     Some(Plain {
         kind: TokenKind::Symbol,
+        symbol: octet,
         len: 1,
         number: 0,
     })
 }
 
 /// The token at the front of what is left of a line, where it is one of the common.
-#[tactic(auto, unfolding(crate::specs::Pieces::piece))]
 #[inline(always)]
 pub fn plain_at(s: &[u8]) -> Option<Plain>
     ensures piece { IfSome result (λ p. Whole p.kind p.len ≡ piece s.now) }
     ensures within { IfSome result (λ p. p.len ≤ length s.now) }
     ensures number { IfSome result (λ p. p.kind ≡ Int → p.number ≡ capped_number (take p.len s.now)) }
+    ensures symbol { IfSome result (λ p. p.kind ≡ Symbol → take p.len s.now ≡ p.symbol ∷ []) }
 {
-    match s {
-        [b, ..] if digit(*b) => int_at(s),
-        [
-            b'(' | b')' | b'*' | b'+' | b',' | b':' | b'<' | b'=' | b'>',
-            ..
-        ] => symbol(),
-        [b'[' | b']' | b'{' | b'}', ..] => symbol(),
-        [b, ..] if word(*b) => name(s),
-        [b'.', ..] => point(s),
-        _ => None,
+    let [octet, ..] = s else {
+        return None;
+    };
+    match class_of(*octet) {
+        Class::Digit => number_at(s),
+        Class::Letter => name(s),
+        Class::Point => point(s),
+        Class::Sign => symbol(*octet),
+        Class::Other => None,
     }
 }

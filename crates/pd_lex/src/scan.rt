@@ -5,6 +5,7 @@ ghost use Rattle.pd_lex.specs.Octets.{is_digit, is_hex_digit, is_word, is_blank,
 ghost use Rattle.pd_lex.specs.Pieces.{is_hex, fraction_len, value_len, word_piece, point_piece, dash_piece, piece, after_pair, after_quote, after_backquote, after_end, opener_len};
 ghost use Rattle.pd_lex.specs.Scanned.{piece_len, begins_name, run_piece, slash_piece, percent_piece};
 
+use crate::classes::{Class, class_of};
 use crate::token::TokenKind;
 
 /// What opens a piece that may span lines.
@@ -60,10 +61,10 @@ fn hex_digit(b: u8) -> bool
 pub fn word(b: u8) -> bool
     ensures { result ≡ is_word b }
 {
-    b.is_ascii_alphanumeric() || b == b'_'
+    matches!(class_of(b), Class::Digit | Class::Letter)
 }
 
-fn blank(b: u8) -> bool
+pub fn blank(b: u8) -> bool
     ensures { result ≡ is_blank b }
 {
     b <= b' ' && matches!(b, b' ' | b'\t' | b'\r' | b'\n')
@@ -81,6 +82,7 @@ fn inside_line(b: u8) -> bool
     b != b'\n'
 }
 
+#[inline(always)]
 fn digits_len(s: &[u8]) -> usize
     ensures len { result ≡ prefix_len is_digit s.now }
     ensures within { result ≤ length s.now }
@@ -88,6 +90,7 @@ fn digits_len(s: &[u8]) -> usize
     s.iter().take_while(|b| digit(**b)).count()
 }
 
+#[inline(always)]
 pub fn word_len(s: &[u8]) -> usize
     ensures len { result ≡ prefix_len is_word s.now }
     ensures within { result ≤ length s.now }
@@ -124,6 +127,7 @@ fn hex(s: &[u8]) -> bool
     }
 }
 
+#[inline(always)]
 pub fn fraction(s: &[u8]) -> usize
     ensures len { result ≡ fraction_len s.now }
     ensures within { result ≤ length s.now }
@@ -135,14 +139,6 @@ pub fn fraction(s: &[u8]) -> usize
         }
         _ => 0,
     }
-}
-
-/// How many blanks it begins with.
-pub fn blanks_len(s: &[u8]) -> usize
-    ensures len { result ≡ prefix_len is_blank s.now }
-    ensures within { result ≤ length s.now }
-{
-    s.iter().take_while(|b| blank(**b)).count()
 }
 
 fn value(s: &[u8]) -> usize

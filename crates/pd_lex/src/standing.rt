@@ -4,21 +4,22 @@ ghost use Rattle.std.specs.List.{prefix_len};
 ghost use Rattle.pd_lex.specs.Octets.{is_blank};
 ghost use Rattle.pd_lex.specs.Places.{line_at, IsPlace};
 
-use crate::scan::blanks_len;
+use crate::scan::blank;
 use crate::token::Place;
 use pd_text::Lines;
 
 /// How many octets of a line stand before the first that is no blank, from one on; no fewer than
 /// before that one.
+#[inline(always)]
 pub fn behind_blanks(line: &[u8], at: usize) -> usize
     ensures place { result ≡ at + prefix_len is_blank (drop at line.now) }
     ensures small { length line.now < 2 ^ 64 }
 {
-    if at < line.len() {
-        at + blanks_len(&line[at..])
-    } else {
-        at
+    let mut at = at;
+    'blanks: while at < line.len() && blank(line[at]) {
+        at += 1;
     }
+    at
 }
 
 /// What is left of the line of a place; `None` past the last line.

@@ -45,6 +45,13 @@ impl Place {
     {
         Place { line: 1, at: 0 }
     }
+
+    /// The place of a line's first octet.
+    pub fn line_start(line: usize) -> Place
+        ensures { result ≡ record { line = line; at = 0 } }
+    {
+        Place { line, at: 0 }
+    }
 }
 
 /// A token: what it is, its octets, where it begins, and the place behind it.

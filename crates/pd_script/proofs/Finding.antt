@@ -5,7 +5,6 @@ use Rattle.pd_lex.specs.declared.token.Place.{Place}
 use Rattle.pd_lex.specs.Tokens.{Item}
 use Rattle.pd_script.specs.declared.script_events.Event.{Event}
 use Rattle.pd_script.specs.declared.parsing.Found.{Found}
-use Rattle.pd_script.specs.declared.deciding.NextEvent.{NextEvent}
 use Rattle.pd_script.specs.declared.deciding.NextEvent.TheVariants.{Got, End, Fault}
 use Rattle.pd_script.specs.Items.{is_end, starts_event, goes_on, next_is}
 use Rattle.pd_script.specs.Reader.{Read}

@@ -1,12 +1,12 @@
 -- The header is read token by token, each from the place behind the one before.
-use Rattle.std.proofs.Common.{◌≡◌, ℕ, ◌<◌, Bool, true, false, cond, List, [], ◌∷◌, ◌++◌, length, Option, Some, None, refl, sym, ap, ◌∙◌, arith, append_assoc}
+use Rattle.std.proofs.Common.{◌≡◌, ℕ, ◌<◌, Bool, true, false, List, [], ◌∷◌, ◌++◌, length, Some, None, refl, sym, ap, ◌∙◌, arith, append_assoc}
 use Rattle.std.specs.Prelude.{take, fold}
 use Rattle.std.proofs.lemmas.List.{append-nil}
 use Rattle.std.specs.List.{list_all}
 use Rattle.pd_text.specs.Text.{is_line}
 use Rattle.pd_lex.specs.declared.token.Place.{Place}
 use Rattle.pd_lex.specs.declared.token.Token.{Token}
-use Rattle.pd_lex.specs.Places.{first_place, place_after, octets_from, between}
+use Rattle.pd_lex.specs.Places.{first_place, between}
 use Rattle.pd_lex.specs.Tokens.{Item, lexeme}
 use Rattle.pd_lex.specs.Kinds.{stays_in_line}
 use Rattle.pd_lex.specs.Lexing.{items, lexeme_of}

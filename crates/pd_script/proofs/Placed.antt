@@ -7,7 +7,7 @@ use Rattle.pd_lex.specs.declared.token.Place.{Place}
 use Rattle.pd_lex.specs.declared.token.Token.{Token}
 use Rattle.pd_lex.specs.Places.{standing, octets_from, place_after, before, between, IsPlace}
 use Rattle.pd_lex.specs.Pieces.{Front, nothing, gap, token, stray, front}
-use Rattle.pd_lex.specs.Tokens.{Lexeme, Item, lexeme, ending, bad}
+use Rattle.pd_lex.specs.Tokens.{Item, lexeme, ending, bad}
 use Rattle.pd_lex.specs.Lexing.{items}
 use Rattle.pd_lex.specs.Next.{IsTokenAt}
 use Rattle.pd_lex.proofs.Fronts.{IsRest-shorter}

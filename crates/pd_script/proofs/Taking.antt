@@ -20,12 +20,16 @@ use Rattle.pd_script.specs.declared.drafts.Draft.TheVariants as drafts
 use Rattle.pd_script.specs.declared.drafts.Inside.{Inside}
 use Rattle.pd_script.specs.declared.stops.Stop.{Stop}
 use Rattle.pd_script.specs.declared.stops.Stop.TheVariants as stops
-use Rattle.pd_script.specs.Cursor.{left, shown, Leaves, SkipsNote}
+use Rattle.pd_script.specs.Cursor.{left, shown, Leaves, Moves, SkipsNote}
 
 -- a fault in a part is a fault of the whole
 pub err_leaves : {X Y : Type 0} (e : Stop) (rest : List Item) (part : Read X) (whole : Read Y) → Leaves {X = X} (Err e) rest part → (part ≡ Err rest → whole ≡ Err rest) → Leaves {X = Y} (Err e) rest whole
 err_leaves stops.Syntax rest part whole h f = f h
 err_leaves stops.OutOfMemory rest part whole h f = tt
+
+pub err_moves : {S Y : Type 0} (e : Stop) (state : S) (rest : List Item) (part : Read S) (whole : Read Y) → Moves (Err e) state rest part → (part ≡ Err rest → whole ≡ Err rest) → Leaves {X = Y} (Err e) rest whole
+err_moves stops.Syntax state rest part whole h f = f h
+err_moves stops.OutOfMemory state rest part whole h f = tt
 
 -- the same in a note
 pub err_skips : {X : Type 0} (Y : Type 0) (e : Stop) (rest : List Item) (part : Read X) (whole : Read (List ℕ)) → Leaves {X = X} (Err e) rest part → (part ≡ Err rest → whole ≡ Err rest) → SkipsNote {X = Y} (Err e) rest whole
@@ -36,6 +40,10 @@ err_skips Y stops.OutOfMemory rest part whole h f = tt
 pub leaves_err : {X : Type 0} (e : Stop) (rest : List Item) (read : Read X) → read ≡ Err rest → Leaves {X = X} (Err e) rest read
 leaves_err stops.Syntax rest read h = h
 leaves_err stops.OutOfMemory rest read h = tt
+
+pub moves_err : {S : Type 0} (e : Stop) (state : S) (rest : List Item) (read : Read S) → read ≡ Err rest → Moves (Err e) state rest read
+moves_err stops.Syntax state rest read h = h
+moves_err stops.OutOfMemory state rest read h = tt
 
 -- what looks at the octets of a token only where its kind stays in its line
 pub alike : {A : Type 0} (f : Item → A) (kind : TokenKind) (s t : List ℕ) (from : Place) → (stays_in_line kind ≡ true → s ≡ t) → f (lexeme (record { kind = kinds.Str; text = s; from = from })) ≡ f (lexeme (record { kind = kinds.Str; text = t; from = from })) → f (lexeme (record { kind = kinds.Cmd; text = s; from = from })) ≡ f (lexeme (record { kind = kinds.Cmd; text = t; from = from })) → f (lexeme (record { kind = kinds.Code; text = s; from = from })) ≡ f (lexeme (record { kind = kinds.Code; text = t; from = from })) → f (lexeme (record { kind = kind; text = s; from = from })) ≡ f (lexeme (record { kind = kind; text = t; from = from }))

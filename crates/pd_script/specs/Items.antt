@@ -47,11 +47,6 @@ text_of (bad line) = []
 abbrev pub given : {A : Type 0} → (Item → Bool) → (Item → A) → Item → Option A
 given test value t = if test t then Some (value t) else None
 
--- what the next item stands for, if it passes a test
-abbrev pub next_given : {A : Type 0} → (Item → Bool) → (Item → A) → List Item → Option A
-next_given test value [] = None
-next_given test value (t ∷ ts) = given test value t
-
 -- the end of the text
 abbrev pub is_end : Item → Bool
 is_end (lexeme x) = false

@@ -7,6 +7,7 @@ mod cursor;
 mod deciding;
 mod drafts;
 mod heading;
+mod lookahead;
 mod names;
 mod numbers;
 mod packets;

@@ -1,10 +1,10 @@
 //! The numbers that tokens write.
-ghost use Rattle.std.specs.Prelude.{◌≡◌, ◌+◌, ◌-◌, ◌*◌, ◌^◌, ◌≤◌, ◌++◌, min, fold, length, drop, take, replicate};
+ghost use Rattle.std.specs.Prelude.{◌≡◌, ◌+◌, ◌-◌, ◌*◌, ◌^◌, ◌≤◌, ◌++◌, min, fold, get_or, length, drop, take, replicate};
 ghost use Rattle.std.specs.List.{list_all};
 ghost use Rattle.pd_lex.specs.Octets.{is_digit};
 ghost use Rattle.pd_script.specs.Items.{is_digits};
 ghost use Rattle.pd_script.specs.Values.{hex_number, whole_len, microseconds};
-ghost use Rattle.pd_lex.specs.Numbers.{capped_digit};
+ghost use Rattle.pd_lex.specs.Numbers.{wrapped_digit};
 
 use pd_lex::{digit_value, number, value_after};
 
@@ -49,17 +49,28 @@ fn decimals(text: &[u8], len: usize) -> &[u8]
     }
 }
 
-/// The number that six decimals write behind the digits of `value`; those not written are zeros.
-fn six_decimals_after(value: u64, decimals: &[u8]) -> u64
-    ensures { result ≡ fold (capped_digit 10) value (take 6 (decimals.now ++ replicate 6 48)) }
+/// The decimal at a place behind the point; one that isn't written is a zero.
+fn decimal_at(decimals: &[u8], place: usize) -> u8
+    ensures { result ≡ get_or decimals.now place 48 }
 {
-    if decimals.is_empty() {
-        return value.saturating_mul(1_000_000);
+    if place < decimals.len() {
+        decimals[place]
+    } else {
+        b'0'
     }
-    decimals.iter().chain(b"000000".iter()).take(6).fold(
-        value,
-        |value, digit| value.saturating_mul(10).saturating_add(digit_value(*digit)),
-    )
+}
+
+/// The number that the first six decimals write.
+fn six_decimals(decimals: &[u8]) -> u64
+    ensures { result ≡ fold wrapped_digit 0 (take 6 (decimals.now ++ replicate 6 48)) }
+{
+    let mut number = 0u64;
+    'places: for place in 0..6usize {
+        number = number
+            .wrapping_mul(10)
+            .wrapping_add(digit_value(decimal_at(decimals, place)));
+    }
+    number
 }
 
 /// The microseconds of seconds in digits, or in digits with a point; more than the greatest `u64` stand as that.
@@ -67,7 +78,11 @@ pub fn microseconds(text: &[u8]) -> u64
     ensures { result ≡ min (microseconds text.now) (2 ^ 64 - 1) }
 {
     let len = whole_len(text);
-    six_decimals_after(number(&text[..len]), decimals(text, len))
+    let whole = number(&text[..len]).saturating_mul(1_000_000);
+    if len == text.len() {
+        return whole;
+    }
+    whole.saturating_add(six_decimals(decimals(text, len)))
 }
 
 fn is_digit_octet(octet: u8) -> bool

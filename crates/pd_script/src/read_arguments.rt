@@ -32,7 +32,7 @@ impl<'a> Cursor<'a> {
         let mut inside = Inside::fresh();
         'tokens: loop {
             if !self.is_between(&inside) {
-                inside = self.part(inside)?;
+                self.part(&mut inside)?;
                 continue;
             }
             if inside.draft.is_empty() {

@@ -1,6 +1,6 @@
 //! Reading the parts of an event.
 ghost use Rattle.std.specs.Prelude.{◌≡◌};
-ghost use Rattle.pd_script.specs.Reading.{time_at, relative_at, maybe_until_at, note_at, outcome_at, call_at, action_at, event_at};
+ghost use Rattle.pd_script.specs.Reading.{time_at, absolute_at, relative_at, maybe_until_at, note_at, outcome_at, call_at, action_at, event_at};
 ghost use Rattle.pd_script.specs.Cursor.{Leaves};
 
 use crate::calls::{Call, Outcome};
@@ -8,21 +8,37 @@ use crate::cursor::Cursor;
 use crate::script_events::{Action, Event};
 use crate::stops::Stop;
 use crate::timing::{Time, Until};
+use pd_lex::{Lexed, Token, TokenKind};
 use std::alloc::Global;
 
 impl<'a> Cursor<'a> {
     /// Takes a time, and answers the line of its first token with it.
-    #[tactic(auto, unfolding(crate::specs::Reading::time_at))]
+    #[tactic(auto, using(crate::proofs::Symbols::one_octet), unfolding(crate::specs::Reading::time_at, pd_lex::specs::Lexing::lexeme_of))]
     fn time(&mut self) -> Result<(usize, Time), Stop>
         ensures { Leaves result self.new (time_at self.old) }
     {
-        if self.is_symbol(b'*') {
-            let line = self.symbol(b'*')?;
-            return Ok((line, Time::Any));
+        match self.peek() {
+            Lexed::Token(
+                Token {
+                    kind: TokenKind::Symbol,
+                    symbol: b'*',
+                    ..
+                },
+            ) => Ok((self.symbol(b'*')?, Time::Any)),
+            Lexed::Token(
+                Token {
+                    kind: TokenKind::Symbol,
+                    symbol: b'+',
+                    ..
+                },
+            ) => self.relative_time(),
+            _ => self.absolute_time(),
         }
-        if self.is_symbol(b'+') {
-            return self.relative_time();
-        }
+    }
+
+    fn absolute_time(&mut self) -> Result<(usize, Time), Stop>
+        ensures { Leaves result self.new (absolute_at self.old) }
+    {
         let (line, first) = self.num()?;
         if !self.is_symbol(b'~') {
             return Ok((line, Time::Absolute(first)));
@@ -71,9 +87,8 @@ impl<'a> Cursor<'a> {
     fn outcome(&mut self) -> Result<Outcome, Stop>
         ensures { Leaves result self.new (outcome_at self.old) }
     {
-        if let Some(number) = self.next_int() {
-            self.take();
-            return Ok(Outcome::Int(number));
+        if self.is_int() {
+            return Ok(Outcome::Int(self.int()?));
         }
         if self.is_hex() {
             return Ok(Outcome::Hex(self.hex()?));
@@ -115,25 +130,45 @@ impl<'a> Cursor<'a> {
         })
     }
 
-    #[tactic(auto, unfolding(crate::specs::Reading::action_at))]
+    #[tactic(auto, using(crate::proofs::Symbols::one_octet), unfolding(crate::specs::Reading::action_at, pd_lex::specs::Lexing::lexeme_of))]
     fn action(&mut self, alloc: Global) -> Result<Action, Stop>
         ensures { Leaves result self.new (action_at self.old) }
     {
-        if self.is_command() {
-            return self.command();
+        match self.peek() {
+            Lexed::Token(
+                Token {
+                    kind: TokenKind::Cmd,
+                    ..
+                },
+            ) => self.command(),
+            Lexed::Token(
+                Token {
+                    kind: TokenKind::Code,
+                    ..
+                },
+            ) => self.code(),
+            Lexed::Token(
+                Token {
+                    kind: TokenKind::Symbol,
+                    symbol: b'<',
+                    ..
+                },
+            ) => {
+                self.symbol(b'<')?;
+                Ok(Action::Inbound(self.packet(alloc, true)?))
+            }
+            Lexed::Token(
+                Token {
+                    kind: TokenKind::Symbol,
+                    symbol: b'>',
+                    ..
+                },
+            ) => {
+                self.symbol(b'>')?;
+                Ok(Action::Outbound(self.packet(alloc, false)?))
+            }
+            _ => Ok(Action::Call(self.call(alloc)?)),
         }
-        if self.is_code() {
-            return self.code();
-        }
-        if self.is_symbol(b'<') {
-            self.symbol(b'<')?;
-            return Ok(Action::Inbound(self.packet(alloc, true)?));
-        }
-        if self.is_symbol(b'>') {
-            self.symbol(b'>')?;
-            return Ok(Action::Outbound(self.packet(alloc, false)?));
-        }
-        Ok(Action::Call(self.call(alloc)?))
     }
 
     /// Takes an event.

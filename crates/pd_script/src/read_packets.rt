@@ -1,27 +1,49 @@
 //! Reading packets.
 ghost use Rattle.std.specs.Prelude.{◌≡◌, codes, true, false};
-ghost use Rattle.pd_script.specs.PacketReading.{flags_at, octets_at, numbered_at, ack_at, win_at, block_at, blocks_at, timestamp_at, option_rest_at, option_at, next_option_at, some_options_at, list_at, options_at, packet_at};
+ghost use Rattle.pd_script.specs.PacketReading.{flags_at, lettered_at, octets_at, numbered_at, ack_at, win_at, block_at, blocks_at, timestamp_at, option_rest_at, option_at, next_option_at, some_options_at, list_at, options_at, packet_at};
 ghost use Rattle.pd_script.specs.Cursor.{Leaves};
 
 use crate::cursor::Cursor;
 use crate::names::OptionName;
 use crate::packets::{Block, Blocks, Flags, OptionList, Options, Packet, PacketOption};
 use crate::stops::Stop;
+use pd_lex::{Lexed, Token, TokenKind};
 use std::alloc::Global;
 
 impl<'a> Cursor<'a> {
-    #[tactic(auto, unfolding(crate::specs::PacketReading::flags_at))]
+    #[tactic(auto, using(crate::proofs::Symbols::one_octet), unfolding(crate::specs::PacketReading::flags_at, pd_lex::specs::Lexing::lexeme_of))]
     fn flags(&mut self) -> Result<Flags, Stop>
         ensures { Leaves result self.new (flags_at self.old) }
     {
-        if self.is_symbol(b'-') {
-            self.symbol(b'-')?;
-            return Ok(Flags::of_letters(&[]));
+        match self.peek() {
+            Lexed::Token(
+                Token {
+                    kind: TokenKind::Symbol,
+                    symbol: b'-',
+                    ..
+                },
+            ) => {
+                self.symbol(b'-')?;
+                Ok(Flags::of_letters(&[]))
+            }
+            Lexed::Token(
+                Token {
+                    kind: TokenKind::Symbol,
+                    symbol: b'.',
+                    ..
+                },
+            ) => {
+                self.symbol(b'.')?;
+                Ok(Flags::of_letters(&[]).with_ack())
+            }
+            _ => self.lettered_flags(),
         }
-        if self.is_symbol(b'.') {
-            self.symbol(b'.')?;
-            return Ok(Flags::of_letters(&[]).with_ack());
-        }
+    }
+
+    /// Takes flags that are written in letters.
+    fn lettered_flags(&mut self) -> Result<Flags, Stop>
+        ensures { Leaves result self.new (lettered_at self.old) }
+    {
         let flags = self.letters()?;
         if !self.is_symbol(b'.') {
             return Ok(flags);

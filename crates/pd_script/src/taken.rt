@@ -7,129 +7,333 @@ ghost use Rattle.pd_script.specs.Cursor.{Leaves};
 
 use crate::calls::{ErrorName, Function};
 use crate::cursor::Cursor;
-use crate::names::OptionName;
-use crate::packets::Flags;
+use crate::names::{OptionName, error_named, function_named, option_named};
+use crate::numbers::{TIME_LIMIT, hex_number, microseconds};
+use crate::packets::{Flags, are_flags};
 use crate::script_events::Action;
 use crate::stops::Stop;
+use pd_lex::{Lexed, Token, TokenKind};
 
 impl<'a> Cursor<'a> {
     /// Takes a symbol, and answers its line.
+    #[tactic(auto, using(crate::proofs::Symbols::one_octet), unfolding(pd_lex::specs::Lexing::lexeme_of))]
     pub fn symbol(&mut self, octet: u8) -> Result<usize, Stop>
         ensures { Leaves result self.new (symbol_at octet self.old) }
     {
-        let found = self.next_symbol(octet);
-        self.take_found(found)
+        let Lexed::Token(
+            Token {
+                kind: TokenKind::Symbol,
+                symbol,
+                from,
+                ..
+            },
+        ) = *self.peek()
+        else {
+            return Err(Stop::Syntax);
+        };
+        if symbol != octet {
+            return Err(Stop::Syntax);
+        }
+        self.take();
+        Ok(from.line)
     }
 
     /// Takes a whole number.
+    #[tactic(auto, unfolding(pd_lex::specs::Lexing::lexeme_of))]
     pub fn int(&mut self) -> Result<u32, Stop>
         ensures { Leaves result self.new (int_at self.old) }
     {
-        let found = self.next_int();
-        self.take_found(found)
+        let Lexed::Token(
+            Token {
+                kind: TokenKind::Int,
+                number,
+                ..
+            },
+        ) = *self.peek()
+        else {
+            return Err(Stop::Syntax);
+        };
+        let Ok(number) = u32::try_from(number) else {
+            return Err(Stop::Syntax);
+        };
+        self.take();
+        Ok(number)
     }
 
     /// Takes a whole number that is at least another.
+    #[tactic(auto, unfolding(pd_lex::specs::Lexing::lexeme_of))]
     pub fn int_from(&mut self, least: u32) -> Result<u32, Stop>
         ensures { Leaves result self.new (int_from_at least self.old) }
     {
-        let found = self.next_int_from(least);
-        self.take_found(found)
+        let Lexed::Token(
+            Token {
+                kind: TokenKind::Int,
+                number,
+                ..
+            },
+        ) = *self.peek()
+        else {
+            return Err(Stop::Syntax);
+        };
+        let Ok(number) = u32::try_from(number) else {
+            return Err(Stop::Syntax);
+        };
+        if number < least {
+            return Err(Stop::Syntax);
+        }
+        self.take();
+        Ok(number)
     }
 
     /// Takes a whole number that is just this one.
+    #[tactic(auto, unfolding(pd_lex::specs::Lexing::lexeme_of))]
     pub fn int_equal(&mut self, wanted: u32) -> Result<u32, Stop>
         ensures { Leaves result self.new (int_of_at wanted self.old) }
     {
-        let found = self.next_int_equal(wanted);
-        self.take_found(found)
+        let Lexed::Token(
+            Token {
+                kind: TokenKind::Int,
+                number,
+                ..
+            },
+        ) = *self.peek()
+        else {
+            return Err(Stop::Syntax);
+        };
+        let Ok(number) = u32::try_from(number) else {
+            return Err(Stop::Syntax);
+        };
+        if number != wanted {
+            return Err(Stop::Syntax);
+        }
+        self.take();
+        Ok(number)
     }
 
     /// Takes a hexadecimal number.
+    #[tactic(auto, unfolding(pd_lex::specs::Lexing::lexeme_of))]
     pub fn hex(&mut self) -> Result<u32, Stop>
         ensures { Leaves result self.new (hex_at self.old) }
     {
-        let found = self.next_hex();
-        self.take_found(found)
+        let Lexed::Token(
+            Token {
+                kind: TokenKind::Hex,
+                text,
+                ..
+            },
+        ) = *self.peek()
+        else {
+            return Err(Stop::Syntax);
+        };
+        let Ok(number) = u32::try_from(hex_number(text)) else {
+            return Err(Stop::Syntax);
+        };
+        self.take();
+        Ok(number)
     }
 
     /// Takes a number of microseconds, and answers its line with it.
+    #[tactic(auto, unfolding(pd_lex::specs::Lexing::lexeme_of))]
     pub fn num(&mut self) -> Result<(usize, u64), Stop>
         ensures { Leaves result self.new (num_at self.old) }
     {
-        let found = self.next_num();
-        self.take_found(found)
+        let Lexed::Token(
+            Token {
+                kind: TokenKind::Int | TokenKind::Decimal,
+                text,
+                from,
+                ..
+            },
+        ) = *self.peek()
+        else {
+            return Err(Stop::Syntax);
+        };
+        let time = microseconds(text);
+        if time >= TIME_LIMIT {
+            return Err(Stop::Syntax);
+        }
+        self.take();
+        Ok((from.line, time))
     }
 
     /// Takes a number of at least so many microseconds.
+    #[tactic(auto, unfolding(pd_lex::specs::Lexing::lexeme_of))]
     pub fn num_from(&mut self, least: u64) -> Result<u64, Stop>
         ensures { Leaves result self.new (num_from_at least self.old) }
     {
-        let found = self.next_num_from(least);
-        self.take_found(found)
+        let Lexed::Token(
+            Token {
+                kind: TokenKind::Int | TokenKind::Decimal,
+                text,
+                ..
+            },
+        ) = *self.peek()
+        else {
+            return Err(Stop::Syntax);
+        };
+        let time = microseconds(text);
+        if time >= TIME_LIMIT || time < least {
+            return Err(Stop::Syntax);
+        }
+        self.take();
+        Ok(time)
     }
 
     /// Takes the letters of flags.
+    #[tactic(auto, unfolding(pd_lex::specs::Lexing::lexeme_of))]
     pub fn letters(&mut self) -> Result<Flags, Stop>
         ensures { Leaves result self.new (letters_at self.old) }
     {
-        let found = self.next_flags();
-        self.take_found(found)
+        let Lexed::Token(
+            Token {
+                kind: TokenKind::Word,
+                text,
+                ..
+            },
+        ) = *self.peek()
+        else {
+            return Err(Stop::Syntax);
+        };
+        if !are_flags(text) {
+            return Err(Stop::Syntax);
+        }
+        self.take();
+        Ok(Flags::of_letters(text))
     }
 
     /// Takes the name of a TCP option.
+    #[tactic(auto, unfolding(pd_lex::specs::Lexing::lexeme_of))]
     pub fn option_name(&mut self) -> Result<OptionName, Stop>
         ensures { Leaves result self.new (option_name_at self.old) }
     {
-        let found = self.next_option_name();
-        self.take_found(found)
+        let Lexed::Token(
+            Token {
+                kind: TokenKind::Word,
+                text,
+                ..
+            },
+        ) = *self.peek()
+        else {
+            return Err(Stop::Syntax);
+        };
+        let Some(name) = option_named(text) else {
+            return Err(Stop::Syntax);
+        };
+        self.take();
+        Ok(name)
     }
 
     /// Takes the name of a call.
+    #[tactic(auto, unfolding(pd_lex::specs::Lexing::lexeme_of))]
     pub fn function(&mut self) -> Result<Function, Stop>
         ensures { Leaves result self.new (function_at self.old) }
     {
-        let found = self.next_function();
-        self.take_found(found)
+        let Lexed::Token(
+            Token {
+                kind: TokenKind::Word,
+                text,
+                ..
+            },
+        ) = *self.peek()
+        else {
+            return Err(Stop::Syntax);
+        };
+        self.take();
+        Ok(function_named(text))
     }
 
     /// Takes the name of an error.
+    #[tactic(auto, unfolding(pd_lex::specs::Lexing::lexeme_of))]
     pub fn error(&mut self) -> Result<ErrorName, Stop>
         ensures { Leaves result self.new (error_at self.old) }
     {
-        let found = self.next_error();
-        self.take_found(found)
+        let Lexed::Token(
+            Token {
+                kind: TokenKind::Word,
+                text,
+                ..
+            },
+        ) = *self.peek()
+        else {
+            return Err(Stop::Syntax);
+        };
+        self.take();
+        Ok(error_named(text))
     }
 
     /// Takes three points.
+    #[tactic(auto, unfolding(pd_lex::specs::Lexing::lexeme_of))]
     pub fn dots(&mut self) -> Result<(), Stop>
         ensures { Leaves result self.new (dots_at self.old) }
     {
-        let found = self.next_dots();
-        self.take_found(found)
+        let Lexed::Token(
+            Token {
+                kind: TokenKind::Dots,
+                ..
+            },
+        ) = *self.peek()
+        else {
+            return Err(Stop::Syntax);
+        };
+        self.take();
+        Ok(())
     }
 
     /// Takes this word.
+    #[tactic(auto, unfolding(pd_lex::specs::Lexing::lexeme_of))]
     pub fn named(&mut self, name: &[u8]) -> Result<(), Stop>
         ensures { Leaves result self.new (named_at name.now self.old) }
     {
-        let found = self.next_named(name);
-        self.take_found(found)
+        let Lexed::Token(
+            Token {
+                kind: TokenKind::Word,
+                text,
+                ..
+            },
+        ) = *self.peek()
+        else {
+            return Err(Stop::Syntax);
+        };
+        if text != name {
+            return Err(Stop::Syntax);
+        }
+        self.take();
+        Ok(())
     }
 
     /// Takes a shell command.
+    #[tactic(auto, unfolding(pd_lex::specs::Lexing::lexeme_of))]
     pub fn command(&mut self) -> Result<Action, Stop>
         ensures { Leaves result self.new (command_at self.old) }
     {
-        let found = self.next_command();
-        self.take_found(found)
+        let Lexed::Token(
+            Token {
+                kind: TokenKind::Cmd,
+                ..
+            },
+        ) = *self.peek()
+        else {
+            return Err(Stop::Syntax);
+        };
+        self.take();
+        Ok(Action::Command)
     }
 
     /// Takes code.
+    #[tactic(auto, unfolding(pd_lex::specs::Lexing::lexeme_of))]
     pub fn code(&mut self) -> Result<Action, Stop>
         ensures { Leaves result self.new (code_at self.old) }
     {
-        let found = self.next_code();
-        self.take_found(found)
+        let Lexed::Token(
+            Token {
+                kind: TokenKind::Code,
+                ..
+            },
+        ) = *self.peek()
+        else {
+            return Err(Stop::Syntax);
+        };
+        self.take();
+        Ok(Action::Code)
     }
 }

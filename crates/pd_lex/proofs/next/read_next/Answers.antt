@@ -1,59 +1,89 @@
--- A common token is the piece behind the blanks of its line.
+-- A common token is the piece behind blanks and newlines; any other is read on from there.
 use Rattle.std.proofs.Common.{◌≡◌, ◌∙◌, ◌+◌, ◌-◌, refl, ap, ◌<◌, length, take, drop, arith}
 use Rattle.std.proofs.lemmas.List.{length-drop, take_rest}
 use Rattle.pd_lex.specs.declared.token.Place.{Place}
 use Rattle.pd_lex.specs.Places.{octets_from, between, line_at}
 use Rattle.pd_lex.specs.Lexing.{lexeme_of}
-use Rattle.pd_lex.proofs.Longest.{longest_token}
+use Rattle.pd_lex.specs.Spellings.{here}
+use Rattle.pd_lex.proofs.Longest.{longest_token, Skips-over}
 use Rattle.pd_lex.proofs.Items.{token_line, items_at_token}
-use Rattle.pd_lex.proofs.Blanks.{over_blanks}
+use Rattle.pd_lex.proofs.Blanks.{over_blanks, over_line, next_on, cut_on}
 use Rattle.pd_lex.proofs.Steps.{step_whole}
-use Rattle.pd_lex.proofs.PlainTokens.{symbol_in}
 use Rattle.pd_lex.proofs.TextLines.{line_from_one, line_is, line_within}
 use Rattle.pd_lex.proofs.next.read_next.Goals as goal
 
-pub invariant_of-next : goal.invariant_of-next
-invariant_of-next c =
-    let lines = c.args.lines.now in
-    let one = line_from_one c.args.place.line c.in-Some.line.now _ c.in-Some.ensures.line in
-    let le = line_within lines c.args.place.line one c.in-Some.line.now c.in-Some.ensures.line in
-    let line = line_is lines c.args.place.line one c.in-Some.line.now c.in-Some.ensures.line in
-    let from : Place = record { line = c.args.place.line; at = c.behind_blanks-at.result } in
-    let on = over_blanks lines c.in-Some.ensures.lines c.args.place one le c.behind_blanks-at.result (rw line at c.behind_blanks-at.ensures.place) (rw line at c.if-at-line.false) in
-    let rest = take_rest c.in-Some.line.now c.behind_blanks-at.result in
-    let s = take (length c.in-Some.line.now - c.behind_blanks-at.result) (drop c.behind_blanks-at.result c.in-Some.line.now) in
-    let kind = c.in-Some-plain_at.field-0.kind in
-    let n = c.in-Some-plain_at.field-0.len in
-    let to : Place = record { line = c.args.place.line; at = c.behind_blanks-at.result + n } in
-    let same : s ≡ drop from.at (line_at lines from.line) = rw (rest, line) refl in
-    let some : 0 < length s = omega (arith, c.if-at-line.false, ap length rest, length-drop c.behind_blanks-at.result c.in-Some.line.now) in
-    let whole = step_whole lines from on.place le s kind n same c.in-Some-plain_at.ensures.piece some c.in-Some-plain_at.ensures.within in
-    record {
-      symbol_is = λ symbol. rw c.first_octet.ensures (symbol_in lines from to kind (take n s) whole.1 whole.3 symbol);
-      number_is = c.in-Some-plain_at.ensures.number;
-      in_line = whole.2;
-    }
+pub lines-init : goal.lines-init
+lines-init c = record { same = refl; skipped = here }
 
-pub returns : goal.returns
-unfolding lexeme_of between
-returns c =
+pub returns-in_default-clause-next : goal.returns-in_default-clause-next
+returns-in_default-clause-next c = next_on c.args.lines.now c.args.place c.lines.here c.lines.invariant.same c.lines.invariant.skipped c.read_on.new.next c.read_on.ensures.next
+
+pub returns-in_default-clause-cut : goal.returns-in_default-clause-cut
+returns-in_default-clause-cut c = cut_on c.args.lines.now c.args.place c.lines.here c.lines.invariant.same c.lines.invariant.skipped c.read_on.new.next c.read_on.ensures.cut
+
+pub overflow_add-here : goal.overflow_add-here
+overflow_add-here c =
     let lines = c.args.lines.now in
-    let one = line_from_one c.args.place.line c.in-Some.line.now _ c.in-Some.ensures.line in
-    let le = line_within lines c.args.place.line one c.in-Some.line.now c.in-Some.ensures.line in
-    let line = line_is lines c.args.place.line one c.in-Some.line.now c.in-Some.ensures.line in
-    let from : Place = record { line = c.args.place.line; at = c.behind_blanks-at.result } in
-    let on = over_blanks lines c.in-Some.ensures.lines c.args.place one le c.behind_blanks-at.result (rw line at c.behind_blanks-at.ensures.place) (rw line at c.if-at-line.false) in
+    let one = line_from_one c.lines.here.line c.in-Some.line.now _ c.in-Some.ensures.line in
+    let le = line_within lines c.lines.here.line one c.in-Some.line.now c.in-Some.ensures.line in
+    omega (arith, le, c.in-Some.ensures.fits.0)
+
+pub lines-smaller : goal.lines-smaller
+lines-smaller c =
+    let lines = c.args.lines.now in
+    let one = line_from_one c.lines.here.line c.in-Some.line.now _ c.in-Some.ensures.line in
+    let le = line_within lines c.lines.here.line one c.in-Some.line.now c.in-Some.ensures.line in
+    rw c.line_start-here.ensures (omega (arith, le))
+
+pub lines-preserved : goal.lines-preserved
+lines-preserved c =
+    let lines = c.args.lines.now in
+    let one = line_from_one c.lines.here.line c.in-Some.line.now _ c.in-Some.ensures.line in
+    let le = line_within lines c.lines.here.line one c.in-Some.line.now c.in-Some.ensures.line in
+    let line = line_is lines c.lines.here.line one c.in-Some.line.now c.in-Some.ensures.line in
+    let on = over_line lines c.in-Some.ensures.lines c.lines.here one le c.behind_blanks-at.result (rw line at c.behind_blanks-at.ensures.place) (rw line at c.if-at-line.true) in
+    rw c.line_start-here.ensures (record { same = c.lines.invariant.same ∙ on.same; skipped = Skips-over c.lines.invariant.skipped on.skipped })
+
+pub returns-in_default-plain_at-clause-next : goal.returns-in_default-plain_at-clause-next
+returns-in_default-plain_at-clause-next c =
+    let lines = c.args.lines.now in
+    let one = line_from_one c.lines.here.line c.in-Some.line.now _ c.in-Some.ensures.line in
+    let le = line_within lines c.lines.here.line one c.in-Some.line.now c.in-Some.ensures.line in
+    let line = line_is lines c.lines.here.line one c.in-Some.line.now c.in-Some.ensures.line in
+    let from : Place = record { line = c.lines.here.line; at = c.behind_blanks-at.result } in
+    let on = over_blanks lines c.in-Some.ensures.lines c.lines.here one le c.behind_blanks-at.result (rw line at c.behind_blanks-at.ensures.place) (rw line at c.if-at-line.false) in
+    next_on lines c.args.place from (c.lines.invariant.same ∙ on.same) (Skips-over c.lines.invariant.skipped on.skipped) c.read_on-in_default-plain_at.new.next c.read_on-in_default-plain_at.ensures.next
+
+pub returns-in_default-plain_at-clause-cut : goal.returns-in_default-plain_at-clause-cut
+returns-in_default-plain_at-clause-cut c =
+    let lines = c.args.lines.now in
+    let one = line_from_one c.lines.here.line c.in-Some.line.now _ c.in-Some.ensures.line in
+    let le = line_within lines c.lines.here.line one c.in-Some.line.now c.in-Some.ensures.line in
+    let line = line_is lines c.lines.here.line one c.in-Some.line.now c.in-Some.ensures.line in
+    let from : Place = record { line = c.lines.here.line; at = c.behind_blanks-at.result } in
+    let on = over_blanks lines c.in-Some.ensures.lines c.lines.here one le c.behind_blanks-at.result (rw line at c.behind_blanks-at.ensures.place) (rw line at c.if-at-line.false) in
+    cut_on lines c.args.place from (c.lines.invariant.same ∙ on.same) (Skips-over c.lines.invariant.skipped on.skipped) c.read_on-in_default-plain_at.new.next c.read_on-in_default-plain_at.ensures.cut
+
+pub returns-in-lines : goal.returns-in-lines
+unfolding lexeme_of between
+returns-in-lines c =
+    let lines = c.args.lines.now in
+    let one = line_from_one c.lines.here.line c.in-Some.line.now _ c.in-Some.ensures.line in
+    let le = line_within lines c.lines.here.line one c.in-Some.line.now c.in-Some.ensures.line in
+    let line = line_is lines c.lines.here.line one c.in-Some.line.now c.in-Some.ensures.line in
+    let from : Place = record { line = c.lines.here.line; at = c.behind_blanks-at.result } in
+    let on = over_blanks lines c.in-Some.ensures.lines c.lines.here one le c.behind_blanks-at.result (rw line at c.behind_blanks-at.ensures.place) (rw line at c.if-at-line.false) in
     let rest = take_rest c.in-Some.line.now c.behind_blanks-at.result in
     let s = take (length c.in-Some.line.now - c.behind_blanks-at.result) (drop c.behind_blanks-at.result c.in-Some.line.now) in
-    let kind = c.in-Some-plain_at.field-0.kind in
-    let n = c.in-Some-plain_at.field-0.len in
-    let to : Place = record { line = c.args.place.line; at = c.behind_blanks-at.result + n } in
+    let kind = c.in-Some-plain_at.plain.kind in
+    let n = c.in-Some-plain_at.plain.len in
+    let to : Place = record { line = c.lines.here.line; at = c.behind_blanks-at.result + n } in
     let same : s ≡ drop from.at (line_at lines from.line) = rw (rest, line) refl in
     let some : 0 < length s = omega (arith, c.if-at-line.false, ap length rest, length-drop c.behind_blanks-at.result c.in-Some.line.now) in
     let whole = step_whole lines from on.place le s kind n same c.in-Some-plain_at.ensures.piece some c.in-Some-plain_at.ensures.within in
     record {
-      next = on.same ∙ items_at_token lines c.in-Some.ensures.lines from to kind on.place whole.0 whole.1;
-      cut = record { skipped = on.skipped; longest = longest_token (octets_from lines from) (octets_from lines to) kind whole.1; from = on.place; behind = whole.0 };
+      next = c.lines.invariant.same ∙ on.same ∙ items_at_token lines c.in-Some.ensures.lines from to kind on.place whole.0 whole.1;
+      cut = record { skipped = Skips-over c.lines.invariant.skipped on.skipped; longest = longest_token (octets_from lines from) (octets_from lines to) kind whole.1; from = on.place; behind = whole.0 };
       line = token_line lines c.in-Some.ensures.lines from to kind on.place whole.1;
       text = whole.3;
     }

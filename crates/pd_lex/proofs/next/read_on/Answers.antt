@@ -1,8 +1,8 @@
 -- Blanks, newlines and comments keep the items, and the last step gives the first of them.
-use Rattle.std.proofs.Common.{◌≡◌, ◌∙◌, ◌+◌, ◌-◌, refl, ap, ◌<◌, length, take, drop, arith}
+use Rattle.std.proofs.Common.{◌∙◌, refl, ap, ◌<◌, length, arith}
 use Rattle.std.proofs.lemmas.List.{length-drop, take_rest}
 use Rattle.pd_lex.specs.declared.token.Place.{Place}
-use Rattle.pd_lex.specs.Places.{octets_from, between, line_at}
+use Rattle.pd_lex.specs.Places.{octets_from, between}
 use Rattle.pd_lex.specs.Lexing.{lexeme_of}
 use Rattle.pd_lex.specs.Spellings.{here}
 use Rattle.pd_lex.proofs.Rests.{octets_past}
@@ -35,7 +35,7 @@ gaps-smaller-then-at-line c =
     let lines = c.args.lines.now in
     let le = line_within lines c.gaps.here.line c.gaps.invariant.one c.in-Some.line.now c.in-Some.ensures.line in
     let line = line_is lines c.gaps.here.line c.gaps.invariant.one c.in-Some.line.now c.in-Some.ensures.line in
-    line_shorter lines c.in-Some.ensures.lines c.gaps.here c.gaps.invariant.one le c.behind_blanks-at.result (rw line at c.behind_blanks-at.ensures.place) (rw line at c.if-at-line.true)
+    rw c.line_start-here.ensures (line_shorter lines c.in-Some.ensures.lines c.gaps.here c.gaps.invariant.one le c.behind_blanks-at.result (rw line at c.behind_blanks-at.ensures.place) (rw line at c.if-at-line.true))
 
 pub gaps-preserved-then-at-line : goal.gaps-preserved-then-at-line
 gaps-preserved-then-at-line c =
@@ -43,7 +43,7 @@ gaps-preserved-then-at-line c =
     let le = line_within lines c.gaps.here.line c.gaps.invariant.one c.in-Some.line.now c.in-Some.ensures.line in
     let line = line_is lines c.gaps.here.line c.gaps.invariant.one c.in-Some.line.now c.in-Some.ensures.line in
     let on = over_line lines c.in-Some.ensures.lines c.gaps.here c.gaps.invariant.one le c.behind_blanks-at.result (rw line at c.behind_blanks-at.ensures.place) (rw line at c.if-at-line.true) in
-    record { one = omega arith; same = c.gaps.invariant.same ∙ on.same; skipped = Skips-over c.gaps.invariant.skipped on.skipped }
+    rw c.line_start-here.ensures (record { one = omega arith; same = c.gaps.invariant.same ∙ on.same; skipped = Skips-over c.gaps.invariant.skipped on.skipped })
 
 pub step_at-requires : goal.step_at-requires
 step_at-requires c =

@@ -6,7 +6,7 @@ use Rattle.pd_script.specs.Drafts.{argument_move, fresh, drafted, part_at, is_be
 use Rattle.pd_script.specs.Reading.{arguments_at}
 use Rattle.pd_script.specs.declared.calls.Argument.{Argument}
 use Rattle.pd_script.proofs.ArgumentSteps.{onto-nil, onto-append, part_goes, part_stuck, empty_stuck, last_ends, comma_parts, no_arguments, some_arguments}
-use Rattle.pd_script.proofs.Taking.{err_leaves}
+use Rattle.pd_script.proofs.Taking.{err_moves}
 use Rattle.pd_script.proofs.cursor.Cursor.arguments.Goals as goal
 
 pub returns-then-is_symbol : goal.returns-then-is_symbol
@@ -17,15 +17,15 @@ tokens-init c =
     let some = some_arguments c.args.self.now (sym c.is_symbol.ensures ∙ c.if-is_symbol.false) in
     rw (c.new-arguments.ensures, c.fresh-inside.ensures) (onto-nil (machine_at argument_move fresh c.args.self.now) ∙ sym some)
 
-pub returns-in_err-inside : goal.returns-in_err-inside
-returns-in_err-inside c =
+pub returns-in_err-part : goal.returns-in_err-part
+returns-in_err-part c =
     let p = err_from_is_err_and c.from_residual.result c.from_residual.ensures.1 in
-    rw (p.1, p.2) (err_leaves c.in_err-inside.field-0.0 c.part.new.self (part_at c.tokens.inside c.tokens.self) (arguments_at c.args.self.now) (rw c.in_err-inside.was at c.part.ensures) (λ e. sym c.tokens.invariant ∙ ap (λ (r : Read (List Argument)). onto c.tokens.arguments r) (part_stuck c.tokens.inside c.tokens.self c.part.new.self (cc (c.is_between.ensures, c.if-not-is_between.true)) e)))
+    rw (p.1, p.2) (err_moves c.in_err-part.field-0.0 c.part.new.inside c.part.new.self (part_at c.tokens.inside c.tokens.self) (arguments_at c.args.self.now) (rw c.in_err-part.was at c.part.ensures) (λ e. sym c.tokens.invariant ∙ ap (λ (r : Read (List Argument)). onto c.tokens.arguments r) (part_stuck c.tokens.inside c.tokens.self c.part.new.self (cc (c.is_between.ensures, c.if-not-is_between.true)) e)))
 
 pub tokens-preserved-then-not-is_between : goal.tokens-preserved-then-not-is_between
 tokens-preserved-then-not-is_between c =
-    let got = rw c.in_ok-inside.was at c.part.ensures in
-    let G = part_goes c.tokens.inside c.in_ok-inside.inside c.tokens.self c.part.new.self (cc (c.is_between.ensures, c.if-not-is_between.true)) got in
+    let got = rw c.in_ok-part.was at c.part.ensures in
+    let G = part_goes c.tokens.inside c.part.new.inside c.tokens.self c.part.new.self (cc (c.is_between.ensures, c.if-not-is_between.true)) got in
     ap (λ (r : Read (List Argument)). onto c.tokens.arguments r) (sym G.0) ∙ c.tokens.invariant
 
 pub returns-then-is_empty : goal.returns-then-is_empty

@@ -4,7 +4,7 @@ use Rattle.std.proofs.lemmas.Result.{err_from_is_err_and}
 use Rattle.pd_lex.specs.declared.token.Lexed.TheVariants as lexed
 use Rattle.pd_script.specs.Cursor.{left}
 use Rattle.pd_script.specs.Drafts.{part_at}
-use Rattle.pd_script.proofs.Taking.{leaves_err, part_ok, part_err}
+use Rattle.pd_script.proofs.Taking.{moves_err, part_ok, part_err}
 use Rattle.pd_script.proofs.cursor.Cursor.part.Goals as goal
 
 pub returns-in_err-pass : goal.returns-in_err-pass
@@ -12,10 +12,10 @@ returns-in_err-pass c =
     let p = err_from_is_err_and c.from_residual.result c.from_residual.ensures.1 in
     let is : c.self.inside.next ≡ lexed.Token c.in-Token.token = cc c.in-Token.is in
     let old : c.args.self.now ≡ left c.self.inside.lines.now c.self.inside.next = cc c.self.view_is in
-    rw (p.1, p.2) (leaves_err c.in_err-pass.field-0.0 c.args.self.now (part_at c.args.inside c.args.self.now) (part_err c.self.inside.lines.now c.self.inside.next c.in-Token.token c.args.self.now is c.self.invariant old c.args.inside c.in_err-pass.ensures.err))
+    rw (p.1, p.2) (moves_err c.in_err-pass.field-0.0 _ c.args.self.now (part_at c.args.inside.now c.args.self.now) (part_err c.self.inside.lines.now c.self.inside.next c.in-Token.token c.args.self.now is c.self.invariant old c.args.inside.now c.in_err-pass.ensures.err))
 
 pub returns : goal.returns
 returns c =
     let is : c.self.inside.next ≡ lexed.Token c.in-Token.token = cc c.in-Token.is in
     let old : c.args.self.now ≡ left c.self.inside.lines.now c.self.inside.next = cc c.self.view_is in
-    part_ok c.self.inside.lines.now c.self.inside.next c.in-Token.token c.args.self.now is c.self.invariant old c.take.new.self c.args.inside c.pass.new.self c.with.result c.take.ensures c.in_ok-pass.ensures.ok c.with.ensures
+    part_ok c.self.inside.lines.now c.self.inside.next c.in-Token.token c.args.self.now is c.self.invariant old c.take.new.self c.args.inside.now c.pass.new.self c.with-inside.result c.take.ensures c.in_ok-pass.ensures.ok c.with-inside.ensures

@@ -1,0 +1,109 @@
+//! What the next token is, before it is taken.
+ghost use Rattle.std.specs.Prelude.{◌≡◌};
+ghost use Rattle.pd_script.specs.Items.{is_int, is_named, is_hex, is_num, is_dots, is_word, is_symbol, is_end, starts_event, next_is};
+
+use crate::cursor::Cursor;
+use crate::numbers::{GREATEST, TIME_LIMIT, hex_number, microseconds};
+use pd_lex::{Lexed, TokenKind};
+
+impl<'a> Cursor<'a> {
+    /// Whether the text ends here.
+    pub fn is_end(&self) -> bool
+        ensures { result ≡ next_is is_end self.now }
+    {
+        matches!(self.peek(), Lexed::End)
+    }
+
+    /// Whether the symbol of this octet stands next.
+    #[tactic(auto, using(crate::proofs::Symbols::one_octet), unfolding(pd_lex::specs::Lexing::lexeme_of))]
+    pub fn is_symbol(&self, octet: u8) -> bool
+        ensures { result ≡ next_is (is_symbol octet) self.now }
+    {
+        match self.peek() {
+            Lexed::Token(token) => {
+                matches!(token.kind, TokenKind::Symbol) && token.symbol == octet
+            },
+            _ => false,
+        }
+    }
+
+    /// Whether an Int of at most 4,294,967,295 stands next.
+    #[tactic(auto, unfolding(pd_lex::specs::Lexing::lexeme_of))]
+    pub fn is_int(&self) -> bool
+        ensures { result ≡ next_is is_int self.now }
+    {
+        match self.peek() {
+            Lexed::Token(token) => {
+                matches!(token.kind, TokenKind::Int) && token.number <= GREATEST
+            },
+            _ => false,
+        }
+    }
+
+    /// Whether a Hex of at most 4,294,967,295 stands next.
+    #[tactic(auto, unfolding(pd_lex::specs::Lexing::lexeme_of))]
+    pub fn is_hex(&self) -> bool
+        ensures { result ≡ next_is is_hex self.now }
+    {
+        match self.peek() {
+            Lexed::Token(token) => {
+                matches!(token.kind, TokenKind::Hex) && hex_number(token.text) <= GREATEST
+            },
+            _ => false,
+        }
+    }
+
+    /// Whether an Int or a Decimal below 4,294,967,296 seconds stands next.
+    #[tactic(auto, unfolding(pd_lex::specs::Lexing::lexeme_of))]
+    pub fn is_num(&self) -> bool
+        ensures { result ≡ next_is is_num self.now }
+    {
+        match self.peek() {
+            Lexed::Token(token) => {
+                matches!(token.kind, TokenKind::Int | TokenKind::Decimal)
+                    && microseconds(token.text) < TIME_LIMIT
+            },
+            _ => false,
+        }
+    }
+
+    /// Whether a word stands next.
+    #[tactic(auto, unfolding(pd_lex::specs::Lexing::lexeme_of))]
+    pub fn is_word(&self) -> bool
+        ensures { result ≡ next_is is_word self.now }
+    {
+        match self.peek() {
+            Lexed::Token(token) => matches!(token.kind, TokenKind::Word),
+            _ => false,
+        }
+    }
+
+    /// Whether this word stands next.
+    #[tactic(auto, unfolding(pd_lex::specs::Lexing::lexeme_of))]
+    pub fn is_named(&self, name: &[u8]) -> bool
+        ensures { result ≡ next_is (is_named name.now) self.now }
+    {
+        match self.peek() {
+            Lexed::Token(token) => matches!(token.kind, TokenKind::Word) && token.text == name,
+            _ => false,
+        }
+    }
+
+    /// Whether three points stand next.
+    #[tactic(auto, unfolding(pd_lex::specs::Lexing::lexeme_of))]
+    pub fn is_dots(&self) -> bool
+        ensures { result ≡ next_is is_dots self.now }
+    {
+        match self.peek() {
+            Lexed::Token(token) => matches!(token.kind, TokenKind::Dots),
+            _ => false,
+        }
+    }
+
+    /// Whether an event begins here.
+    pub fn starts_event(&self) -> bool
+        ensures { result ≡ next_is starts_event self.now }
+    {
+        self.is_num() || self.is_symbol(b'+') || self.is_symbol(b'*')
+    }
+}
