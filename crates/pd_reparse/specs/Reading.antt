@@ -1,5 +1,5 @@
 -- What a text is read as, with what decided each event.
-use Rattle.std.specs.Prelude.{◌≡◌, ℕ, zero, suc, ◌+◌, ◌≤◌, nat_le, Bool, false, List, [], ◌∷◌, ◌++◌, take, length, map, count_by, Option, Some, None, Ok, Err, if◌then◌else◌}
+use Rattle.std.specs.Prelude.{◌≡◌, ℕ, zero, suc, ◌+◌, ◌≤◌, nat_le, Bool, false, List, [], ◌∷◌, ◌++◌, take, drop, length, map, count_by, Option, Some, None, Ok, Err, if◌then◌else◌}
 use Rattle.pd_text.specs.Text.{AreLines}
 use Rattle.pd_lex.specs.declared.token.Place.{Place}
 use Rattle.pd_lex.specs.Places.{first_place}
@@ -55,6 +55,10 @@ reading_of lines = reading_in (items lines first_place)
 -- the events alone
 abbrev pub events_of : List Decided → List Event
 events_of ds = map (λ (d : Decided). d.event) ds
+
+-- and without the first so many
+abbrev pub events_behind : ℕ → List Decided → List Event
+events_behind n ds = events_of (drop n ds)
 
 -- a reading without what decided its events
 abbrev pub script_part : DecidedScript → Parsed

@@ -2,6 +2,8 @@
 #![tactic(auto)]
 
 mod decided;
+mod event_block;
+mod event_list;
 mod kept;
 mod laws;
 mod reading;
@@ -9,6 +11,7 @@ mod rereading;
 mod steps;
 
 pub use decided::Decided;
+pub use event_list::EventList;
 pub use kept::Reread;
 pub use laws::{first_events, readings};
 pub use reading::Reading;

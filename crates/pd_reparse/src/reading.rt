@@ -3,10 +3,10 @@ ghost use Rattle.std.specs.Prelude.{◌≡◌, ◌≤◌, ◌<◌, length, take,
 ghost use Rattle.pd_lex.specs.declared.token.Place.{Place};
 ghost use Rattle.pd_reparse.specs.Reading.{kept_of, last_place};
 
-use crate::decided::Decided;
+use crate::event_list::EventList;
 use pd_lex::Place;
 use pd_script::Header;
-use std::alloc::{AllocError, Global};
+use std::alloc::AllocError;
 use std::marker::Model;
 
 /// What a text was read as: its header, its events, each with what decided it, and the line of the
@@ -14,7 +14,7 @@ use std::marker::Model;
 #[derive(Drop)]
 pub struct Reading {
     header: Header,
-    events: Vec<Decided>,
+    events: EventList,
     fault: Option<usize>,
 }
 
@@ -24,16 +24,16 @@ impl Model for Reading {
 
     ghost Value = { DecidedScript };
 
-    ghost view = { λ r. record { header = r.header; events = r.events.items; fault = r.fault } };
+    ghost view = { λ r. record { header = r.header; events = r.events; fault = r.fault } };
 
-    ghost invariant = { λ r. length r.events.items ≤ 4096 };
+    ghost invariant = { λ r. length r.events ≤ 4096 };
 }
 
 impl Reading {
     /// The reading of these parts; a script has at most 4,096 events.
-    pub fn new(header: Header, events: Vec<Decided>, fault: Option<usize>) -> Reading
-        requires { length events.items ≤ 4096 }
-        ensures { result ≡ record { header = header; events = events.items; fault = fault } }
+    pub fn new(header: Header, events: EventList, fault: Option<usize>) -> Reading
+        requires { length events ≤ 4096 }
+        ensures { result ≡ record { header = header; events = events; fault = fault } }
     {
         Reading {
             header,
@@ -48,11 +48,12 @@ impl Reading {
         &self.header
     }
 
-    pub fn events(&self) -> &[Decided]
+    /// Its events, at most 4,096.
+    pub fn events(&self) -> &EventList
         ensures value { result.now ≡ self.now.events }
         ensures few { length result.now ≤ 4096 }
     {
-        self.events.as_slice()
+        &self.events
     }
 
     /// The line at which no script goes on, if the text is refused.
@@ -70,23 +71,15 @@ impl Reading {
     pub fn count_within(&self, same: usize) -> usize
         ensures { result ≡ kept_of same self.now }
     {
-        self.events
-            .iter()
-            .filter(|decided| decided.is_within(same))
-            .count()
+        self.events.count_within(same)
     }
 
-    /// Copies of the first events.
-    pub fn first_events(&self, alloc: Global, count: usize) -> Result<Vec<Decided>, AllocError>
+    /// The first events.
+    pub fn first_events(&self, count: usize) -> Result<EventList, AllocError>
         requires { count ≤ length self.now.events }
-        ensures { IfOk result (λ events. events.items ≡ take count self.now.events) }
+        ensures { IfOk result (λ events. events ≡ take count self.now.events) }
     {
-        let mut events = Vec::new(alloc);
-        events.reserve(count)?;
-        'events: for decided in &self.events[..count] {
-            events.push(decided.copy()?)?;
-        }
-        Ok(events)
+        self.events.first_events(count)
     }
 
     /// The place behind the first events, one at least.
@@ -95,6 +88,6 @@ impl Reading {
         requires within { count ≤ length self.now.events }
         ensures { (start : Place) → last_place start (take count self.now.events) ≡ result }
     {
-        self.events[count - 1].after
+        self.events.at(count - 1).after
     }
 }

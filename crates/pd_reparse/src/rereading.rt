@@ -5,6 +5,7 @@ ghost use Rattle.pd_reparse.specs.Reading.{IsReadingOfFirst, IsReadOn, reading_o
 ghost use Rattle.pd_reparse.specs.Steps.{IsStep};
 
 use crate::decided::Decided;
+use crate::event_list::EventList;
 use crate::kept::Reread;
 use crate::reading::Reading;
 use crate::steps::Step;
@@ -23,7 +24,7 @@ pub fn read(alloc: Global, lines: &Lines) -> Result<Reading, AllocError>
 {
     let header = read_header(alloc, lines)?;
     let place = header.end();
-    read_on(alloc, lines, header, Vec::new(alloc), place)
+    read_on(alloc, lines, header, EventList::new(alloc), place)
 }
 
 /// Reads a text again whose first `same` lines are those of the text that was read before: the
@@ -53,7 +54,7 @@ pub fn reread(
     // A look at a line tells that no line holds a newline.
     let _ = lines.line(1);
     let header = old.header().copy()?;
-    let events = old.first_events(alloc, kept)?;
+    let events = old.first_events(kept)?;
     let place = old.place_behind(kept);
     let reading = read_on(alloc, lines, header, events, place)?;
     Ok(Reread { reading, kept })
@@ -64,11 +65,11 @@ fn read_on(
     alloc: Global,
     lines: &Lines,
     header: Header,
-    front: Vec<Decided>,
+    front: EventList,
     place: Place,
 ) -> Result<Reading, AllocError>
-    requires { length front.items < 4096 }
-    ensures { IfOk result (λ reading. IsReadOn reading header front.items (4096 - length front.items) (items lines.now place)) }
+    requires { length front < 4096 }
+    ensures { IfOk result (λ reading. IsReadOn reading header front (4096 - length front) (items lines.now place)) }
 {
     let mut events = front;
     let mut place = place;

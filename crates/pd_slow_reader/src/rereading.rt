@@ -106,8 +106,9 @@ fn read_again(alloc: Global, old: &Lines, new: &Lines) -> Result<Reread, AllocEr
 /// The number of events whose reach is one of the first lines.
 fn counted(reading: &Reading, same: usize) -> usize {
     let mut count = 0usize;
-    for decided in reading.events() {
-        if decided.reach.unwrap_or(usize::MAX) <= same {
+    let events = reading.events();
+    for i in 0..events.len() {
+        if events.at(i).reach.unwrap_or(usize::MAX) <= same {
             count = count.saturating_add(1);
         }
     }
@@ -118,8 +119,9 @@ fn is_same(one: &Reading, other: &Reading) -> bool {
     if one.fault() != other.fault() || one.events().len() != other.events().len() {
         return false;
     }
-    for (decided, wanted) in one.events().iter().zip(other.events().iter()) {
-        if !is_same_event(decided, wanted) {
+    let (events, wanted) = (one.events(), other.events());
+    for i in 0..events.len().min(wanted.len()) {
+        if !is_same_event(events.at(i), wanted.at(i)) {
             return false;
         }
     }

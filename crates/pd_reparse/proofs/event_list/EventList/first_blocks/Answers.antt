@@ -1,0 +1,36 @@
+-- The first blocks have the first events.
+use Rattle.std.proofs.Common.{◌≡◌, ◌∙◌, ◌+◌, ◌*◌, ◌≤◌, length, take, ap, arith}
+use Rattle.pd_reparse.specs.Blocks.{events_in}
+use Rattle.pd_reparse.proofs.Blocks.{length_whole, first_of_whole, copied_more}
+use Rattle.pd_reparse.proofs.event_list.EventList.first_blocks.Goals as goal
+
+pub index-requires : goal.index-requires
+index-requires c =
+    let bs = c.self.inside.blocks.items in
+    let rest = c.self.inside.rest.items in
+    let whole = length_whole bs rest c.self.invariant.0 in
+    let within : 8 * c.args.count ≤ 8 * length bs + length rest = rw (← whole, c.self.view_is) c.requires in
+    omega (arith, within, c.self.invariant.1, c.loop-i-test.true)
+
+pub loop-i-preserved : goal.loop-i-preserved
+loop-i-preserved c =
+    let bs = c.self.inside.blocks.items in
+    let rest = c.self.inside.rest.items in
+    let whole = length_whole bs rest c.self.invariant.0 in
+    let within : 8 * c.args.count ≤ 8 * length bs + length rest = rw (← whole, c.self.view_is) c.requires in
+    copied_more c.loop-i.i bs c.loop-i.blocks.items c.push.new.self.items c.index.result.now c.in_ok-share.field-0 (omega (arith, within, c.self.invariant.1, c.loop-i-test.true)) c.loop-i.invariant c.index.ensures c.in_ok-share.ensures c.in_ok-push.ensures.items
+
+pub returns-clause-events : goal.returns-clause-events
+returns-clause-events c =
+    let bs = c.self.inside.blocks.items in
+    let rest = c.self.inside.rest.items in
+    let whole = length_whole bs rest c.self.invariant.0 in
+    let within : 8 * c.args.count ≤ 8 * length bs + length rest = rw (← whole, c.self.view_is) c.requires in
+    let n : c.loop-i.i ≡ c.args.count = omega (arith, c.loop-i-test.false, c.loop-i.auto.i-end) in
+    let few : c.args.count ≤ length bs = omega (arith, within, c.self.invariant.1) in
+    ap events_in (c.loop-i.invariant ∙ ap (λ m. take m bs) n) ∙ (rw (← c.self.view_is) (first_of_whole c.args.count bs rest c.self.invariant.0 few))
+
+pub returns-clause-few : goal.returns-clause-few
+returns-clause-few c =
+    let whole = length_whole c.self.inside.blocks.items c.self.inside.rest.items c.self.invariant.0 in
+    rw (← c.self.view_is) (omega (arith, whole, c.self.invariant.2))
