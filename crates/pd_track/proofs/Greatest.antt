@@ -24,3 +24,25 @@ greatest_within p (suc n) = go (p (suc n)) (greatest_within p n)
     go : (b : Bool) → greatest p n ≤ n → cond b (suc n) (greatest p n) ≤ suc n
     go true h = omega arith
     go false h = omega arith
+
+-- it passes, or is 0
+pub greatest_passes : (p : ℕ → Bool) (n : ℕ) → (greatest p n ≡ 0) ⊎ (p (greatest p n) ≡ true)
+greatest_passes p zero = inl refl
+greatest_passes p (suc n) = go (p (suc n)) refl (greatest_passes p n)
+  where
+    go : (b : Bool) → p (suc n) ≡ b → ((greatest p n ≡ 0) ⊎ (p (greatest p n) ≡ true))
+        → (cond b (suc n) (greatest p n) ≡ 0) ⊎ (p (cond b (suc n) (greatest p n)) ≡ true)
+    go true e h = inr e
+    go false e h = h
+
+-- and none above it does
+pub greatest_last : (p : ℕ → Bool) (n m : ℕ) → m ≤ n → p m ≡ true → m ≤ greatest p n
+greatest_last p zero m le h = omega arith
+greatest_last p (suc n) m le h = go (p (suc n)) refl (nat_le m n) refl (λ (less : m ≤ n). greatest_last p n m less h)
+  where
+    go : (b : Bool) → p (suc n) ≡ b → (c : Bool) → nat_le m n ≡ c → (m ≤ n → m ≤ greatest p n) → m ≤ cond b (suc n) (greatest p n)
+    go true e c f ih = le
+    go false e true f ih = ih (grind (arith, nat_tests))
+    go false e false f ih =
+        let top : m ≡ suc n = grind (arith, nat_tests) in
+        absurd (let t : p (suc n) ≡ true = subst (λ (x : ℕ). p x ≡ true) top h in cc)

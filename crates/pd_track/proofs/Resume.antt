@@ -1,20 +1,25 @@
 -- Where a run may begin.
-use Rattle.std.proofs.Common.{◌≡◌, ℕ, zero, suc, ◌+◌, ◌*◌, ◌-◌, ◌%◌, ◌≤◌, ◌<◌, refl, sym, ap, subst, ◌∙◌, arith, List, [], ◌∷◌, ◌++◌, length, take, drop, slice_get, Option, None, Some, Ok}
-use Rattle.std.proofs.lemmas.Option.{slice_get_within}
+use Rattle.std.proofs.Common.{◌≡◌, ℕ, zero, suc, ◌+◌, ◌*◌, ◌-◌, ◌%◌, ◌≤◌, ◌<◌, refl, sym, ap, subst, ◌∙◌, arith, List, [], ◌∷◌, ◌++◌, length, map, take, drop, slice_get, option_map, IfSome, Option, None, Some, Ok}
+use Rattle.std.proofs.lemmas.Option.{slice_get_within, slice_get-map}
 use Rattle.pd_settings.specs.declared.fields.Settings.{Settings}
 use Rattle.pd_script.specs.Header.{Heading}
 use Rattle.pd_script.specs.Script.{script_of}
 use Rattle.pd_script.specs.declared.parsing.Parsed.{Parsed}
-use Rattle.pd_script.specs.declared.script_events.Event.{Event}
 use Rattle.pd_text.specs.Text.{AreLines}
 use Rattle.pd_reparse.specs.Laws.{FirstEventsOfScriptsStay}
+use Rattle.pd_settings.specs.Uses.{Agree}
+use Rattle.pd_settings.specs.declared.use_set.UseSet.{UseSet}
+use Rattle.pd_run.specs.Consulted.{uses_of, rebound_run, StepsNote, RunsOnlyUse}
 use Rattle.pd_run.specs.Laws.{IsUnderway, StartsUnderway, StepsGoOn}
 use Rattle.pd_run.specs.Run.{start_of, verdict_in, stepped_in, states_in, verdict_of, stepped_of, states_of, verdict_from, stepped_from, states_from}
 use Rattle.pd_run.specs.Step.{Running}
+use Rattle.pd_run.proofs.Consulted.{start_again}
 use Rattle.pd_run.proofs.States.{Onward, resume, states_same, states_underway}
-use Rattle.pd_track.specs.Reuse.{Source, fourths, kept}
+use Rattle.pd_track.specs.Reuse.{Source, AreHeld, fourths, kept, uses, uses_in}
 use Rattle.pd_track.specs.Resuming.{BeginsIn, Resumes, script_events}
 use Rattle.pd_track.proofs.Fourths.{slice_get-fourths, fourths_take, fourths_rest}
+use Rattle.pd_track.proofs.Held.{held_at, held_too, kept_before_last}
+use Rattle.pd_track.proofs.Rebound.{fourths_map, twice}
 
 none_before : (n : ℕ) → 0 + n ≡ n
 none_before n = omega arith
@@ -37,6 +42,15 @@ no_fault settings p s q found = go p.fault refl
     go None is = is
     go (Some line) is = absurd (let none = rw is at found in cc)
 
+-- the run that goes on in this state after so many events, with these states before it, gives what the whole run gives
+record GoesOn (text : List (List ℕ)) (settings : Settings) (passed : ℕ) (state : Running) (before : List Running) : Type 0 where
+  pub fourth : passed % 4 ≡ 0
+  pub within : passed ≤ length (script_events text)
+  pub underway : IsUnderway passed state
+  pub verdict : verdict_from passed (drop passed (script_events text)) state ≡ verdict_of text settings
+  pub steps : passed + stepped_from (drop passed (script_events text)) state ≡ stepped_of text settings
+  pub kept : before ++ fourths 3 (states_from (drop passed (script_events text)) state) ≡ fourths 3 (states_of text settings)
+
 module _ (text : List (List ℕ)) (settings : Settings) (r : Running) (begins : BeginsIn text settings r) where
   pub verdict_begun : verdict_of text settings ≡ verdict_from 0 (script_events text) r
   verdict_begun = verdict_in_begun settings (script_of text) r begins.fault begins.start
@@ -56,6 +70,8 @@ module _ (text : List (List ℕ)) (settings : Settings) (r : Running) (begins : 
     verdict = sym verdict_begun;
     steps = none_before (stepped_from (script_events text) r) ∙ sym stepped_begun;
     kept = ap (fourths 3) (sym states_begun);
+    bound = (start_again (script_of text).header.items settings settings r begins.start).1;
+    held = tt;
   }
 
 slice_get-take : (m : ℕ) (rs : List Running) → slice_get (take (suc m) rs) m ≡ slice_get rs m
@@ -66,7 +82,7 @@ slice_get-take (suc m) (r ∷ rs) = slice_get-take m rs
 -- from the state after the first m + 1 events, a multiple of 4
 resumes_at : StepsGoOn → (text : List (List ℕ)) (settings : Settings) (r s : Running) (q m : ℕ) → m ≡ 4 * q + 3 → BeginsIn text settings r → IsUnderway 0 r
     → slice_get (states_from (script_events text) r) m ≡ Some s
-    → Resumes text settings (suc m) s (take (suc q) (fourths 3 (states_from (script_events text) r)))
+    → GoesOn text settings (suc m) s (take (suc q) (fourths 3 (states_from (script_events text) r)))
 resumes_at law text settings r s q m is begins underway found =
     let onward : Onward (script_events text) m r s = resume (script_events text) m r s found in
     let all : take (suc q) (fourths 3 (states_from (script_events text) r)) ++ fourths 3 (drop (suc m) (states_from (script_events text) r)) ≡ fourths 3 (states_from (script_events text) r) =
@@ -82,10 +98,10 @@ resumes_at law text settings r s q m is begins underway found =
     }
 
 -- from a state that a run of another text has kept, which begins as this one does
-pub resumes_kept : StepsGoOn → (old text : List (List ℕ)) (settings : Settings) (r s : Running) (q : ℕ) → BeginsIn text settings r → IsUnderway 0 r
+resumes_kept : StepsGoOn → (old text : List (List ℕ)) (settings : Settings) (r s : Running) (q : ℕ) → BeginsIn text settings r → IsUnderway 0 r
     → ((script_of old).header ≡ (script_of text).header) × (take (4 * suc q) (script_of old).events ≡ take (4 * suc q) (script_of text).events)
     → slice_get (fourths 3 (states_of old settings)) q ≡ Some s
-    → Resumes text settings (4 * suc q) s (take (suc q) (fourths 3 (states_of old settings)))
+    → GoesOn text settings (4 * suc q) s (take (suc q) (fourths 3 (states_of old settings)))
 resumes_kept law old text settings r s q begins underway same snap =
     let m : ℕ = 4 * q + 3 in
     let count : 4 * suc q ≡ suc (4 * q + 3) = omega arith in
@@ -107,29 +123,94 @@ resumes_kept law old text settings r s q begins underway same snap =
     ap (λ (rs : List Running). take (suc q) (fourths 3 rs)) old_states
     ∙ (fourths_take 3 q (4 * q + 3) (states_from (script_events old) r) refl
     ∙ (ap (fourths 3) states ∙ sym (fourths_take 3 q (4 * q + 3) (states_from (script_events text) r) refl))) in
-    let whole : Resumes text settings (suc (4 * q + 3)) s (take (suc q) (fourths 3 (states_from (script_events text) r))) =
+    let whole : GoesOn text settings (suc (4 * q + 3)) s (take (suc q) (fourths 3 (states_from (script_events text) r))) =
     resumes_at law text settings r s q (4 * q + 3) refl begins underway here in
-    subst (λ (rs : List Running). Resumes text settings (4 * suc q) s rs) (sym snaps)
-    (subst (λ (n : ℕ). Resumes text settings n s (take (suc q) (fourths 3 (states_from (script_events text) r)))) (sym count) whole)
+    subst (λ (rs : List Running). GoesOn text settings (4 * suc q) s rs) (sym snaps)
+    (subst (λ (n : ℕ). GoesOn text settings n s (take (suc q) (fourths 3 (states_from (script_events text) r)))) (sym count) whole)
 
 -- a run that begins is underway
 pub begun_underway : StartsUnderway → (text : List (List ℕ)) (settings : Settings) (r : Running) → BeginsIn text settings r → IsUnderway 0 r
 begun_underway law text settings r begins = law (script_of text).header.items settings r begins.start
 
+-- what a run had consulted in a state that it kept
+pub uses_are : (track : Source) (count : ℕ) (s : Running) → 0 < count
+    → slice_get (fourths 3 (states_of track.text track.settings)) (count - 1) ≡ Some (rebound_run track.settings s)
+    → uses_of s ≡ uses track (4 * count)
+uses_are track zero s some snap = absurd (omega arith)
+uses_are track (suc q) s some snap =
+    let last : suc q - 1 ≡ q = omega arith in
+    let count : 4 * suc q ≡ suc (4 * q + 3) = omega arith in
+    let found : slice_get (states_of track.text track.settings) (4 * q + 3) ≡ Some (rebound_run track.settings s) =
+    sym (slice_get-fourths 3 q (states_of track.text track.settings))
+    ∙ subst (λ (n : ℕ). slice_get (fourths 3 (states_of track.text track.settings)) n ≡ Some (rebound_run track.settings s)) last snap in
+    sym (ap (uses track) count ∙ ap uses_in found)
+
+-- the states that a run kept, up to one that serves, are those of the run under the other settings, but for the settings held
+module _ (law : RunsOnlyUse) (track : Source) (settings : Settings) (s : Running) (q : ℕ)
+    (snap : slice_get (fourths 3 (states_of track.text track.settings)) q ≡ Some (rebound_run track.settings s))
+    (agree : Agree (uses_of s) track.settings settings) where
+  there : slice_get (states_of track.text track.settings) (4 * q + 3) ≡ Some (rebound_run track.settings s)
+  there = sym (slice_get-fourths 3 q (states_of track.text track.settings)) ∙ snap
+
+  first_states : take (suc q) (fourths 3 (states_of track.text settings)) ≡ map (rebound_run settings) (take (suc q) (fourths 3 (states_of track.text track.settings)))
+  first_states =
+      fourths_take 3 q (4 * q + 3) (states_of track.text settings) refl
+      ∙ (ap (fourths 3) (law track.text track.settings settings (4 * q + 3) (rebound_run track.settings s) there agree)
+      ∙ (fourths_map (rebound_run settings) 3 (take (suc (4 * q + 3)) (states_of track.text track.settings))
+      ∙ ap (map (rebound_run settings)) (sym (fourths_take 3 q (4 * q + 3) (states_of track.text track.settings) refl))))
+
+  last_state : slice_get (fourths 3 (states_of track.text settings)) q ≡ Some (rebound_run settings s)
+  last_state =
+      sym (slice_get-take q (fourths 3 (states_of track.text settings)))
+      ∙ (ap (λ (rs : List Running). slice_get rs q) first_states
+      ∙ (slice_get-map (rebound_run settings) (take (suc q) (fourths 3 (states_of track.text track.settings))) q
+      ∙ ap (option_map (rebound_run settings)) (slice_get-take q (fourths 3 (states_of track.text track.settings)) ∙ snap)))
+
 -- from the last state of a track that serves
-pub resumes_after : FirstEventsOfScriptsStay → StartsUnderway → StepsGoOn → (track : Source) (text : List (List ℕ)) (settings : Settings) (r s : Running) (count events : ℕ) (snaps : List Running)
-    → AreLines track.text → AreLines text → 0 < count → BeginsIn text settings r → events ≡ kept track.text text → 4 * count ≤ events → track.settings ≡ settings
-    → slice_get (fourths 3 (states_of track.text track.settings)) (count - 1) ≡ Some s
-    → snaps ≡ take count (fourths 3 (states_of track.text track.settings))
-    → Resumes text settings (4 * count) s snaps
-resumes_after same starts steps track text settings r s zero events snaps old_lines lines some begins kept_is within equal snap snaps_are = absurd (omega arith)
-resumes_after same starts steps track text settings r s (suc q) events snaps old_lines lines some begins kept_is within equal snap snaps_are =
+pub resumes_after : FirstEventsOfScriptsStay → StartsUnderway → StepsGoOn → StepsNote → RunsOnlyUse
+    → (track : Source) (text : List (List ℕ)) (settings : Settings) (r s : Running) (count events : ℕ) (snaps : List Running)
+    → AreLines track.text → AreLines text → 0 < count → BeginsIn text settings r → events ≡ kept track.text text → 4 * count ≤ events
+    → Agree (uses track (4 * count)) track.settings settings
+    → slice_get (fourths 3 (states_of track.text track.settings)) (count - 1) ≡ Some (rebound_run track.settings s)
+    → map (rebound_run track.settings) snaps ≡ take count (fourths 3 (states_of track.text track.settings)) → AreHeld track.settings snaps
+    → Resumes text settings (4 * count) (rebound_run settings s) snaps
+resumes_after same starts steps notes law track text settings r s zero events snaps old_lines lines some begins kept_is within agree snap snaps_are held = absurd (omega arith)
+resumes_after same starts steps notes law track text settings r s (suc q) events snaps old_lines lines some begins kept_is within agree snap snaps_are held =
     let few : 4 * suc q ≤ kept track.text text = omega arith in
     let last : suc q - 1 ≡ q = omega arith in
-    let at : slice_get (fourths 3 (states_of track.text settings)) q ≡ Some s =
-    subst (λ (t : Settings). slice_get (fourths 3 (states_of track.text t)) q ≡ Some s) equal
-    (subst (λ (n : ℕ). slice_get (fourths 3 (states_of track.text track.settings)) n ≡ Some s) last snap) in
-    let all : snaps ≡ take (suc q) (fourths 3 (states_of track.text settings)) =
-    subst (λ (t : Settings). snaps ≡ take (suc q) (fourths 3 (states_of track.text t))) equal snaps_are in
-    subst (λ (rs : List Running). Resumes text settings (4 * suc q) s rs) (sym all)
-    (resumes_kept steps track.text text settings r s q begins (begun_underway starts text settings r begins) (same track.text text (4 * suc q) old_lines lines (omega arith) few) at)
+    let consulted : Agree (uses_of s) track.settings settings =
+    subst (λ (u : UseSet). Agree u track.settings settings) (sym (uses_are track (suc q) s some snap)) agree in
+    let at : slice_get (fourths 3 (states_of track.text track.settings)) q ≡ Some (rebound_run track.settings s) =
+    subst (λ (n : ℕ). slice_get (fourths 3 (states_of track.text track.settings)) n ≡ Some (rebound_run track.settings s)) last snap in
+    let whole : GoesOn text settings (4 * suc q) (rebound_run settings s) (take (suc q) (fourths 3 (states_of track.text settings))) =
+    resumes_kept steps track.text text settings r (rebound_run settings s) q begins (begun_underway starts text settings r begins)
+    (same track.text text (4 * suc q) old_lines lines (omega arith) few) (last_state law track settings s q at consulted) in
+    let snaps_here : map (rebound_run settings) snaps ≡ take (suc q) (fourths 3 (states_of track.text settings)) =
+    sym (twice track.settings settings snaps) ∙ (ap (map (rebound_run settings)) snaps_are ∙ sym (first_states law track settings s q at consulted)) in
+    record {
+      fourth = whole.fourth;
+      within = whole.within;
+      underway = whole.underway;
+      verdict = whole.verdict;
+      steps = whole.steps;
+      kept = ap (λ (rs : List Running). rs ++ fourths 3 (states_from (drop (4 * suc q) (script_events text)) (rebound_run settings s))) snaps_here ∙ whole.kept;
+      bound = refl;
+      held =
+          held_too track.settings settings s snaps
+          (kept_before_last notes track.text track.settings q s snaps (there law track settings s q at consulted) snaps_are) consulted held;
+    }
+
+-- what is held in a kept state agrees with the track's settings on all that was consulted up to there
+pub held_there : (track : Source) (k : ℕ) (snaps : List Running) (o : Option Running)
+    → map (rebound_run track.settings) snaps ≡ fourths 3 (states_of track.text track.settings) → AreHeld track.settings snaps → o ≡ slice_get snaps k
+    → IfSome o (λ (s : Running). Agree (uses track (4 * (k + 1))) track.settings s.host.state.settings)
+held_there track k snaps None are held is = tt
+held_there track k snaps (Some s) are held is =
+    let some : 0 < k + 1 = omega arith in
+    let last : k + 1 - 1 ≡ k = omega arith in
+    let found : slice_get (fourths 3 (states_of track.text track.settings)) k ≡ Some (rebound_run track.settings s) =
+    ap (λ (rs : List Running). slice_get rs k) (sym are)
+    ∙ (slice_get-map (rebound_run track.settings) snaps k ∙ ap (option_map (rebound_run track.settings)) (sym is)) in
+    let consulted : uses_of s ≡ uses track (4 * (k + 1)) =
+    uses_are track (k + 1) s some (subst (λ (n : ℕ). slice_get (fourths 3 (states_of track.text track.settings)) n ≡ Some (rebound_run track.settings s)) (sym last) found) in
+    subst (λ (u : UseSet). Agree u track.settings s.host.state.settings) consulted (held_at track.settings snaps k s held (sym is))

@@ -1,14 +1,18 @@
 -- The end of a run.
-use Rattle.std.proofs.Common.{◌≡◌, ℕ, zero, suc, ◌+◌, ◌-◌, ◌==◌, ◌≤◌, Bool, true, false, cond, refl, ap, ◌∙◌, arith, List, [], ◌∷◌, ◌++◌, map, take, drop, length, OnOk, Result, Ok, Err}
+use Rattle.std.proofs.Common.{◌≡◌, ℕ, zero, suc, ◌+◌, ◌-◌, ◌==◌, ◌≤◌, Bool, true, false, cond, refl, sym, ap, subst, ◌∙◌, arith, List, [], ◌∷◌, ◌++◌, map, take, drop, length, OnOk, Result, Ok, Err}
 use Rattle.std.proofs.lemmas.Bool.Decides.{nat_tests}
+use Rattle.std.proofs.lemmas.List.{map-append}
 use Rattle.pd_script.specs.declared.script_events.Event.{Event}
 use Rattle.pd_reparse.specs.Reading.{DecidedScript, reading_of, events_of}
 use Rattle.pd_reparse.specs.declared.decided.Decided.{Decided}
+use Rattle.pd_run.specs.Consulted.{rebound_run, StepsNote}
 use Rattle.pd_run.specs.Run.{stepped_of, verdict_from, stepped_from, states_from}
 use Rattle.pd_run.specs.Step.{Running}
 use Rattle.pd_run.specs.declared.verdicts.Verdict.{Verdict}
-use Rattle.pd_track.specs.Reuse.{Handed, from, steps, fourths}
+use Rattle.pd_track.specs.Reuse.{Handed, AreHeld, from, steps, fourths}
 use Rattle.pd_track.specs.Resuming.{Resumes, IsOutcome, script_events}
+use Rattle.pd_track.proofs.Held.{new_held, held_more}
+use Rattle.pd_track.proofs.Rebound.{fourths_map, own_states}
 
 pub drop_map : (n : ℕ) (ds : List Decided) → events_of (drop n ds) ≡ drop n (events_of ds)
 drop_map zero ds = refl
@@ -38,16 +42,24 @@ pub record Whole (job : Handed) (came : Verdict) (reading : DecidedScript) (snap
   pub outcome : IsOutcome job.task came reading snaps
   pub steps : taken ≡ steps job
 
-pub whole : (job : Handed) (reading : DecidedScript) (passed : ℕ) (state : Running) (before after : List Running) (es : List Event) (came : Verdict) (taken : ℕ)
+pub whole : StepsNote → (job : Handed) (reading : DecidedScript) (passed : ℕ) (state : Running) (before after : List Running) (es : List Event) (came : Verdict) (taken : ℕ)
     → reading ≡ reading_of job.task.text → es ≡ drop passed (script_events job.task.text) → passed ≡ from job
     → Resumes job.task.text job.task.settings passed state before
     → came ≡ verdict_from passed es state → after ≡ before ++ fourths 3 (states_from es state) → taken ≡ stepped_from es state
     → Whole job came reading after taken
-whole job reading passed state before after es came taken read rest p resumes v s k = record {
+whole law job reading passed state before after es came taken read rest p resumes v s k = record {
   outcome = record {
     verdict = v ∙ (ap (λ (w : List Event). verdict_from passed w state) rest ∙ resumes.verdict);
     read = read;
-    kept = s ∙ (ap (λ (w : List Event). before ++ fourths 3 (states_from w state)) rest ∙ resumes.kept);
+    kept =
+        ap (map (rebound_run job.task.settings)) s
+        ∙ (map-append (rebound_run job.task.settings) before (fourths 3 (states_from es state))
+        ∙ (ap (λ (w : List Running). map (rebound_run job.task.settings) before ++ w)
+        (sym (fourths_map (rebound_run job.task.settings) 3 (states_from es state)) ∙ ap (fourths 3) (own_states law es state job.task.settings resumes.bound))
+        ∙ (ap (λ (w : List Event). map (rebound_run job.task.settings) before ++ fourths 3 (states_from w state)) rest ∙ resumes.kept)));
+    held =
+        subst (AreHeld job.task.settings) (sym s)
+        (held_more job.task.settings before (fourths 3 (states_from es state)) resumes.held (new_held law es state job.task.settings resumes.bound));
   };
   steps = k ∙ (ap (λ (w : List Event). stepped_from w state) rest ∙ steps_are job passed (stepped_from (drop passed (script_events job.task.text)) state) p resumes.steps);
 }

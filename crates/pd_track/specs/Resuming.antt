@@ -1,14 +1,15 @@
 -- A run that goes on where an earlier one is taken up.
-use Rattle.std.specs.Prelude.{◌≡◌, ℕ, ◌+◌, ◌≤◌, ◌%◌, ◌++◌, length, drop, List, None, Ok}
+use Rattle.std.specs.Prelude.{◌≡◌, ℕ, ◌+◌, ◌≤◌, ◌%◌, ◌++◌, length, map, drop, List, None, Ok}
 use Rattle.pd_settings.specs.declared.fields.Settings.{Settings}
 use Rattle.pd_script.specs.Script.{script_of}
 use Rattle.pd_script.specs.declared.script_events.Event.{Event}
+use Rattle.pd_run.specs.Consulted.{rebound_run}
 use Rattle.pd_run.specs.Laws.{IsUnderway}
 use Rattle.pd_run.specs.Run.{start_of, verdict_of, stepped_of, states_of, verdict_from, stepped_from, states_from}
 use Rattle.pd_run.specs.Step.{Running}
 use Rattle.pd_run.specs.declared.verdicts.Verdict.{Verdict}
 use Rattle.pd_reparse.specs.Reading.{DecidedScript, reading_of}
-use Rattle.pd_track.specs.Reuse.{fourths}
+use Rattle.pd_track.specs.Reuse.{AreHeld, fourths}
 use Rattle.pd_track.specs.declared.task.Task.{Task}
 
 -- the events that a text is
@@ -20,17 +21,21 @@ pub record BeginsIn (text : List (List ℕ)) (settings : Settings) (state : Runn
   pub fault : (script_of text).fault ≡ None
   pub start : start_of (script_of text).header.items settings ≡ Ok state
 
--- the run that goes on in this state after so many events, with these snaps, gives what the whole run gives
+-- the run that goes on in this state after so many events, with these snaps but for the settings held in them, gives what
+-- the whole run gives
 pub record Resumes (text : List (List ℕ)) (settings : Settings) (passed : ℕ) (state : Running) (snaps : List Running) : Type 0 where
   pub fourth : passed % 4 ≡ 0
   pub within : passed ≤ length (script_events text)
   pub underway : IsUnderway passed state
   pub verdict : verdict_from passed (drop passed (script_events text)) state ≡ verdict_of text settings
   pub steps : passed + stepped_from (drop passed (script_events text)) state ≡ stepped_of text settings
-  pub kept : snaps ++ fourths 3 (states_from (drop passed (script_events text)) state) ≡ fourths 3 (states_of text settings)
+  pub kept : map (rebound_run settings) snaps ++ fourths 3 (states_from (drop passed (script_events text)) state) ≡ fourths 3 (states_of text settings)
+  pub bound : state.host.state.settings ≡ settings
+  pub held : AreHeld settings snaps
 
--- what the whole run of a task comes to, what is read of its text, and every fourth state
+-- what the whole run of a task comes to, what is read of its text, and every fourth state but for the settings held in it
 pub record IsOutcome (task : Task) (came : Verdict) (reading : DecidedScript) (snaps : List Running) : Type 0 where
   pub verdict : came ≡ verdict_of task.text task.settings
   pub read : reading ≡ reading_of task.text
-  pub kept : snaps ≡ fourths 3 (states_of task.text task.settings)
+  pub kept : map (rebound_run task.settings) snaps ≡ fourths 3 (states_of task.text task.settings)
+  pub held : AreHeld task.settings snaps

@@ -1,10 +1,12 @@
 -- How much of an earlier run stands for a later one.
-use Rattle.std.specs.Prelude.{◌≡◌, ℕ, zero, suc, ◌+◌, ◌-◌, ◌%◌, ◌==◌, nat_le, ◌&&◌, Bool, List, [], ◌∷◌, length, Option, None, Some, if◌then◌else◌}
-use Rattle.std.proofs.Math.Bool.{beq}
+use Rattle.std.specs.Prelude.{◌≡◌, ℕ, zero, suc, ◌-◌, ◌%◌, ◌==◌, nat_le, ◌&&◌, Bool, List, [], ◌∷◌, length, map, slice_get, Option, None, Some, if◌then◌else◌}
+use Rattle.std.specs.List.{AllByRecursion}
 use Rattle.pd_text.specs.Text.{front}
-use Rattle.pd_settings.specs.Uses.{is_same_window}
+use Rattle.pd_settings.specs.Uses.{Agree, no_uses, agrees}
 use Rattle.pd_settings.specs.declared.fields.Settings.{Settings}
+use Rattle.pd_settings.specs.declared.use_set.UseSet.{UseSet}
 use Rattle.pd_reparse.specs.Reading.{DecidedScript, reading_of, kept_of}
+use Rattle.pd_run.specs.Consulted.{uses_of, rebound_run}
 use Rattle.pd_run.specs.Run.{states_of, stepped_of, verdict_of}
 use Rattle.pd_run.specs.Step.{Running}
 use Rattle.pd_run.specs.declared.verdicts.Verdict.{Verdict}
@@ -26,10 +28,16 @@ fourths j [] = []
 fourths zero (r ∷ rs) = r ∷ fourths 3 rs
 fourths (suc j) (r ∷ rs) = fourths j rs
 
--- what a track keeps: its text as it was read, and the states after 4, 8, 12 .. events of its run
+-- the settings held in each state agree with these on all that was consulted up to it
+abbrev pub AreHeld : Settings → List Running → Type 0
+AreHeld settings snaps = AllByRecursion (λ (r : Running). Agree (uses_of r) settings r.host.state.settings) snaps
+
+-- what a track keeps: its text as it was read, and the states after 4, 8, 12 .. events of its run, but for the settings held
+-- in them, which agree with its own on all that was consulted up to there
 pub record IsTrack (text : List (List ℕ)) (settings : Settings) (reading : DecidedScript) (snaps : List Running) : Type 0 where
   pub read : reading ≡ reading_of text
-  pub kept : snaps ≡ fourths 3 (states_of text settings)
+  pub kept : map (rebound_run settings) snaps ≡ fourths 3 (states_of text settings)
+  pub held : AreHeld settings snaps
 
 -- the greatest number up to n that passes, or 0
 abbrev pub greatest : (ℕ → Bool) → ℕ → ℕ
@@ -52,18 +60,21 @@ kept_before job = kept_of_track job.track job.task.text
 abbrev pub reached : List (List ℕ) → Settings → ℕ
 reached text settings = length (states_of text settings)
 
--- two settings are equal in each field
-abbrev pub are_equal : Settings → Settings → Bool
-are_equal a b =
-    a.mss == b.mss && beq a.sack b.sack && a.wscale == b.wscale && a.sndbuf == b.sndbuf && a.rcv_wnd == b.rcv_wnd
-    && a.initial_ssthresh == b.initial_ssthresh && is_same_window a.initial_window b.initial_window
-    && a.min_rto_us == b.min_rto_us && a.max_rto_us == b.max_rto_us && a.granularity_us == b.granularity_us
-    && beq a.nagle b.nagle && a.tolerance_us == b.tolerance_us
+-- the settings that a run had consulted in a state, if it came to it
+abbrev pub uses_in : Option Running → UseSet
+uses_in None = no_uses
+uses_in (Some r) = uses_of r
 
--- a track has the state after so many events, and a job under these settings may begin with it
+-- the settings that the first events of a track's run consulted
+abbrev pub uses : Source → ℕ → UseSet
+uses track zero = no_uses
+uses track (suc n) = uses_in (slice_get (states_of track.text track.settings) n)
+
+-- a track has the state after so many events, and a job may begin with it whose settings agree with the track's on all that
+-- these events consulted
 abbrev pub serves : Source → Settings → ℕ → Bool
 serves track settings events =
-    events % 4 == 0 && nat_le events (reached track.text track.settings) && are_equal track.settings settings
+    events % 4 == 0 && nat_le events (reached track.text track.settings) && agrees (uses track events) track.settings settings
 
 -- how many events of a text needn't be run after a track
 abbrev pub from_track : Source → List (List ℕ) → Settings → ℕ

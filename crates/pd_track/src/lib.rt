@@ -2,11 +2,14 @@
 //!
 //! A `Track` is what a run leaves: its text, what was read of it, and the states after each fourth event. A `Job` may be
 //! given one; `run_job` then reads the text again only where it may differ, and runs it from the last kept state that the
-//! equal first lines and equal settings allow. Its `Done` has the verdict of the whole run, whatever the track.
+//! equal first lines allow and up to which the run consulted no setting that differs. A kept state is shared by tracks under
+//! different settings: `run_job` puts its copy under the job's. Its `Done` has the verdict of the whole run, whatever the
+//! track.
 #![tactic(auto)]
 
 mod done;
 mod job;
+mod laws;
 mod progress;
 mod resuming;
 mod running;
@@ -17,6 +20,7 @@ mod trail;
 
 pub use done::{Done, Unfinished};
 pub use job::Job;
+pub use laws::runs_begin_last;
 pub use running::run_job;
 pub use snap::Snap;
 pub use task::Task;

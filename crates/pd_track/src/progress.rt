@@ -1,12 +1,12 @@
 //! Runs under way, which keep each fourth state.
 ghost use Rattle.std.specs.Prelude.{◌≡◌, ◌+◌, ◌-◌, ◌<◌, ◌≤◌, ◌^◌, ◌%◌, ◌==◌, ◌++◌, ◌∷◌, [], ℕ, length, map, IfOk, OnOk, if◌then◌else◌};
-ghost use Rattle.pd_reparse.specs.Reading.{events_of};
+ghost use Rattle.pd_reparse.specs.Reading.{events_behind};
 ghost use Rattle.pd_run.specs.Laws.{IsUnderway};
 ghost use Rattle.pd_run.specs.Run.{verdict_from, stepped_from, states_from};
 ghost use Rattle.pd_track.specs.Reuse.{fourths};
 
 use crate::snap::Snap;
-use pd_reparse::Decided;
+use pd_reparse::EventList;
 use pd_run::{RunState, StepEnd, Stepper, Verdict, runs_are_bounded};
 use pd_settings::Settings;
 use std::alloc::{AllocError, Global};
@@ -33,26 +33,27 @@ impl Progress {
         }
     }
 
-    /// Runs the events that are left, up to the first that stops the run.
+    /// Runs those of the events that are left, up to the first that stops the run.
     pub fn run<S: Stepper>(
         &mut self,
         alloc: Global,
-        events: &[Decided],
+        events: &EventList,
         settings: &Settings,
         stepper: &mut S,
     ) -> Result<Verdict, AllocError>
         requires fourth { self.old.passed % 4 ≡ 0 }
-        requires few { self.old.passed + length events.now ≤ 4096 }
+        requires within { self.old.passed ≤ length events.now }
+        requires few { length events.now ≤ 4096 }
         requires underway { IsUnderway self.old.passed self.old.state }
         requires room { S.counted stepper.old + length events.now < 2 ^ 64 }
-        ensures verdict { IfOk result (λ verdict. verdict ≡ verdict_from self.old.passed (events_of events.now) self.old.state) }
-        ensures steps { OnOk result (S.counted stepper.new ≡ S.counted stepper.old + stepped_from (events_of events.now) self.old.state) }
+        ensures verdict { IfOk result (λ verdict. verdict ≡ verdict_from self.old.passed (events_behind self.old.passed events.now) self.old.state) }
+        ensures steps { OnOk result (S.counted stepper.new ≡ S.counted stepper.old + stepped_from (events_behind self.old.passed events.now) self.old.state) }
         ensures few { OnOk result (S.counted stepper.new ≤ S.counted stepper.old + length events.now) }
-        ensures snaps { OnOk result (self.new.snaps.items ≡ self.old.snaps.items ++ fourths 3 (states_from (events_of events.now) self.old.state)) }
+        ensures snaps { OnOk result (self.new.snaps.items ≡ self.old.snaps.items ++ fourths 3 (states_from (events_behind self.old.passed events.now) self.old.state)) }
     {
         runs_are_bounded();
-        for decided in events {
-            match stepper.step(&mut self.state, &decided.event, settings)? {
+        for i in self.passed..events.len() {
+            match stepper.step(&mut self.state, &events.at(i).event, settings)? {
                 StepEnd::Go => self.pass(alloc)?,
                 StepEnd::Stop(verdict) => return Ok(verdict),
             }

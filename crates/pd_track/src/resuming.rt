@@ -1,9 +1,11 @@
 //! Where a run begins: at its first event, or in a state that an earlier one kept.
-ghost use Rattle.std.specs.Prelude.{◌≡◌, ◌+◌, ◌*◌, ◌-◌, ◌≤◌, ◌<◌, ℕ, length, take, drop, slice_get, Some, IsTrue, IfOk};
+ghost use Rattle.std.specs.Prelude.{◌≡◌, ◌+◌, ◌*◌, ◌-◌, ◌≤◌, ◌<◌, ℕ, length, map, take, drop, slice_get, Some, true, false, IfOk};
 ghost use Rattle.pd_text.specs.Text.{front, AreLines};
 ghost use Rattle.pd_reparse.specs.Reading.{reading_of, kept_of};
+ghost use Rattle.pd_run.specs.Consulted.{rebound_run};
 ghost use Rattle.pd_run.specs.Run.{states_of};
-ghost use Rattle.pd_track.specs.Reuse.{from, from_track, serves, are_equal, greatest, fourths, kept, kept_before};
+ghost use Rattle.pd_settings.specs.Uses.{agrees};
+ghost use Rattle.pd_track.specs.Reuse.{AreHeld, from, from_track, serves, uses, greatest, fourths, kept, kept_before};
 ghost use Rattle.pd_track.specs.Resuming.{BeginsIn, Resumes};
 
 use crate::job::Job;
@@ -11,8 +13,8 @@ use crate::progress::Progress;
 use crate::snap::Snap;
 use crate::track::Track;
 use pd_reparse::{Reread, first_events, read, reread};
-use pd_run::{RunState, runs_are_bounded};
-use pd_settings::Settings;
+use pd_run::{RunState, runs_are_bounded, runs_only_use};
+use pd_settings::{Settings, UseSet};
 use pd_text::Text;
 use std::alloc::{AllocError, Global};
 
@@ -97,8 +99,10 @@ fn begin_after(
     runs_are_bounded();
     have_lines(track.text());
     have_lines(text);
-    let snaps = share_first(alloc, track.snaps(), count)?;
-    let state = last(track.snaps(), count).state().copy()?;
+    runs_only_use();
+    let snaps = first_of(alloc, track, count)?;
+    let mut state = state_at(track, count).copy()?;
+    state.rebind(settings);
     Ok(Progress {
         state,
         passed: 4 * count,
@@ -110,21 +114,69 @@ fn begin_after(
 fn serving(track: &Track, kept: usize, settings: &Settings) -> usize
     ensures within { result ≤ length (fourths 3 (states_of track.now.text track.now.settings)) }
     ensures kept { 4 * result ≤ kept }
-    ensures equal { 0 < result → track.now.settings ≡ settings.now }
+    ensures agreeing { 0 < result → agrees (uses track.now (4 * result)) track.now.settings settings.now ≡ true }
     ensures greatest { 4 * result ≡ greatest (serves track.now settings.now) kept }
 {
-    if !are_same(track.settings(), settings) {
-        return 0;
-    }
-    (kept / 4).min(track.snaps().len())
+    best_of(track, (kept / 4).min(count_of(track)), settings)
 }
 
-/// Whether two settings are equal in each field.
-fn are_same(settings: &Settings, other: &Settings) -> bool
-    ensures test { result ≡ are_equal settings.now other.now }
-    ensures same { IsTrue result → settings.now ≡ other.now }
+/// How many states the track has.
+fn count_of(track: &Track) -> usize
+    ensures { result ≡ length (fourths 3 (states_of track.now.text track.now.settings)) }
 {
-    settings.is_same(other)
+    track.snaps().len()
+}
+
+/// The last of the first states up to which nothing was consulted that differs.
+fn best_of(track: &Track, most: usize, settings: &Settings) -> usize
+    requires { most ≤ length (fourths 3 (states_of track.now.text track.now.settings)) }
+    ensures within { result ≤ most }
+    ensures agreeing { 0 < result → agrees (uses track.now (4 * result)) track.now.settings settings.now ≡ true }
+    ensures none { (j : ℕ) → result < j → j ≤ most → agrees (uses track.now (4 * j)) track.now.settings settings.now ≡ false }
+{
+    for i in 0..most {
+        if is_agreed(track, most - i, settings) {
+            return most - i;
+        }
+    }
+    0
+}
+
+/// Whether the settings agree with the track's on all that was consulted up to one of its states.
+fn is_agreed(track: &Track, count: usize, settings: &Settings) -> bool
+    requires some { 0 < count }
+    requires within { count ≤ length (fourths 3 (states_of track.now.text track.now.settings)) }
+    ensures { result ≡ agrees (uses track.now (4 * count)) track.now.settings settings.now }
+{
+    track.settings().agrees(settings, &uses_at(track, count))
+}
+
+/// What was consulted up to one of the track's states.
+fn uses_at(track: &Track, count: usize) -> UseSet
+    requires some { 0 < count }
+    requires within { count ≤ length (fourths 3 (states_of track.now.text track.now.settings)) }
+    ensures { result ≡ uses track.now (4 * count) }
+{
+    state_at(track, count).uses()
+}
+
+/// One of the track's states, but for the settings held in it.
+fn state_at(track: &Track, count: usize) -> &RunState
+    requires some { 0 < count }
+    requires within { count ≤ length (fourths 3 (states_of track.now.text track.now.settings)) }
+    ensures { slice_get (fourths 3 (states_of track.now.text track.now.settings)) (count - 1) ≡ Some (rebound_run track.now.settings result.now) }
+{
+    last(track.snaps(), count).state()
+}
+
+/// The track's first states, shared.
+fn first_of(alloc: Global, track: &Track, count: usize) -> Result<Vec<Snap>, AllocError>
+    requires { count ≤ length (fourths 3 (states_of track.now.text track.now.settings)) }
+    ensures states { IfOk result (λ shared. map (rebound_run track.now.settings) shared.items ≡ take count (fourths 3 (states_of track.now.text track.now.settings))) }
+    ensures held { IfOk result (λ shared. AreHeld track.now.settings shared.items) }
+{
+    let shared = share_first(alloc, track.snaps(), count)?;
+    Ok(shared)
 }
 
 /// The first states, shared.

@@ -11,8 +11,8 @@ use crate::resuming::{begin, read_job};
 use crate::snap::Snap;
 use crate::task::Task;
 use crate::track::Track;
-use pd_reparse::{Decided, Reading, Reread, readings};
-use pd_run::{RunState, Stepper, Verdict};
+use pd_reparse::{Reading, Reread, readings};
+use pd_run::{RunState, Stepper, Verdict, runs_only_use};
 use std::alloc::{AllocError, Global};
 
 /// What a run came to, what was read, and the states on its way.
@@ -104,21 +104,12 @@ fn go_on<S: Stepper>(
     ensures few { OnOk result (S.counted stepper.new ≤ S.counted stepper.old + 4096) }
 {
     readings();
+    runs_only_use();
     let mut progress = progress;
-    let rest = after(reading.events(), progress.passed);
-    let verdict = progress.run(alloc, rest, &job.settings(), stepper)?;
+    let verdict = progress.run(alloc, reading.events(), &job.settings(), stepper)?;
     Ok(Outcome {
         verdict,
         reading,
         snaps: progress.snaps,
     })
-}
-
-/// The events after the first ones.
-fn after(events: &[Decided], passed: usize) -> &[Decided]
-    requires { passed ≤ length events.now }
-    ensures rest { events_of result.now ≡ drop passed (events_of events.now) }
-    ensures count { passed + length result.now ≡ length events.now }
-{
-    &events[passed..]
 }

@@ -1,8 +1,10 @@
 //! Tracks: what is kept of a run for a later one.
-ghost use Rattle.std.specs.Prelude.{◌≡◌, ◌+◌, ◌*◌, IfOk, slice_get, option_copied};
+ghost use Rattle.std.specs.Prelude.{◌≡◌, ◌+◌, ◌*◌, IfOk, IfSome, map, slice_get, option_map, option_copied};
 ghost use Rattle.pd_reparse.specs.Reading.{reading_of};
+ghost use Rattle.pd_run.specs.Consulted.{rebound_run};
 ghost use Rattle.pd_run.specs.Run.{states_of};
-ghost use Rattle.pd_track.specs.Reuse.{fourths};
+ghost use Rattle.pd_settings.specs.Uses.{Agree};
+ghost use Rattle.pd_track.specs.Reuse.{AreHeld, fourths, uses};
 
 use crate::snap::Snap;
 use crate::trail::Trail;
@@ -76,16 +78,19 @@ impl Track {
         self.trail.reading()
     }
 
-    /// The states after 4, 8, 12 .. events that passed.
+    /// The states after 4, 8, 12 .. events that passed, but for the settings held in them.
     pub(crate) fn snaps(&self) -> &[Snap]
-        ensures { result.now ≡ fourths 3 (states_of self.now.text self.now.settings) }
+        ensures states { map (rebound_run self.now.settings) result.now ≡ fourths 3 (states_of self.now.text self.now.settings) }
+        ensures held { AreHeld self.now.settings result.now }
     {
         self.trail.snaps()
     }
 
-    /// The state after 4k + 4 events of the text under the settings, where that many passed.
+    /// The state after 4k + 4 events of the text under the settings, but for the settings held in it, where that many
+    /// passed. Those held agree with the track's on all that these events consulted.
     pub fn snap(&self, k: usize) -> Option<&Snap>
-        ensures { option_copied result ≡ slice_get (states_of self.now.text self.now.settings) (4 * k + 3) }
+        ensures state { option_map (rebound_run self.now.settings) (option_copied result) ≡ slice_get (states_of self.now.text self.now.settings) (4 * k + 3) }
+        ensures held { IfSome (option_copied result) (λ state. Agree (uses self.now (4 * (k + 1))) self.now.settings state.host.state.settings) }
     {
         snap_at(self.snaps(), k)
     }

@@ -1,8 +1,9 @@
 //! What a run leaves behind.
-ghost use Rattle.std.specs.Prelude.{◌≡◌, ◌≤◌, ◌-◌, ◌<◌, ℕ, length, slice_get, option_copied, Some, take, IfOk};
+ghost use Rattle.std.specs.Prelude.{◌≡◌, ◌≤◌, ◌-◌, map, ◌<◌, ℕ, length, slice_get, option_copied, Some, take, IfOk};
 ghost use Rattle.pd_reparse.specs.Reading.{reading_of};
+ghost use Rattle.pd_run.specs.Consulted.{rebound_run};
 ghost use Rattle.pd_run.specs.Run.{states_of};
-ghost use Rattle.pd_track.specs.Reuse.{fourths};
+ghost use Rattle.pd_track.specs.Reuse.{AreHeld, fourths};
 
 use crate::snap::Snap;
 use pd_reparse::Reading;
@@ -64,7 +65,8 @@ impl Trail {
     }
 
     pub fn snaps(&self) -> &[Snap]
-        ensures { result.now ≡ fourths 3 (states_of self.now.text self.now.settings) }
+        ensures states { map (rebound_run self.now.settings) result.now ≡ fourths 3 (states_of self.now.text self.now.settings) }
+        ensures held { AreHeld self.now.settings result.now }
     {
         self.snaps.as_slice()
     }

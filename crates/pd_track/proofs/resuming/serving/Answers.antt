@@ -1,23 +1,12 @@
--- As many serve as are kept, in fours, and were reached.
-use Rattle.std.proofs.Common.{◌≡◌, ◌*◌, ◌/◌, min, length, false, true, ◌∙◌, ap, sym, arith, subst}
-use Rattle.pd_settings.specs.declared.fields.Settings.{Settings}
-use Rattle.pd_run.specs.Run.{states_of}
-use Rattle.pd_track.specs.Reuse.{are_equal, fourths}
-use Rattle.pd_track.proofs.Served.{none_serves, last_serves}
+-- The last state within the kept events that serves.
+use Rattle.std.proofs.Common.{◌≡◌, ◌*◌, ◌/◌, min, true, ◌∙◌, ap, sym}
+use Rattle.pd_settings.specs.Uses.{agrees}
+use Rattle.pd_track.specs.Reuse.{uses}
+use Rattle.pd_track.proofs.Served.{picked, zero_or}
 use Rattle.pd_track.proofs.resuming.serving.Goals as goal
-
-pub returns-then-not-are_same-clause-greatest : goal.returns-then-not-are_same-clause-greatest
-returns-then-not-are_same-clause-greatest c =
-    let differ : are_equal c.args.track.now.settings c.args.settings.now ≡ false =
-    subst (λ (s : Settings). are_equal s c.args.settings.now ≡ false) c.settings.ensures (sym c.are_same.ensures.test ∙ c.if-not-are_same.true) in
-    sym (none_serves c.args.track.now c.args.settings.now c.args.kept differ)
 
 pub returns-clause-greatest : goal.returns-clause-greatest
 returns-clause-greatest c =
-    let equal : are_equal c.args.track.now.settings c.args.settings.now ≡ true =
-    subst (λ (s : Settings). are_equal s c.args.settings.now ≡ true) c.settings.ensures (sym c.are_same.ensures.test ∙ c.if-not-are_same.false) in
-    sym (last_serves c.args.track.now c.args.settings.now c.args.kept c.min.result equal
-    (c.min.ensures ∙ ap (λ rs. min (c.args.kept / 4) (length rs)) c.snaps.ensures))
-
-pub returns-clause-equal : goal.returns-clause-equal
-returns-clause-equal c = λ some. sym c.settings.ensures ∙ c.are_same.ensures.same c.if-not-are_same.false
+    sym (picked c.args.track.now c.args.settings.now c.args.kept c.best_of.result c.min.result
+    (c.min.ensures ∙ ap (λ n. min (c.args.kept / 4) n) c.count_of.ensures) c.best_of.ensures.within c.best_of.ensures.none
+    (zero_or c.best_of.result (agrees (uses c.args.track.now (4 * c.best_of.result)) c.args.track.now.settings c.args.settings.now ≡ true) c.best_of.ensures.agreeing))

@@ -1,0 +1,175 @@
+-- The settings held in kept states.
+use Rattle.std.proofs.Common.{◌≡◌, ℕ, zero, suc, ◌+◌, ◌*◌, refl, sym, ap, subst, ◌∙◌, ◌⊎◌, inl, inr, List, [], ◌∷◌, ◌++◌, map, take, slice_get, Option, None, Some, Result, Ok, Err}
+use Rattle.std.specs.List.{AllByRecursion}
+use Rattle.pd_settings.specs.Uses.{Agree, Includes}
+use Rattle.pd_settings.specs.declared.fields.Settings.{Settings}
+use Rattle.pd_settings.specs.declared.use_set.UseSet.{UseSet}
+use Rattle.pd_script.specs.Script.{script_of}
+use Rattle.pd_script.specs.declared.parsing.Parsed.{Parsed}
+use Rattle.pd_script.specs.declared.script_events.Event.{Event}
+use Rattle.pd_run.specs.Consulted.{uses_of, rebound_run, StepsNote}
+use Rattle.pd_run.specs.Run.{start_of, states_from, states_in, states_of}
+use Rattle.pd_run.specs.Step.{Running, on_step, step}
+use Rattle.pd_run.specs.declared.verdicts.Verdict.{Verdict}
+use Rattle.pd_run.proofs.Consulted.{agree_on_fewer, includes_itself, includes_too}
+use Rattle.pd_track.specs.Reuse.{AreHeld, fourths}
+use Rattle.pd_track.proofs.Fourths.{fourths_take}
+
+-- Lists
+
+all_imp : (P Q : Running → Type 0) (rs : List Running) → ((r : Running) → P r → Q r) → AllByRecursion P rs → AllByRecursion Q rs
+all_imp P Q [] g h = tt
+all_imp P Q (r ∷ rs) g h = (g r h.0, all_imp P Q rs g h.1)
+
+all_both : (P Q R : Running → Type 0) (rs : List Running) → ((r : Running) → P r → Q r → R r) → AllByRecursion P rs → AllByRecursion Q rs → AllByRecursion R rs
+all_both P Q R [] g h k = tt
+all_both P Q R (r ∷ rs) g h k = (g r h.0 k.0, all_both P Q R rs g h.1 k.1)
+
+all_append : (P : Running → Type 0) (rs ss : List Running) → AllByRecursion P rs → AllByRecursion P ss → AllByRecursion P (rs ++ ss)
+all_append P [] ss h k = k
+all_append P (r ∷ rs) ss h k = (h.0, all_append P rs ss h.1 k)
+
+all_take : (P : Running → Type 0) (n : ℕ) (rs : List Running) → AllByRecursion P rs → AllByRecursion P (take n rs)
+all_take P zero rs h = tt
+all_take P (suc n) [] h = tt
+all_take P (suc n) (r ∷ rs) h = (h.0, all_take P n rs h.1)
+
+all_fourths : (P : Running → Type 0) (j : ℕ) (rs : List Running) → AllByRecursion P rs → AllByRecursion P (fourths j rs)
+all_fourths P j [] h = tt
+all_fourths P zero (r ∷ rs) h = (h.0, all_fourths P 3 rs h.1)
+all_fourths P (suc j) (r ∷ rs) h = all_fourths P j rs h.1
+
+all_at : (P : Running → Type 0) (rs : List Running) (n : ℕ) (r : Running) → AllByRecursion P rs → slice_get rs n ≡ Some r → P r
+all_at P [] n r h is = absurd cc
+all_at P (s ∷ rs) zero r h is = let same : s ≡ r = cc in subst P same h.0
+all_at P (s ∷ rs) (suc n) r h is = all_at P rs n r h.1 is
+
+-- Sets of settings
+
+agree_equal : (u : UseSet) (a b : Settings) → a ≡ b → Agree u a b
+agree_equal u a b h = record {
+  mss = λ e. ap (λ (s : Settings). s.mss) h;
+  sack = λ e. ap (λ (s : Settings). s.sack) h;
+  wscale = λ e. ap (λ (s : Settings). s.wscale) h;
+  sndbuf = λ e. ap (λ (s : Settings). s.sndbuf) h;
+  rcv_wnd = λ e. ap (λ (s : Settings). s.rcv_wnd) h;
+  initial_ssthresh = λ e. ap (λ (s : Settings). s.initial_ssthresh) h;
+  initial_window = λ e. ap (λ (s : Settings). s.initial_window) h;
+  min_rto_us = λ e. ap (λ (s : Settings). s.min_rto_us) h;
+  max_rto_us = λ e. ap (λ (s : Settings). s.max_rto_us) h;
+  granularity_us = λ e. ap (λ (s : Settings). s.granularity_us) h;
+  nagle = λ e. ap (λ (s : Settings). s.nagle) h;
+  tolerance_us = λ e. ap (λ (s : Settings). s.tolerance_us) h;
+}
+
+agree_across : (u : UseSet) (a b c : Settings) → Agree u a b → Agree u a c → Agree u b c
+agree_across u a b c h k = record {
+  mss = λ e. sym (h.mss e) ∙ k.mss e;
+  sack = λ e. sym (h.sack e) ∙ k.sack e;
+  wscale = λ e. sym (h.wscale e) ∙ k.wscale e;
+  sndbuf = λ e. sym (h.sndbuf e) ∙ k.sndbuf e;
+  rcv_wnd = λ e. sym (h.rcv_wnd e) ∙ k.rcv_wnd e;
+  initial_ssthresh = λ e. sym (h.initial_ssthresh e) ∙ k.initial_ssthresh e;
+  initial_window = λ e. sym (h.initial_window e) ∙ k.initial_window e;
+  min_rto_us = λ e. sym (h.min_rto_us e) ∙ k.min_rto_us e;
+  max_rto_us = λ e. sym (h.max_rto_us e) ∙ k.max_rto_us e;
+  granularity_us = λ e. sym (h.granularity_us e) ∙ k.granularity_us e;
+  nagle = λ e. sym (h.nagle e) ∙ k.nagle e;
+  tolerance_us = λ e. sym (h.tolerance_us e) ∙ k.tolerance_us e;
+}
+
+-- Runs
+
+-- the states of a run hold the settings that it is under
+stay : StepsNote → (es : List Event) (r : Running) (settings : Settings) → r.host.state.settings ≡ settings
+    → AllByRecursion (λ (s : Running). s.host.state.settings ≡ settings) (states_from es r)
+stay law [] r settings h = tt
+stay law (e ∷ es) r settings h = go (λ t. stay law es t settings) (step r e) refl
+  where
+    go : ((t : Running) → t.host.state.settings ≡ settings → AllByRecursion (λ (s : Running). s.host.state.settings ≡ settings) (states_from es t))
+        → (o : Result Running Verdict) → step r e ≡ o
+        → AllByRecursion (λ (s : Running). s.host.state.settings ≡ settings) (on_step (λ t. t ∷ states_from es t) (λ v. []) o)
+    go rest (Ok t) o = let same : t.host.state.settings ≡ settings = (law r t e o).0 ∙ h in (same, rest t same)
+    go rest (Err v) o = tt
+
+-- so what it keeps agrees with them
+pub new_held : StepsNote → (es : List Event) (r : Running) (settings : Settings) → r.host.state.settings ≡ settings → AreHeld settings (fourths 3 (states_from es r))
+new_held law es r settings h =
+    all_fourths (λ (s : Running). Agree (uses_of s) settings s.host.state.settings) 3 (states_from es r)
+    (all_imp (λ (s : Running). s.host.state.settings ≡ settings) (λ (s : Running). Agree (uses_of s) settings s.host.state.settings) (states_from es r)
+    (λ s e. agree_equal (uses_of s) settings s.host.state.settings (sym e)) (stay law es r settings h))
+
+pub held_more : (settings : Settings) (before after : List Running) → AreHeld settings before → AreHeld settings after → AreHeld settings (before ++ after)
+held_more settings before after = all_append (λ (s : Running). Agree (uses_of s) settings s.host.state.settings) before after
+
+pub held_first : (settings : Settings) (n : ℕ) (snaps : List Running) → AreHeld settings snaps → AreHeld settings (take n snaps)
+held_first settings n snaps = all_take (λ (s : Running). Agree (uses_of s) settings s.host.state.settings) n snaps
+
+pub held_at : (settings : Settings) (snaps : List Running) (n : ℕ) (s : Running) → AreHeld settings snaps → slice_get snaps n ≡ Some s → Agree (uses_of s) settings s.host.state.settings
+held_at settings snaps n s = all_at (λ (s : Running). Agree (uses_of s) settings s.host.state.settings) snaps n s
+
+-- a state has consulted all that those before it have
+abbrev AreBefore : Running → List Running → Type 0
+AreBefore s rs = AllByRecursion (λ (t : Running). Includes (uses_of s) (uses_of t)) rs
+
+come_before : StepsNote → (es : List Event) (m : ℕ) (r s : Running) → slice_get (states_from es r) m ≡ Some s
+    → Includes (uses_of s) (uses_of r) × AreBefore s (take (suc m) (states_from es r))
+come_before law [] m r s h = absurd cc
+come_before law (e ∷ es) m r s h = go (come_before law es) m (step r e) refl h
+  where
+    go : ((m : ℕ) (r s : Running) → slice_get (states_from es r) m ≡ Some s → Includes (uses_of s) (uses_of r) × AreBefore s (take (suc m) (states_from es r)))
+        → (m : ℕ) (o : Result Running Verdict) → step r e ≡ o → slice_get (on_step (λ t. t ∷ states_from es t) (λ v. []) o) m ≡ Some s
+        → Includes (uses_of s) (uses_of r) × AreBefore s (take (suc m) (on_step (λ t. t ∷ states_from es t) (λ v. []) o))
+    go rest zero (Ok t) o h =
+        let same : t ≡ s = cc in
+        subst (λ (u : Running). Includes (uses_of u) (uses_of r) × AreBefore u (t ∷ [])) same ((law r t e o).1, (includes_itself (uses_of t), tt))
+    go rest (suc m) (Ok t) o h =
+        let later = rest m t s h in
+        (includes_too (uses_of s) (uses_of t) (uses_of r) later.0 (law r t e o).1, (later.0, later.1))
+    go rest m (Err v) o h = absurd cc
+
+-- a run has no states on its way, or those from a first one
+begun : (settings : Settings) (p : Parsed) → (states_in settings p ≡ []) ⊎ ((r : Running) × (states_in settings p ≡ states_from p.events r))
+begun settings p = by_fault p.fault refl
+  where
+    by_start : p.fault ≡ None → (o : Result Running Verdict) → start_of p.header.items settings ≡ o
+        → (states_in settings p ≡ []) ⊎ ((r : Running) × (states_in settings p ≡ states_from p.events r))
+    by_start none (Ok r) is = inr (r, rw (none, is) refl)
+    by_start none (Err v) is = inl (rw (none, is) refl)
+
+    by_fault : (o : Option ℕ) → p.fault ≡ o → (states_in settings p ≡ []) ⊎ ((r : Running) × (states_in settings p ≡ states_from p.events r))
+    by_fault None is = by_start is (start_of p.header.items settings) refl
+    by_fault (Some line) is = inl (rw is refl)
+
+first_of_run : StepsNote → (settings : Settings) (p : Parsed) (m : ℕ) (s : Running) → slice_get (states_in settings p) m ≡ Some s
+    → AreBefore s (take (suc m) (states_in settings p))
+first_of_run law settings p m s h = go (begun settings p)
+  where
+    go : ((states_in settings p ≡ []) ⊎ ((r : Running) × (states_in settings p ≡ states_from p.events r))) → AreBefore s (take (suc m) (states_in settings p))
+    go (inl none) = subst (λ (rs : List Running). AreBefore s (take (suc m) rs)) (sym none) tt
+    go (inr some) =
+        subst (λ (rs : List Running). AreBefore s (take (suc m) rs)) (sym some.1)
+        (come_before law p.events m some.0 s (subst (λ (rs : List Running). slice_get rs m ≡ Some s) some.1 h)).1
+
+unmapped : (settings : Settings) (s : Running) (rs : List Running) → AreBefore s (map (rebound_run settings) rs) → AreBefore s rs
+unmapped settings s [] h = tt
+unmapped settings s (r ∷ rs) h = (h.0, unmapped settings s rs h.1)
+
+-- the first states that a run kept, up to one of them
+pub kept_before_last : StepsNote → (text : List (List ℕ)) (settings : Settings) (q : ℕ) (s : Running) (snaps : List Running)
+    → slice_get (states_of text settings) (4 * q + 3) ≡ Some (rebound_run settings s)
+    → map (rebound_run settings) snaps ≡ take (suc q) (fourths 3 (states_of text settings))
+    → AreBefore s snaps
+kept_before_last law text settings q s snaps found are =
+    unmapped settings s snaps
+    (subst (AreBefore s) (sym (are ∙ fourths_take 3 q (4 * q + 3) (states_of text settings) refl))
+    (all_fourths (λ (t : Running). Includes (uses_of s) (uses_of t)) 3 (take (suc (4 * q + 3)) (states_of text settings))
+    (first_of_run law settings (script_of text) (4 * q + 3) (rebound_run settings s) found)))
+
+-- where other settings agree on what was consulted up to the last of them, what is held in all of them agrees with those too
+pub held_too : (old new : Settings) (s : Running) (snaps : List Running) → AreBefore s snaps → Agree (uses_of s) old new → AreHeld old snaps → AreHeld new snaps
+held_too old new s snaps before agree held =
+    all_both (λ (t : Running). Includes (uses_of s) (uses_of t)) (λ (t : Running). Agree (uses_of t) old t.host.state.settings)
+    (λ (t : Running). Agree (uses_of t) new t.host.state.settings) snaps
+    (λ t includes holds. agree_across (uses_of t) old new t.host.state.settings (agree_on_fewer (uses_of s) (uses_of t) old new includes agree) holds)
+    before held

@@ -1,0 +1,8 @@
+-- As many states as are kept.
+use Rattle.std.proofs.Common.{◌∙◌, ap, sym, length}
+use Rattle.std.proofs.lemmas.List.{length-map}
+use Rattle.pd_run.specs.Consulted.{rebound_run}
+use Rattle.pd_track.proofs.resuming.count_of.Goals as goal
+
+pub returns : goal.returns
+returns c = sym (length-map c.snaps.result.now (rebound_run c.args.track.now.settings)) ∙ ap length c.snaps.ensures.states
