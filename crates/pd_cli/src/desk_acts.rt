@@ -1,7 +1,8 @@
 //! The acts of a seat at a desk as commands, and what they print. Each reply is compared with the seat's own copy: a book
 //! in which the accepted acts alone were made, so that no job is started in it.
-ghost use Rattle.std.specs.Prelude.{◌≡◌, ◌∷◌, ℕ, List, [], IfOk, IfErr, IsOk, unwrap_or};
+ghost use Rattle.std.specs.Prelude.{◌≡◌, ◌∷◌, ℕ, List, [], IfOk, IfErr, IsOk, OnOk, unwrap_or};
 ghost use Rattle.pd_book.specs.declared.act.Act.{Act};
+ghost use Rattle.pd_seat.specs.Seats.{with_act};
 ghost use Rattle.pd_cli.specs.Beside.{MayPrint};
 ghost use Rattle.pd_cli.specs.BesideSteps.{Declines, FailsBeside};
 
@@ -24,6 +25,27 @@ pub struct AtDesk<'a, H> {
     pub desk: &'a Desk,
 }
 
+/// The desk's calls, of which no more is said than is used here.
+impl<'a, H: Wait> AtDesk<'a, H> {
+    fn add(&self, seat: &mut Seat, name: Name, text: Lines) -> Result<(), BookFault>
+        ensures { OnOk result (seat.new ≡ with_act seat.old (Act.Add name text)) }
+    {
+        self.desk.add(self.rt, seat, name, text)
+    }
+
+    fn edit(&self, seat: &mut Seat, name: &Name, edit: &LineEdit) -> Result<(), BookFault> {
+        self.desk.edit(self.rt, seat, name, edit)
+    }
+
+    fn remove(&self, seat: &mut Seat, name: &Name) -> Result<(), BookFault> {
+        self.desk.remove(self.rt, seat, name)
+    }
+
+    fn set(&self, seat: &mut Seat, key: &[u8], value: Value) -> Result<(), BookFault> {
+        self.desk.set(self.rt, seat, key, value)
+    }
+}
+
 /// Adds a script, and gives what this prints.
 pub fn add<H: Wait>(
     at: &AtDesk<'_, H>,
@@ -38,7 +60,7 @@ pub fn add<H: Wait>(
     let Some(text) = text else {
         return Ok(refusal_line(at.alloc, BookFault::TooLarge)?);
     };
-    match at.desk.add(at.rt, seat, name.copy()?, text) {
+    match at.add(seat, name.copy()?, text) {
         Ok(()) => {
             let text = added_text(seat)?;
             accepted(at.alloc, own.add_shared(name, text))
@@ -61,7 +83,7 @@ pub fn edit<H: Wait>(
     let Some(edit) = edit else {
         return Ok(refusal_line(at.alloc, BookFault::TooLarge)?);
     };
-    match at.desk.edit(at.rt, seat, name, &edit) {
+    match at.edit(seat, name, &edit) {
         Ok(()) => accepted(at.alloc, own.edit(name, &edit)),
         Err(fault) => declined(at.alloc, fault, own.text_refusal(name, &edit)),
     }
@@ -77,7 +99,7 @@ pub fn remove<H: Wait>(
     ensures printed { IfOk result (λ octets. MayPrint own.old.story (Command.Remove name.now) octets.items own.new.story) }
     ensures only { IfErr result (λ fault. FailsBeside fault (Command.Remove name.now)) }
 {
-    match at.desk.remove(at.rt, seat, name) {
+    match at.remove(seat, name) {
         Ok(()) => accepted(at.alloc, own.remove(name)),
         Err(fault) => declined(at.alloc, fault, own.absence(name)),
     }
@@ -95,7 +117,7 @@ pub fn set<H: Wait>(
     ensures only { IfErr result (λ fault. FailsBeside fault (Command.Set key.now value)) }
 {
     let key = key.as_slice();
-    match at.desk.set(at.rt, seat, key, value) {
+    match at.set(seat, key, value) {
         Ok(()) => accepted(at.alloc, own.set(key, value)),
         Err(fault) => declined(at.alloc, fault, own.value_refusal(key, value)),
     }

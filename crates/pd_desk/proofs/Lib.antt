@@ -1,3 +1,4 @@
 -- The lemmas of desks.
 pub mod Jobs
 pub mod HandedOut
+pub mod AfterSome

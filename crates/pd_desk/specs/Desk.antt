@@ -20,3 +20,7 @@ IsCurrent report = All (λ (row : Row). IsSome row.verdict) report.rows
 -- a start hands out this job after some legal history
 abbrev pub IsHandedOut : Task → Type 0
 IsHandedOut task = (story : Story) × Legal story.opening story.past × (next_job story ≡ Some task)
+
+-- P holds of some two stories, one before and one after
+abbrev pub AfterSome : (Story → Story → Type 0) → Type 0
+AfterSome P = (before after : Story) × P before after

@@ -1,5 +1,5 @@
 //! The workers of a desk.
-ghost use Rattle.std.specs.Prelude.{◌≡◌, ◌<◌, ◌↔◌, false, IsTrue};
+ghost use Rattle.std.specs.Prelude.{◌≡◌, ◌+◌, ◌<◌, ◌↔◌, ◌^◌, true, false, IsTrue, if◌then◌else◌};
 
 /// For how many workers a desk was opened, how many entered and left, and whether it is shut.
 #[derive(Drop)]
@@ -24,7 +24,10 @@ impl Crew {
     }
 
     /// Lets a worker in while fewer entered than there are; whether it is in.
-    pub fn enter(&mut self) -> bool {
+    pub fn enter(&mut self) -> bool
+        ensures is_in { IsTrue result ↔ self.old.entered < self.old.size }
+        ensures counted { self.new ≡ record { size = self.old.size; entered = self.old.entered + (if result then 1 else 0); left = self.old.left; is_shut = self.old.is_shut } }
+    {
         if self.entered >= self.size {
             return false;
         }
@@ -33,12 +36,16 @@ impl Crew {
     }
 
     /// Lets a worker leave.
-    pub fn leave(&mut self) {
+    pub fn leave(&mut self)
+        ensures { self.old.left + 1 < 2 ^ 64 → self.new ≡ record { size = self.old.size; entered = self.old.entered; left = self.old.left + 1; is_shut = self.old.is_shut } }
+    {
         self.left = self.left.saturating_add(1);
     }
 
     /// Lets all leave after their present jobs.
-    pub fn shut(&mut self) {
+    pub fn shut(&mut self)
+        ensures { self.new ≡ record { size = self.old.size; entered = self.old.entered; left = self.old.left; is_shut = true } }
+    {
         self.is_shut = true;
     }
 

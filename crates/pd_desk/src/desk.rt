@@ -1,9 +1,10 @@
 //! The desk: a book under one lock, at which several callers have seats.
 ghost use Rattle.std.specs.Prelude.{◌≡◌, ◌≢◌, ◌≤◌, true, IfOk, IfErr, IfSome, IfNone, OnOk, OnErr, IsSomeAnd, Err};
 ghost use Rattle.pd_settings.specs.Keys.{key_named};
-ghost use Rattle.pd_seat.specs.Seats.{new_seats, with_act, is_unended, IsShown};
+ghost use Rattle.pd_book.specs.Given.{GivesAdd, GivesEdit, GivesRemove, GivesSet, GivesStart, GivesFinish, GivesAbandon};
+ghost use Rattle.pd_seat.specs.Seats.{new_seats, with_act, is_unended, Unless, IsShown};
 ghost use Rattle.pd_seat.specs.Closing.{ClosesNotAt};
-ghost use Rattle.pd_desk.specs.Desk.{IsClosed, IsHandedOut};
+ghost use Rattle.pd_desk.specs.Desk.{AfterSome, IsClosed, IsHandedOut};
 
 use crate::crew::Crew;
 use crate::room::Room;
@@ -61,6 +62,7 @@ impl Desk {
         name: Name,
         lines: Lines,
     ) -> Result<(), BookFault>
+        ensures gives { Unless BookFault.OutOfMemory result (AfterSome (λ before after. GivesAdd before name lines result after)) }
         ensures records { OnOk result (seat.new ≡ with_act seat.old (Act.Add name lines)) }
         ensures refuses { OnErr result (seat.new ≡ seat.old) }
     {
@@ -80,6 +82,7 @@ impl Desk {
         name: &Name,
         edit: &LineEdit,
     ) -> Result<(), BookFault>
+        ensures gives { Unless BookFault.OutOfMemory result (AfterSome (λ before after. GivesEdit before name.now edit.now result after)) }
         ensures records { OnOk result (seat.new ≡ with_act seat.old (Act.Edit name.now edit.now)) }
         ensures refuses { OnErr result (seat.new ≡ seat.old) }
     {
@@ -93,6 +96,7 @@ impl Desk {
     /// # Errors
     /// Those of `Held::remove`.
     pub fn remove<R: Wait>(&self, rt: &R, seat: &mut Seat, name: &Name) -> Result<(), BookFault>
+        ensures gives { Unless BookFault.OutOfMemory result (AfterSome (λ before after. GivesRemove before name.now result after)) }
         ensures records { OnOk result (seat.new ≡ with_act seat.old (Act.Remove name.now)) }
         ensures refuses { OnErr result (seat.new ≡ seat.old) }
     {
@@ -112,6 +116,7 @@ impl Desk {
         key: &[u8],
         value: Value,
     ) -> Result<(), BookFault>
+        ensures gives { Unless BookFault.OutOfMemory result (AfterSome (λ before after. GivesSet before key.now value result after)) }
         ensures records { OnOk result (IsSomeAnd (key_named key.now) (λ key. seat.new ≡ with_act seat.old (Act.Set key value))) }
         ensures refuses { OnErr result (seat.new ≡ seat.old) }
     {
@@ -125,6 +130,7 @@ impl Desk {
     /// # Errors
     /// Those of `Held::start`.
     pub fn start<R: Wait>(&self, rt: &R, seat: &mut Seat) -> Result<Option<Job>, BookFault>
+        ensures gives { Unless BookFault.OutOfMemory result (AfterSome (λ before after. GivesStart before result after)) }
         ensures records { IfOk result (λ given. IfSome given (λ job. seat.new ≡ with_act seat.old (Act.Start job.task.number job.task.name))) }
         ensures none { IfOk result (λ given. IfNone given (seat.new ≡ seat.old)) }
         ensures given { IfOk result (λ given. IfSome given (λ job. IsHandedOut job.task)) }
@@ -145,6 +151,7 @@ impl Desk {
         seat: &mut Seat,
         done: &Done,
     ) -> Result<Ruling, FinishFault>
+        ensures gives { Unless FinishFault.OutOfMemory result (AfterSome (λ before after. GivesFinish before done.now result after)) }
         ensures records { IfOk result (λ ruling. seat.new ≡ with_act seat.old (Act.Finish done.now.number ruling)) }
         ensures room { is_unended seat.old.own done.now.number ≡ true → result ≢ Err FinishFault.OutOfMemory }
         ensures refuses { OnErr result (seat.new ≡ seat.old) }
@@ -159,6 +166,7 @@ impl Desk {
     /// # Errors
     /// Those of `Held::abandon`.
     pub fn abandon<R: Wait>(&self, rt: &R, seat: &mut Seat, number: u64) -> Result<(), FinishFault>
+        ensures gives { Unless FinishFault.OutOfMemory result (AfterSome (λ before after. GivesAbandon before number result after)) }
         ensures records { OnOk result (seat.new ≡ with_act seat.old (Act.Abandon number)) }
         ensures room { is_unended seat.old.own number ≡ true → result ≢ Err FinishFault.OutOfMemory }
         ensures refuses { OnErr result (seat.new ≡ seat.old) }
