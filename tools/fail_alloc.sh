@@ -1,15 +1,16 @@
 #!/bin/sh
 # Refuses each allocation in turn, one a run, the numbers going up until a run meets no refusal, and prints a line for
 # each call that is tried, with the refusals met:
-#   - the built program, with no input and with those of examples/ or the ones named on the command line, without
-#     workers, with one and with two. It says so by status 2 and the fault 19 (beside workers also 12, where they all
+#   - the built program, with no input, with an edit and with those of examples/ or the ones named on the command line,
+#     without workers, with one and with two. It says so by status 2 and the fault 19 (beside workers also 12, where they all
 #     left), and what it wrote is a prefix of what it writes with memory; or the refusal made no difference.
-#   - the calls below it, table by table of crates/pd_book_trials/memory.txt: a call that is refused is made again, and
-#     it and all calls behind it are to answer as with memory. Where what tells the rows found no memory, no call did.
+#   - the calls below it, table by table of crates/pd_book_trials/memory.txt, and those of a desk and of its workers, of
+#     crates/pd_desk_trials/memory.txt: a call that is refused is made again, and it and all calls behind it are to answer
+#     as with memory, or as a row says of a worker that left. Where what tells the rows found no memory, no call did.
 #   - the programs pd_book_trials, with its word `memory`, and pd_cases on its file memory.cases, which let a first want
 #     of memory pass and make the call again.
-# No run may take longer than ten seconds. Outside the gate: needs a C compiler, and pd_book_trials and pd_cases as
-# `rt run` leaves them in out/. PROGRAM, TRIALS and CASES name other builds of the three.
+# No run may take longer than ten seconds. Outside the gate: needs a C compiler, and pd_book_trials, pd_desk_trials and
+# pd_cases as `rt run` leaves them in out/. PROGRAM, TRIALS, DESK and CASES name other builds of the four.
 #
 #   tools/fail_alloc.sh [INPUT..]
 set -eu
@@ -17,11 +18,12 @@ top=$(cd "$(dirname "$0")/.." && pwd)
 program=${PROGRAM:-$top/crates/pdregress/out/pdregress}
 cases=${CASES:-$top/crates/pd_cases/out/pd_cases}
 trials=${TRIALS:-$top/crates/pd_book_trials/out/pd_book_trials}
+desk=${DESK:-$top/crates/pd_desk_trials/out/pd_desk_trials}
 work=$(mktemp -d)
 trap 'rm -rf "$work"' EXIT
 cc -O2 -shared -fPIC -o "$work/fail_alloc.so" "$top/tools/fail_alloc.c" -ldl
 [ -x "$program" ] || "$top/pdregress" </dev/null >/dev/null
-for built in "$cases" "$trials"; do
+for built in "$cases" "$trials" "$desk"; do
     [ -x "$built" ] || { echo "$built: not built"; exit 2; }
 done
 bad=0
@@ -92,27 +94,41 @@ try_test() { # NAME COMMAND..: a test that makes again what is refused
     echo "$name: $((n - 1)) refusals met, one a run"
 }
 
-try_rows() { # NAME: the rows of $input
+try_rows() { # NAME PROGRAM: the rows of $input
     name=$1
     n=1
+    met=0
     again=0
-    while refusing "$n" "$trials" stories; do
+    idle=0
+    while [ "$idle" -lt 3 ]; do
+        if refusing "$n" "$2" stories; then
+            met=$((met + 1))
+            idle=0
+        else
+            idle=$((idle + 1))
+            ! grep -q 'another of its answers' "$work/out" || complain "$name: another answer with memory"
+        fi
         case $status in
-            0) ! grep -q 'was made again' "$work/out" || again=$((again + 1)) ;;
+            0) ! grep -q 'was made again\|another of its answers' "$work/out" || again=$((again + 1)) ;;
             2) ! grep -q 'SAID\|differ$' "$work/out" || complain "$name: allocation $n: ended late" ;;
             *) complain "$name: allocation $n: status $status: $(grep -B1 SAID "$work/out")" ;;
         esac
         n=$((n + 1))
     done
     [ "$status" -eq 0 ] || complain "$name: fails with memory"
-    echo "$name: $((n - 1)) refusals met, one a run; $again of them by a call, which was made again"
+    echo "$name: $met refusals met, one a run; $again of them by a call or a worker"
 }
 
-awk -v work="$work/table" '/^== / { file = work sprintf("%02d", ++tables) } { print > file }' \
-    "$top/crates/pd_book_trials/memory.txt"
-for input in "$work"/table*; do
-    try_rows "$(sed -n 's/^== //p' "$input")"
-done
+try_tables() { # FILE PROGRAM: each table of rows of the file
+    rm -f "$work"/table*
+    awk -v work="$work/table" '/^== / { file = work sprintf("%02d", ++tables) } { print > file }' "$1"
+    for input in "$work"/table*; do
+        try_rows "$(sed -n 's/^== //p' "$input")" "$2"
+    done
+}
+
+try_tables "$top/crates/pd_book_trials/memory.txt" "$trials"
+try_tables "$top/crates/pd_desk_trials/memory.txt" "$desk"
 
 input=/dev/null
 try_test "pd_book_trials memory" "$trials" memory
@@ -124,11 +140,19 @@ grep -q ' 1 runs, 0 wrong$' "$work/whole" || complain "pd_cases memory.cases: fa
 
 cd "$top"
 [ $# -gt 0 ] || set -- examples/*.txt
-for input in /dev/null "$@"; do
-    try_program "the program, $input" "$program"
-    try_program "the program, $input, --workers 1" "$program" --workers 1
-    try_program "the program, $input, --workers 2" "$program" --workers 2
+{
+    cat examples/send.txt
+    echo 'edit send 9 1 1'
+    echo '+0 > P. 1:2001(2000) ack 1'
+    echo 'settle'
+} >"$work/edit"
+for input in /dev/null "$work/edit" "$@"; do
+    about="the program, $(basename "$input")"
+    try_program "$about" "$program"
+    try_program "$about, --workers 1" "$program" --workers 1
+    try_program "$about, --workers 2" "$program" --workers 2
 done
 input=/dev/null
 try_program "the program, --settings" "$program" --settings 'min_rto_us = 200000'
+try_program "the program, --settings that are refused" "$program" --settings 'mss = 10'
 exit $bad

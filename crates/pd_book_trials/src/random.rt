@@ -2,6 +2,8 @@
 //! verdict and steps are compared with those of a plain replay of what was accepted.
 mod answers;
 mod calls;
+mod choices;
+mod connection;
 mod counts;
 mod deeds;
 mod dice;
@@ -73,6 +75,8 @@ fn make_list(
             return Ok(Some(difference));
         }
     }
-    counts.spared = counts.spared.wrapping_add(trial.spared());
+    let (spared, behind) = trial.spared();
+    counts.spared = counts.spared.wrapping_add(spared);
+    counts.spared_behind = counts.spared_behind.wrapping_add(behind);
     trial.compare_histories()
 }

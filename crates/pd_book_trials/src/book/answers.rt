@@ -16,22 +16,37 @@ pub fn changed(alloc: Global, answer: Result<(), BookFault>) -> Result<String, A
     owned(alloc, said)
 }
 
-/// What became of a result.
-pub fn ruled(alloc: Global, answer: Result<Ruling, FinishFault>) -> Result<String, AllocError> {
+/// What became of a result. The end of an own job wants no memory.
+pub fn ruled(
+    alloc: Global,
+    answer: Result<Ruling, FinishFault>,
+    is_own: bool,
+) -> Result<String, AllocError> {
     let said = match answer {
         Ok(ruling) => ruling_name(ruling),
-        Err(fault) => fault.text(),
+        Err(fault) => not_ended(fault, is_own),
     };
     owned(alloc, said)
 }
 
-/// `ok`, or why a job isn't given up.
-pub fn given_up(alloc: Global, answer: Result<(), FinishFault>) -> Result<String, AllocError> {
+/// `ok`, or why a job isn't given up. The end of an own job wants no memory.
+pub fn given_up(
+    alloc: Global,
+    answer: Result<(), FinishFault>,
+    is_own: bool,
+) -> Result<String, AllocError> {
     let said = match answer {
         Ok(()) => "ok",
-        Err(fault) => fault.text(),
+        Err(fault) => not_ended(fault, is_own),
     };
     owned(alloc, said)
+}
+
+fn not_ended(fault: FinishFault, is_own: bool) -> &'static str {
+    match fault {
+        FinishFault::OutOfMemory if is_own => "(the end of an own job found no memory)",
+        fault => fault.text(),
+    }
 }
 
 fn letters(name: &Name) -> Result<&str, StoryFault> {

@@ -76,7 +76,7 @@ impl Shelf {
 
     fn keep(&mut self, job: Job) -> Result<String, StoryFault> {
         let said = started(self.alloc, &job)?;
-        match self.tasks.push(Task::new(job)) {
+        match self.tasks.push(Task::new(job, 0)) {
             Ok(()) => Ok(said),
             Err(_) => Err(StoryFault::OutOfMemory),
         }
@@ -111,14 +111,14 @@ impl Shelf {
     pub fn finish(&mut self, number: usize) -> Result<String, StoryFault> {
         self.run_once(number)?;
         match self.tasks.get(number.wrapping_sub(1)) {
-            Some(task) => Ok(ruled(self.alloc, self.book.finish(task.result()?))?),
+            Some(task) => Ok(ruled(self.alloc, self.book.finish(task.result()?), true)?),
             None => Err(StoryFault::Missing),
         }
     }
 
     /// Finishes a job with a result from elsewhere.
     pub fn take(&mut self, done: &Done) -> Result<String, StoryFault> {
-        Ok(ruled(self.alloc, self.book.finish(done))?)
+        Ok(ruled(self.alloc, self.book.finish(done), true)?)
     }
 
     /// Finishes a job with the result of one that no book handed out.
@@ -128,7 +128,7 @@ impl Shelf {
     }
 
     pub fn abandon(&mut self, number: u64) -> Result<String, StoryFault> {
-        Ok(given_up(self.alloc, self.book.abandon(number))?)
+        Ok(given_up(self.alloc, self.book.abandon(number), true)?)
     }
 
     /// The scripts with their verdicts, in order, and how many verdicts are owed.

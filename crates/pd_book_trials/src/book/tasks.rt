@@ -2,19 +2,22 @@
 use crate::plain::{Ran, run, tolerated};
 use crate::stories::{StoryFault, Words, name};
 use pd_book::{Done, Job};
+use pd_settings::Settings;
 use pd_text::{Lines, Text};
 use std::alloc::{AllocError, Global};
 
-/// A job that a book gave, and its result once it was run.
+/// A job that a book gave, the seat that it gave it to, of a book without seats 0, and its result once it was run.
 #[derive(Drop)]
 pub struct Task {
+    pub seat: usize,
     job: Option<Job>,
     done: Option<Done>,
 }
 
 impl Task {
-    pub fn new(job: Job) -> Task {
+    pub fn new(job: Job, seat: usize) -> Task {
         Task {
+            seat,
             job: Some(job),
             done: None,
         }
@@ -71,7 +74,8 @@ pub fn foreign(alloc: Global, mut words: Words<'_>) -> Result<Done, StoryFault> 
     let number = words.number()?;
     let script = words.script();
     let tolerance = words.number()?;
-    let job = job_of(alloc, number, script, tolerance, text(alloc, words)?)?;
+    let settings = tolerated(tolerance);
+    let job = job_of(alloc, number, script, settings, text(alloc, words)?)?;
     Ok(ran(alloc, job)?.done)
 }
 
@@ -80,12 +84,12 @@ pub fn job_of(
     alloc: Global,
     number: u64,
     script: &[u8],
-    tolerance: u64,
+    settings: Settings,
     lines: Lines,
 ) -> Result<Job, AllocError> {
     let name = name(alloc, script)?;
     let text = Text::new(alloc, lines)?;
-    Ok(Job::new(number, name, text, tolerated(tolerance), None))
+    Ok(Job::new(number, name, text, settings, None))
 }
 
 pub const LISTEN: &str =
@@ -101,12 +105,24 @@ const SENDS: &str =
 +0.1 < . 1:1(0) ack 1 win 257 | +0 accept(3, ..., ...) = 4 | +0 write(4, ..., 1000) = 1000 | \
 +0 > P. 1:1001(1000) ack 1";
 
+/// A connection whose SYN, first expected packet, establishment and write stand apart, each among calls that consult no
+/// setting: 21 events, all of which pass.
+const CONSULTS: &str =
+    "0 socket(..., SOCK_STREAM, IPPROTO_TCP) = 3 | +0 bind(3, ..., ...) = 0 | +0 listen(3, 1) = 0 | +0 listen(3, 1) = 0 | \
++0.1 < S 0:0(0) win 32792 <mss 1000,sackOK,nop,nop,nop,wscale 7> | +0 accept(3, ..., ...) = -1 EAGAIN | \
++0 accept(3, ..., ...) = -1 EAGAIN | +0 accept(3, ..., ...) = -1 EAGAIN | \
++0 > S. 0:0(0) ack 1 win 65535 <mss 1460,nop,nop,sackOK,nop,wscale 7> | +0 accept(3, ..., ...) = -1 EAGAIN | \
++0 accept(3, ..., ...) = -1 EAGAIN | +0 accept(3, ..., ...) = -1 EAGAIN | +0.1 < . 1:1(0) ack 1 win 257 | \
++0 accept(3, ..., ...) = 4 | +0 write(4, ..., 0) = 0 | +0 write(4, ..., 0) = 0 | +0 write(4, ..., 1000) = 1000 | \
++0 > P. 1:1001(1000) ack 1 | +0 write(4, ..., 100) = 100 | +0 write(4, ..., 0) = 0 | +1 > . 1:1001(1000) ack 1";
+
 /// The text that is left of a call: its lines, parted by ` | `, or a word that stands for a text.
 pub fn text(alloc: Global, words: Words<'_>) -> Result<Lines, StoryFault> {
     let written = match words.rest() {
         "listen" => LISTEN,
         "fails" => FAILS,
         "sends" => SENDS,
+        "consults" => CONSULTS,
         "empty" => "",
         written => written,
     };

@@ -1,4 +1,5 @@
 //! Random calls.
+use crate::random::choices::{Choice, SETTINGS};
 use crate::random::dice::Dice;
 use std::alloc::{AllocError, Global};
 
@@ -8,7 +9,7 @@ pub enum Call {
     Add(u8, Vec<u8>),
     Edit(u8, Change),
     Remove(u8),
-    Set(&'static [u8], u64),
+    Set(Setting),
     Start,
     /// With the result of this job, from 1.
     Finish(u64),
@@ -25,6 +26,16 @@ pub struct Change {
     pub line: Option<u8>,
 }
 
+/// What is set.
+#[derive(Clone, Copy)]
+pub enum Setting {
+    Known(Choice),
+    /// A name that no setting has.
+    Unknown,
+    /// A value over the greatest.
+    TooLarge,
+}
+
 /// In what a job is another one.
 #[derive(Clone, Copy)]
 pub enum Foreign {
@@ -36,32 +47,51 @@ pub enum Foreign {
 /// A random call, where so many jobs were given.
 pub fn random_call(alloc: Global, dice: &mut Dice, jobs: u64) -> Result<Call, AllocError> {
     let script = dice.octet_below(3);
-    Ok(match dice.below(24) {
+    Ok(match dice.below(26) {
         0..=2 => Call::Add(script, random_text(alloc, dice)?),
         3..=8 => Call::Edit(script, random_change(dice)),
         9 => Call::Remove(script),
-        10 => random_set(dice),
-        11..=15 => Call::Start,
+        10..=12 => Call::Set(random_setting(dice)),
+        13..=17 => Call::Start,
         kind => random_end(dice, kind, script, jobs),
     })
 }
 
+/// Lines, in two of three texts behind those that make a connection.
 fn random_text(alloc: Global, dice: &mut Dice) -> Result<Vec<u8>, AllocError> {
     let mut kinds = Vec::new(alloc);
-    for _line in 0..dice.below(20) {
+    if dice.below(3) > 0 {
+        add_connection(&mut kinds, dice)?;
+    }
+    add_lines(&mut kinds, dice, 16)?;
+    Ok(kinds)
+}
+
+/// The lines that make a connection, with others between them.
+fn add_connection(kinds: &mut Vec<u8>, dice: &mut Dice) -> Result<(), AllocError> {
+    for kind in 6..14u8 {
+        kinds.push(kind)?;
+        add_lines(kinds, dice, 4)?;
+    }
+    Ok(())
+}
+
+/// Fewer lines than so many.
+fn add_lines(kinds: &mut Vec<u8>, dice: &mut Dice, bound: u64) -> Result<(), AllocError> {
+    for _line in 0..dice.below(bound) {
         kinds.push(random_kind(dice))?;
     }
-    Ok(kinds)
+    Ok(())
 }
 
 /// The kind of a line, mostly of one that passes.
 fn random_kind(dice: &mut Dice) -> u8 {
-    let kind = dice.octet_below(60);
-    if kind < 6 { kind } else { 0 }
+    let kind = dice.octet_below(210);
+    if kind < 14 { kind } else { 0 }
 }
 
 fn random_change(dice: &mut Dice) -> Change {
-    let from = dice.size_below(20);
+    let from = dice.size_below(32);
     let remove = dice.size_below(3);
     let line = if dice.below(3) == 0 {
         None
@@ -71,21 +101,24 @@ fn random_change(dice: &mut Dice) -> Change {
     Change { from, remove, line }
 }
 
-/// A tolerance, over the greatest in one of four, and under another name in another one.
-fn random_set(dice: &mut Dice) -> Call {
-    match dice.below(4) {
-        0 => Call::Set(b"tolerance", 1),
-        1 => Call::Set(b"tolerance_us", 1_000_001),
-        value => Call::Set(b"tolerance_us", value),
+/// One of the settings with one of its values; in one of eight what is refused.
+fn random_setting(dice: &mut Dice) -> Setting {
+    match dice.below(16) {
+        0 => Setting::Unknown,
+        1 => Setting::TooLarge,
+        _ => Setting::Known(Choice {
+            place: dice.size_below(SETTINGS),
+            is_other: dice.below(2) == 0,
+        }),
     }
 }
 
 /// A call that ends a job: one of the last three that were given, any of them, or one of another number.
 fn random_end(dice: &mut Dice, kind: u64, script: u8, jobs: u64) -> Call {
     match kind {
-        16..=20 => Call::Finish(jobs.saturating_sub(dice.below(3)).max(1)),
-        21 => Call::Finish(dice.below(jobs).wrapping_add(1)),
-        22 => {
+        18..=22 => Call::Finish(jobs.saturating_sub(dice.below(3)).max(1)),
+        23 => Call::Finish(dice.below(jobs).wrapping_add(1)),
+        24 => {
             let number = dice.below(jobs.wrapping_add(2));
             Call::Foreign(number, script, random_foreign(dice))
         }

@@ -9,8 +9,9 @@ use std::io;
 #[derive(Drop)]
 pub struct Counts {
     counts: Vec<Count>,
-    /// How many events weren't run again.
+    /// How many events weren't run again, and how many of them behind another setting.
     pub spared: usize,
+    pub spared_behind: usize,
 }
 
 #[derive(Clone, Copy)]
@@ -25,6 +26,7 @@ impl Counts {
         Counts {
             counts: Vec::new(alloc),
             spared: 0,
+            spared_behind: 0,
         }
     }
 
@@ -55,7 +57,12 @@ impl Counts {
             )?;
         }
         let spared = decimal(alloc, self.spared as u64)?;
-        print(rt, &["events not run again ", spared.as_str(), "\n"])
+        let behind = decimal(alloc, self.spared_behind as u64)?;
+        print(rt, &["events not run again ", spared.as_str(), "\n"])?;
+        print(
+            rt,
+            &["of them behind another setting ", behind.as_str(), "\n"],
+        )
     }
 }
 

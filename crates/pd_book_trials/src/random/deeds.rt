@@ -1,5 +1,6 @@
 //! A plain list of deeds, looked through from its beginning at each question.
 use crate::random::calls::Change;
+use crate::random::choices::{Choice, Choices};
 use std::alloc::{AllocError, Global};
 
 /// An accepted call. Scripts are named by small numbers, texts are lists of kinds of lines.
@@ -8,7 +9,7 @@ pub enum Deed {
     Add(u8, Vec<u8>),
     Edit(u8, Change),
     Remove(u8),
-    Set(u64),
+    Set(Choice),
     Start(u64, u8),
     /// A job, and whether its result was taken.
     Finish(u64, bool),
@@ -52,15 +53,15 @@ impl Deeds {
         Ok(None)
     }
 
-    /// The tolerance that was set last.
-    pub fn tolerance(&self) -> u64 {
-        let mut value = 4000;
+    /// The values that the settings have.
+    pub fn choices(&self) -> Choices {
+        let mut choices = Choices::new();
         for deed in self.list.iter() {
-            if let Deed::Set(set) = deed {
-                value = *set;
+            if let Deed::Set(choice) = deed {
+                choices.set(*choice);
             }
         }
-        value
+        choices
     }
 
     /// After how many deeds a script had its last change.

@@ -3,7 +3,6 @@ use crate::random::calls::Change;
 use crate::random::deeds::Deed;
 use crate::random::making::{has_lines, script_name};
 use pd_book::{Act, Ruling};
-use pd_settings::Value;
 use pd_text::{LineEdit, Name};
 use std::alloc::{AllocError, Global};
 
@@ -37,7 +36,9 @@ fn is_act(alloc: Global, act: &Act, deed: &Deed) -> Result<bool, AllocError> {
 
 fn is_plain_act(act: &Act, deed: &Deed) -> bool {
     match (act, deed) {
-        (Act::Set(_, Value::Number(value)), Deed::Set(set)) => *value == *set,
+        (Act::Set(key, value), Deed::Set(choice)) => {
+            key.name() == choice.key() && *value == choice.value()
+        }
         (Act::Finish(number, ruling), Deed::Finish(job, is_taken)) => {
             *number == *job && matches!(ruling, Ruling::Taken) == *is_taken
         }

@@ -1,14 +1,25 @@
 //! Texts of a few kinds of lines, and what they come to.
-use pd_run::{Kind, Verdict};
+use crate::random::choices::Choices;
+use crate::random::connection::Connection;
+use pd_run::Verdict;
 
-/// The lines that texts are made of; a kind is a number of one of them.
-const LINES: [&[u8]; 6] = [
+/// The lines that texts are made of; a kind is a number of one of them. Those of number 6 and above
+/// make a connection that writes, in this order.
+const LINES: [&[u8]; 14] = [
     b"+0 bind(9, ..., ...) = -1 EBADF",
     b"// nothing",
     b"+0 bind(9, ..., ...) = 0",
     b"+0 f() = 0",
     b"+3601 f() = 0",
     b",",
+    b"+0 socket(..., SOCK_STREAM, IPPROTO_TCP) = 3",
+    b"+0 bind(3, ..., ...) = 0",
+    b"+0 listen(3, 1) = 0",
+    b"+0 < S 0:0(0) win 32792 <mss 1000,sackOK,nop,nop,nop,wscale 7>",
+    b"+0 > S. 0:0(0) ack 1 <...>",
+    b"+0 < . 1:1(0) ack 1 win 257",
+    b"+0 accept(3, ..., ...) = 4",
+    b"+0 write(4, ..., 1000) = 1000",
 ];
 
 /// The line of a kind.
@@ -16,17 +27,6 @@ pub fn line(kind: u8) -> &'static [u8] {
     match LINES.get(usize::from(kind)) {
         Some(line) => *line,
         None => b"",
-    }
-}
-
-/// Where a line of a kind stops a run.
-fn stop(kind: u8, line: usize) -> Option<Verdict> {
-    match kind {
-        0 | 1 => None,
-        2 => Some(Verdict::Fail(line, Kind::Result)),
-        3 => Some(Verdict::Unsupported(line)),
-        4 => Some(Verdict::Limit(line)),
-        _ => Some(Verdict::Syntax(line)),
     }
 }
 
@@ -42,41 +42,51 @@ fn first_of(kinds: &[u8], wanted: u8) -> Option<usize> {
     None
 }
 
-/// What a text of lines of these kinds comes to.
-pub fn verdict_of(kinds: &[u8]) -> Verdict {
+/// How a run of a text went: how many events passed before one that stopped it, and how many were stepped through, that
+/// one among them. A text that is no script has neither.
+#[derive(Clone, Copy)]
+pub struct Walk {
+    pub verdict: Verdict,
+    pub passed: usize,
+    pub stepped: usize,
+    pub connection: Connection,
+}
+
+/// The run of a text of lines of these kinds.
+pub fn run_whole(kinds: &[u8], choices: &Choices) -> Walk {
+    run_first(kinds, choices, usize::MAX)
+}
+
+/// The run of its first events, up to so many.
+pub fn run_first(kinds: &[u8], choices: &Choices, most: usize) -> Walk {
+    let mut connection = Connection::new();
     if let Some(line) = first_of(kinds, 5) {
-        return Verdict::Syntax(line);
+        return walked(Verdict::Syntax(line), 0, 0, connection);
     }
-    let mut events = 0usize;
+    let mut passed = 0usize;
     let mut line = 0usize;
     for kind in kinds {
         line = line.wrapping_add(1);
-        if let Some(verdict) = stop(*kind, line) {
-            return verdict;
+        if passed == most {
+            return walked(Verdict::Pass(passed), passed, passed, connection);
         }
-        if *kind == 0 {
-            events = events.wrapping_add(1);
+        if let Some(verdict) = connection.take(*kind, line, choices) {
+            return walked(verdict, passed, passed.wrapping_add(1), connection);
+        }
+        if *kind != 1 {
+            passed = passed.wrapping_add(1);
         }
     }
-    Verdict::Pass(events)
+    walked(Verdict::Pass(passed), passed, passed, connection)
 }
 
-/// How many events of a text pass before one that stops its run, and how many are stepped through, that one among them.
-/// A text that is no script has neither.
-pub fn reached_and_stepped(kinds: &[u8]) -> (usize, usize) {
-    if first_of(kinds, 5).is_some() {
-        return (0, 0);
+fn walked(verdict: Verdict, passed: usize, stepped: usize, connection: Connection) -> Walk {
+    Walk {
+        verdict,
+        passed,
+        stepped,
+        connection,
     }
-    let mut events = 0usize;
-    for kind in kinds {
-        if stop(*kind, 0).is_some() {
-            return (events, events.wrapping_add(1));
-        }
-        if *kind == 0 {
-            events = events.wrapping_add(1);
-        }
-    }
-    (events, events)
 }
 
 /// How many lines two texts begin with alike.

@@ -1,10 +1,11 @@
 //! Names, texts, settings and results of jobs as a book takes them.
 use crate::book::job_of;
-use crate::plain::{Ran, applied, run};
+use crate::plain::{Ran, applied, run, tolerated};
 use crate::random::calls::{Change, Foreign};
 use crate::random::kinds::line;
 use crate::stories::{edit, name};
 use pd_book::{Done, Job};
+use pd_settings::Settings;
 use pd_text::{LineEdit, Lines, Name, Text, TextFault};
 use std::alloc::{AllocError, Global};
 
@@ -54,18 +55,18 @@ pub fn ran(alloc: Global, job: Job) -> Result<Ran, AllocError> {
     }
 }
 
-/// The result of a job that no book gave, where the tolerance is this one: of another text, settings or name.
+/// The result of a job that no book gave, where the settings are these: of another text, settings or name.
 pub fn foreign(
     alloc: Global,
     number: u64,
     script: u8,
     form: Foreign,
-    tolerance: u64,
+    settings: Settings,
 ) -> Result<Done, AllocError> {
     let job = match form {
-        Foreign::Text => made(alloc, number, script, &[1; 10], tolerance)?,
-        Foreign::Settings => made(alloc, number, script, &[0], 777)?,
-        Foreign::Name => made(alloc, number, 9, &[0], tolerance)?,
+        Foreign::Text => made(alloc, number, script, &[1; 10], settings)?,
+        Foreign::Settings => made(alloc, number, script, &[0], tolerated(777))?,
+        Foreign::Name => made(alloc, number, 9, &[0], settings)?,
     };
     Ok(ran(alloc, job)?.done)
 }
@@ -75,8 +76,8 @@ fn made(
     number: u64,
     script: u8,
     kinds: &[u8],
-    tolerance: u64,
+    settings: Settings,
 ) -> Result<Job, AllocError> {
     let lines = text_of(alloc, kinds)?;
-    job_of(alloc, number, &octets_of(script), tolerance, lines)
+    job_of(alloc, number, &octets_of(script), settings, lines)
 }

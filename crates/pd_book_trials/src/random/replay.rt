@@ -1,6 +1,6 @@
 //! What the deeds say of a call, and the deed that it becomes.
 use crate::random::answers::Answer;
-use crate::random::calls::{Call, Change};
+use crate::random::calls::{Call, Change, Setting};
 use crate::random::deeds::{Deed, Deeds, JobState};
 use pd_book::{BookFault, FinishFault, Ruling};
 use std::alloc::{AllocError, Global};
@@ -12,7 +12,7 @@ impl Deeds {
             Call::Add(script, _) => self.add_answer(alloc, *script)?,
             Call::Edit(script, change) => self.edit_answer(alloc, *script, *change)?,
             Call::Remove(script) => self.remove_answer(alloc, *script)?,
-            Call::Set(key, value) => set_answer(key, *value),
+            Call::Set(setting) => set_answer(*setting),
             Call::Start => self.start_answer(alloc)?,
             Call::Finish(job) => self.finish_answer(alloc, *job)?,
             Call::Foreign(job, ..) => self.end_answer(*job, Answer::NotEnded(FinishFault::Foreign)),
@@ -93,14 +93,12 @@ fn is_in_range(lines: usize, change: Change) -> bool {
     change.from >= 1 && change.from.saturating_add(change.remove) <= lines.saturating_add(1)
 }
 
-fn set_answer(key: &[u8], value: u64) -> Answer {
-    if key != b"tolerance_us".as_slice() {
-        return Answer::Refused(BookFault::UnknownKey);
+fn set_answer(setting: Setting) -> Answer {
+    match setting {
+        Setting::Known(_) => Answer::Done,
+        Setting::Unknown => Answer::Refused(BookFault::UnknownKey),
+        Setting::TooLarge => Answer::Refused(BookFault::BadValue),
     }
-    if value > 1_000_000 {
-        return Answer::Refused(BookFault::BadValue);
-    }
-    Answer::Done
 }
 
 /// The deed of a call that was answered so; none where it was refused.
@@ -109,7 +107,7 @@ pub fn deed(call: Call, answer: Answer) -> Option<Deed> {
         (Call::Add(script, text), Answer::Done) => Some(Deed::Add(script, text)),
         (Call::Edit(script, change), Answer::Done) => Some(Deed::Edit(script, change)),
         (Call::Remove(script), Answer::Done) => Some(Deed::Remove(script)),
-        (Call::Set(_, value), Answer::Done) => Some(Deed::Set(value)),
+        (Call::Set(Setting::Known(choice)), Answer::Done) => Some(Deed::Set(choice)),
         (Call::Start, Answer::Job(job, script)) => Some(Deed::Start(job, script)),
         (Call::Finish(job), Answer::Ruled(ruling)) => {
             Some(Deed::Finish(job, matches!(ruling, Ruling::Taken)))

@@ -1,7 +1,8 @@
 //! Whether a report is the one of the deeds.
-use crate::plain::{rows_of, tolerated};
+use crate::plain::rows_of;
+use crate::random::choices::Choices;
 use crate::random::deeds::{Deeds, JobState};
-use crate::random::kinds::verdict_of;
+use crate::random::kinds::run_whole;
 use crate::random::making::{has_lines, script_name};
 use crate::saying::is_shown;
 use pd_book::{Report, Row};
@@ -16,14 +17,15 @@ pub fn is_report(
     deeds: &Deeds,
 ) -> Result<bool, AllocError> {
     let texts = deeds.texts(alloc)?;
-    if !report.settings().is_same(&tolerated(deeds.tolerance())) {
+    let choices = deeds.choices();
+    if !report.settings().is_same(&choices.settings()) {
         return Ok(false);
     }
     let rows = rows_of(report);
     let mut pending = 0usize;
     for number in 0..rows.len() {
         if let (Some(row), Some((script, kinds))) = (rows.get(number), texts.get(number)) {
-            let wanted = verdict(deeds, *script, kinds.as_slice());
+            let wanted = verdict(deeds, *script, kinds.as_slice(), &choices);
             if !is_row(alloc, row, *script, kinds.as_slice(), wanted)? {
                 return Ok(false);
             }
@@ -36,9 +38,9 @@ pub fn is_report(
 }
 
 /// What is shown of a script.
-fn verdict(deeds: &Deeds, script: u8, kinds: &[u8]) -> Option<Verdict> {
+fn verdict(deeds: &Deeds, script: u8, kinds: &[u8], choices: &Choices) -> Option<Verdict> {
     if deeds.has_job(script, JobState::Finished) {
-        Some(verdict_of(kinds))
+        Some(run_whole(kinds, choices).verdict)
     } else {
         None
     }

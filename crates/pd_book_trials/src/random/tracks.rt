@@ -1,13 +1,14 @@
 //! Which tracks a book is to keep, and how many steps they leave of a job, by the words of the rules.
-use crate::random::kinds::{front, kept, reached_and_stepped};
+use crate::random::choices::{Choices, SETTINGS};
+use crate::random::kinds::{front, kept, run_first, run_whole};
 use std::alloc::{AllocError, Global};
 
-/// What a job is to run: of which script, its text in kinds of lines, and the tolerance.
+/// What a job is to run: of which script, its text in kinds of lines, and the settings.
 #[derive(Drop)]
 pub struct Run {
     pub script: u8,
     pub kinds: Vec<u8>,
-    pub tolerance: u64,
+    pub choices: Choices,
 }
 
 /// The runs whose tracks are kept, the one that was used last behind the others, and how many they may be.
@@ -15,8 +16,9 @@ pub struct Run {
 pub struct Tracks {
     list: Vec<Run>,
     most: usize,
-    /// How many events weren't to be run again.
+    /// How many events weren't to be run again, and how many of them behind another setting.
     pub spared: usize,
+    pub spared_behind: usize,
 }
 
 impl Run {
@@ -24,25 +26,39 @@ impl Run {
         Ok(Run {
             script: self.script,
             kinds: self.kinds.clone()?,
-            tolerance: self.tolerance,
+            choices: self.choices,
         })
     }
 
-    /// How many events needn't be run again after another run: a multiple of 4, of those that were kept and those that
-    /// passed, and none under another setting.
+    /// How many events needn't be run again after another run: the greatest multiple of 4 of those that were kept and those
+    /// that passed, up to which that run consulted no setting that differs.
     fn spared(&self, earlier: &Run) -> usize {
-        if self.tolerance != earlier.tolerance {
-            return 0;
-        }
         let same = front(earlier.kinds.as_slice(), self.kinds.as_slice());
-        let (reached, _) = reached_and_stepped(earlier.kinds.as_slice());
-        let most = kept(earlier.kinds.as_slice(), same).min(reached);
-        most / 4 * 4
+        let passed = run_whole(earlier.kinds.as_slice(), &earlier.choices).passed;
+        let most = kept(earlier.kinds.as_slice(), same).min(passed);
+        for fewer in 0..=most {
+            let events = most.wrapping_sub(fewer);
+            if events % 4 == 0 && self.agrees(earlier, events) {
+                return events;
+            }
+        }
+        0
+    }
+
+    /// Whether the settings are those of another run in all that its first events consulted.
+    fn agrees(&self, earlier: &Run, events: usize) -> bool {
+        let walk = run_first(earlier.kinds.as_slice(), &earlier.choices, events);
+        self.choices.agree(&earlier.choices, walk.connection.uses())
+    }
+
+    /// Whether all settings are those of another run.
+    fn is_same(&self, earlier: &Run) -> bool {
+        self.choices.agree(&earlier.choices, &[true; SETTINGS])
     }
 
     /// How many steps this run takes behind what is spared.
     fn steps_after(&self, spared: usize) -> usize {
-        let (_, stepped) = reached_and_stepped(self.kinds.as_slice());
+        let stepped = run_whole(self.kinds.as_slice(), &self.choices).stepped;
         stepped.saturating_sub(spared)
     }
 }
@@ -53,6 +69,7 @@ impl Tracks {
             list: Vec::new(alloc),
             most,
             spared: 0,
+            spared_behind: 0,
         }
     }
 
@@ -72,6 +89,9 @@ impl Tracks {
         };
         let spared = run.spared(track);
         let used = track.copy()?;
+        if !run.is_same(&used) {
+            self.spared_behind = self.spared_behind.wrapping_add(spared);
+        }
         self.spared = self.spared.wrapping_add(spared);
         self.keep(used)?;
         Ok(run.steps_after(spared))

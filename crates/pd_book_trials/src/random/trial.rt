@@ -1,12 +1,12 @@
 //! A book and the replay of what it accepted.
-use crate::plain::{Ledger, Ran, tolerated, verdict_of};
+use crate::plain::{Ledger, Ran, verdict_of};
 use crate::random::answers::Answer;
-use crate::random::calls::{Call, Change, Foreign, random_call};
+use crate::random::calls::{Call, Change, Foreign, Setting, random_call};
 use crate::random::counts::Counts;
 use crate::random::deeds::Deeds;
 use crate::random::dice::Dice;
 use crate::random::histories::is_history;
-use crate::random::kinds;
+use crate::random::kinds::run_whole;
 use crate::random::making::{edit_of, foreign, has_lines, ran, script_name, text_of};
 use crate::random::replay::deed;
 use crate::random::reports::is_report;
@@ -106,9 +106,9 @@ impl Trial {
         }
     }
 
-    /// How many events the tracks spared.
-    pub fn spared(&self) -> usize {
-        self.tracks.spared
+    /// How many events the tracks spared, and how many of them behind another setting.
+    pub fn spared(&self) -> (usize, usize) {
+        (self.tracks.spared, self.tracks.spared_behind)
     }
 
     /// Tells whether the history differs.
@@ -126,7 +126,7 @@ impl Trial {
             Call::Add(script, kinds) => self.add(*script, kinds.as_slice()),
             Call::Edit(script, change) => self.edit(*script, *change),
             Call::Remove(script) => self.remove(*script),
-            Call::Set(key, value) => Ok(self.set(key, *value)),
+            Call::Set(setting) => Ok(self.set(*setting)),
             Call::Start => self.start(),
             Call::Finish(job) => Ok(self.finish(*job)),
             Call::Foreign(job, script, form) => self.finish_foreign(*job, *script, *form),
@@ -151,8 +151,12 @@ impl Trial {
         Ok(Answer::of_change(self.book.remove(&name)))
     }
 
-    fn set(&mut self, key: &[u8], value: u64) -> Answer {
-        Answer::of_change(self.book.set(key, Value::Number(value)))
+    fn set(&mut self, setting: Setting) -> Answer {
+        Answer::of_change(match setting {
+            Setting::Known(choice) => self.book.set(choice.key(), choice.value()),
+            Setting::Unknown => self.book.set(b"tolerance", Value::Number(1)),
+            Setting::TooLarge => self.book.set(b"tolerance_us", Value::Number(1_000_001)),
+        })
     }
 
     fn start(&mut self) -> Result<Answer, AllocError> {
@@ -179,14 +183,14 @@ impl Trial {
         if !self.is_current(&job, kinds.as_slice())? {
             self.are_jobs_current = false;
         }
-        let tolerance = self.deeds.tolerance();
+        let choices = self.deeds.choices();
         let run = Run {
             script,
             kinds,
-            tolerance,
+            choices,
         };
         let Ran { done, steps } = ran(self.alloc, job)?;
-        let wanted = kinds::verdict_of(run.kinds.as_slice());
+        let wanted = run_whole(run.kinds.as_slice(), &run.choices).verdict;
         let is_right = is_shown(Some(verdict_of(&done)), Some(wanted));
         if !is_right || steps != self.tracks.steps(&run)? as u64 {
             self.are_steps_right = false;
@@ -206,7 +210,7 @@ impl Trial {
 
     /// Whether a job has a text of lines of these kinds, and the present settings.
     fn is_current(&self, job: &Job, kinds: &[u8]) -> Result<bool, AllocError> {
-        if !job.settings().is_same(&tolerated(self.deeds.tolerance())) {
+        if !job.settings().is_same(&self.deeds.choices().settings()) {
             return Ok(false);
         }
         has_lines(self.alloc, job.text(), kinds)
@@ -226,7 +230,8 @@ impl Trial {
         script: u8,
         form: Foreign,
     ) -> Result<Answer, AllocError> {
-        let done = foreign(self.alloc, job, script, form, self.deeds.tolerance())?;
+        let settings = self.deeds.choices().settings();
+        let done = foreign(self.alloc, job, script, form, settings)?;
         Ok(Answer::of_finish(self.book.finish(&done)))
     }
 

@@ -70,7 +70,7 @@ impl Bench {
             }
             "give" => {
                 let done = foreign(self.alloc, words)?;
-                Ok(ruled(self.alloc, held.finish(seat, &done))?)
+                Ok(ruled(self.alloc, held.finish(seat, &done), false)?)
             }
             "show" => show(self.alloc, held, seat),
             "acts" => acts(self.alloc, seat),
@@ -90,30 +90,38 @@ impl Bench {
         };
         match word {
             "start" => match held.start(seat) {
-                Ok(Some(job)) => self.keep(job, number),
+                Ok(Some(job)) => {
+                    let seat = seat.number();
+                    self.keep(job, seat, number)
+                }
                 Ok(None) => Ok(owned(self.alloc, "none")?),
                 Err(fault) => Ok(owned(self.alloc, fault.text())?),
             },
             "finish" => match self.tasks.get_mut(number.wrapping_sub(1)) {
                 Some(task) => {
                     task.run(self.alloc)?;
-                    Ok(ruled(self.alloc, held.finish(seat, task.result()?))?)
+                    let answer = held.finish(seat, task.result()?);
+                    Ok(ruled(self.alloc, answer, task.seat == seat.number())?)
                 }
                 None => Err(StoryFault::Missing),
             },
-            "abandon" => Ok(given_up(self.alloc, held.abandon(seat, number as u64))?),
+            "abandon" => {
+                let is_own = is_of(self.tasks.get(number.wrapping_sub(1)), seat);
+                let answer = held.abandon(seat, number as u64);
+                Ok(given_up(self.alloc, answer, is_own)?)
+            }
             _ => Err(StoryFault::NoSuchCall),
         }
     }
 
-    /// Keeps a job, which must have the number that the story says.
-    fn keep(&mut self, job: Job, number: usize) -> Result<String, StoryFault> {
+    /// Keeps a job of a seat, which must have the number that the story says.
+    fn keep(&mut self, job: Job, seat: usize, number: usize) -> Result<String, StoryFault> {
         if job.number() != number as u64 {
             return Err(StoryFault::NotANumber);
         }
         let said = started(self.alloc, &job)?;
         self.tasks
-            .push(Task::new(job))
+            .push(Task::new(job, seat))
             .or(Err(StoryFault::OutOfMemory))?;
         Ok(said)
     }
@@ -133,6 +141,14 @@ impl Bench {
     pub fn trade(&mut self, other: &mut Bench) -> Result<String, StoryFault> {
         mem::swap(&mut self.seats, &mut other.seats);
         Ok(owned(self.alloc, "ok")?)
+    }
+}
+
+/// Whether a seat started this job.
+fn is_of(task: Option<&Task>, seat: &Seat) -> bool {
+    match task {
+        Some(task) => task.seat == seat.number(),
+        None => false,
     }
 }
 

@@ -9,8 +9,14 @@ pub enum StoryFault {
     NotANumber,
     NoText,
     Missing,
+    /// The call found no memory and changed nothing.
+    Refused,
+    /// What tells the story found no memory.
     OutOfMemory,
 }
+
+/// The answer of a call that found no memory.
+pub const REFUSED: &str = "19 OutOfMemory";
 
 impl StoryFault {
     /// What is written in the place of the answer.
@@ -20,6 +26,7 @@ impl StoryFault {
             StoryFault::NotANumber => "(not a number)",
             StoryFault::NoText => "(over the limits of a text)",
             StoryFault::Missing => "(the story has no such thing)",
+            StoryFault::Refused => REFUSED,
             StoryFault::OutOfMemory => "(out of memory)",
         }
     }

@@ -6,7 +6,7 @@ use crate::stories::story::Story;
 use pd_book::Report;
 use pd_desk::{Desk, DeskFault, OpenGate};
 use pd_seat::Seat;
-use std::alloc::{AllocError, Global};
+use std::alloc::Global;
 use std::mem;
 use std::sync::Wait;
 use std::thread::Threads;
@@ -42,9 +42,9 @@ impl Story {
         let Some(pooled) = settle_while_open(rt, self.alloc, desk, &gate, seats, seat) else {
             return Err(StoryFault::OutOfMemory);
         };
-        let said = settled(self.alloc, &pooled)?;
+        let said = settled(self.alloc, &pooled);
         self.seats = pooled.seats;
-        Ok(said)
+        said
     }
 }
 
@@ -65,14 +65,15 @@ fn settle_while_open<R: Threads + Wait + Sync>(
 fn settled(
     alloc: Global,
     pooled: &Pooled<Result<Report, DeskFault>>,
-) -> Result<String, AllocError> {
+) -> Result<String, StoryFault> {
     let said = match &pooled.said {
         Ok(report) => shown(alloc, report)?,
+        Err(DeskFault::OutOfMemory) => return Err(StoryFault::Refused),
         Err(fault) => owned(alloc, fault.text())?,
     };
     let left = match pooled.left {
         Ok(()) => "ok",
         Err(fault) => fault.text(),
     };
-    joined(alloc, &[said.as_str(), "; pool ", left])
+    Ok(joined(alloc, &[said.as_str(), "; pool ", left])?)
 }

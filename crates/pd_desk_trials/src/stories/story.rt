@@ -21,7 +21,14 @@ pub struct Story {
     pub seats: Vec<Seat>,
     pub away: Vec<Seat>,
     pub texts: Vec<Written>,
-    pub results: Vec<Done>,
+    pub results: Vec<Ran>,
+}
+
+/// The result of a job, and the number of the seat that started it.
+#[derive(Drop)]
+pub struct Ran {
+    pub done: Done,
+    pub seat: usize,
 }
 
 /// A text under a word of the story: its lines, parted by ` | `.
@@ -79,7 +86,8 @@ impl Story {
         if seats == 0 {
             return Err(StoryFault::NotANumber);
         }
-        let (desk, seats) = Desk::open(self.alloc, 64, Settings::new(), workers, seats)?;
+        let opened = Desk::open(self.alloc, 64, Settings::new(), workers, seats);
+        let (desk, seats) = opened.or(Err(StoryFault::Refused))?;
         self.desk = Some(desk);
         self.seats = seats;
         self.away = Vec::new(self.alloc);
