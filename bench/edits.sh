@@ -1,15 +1,36 @@
 #!/bin/sh
 # Measures what it costs to answer a script again after an edit: one of 60 events that transfers data, edited in its last
-# line, against the same script edited in its first line, which has to run from the start. What the edit and the report
-# themselves cost is taken off. Tells nanoseconds, and where valgrind is there instructions, which don't vary with the load.
-# An edit in the last line is to cost at most a fifth.
+# line, against the same script edited in its first line, which has to be read and run from the start. What the edit and the
+# report themselves cost is taken off. Tells nanoseconds, and where valgrind is there instructions, which don't vary with
+# the load. An edit in the last line is to cost at most a fifth. The edit puts a space behind the line or takes it away.
+# Then what an edit in the last line costs more for each further event that is kept: from scripts of 181 and of 541 events.
 #
 #   bench/edits.sh [TURNS]      2,000 turns if nothing is said, a tenth of them for instructions
 . "$(dirname "$0")/program.sh"
 turns=${1:-2000}
 transfers 1 >"$work/script"
 
-# So many times an edit of this line to itself, and then this command.
+# A script of a connection on which so many segments are written and acknowledged, three events each behind the first seven.
+connection() { # how many segments
+    awk -v segments="$1" 'BEGIN {
+        print "add script1", 7 + 3 * segments
+        print "0 socket(..., SOCK_STREAM, IPPROTO_TCP) = 3"
+        print "+0 bind(3, ..., ...) = 0"
+        print "+0 listen(3, 1) = 0"
+        print "+0.001 < S 0:0(0) win 32792 <mss 1000,sackOK,nop,nop,nop,wscale 7>"
+        print "+0 > S. 0:0(0) ack 1 <...>"
+        print "+0.1 < . 1:1(0) ack 1 win 257"
+        print "+0 accept(3, ..., ...) = 4"
+        for (segment = 1; segment <= segments; segment++) {
+            from = 1 + (segment - 1) * 1000
+            print "+0 write(4, ..., 1000) = 1000"
+            printf "+0 > P. %d:%d(1000) ack 1\n", from, from + 1000
+            printf "+0.101 < . 1:1(0) ack %d win 257\n", from + 1000
+        }
+    }'
+}
+
+# So many edits of this line of the script, and after each this command.
 edits() { # how many, the line, the command
     cat "$work/script"
     echo settle
@@ -17,7 +38,7 @@ edits() { # how many, the line, the command
     awk -v turns="$1" -v line="$2" -v text="$text" -v command="$3" 'BEGIN {
         for (t = 1; t <= turns; t++) {
             print "edit script1", line, 1, 1
-            print text
+            print text (t % 2 ? " " : "")
             print command
         }
     }'
@@ -46,7 +67,19 @@ measure() { # turns, unit, and what measures an input
     compared "$1" "$2" "$("$3" "$work/settled60")" "$("$3" "$work/shown60")" "$("$3" "$work/settled1")" "$("$3" "$work/shown1")"
 }
 
+# The instructions of so many edits in the last line of a script of so many segments, without their reports.
+last() { # turns, segments
+    connection "$2" >"$work/script"
+    edits "$1" $((7 + 3 * $2)) settle >"$work/settled"
+    edits "$1" $((7 + 3 * $2)) show >"$work/shown"
+    echo $(($(instructions "$work/settled") - $(instructions "$work/shown")))
+}
+
 measure "$turns" ns nanoseconds
 if command -v valgrind >/dev/null; then
-    measure $(((turns + 9) / 10)) instructions instructions
+    turns=$(((turns + 9) / 10))
+    measure "$turns" instructions instructions
+    awk -v turns="$turns" -v short="$(last "$turns" 58)" -v long="$(last "$turns" 178)" 'BEGIN {
+        printf "a kept event costs %.0f instructions\n", (long - short) / turns / 360
+    }'
 fi

@@ -43,10 +43,10 @@ transfers() { # how many
     }'
 }
 
-# The instructions that the program takes for an input, with words behind its name.
+# The instructions that the program takes for an input, with words behind its name; whatever its status.
 instructions() { # the input, and the words
     input=$1
     shift
-    valgrind --tool=callgrind --callgrind-out-file="$work/calls" "$program" "$@" <"$input" >/dev/null 2>"$work/said" || [ $? -eq 1 ]
+    valgrind --tool=callgrind --callgrind-out-file="$work/calls" "$program" "$@" <"$input" >/dev/null 2>"$work/said" || [ $? -le 2 ]
     sed -n 's/^summary: \([0-9]*\).*/\1/p; s/^totals: \([0-9]*\).*/\1/p' "$work/calls" | head -n 1
 }
