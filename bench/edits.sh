@@ -12,15 +12,9 @@ transfers 1 >"$work/script"
 
 # A script of a connection on which so many segments are written and acknowledged, three events each behind the first seven.
 connection() { # how many segments
-    awk -v segments="$1" 'BEGIN {
+    awk -v segments="$1" "$opening"'BEGIN {
         print "add script1", 7 + 3 * segments
-        print "0 socket(..., SOCK_STREAM, IPPROTO_TCP) = 3"
-        print "+0 bind(3, ..., ...) = 0"
-        print "+0 listen(3, 1) = 0"
-        print "+0.001 < S 0:0(0) win 32792 <mss 1000,sackOK,nop,nop,nop,wscale 7>"
-        print "+0 > S. 0:0(0) ack 1 <...>"
-        print "+0.1 < . 1:1(0) ack 1 win 257"
-        print "+0 accept(3, ..., ...) = 4"
+        opening(1)
         for (segment = 1; segment <= segments; segment++) {
             from = 1 + (segment - 1) * 1000
             print "+0 write(4, ..., 1000) = 1000"

@@ -19,18 +19,24 @@ generate() { # how many, and of how many events
     }'
 }
 
+# A function for awk: the seven events that open a connection, whose SYN comes at so many milliseconds.
+opening='function opening(syn) {
+    print "0 socket(..., SOCK_STREAM, IPPROTO_TCP) = 3"
+    print "+0 bind(3, ..., ...) = 0"
+    print "+0 listen(3, 1) = 0"
+    printf "+0.%03d < S 0:0(0) win 32792 <mss 1000,sackOK,nop,nop,nop,wscale 7>\n", syn
+    print "+0 > S. 0:0(0) ack 1 <...>"
+    print "+0.1 < . 1:1(0) ack 1 win 257"
+    print "+0 accept(3, ..., ...) = 4"
+}
+'
+
 # Scripts of 60 events that write 17 segments one after the other; the 6th and the 12th are sent again when the timer expires.
 transfers() { # how many
-    awk -v scripts="$1" 'BEGIN {
+    awk -v scripts="$1" "$opening"'BEGIN {
         for (s = 1; s <= scripts; s++) {
             print "add script" s, 60
-            print "0 socket(..., SOCK_STREAM, IPPROTO_TCP) = 3"
-            print "+0 bind(3, ..., ...) = 0"
-            print "+0 listen(3, 1) = 0"
-            printf "+0.%03d < S 0:0(0) win 32792 <mss 1000,sackOK,nop,nop,nop,wscale 7>\n", s % 1000
-            print "+0 > S. 0:0(0) ack 1 <...>"
-            print "+0.1 < . 1:1(0) ack 1 win 257"
-            print "+0 accept(3, ..., ...) = 4"
+            opening(s % 1000)
             for (segment = 1; segment <= 17; segment++) {
                 from = 1 + (segment - 1) * 1000
                 packet = sprintf("> P. %d:%d(1000) ack 1", from, from + 1000)

@@ -10,16 +10,10 @@ scripts=${1:-1000}
 
 # Scripts that take acknowledgments, each at times of its own, and write in the end.
 writing() { # how many
-    awk -v scripts="$1" 'BEGIN {
+    awk -v scripts="$1" "$opening"'BEGIN {
         for (s = 1; s <= scripts; s++) {
             print "add script" s, 60
-            print "0 socket(..., SOCK_STREAM, IPPROTO_TCP) = 3"
-            print "+0 bind(3, ..., ...) = 0"
-            print "+0 listen(3, 1) = 0"
-            print "+0.1 < S 0:0(0) win 32792 <mss 1000,sackOK,nop,nop,nop,wscale 7>"
-            print "+0 > S. 0:0(0) ack 1 <...>"
-            print "+0.1 < . 1:1(0) ack 1 win 257"
-            print "+0 accept(3, ..., ...) = 4"
+            opening(100)
             for (e = 8; e < 58; e++) printf "+0.%03d < . 1:1(0) ack 1 win %d\n", (s * 7 + e * 13) % 1000, 200 + e
             print "+0 write(4, ..., 1000) = 1000"
             print "+0 > P. 1:1001(1000) ack 1"
