@@ -26,7 +26,7 @@ impl Crew {
     /// Lets a worker in while fewer entered than there are; whether it is in.
     pub fn enter(&mut self) -> bool
         ensures is_in { IsTrue result ↔ self.old.entered < self.old.size }
-        ensures counted { self.new ≡ record { size = self.old.size; entered = self.old.entered + (if result then 1 else 0); left = self.old.left; is_shut = self.old.is_shut } }
+        ensures counted { self.new ≡ record self.old { entered = self.old.entered + (if result then 1 else 0) } }
     {
         if self.entered >= self.size {
             return false;
@@ -37,14 +37,14 @@ impl Crew {
 
     /// Lets a worker leave.
     pub fn leave(&mut self)
-        ensures { self.old.left + 1 < 2 ^ 64 → self.new ≡ record { size = self.old.size; entered = self.old.entered; left = self.old.left + 1; is_shut = self.old.is_shut } }
+        ensures { self.old.left + 1 < 2 ^ 64 → self.new ≡ record self.old { left = self.old.left + 1 } }
     {
         self.left = self.left.saturating_add(1);
     }
 
     /// Lets all leave after their present jobs.
     pub fn shut(&mut self)
-        ensures { self.new ≡ record { size = self.old.size; entered = self.old.entered; left = self.old.left; is_shut = true } }
+        ensures { self.new ≡ record self.old { is_shut = true } }
     {
         self.is_shut = true;
     }
