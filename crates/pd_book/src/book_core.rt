@@ -207,7 +207,7 @@ impl Book {
         ensures err { IfErr result (λ e. text_refusal (present self.now.story.past name.now) edit.now ≡ Some e) }
         ensures lines { AreLines edit.now.insert }
     {
-        let _lines = edit.insert.as_slice();
+        let _lines = edit.insert.len();
         let Some(text) = self.text(name) else {
             return Err(BookFault::NoSuchScript);
         };

@@ -1,14 +1,10 @@
 -- Lines and commands off the front of an input.
 use Rattle.std.proofs.Common.{◌≡◌, ℕ, ◌+◌, ◌≤◌, ◌<◌, ◌==◌, nat_le, Bool, true, false, List, [], ◌∷◌, ◌++◌, length, take, drop, Option, Some, None, refl, sym, ap, ◌∙◌, arith, cond, suc, zero, append_assoc, if◌then◌else◌, option_and_then, length-append, subst, zero-add}
 use Rattle.std.specs.Str.Lines.{lines}
-use Rattle.std.specs.declared.vec.Vec.{Vec}
-use Rattle.std.specs.declared.alloc.Global.{Global}
-use Rattle.std.proofs.lemmas.List.{map-append}
 use Rattle.std.proofs.lemmas.List.Sums.{sum_by-append}
-use Rattle.std.proofs.lemmas.List.Folds.{list_all-append}
 use Rattle.std.proofs.lemmas.Bool.Decides.{nat_tests}
 use Rattle.std.proofs.Math.Seq.{take-append_seam, drop-append_seam}
-use Rattle.pd_text.specs.Text.{fits_text, octets_of, lists_of, is_line, AreLines}
+use Rattle.pd_text.specs.Text.{fits_text, octets_of, is_line}
 use Rattle.pd_cli.specs.Pieces.{NoNewline}
 use Rattle.pd_cli.specs.Requests.{is_nothing}
 use Rattle.pd_cli.specs.Commands.{Item, does, fitted, edit_of, with_lines, items, commands}
@@ -26,15 +22,8 @@ pub is_line_of : (line : List ℕ) → NoNewline line → is_line line ≡ true
 is_line_of [] h = refl
 is_line_of (x ∷ line) h = let e : (x == 10) ≡ false = h 0 0 (omega arith) in rw e (is_line_of line (λ k d lt. h (suc k) d (omega arith)))
 
-pub lines_more : (texts : List (Vec ℕ Global)) (line : Vec ℕ Global) → AreLines (lists_of texts) → NoNewline line.items → AreLines (lists_of (texts ++ line ∷ []))
-lines_more texts line h n =
-    let e : lists_of (texts ++ line ∷ []) ≡ lists_of texts ++ line.items ∷ [] = map-append (λ (v : Vec ℕ Global). v.items) texts (line ∷ []) in
-    rw (e, list_all-append is_line (lists_of texts) (line.items ∷ []), h, is_line_of line.items n) refl
-
-pub octets_more : (texts : List (Vec ℕ Global)) (line : Vec ℕ Global) → octets_of (lists_of (texts ++ line ∷ [])) ≡ octets_of (lists_of texts) + (length line.items + 1)
-octets_more texts line =
-    let e : lists_of (texts ++ line ∷ []) ≡ lists_of texts ++ line.items ∷ [] = map-append (λ (v : Vec ℕ Global). v.items) texts (line ∷ []) in
-    rw e (sum_by-append (λ (l : List ℕ). length l + 1) (lists_of texts) (line.items ∷ []) ∙ ap (λ n. octets_of (lists_of texts) + n) (zero-add (length line.items + 1)))
+pub octets_more : (texts : List (List ℕ)) (line : List ℕ) → octets_of (texts ++ line ∷ []) ≡ octets_of texts + (length line + 1)
+octets_more texts line = sum_by-append (λ (l : List ℕ). length l + 1) texts (line ∷ []) ∙ ap (λ n. octets_of texts + n) (zero-add (length line + 1))
 
 -- the lines of a command
 

@@ -73,7 +73,7 @@ fn next_request<R: Read>(
 {
     loop {
         let taken = intake.next_line(alloc, reader, 256)?;
-        match line_asks(alloc, taken)? {
+        match line_asks(alloc, intake, taken)? {
             None => return Ok(None),
             Some(request) => {
                 if !request.is_nothing() {
@@ -85,12 +85,18 @@ fn next_request<R: Read>(
 }
 
 /// What a line that was taken asks for, or none at the end.
-fn line_asks(alloc: Global, taken: Taken) -> Result<Option<Request>, AllocError>
-    ensures { IfOk result (λ request. (old new : List ℕ) → TakesLine 256 taken old new → AsksLine request old new) }
+fn line_asks(
+    alloc: Global,
+    intake: &mut Intake,
+    taken: Taken,
+) -> Result<Option<Request>, AllocError>
+    ensures same { intake.new ≡ intake.old }
+    ensures request { IfOk result (λ request. (old new : List ℕ) → TakesLine 256 taken old new → AsksLine request old new) }
 {
     match taken {
         Taken::Whole(line) => {
             let request = Request::of_line(alloc, line.as_slice())?;
+            intake.give_back(line);
             Ok(Some(request))
         }
         Taken::Long => Ok(Some(Request::Bad)),
@@ -115,7 +121,10 @@ fn take_lines<R: Read>(
     let mut gathered = Gathered::new(alloc);
     for _turn in 0..count {
         match intake.next_line(alloc, reader, MAX_OCTETS)? {
-            Taken::Whole(line) => gathered.add(line)?,
+            Taken::Whole(line) => {
+                gathered.add(line.as_slice())?;
+                intake.give_back(line);
+            }
             Taken::Long => gathered.add_long(),
             Taken::End => return Err(ServeFault::Truncated),
         }
@@ -128,7 +137,7 @@ fn text_of(lines: Option<LineList>) -> Option<Lines>
     ensures { result ≡ option_and_then fitted lines }
 {
     match lines {
-        Some(lines) => match Lines::new(lines.into_lines()) {
+        Some(lines) => match Lines::new(lines) {
             Ok(text) => Some(text),
             Err(_) => None,
         },

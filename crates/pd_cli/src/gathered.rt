@@ -10,7 +10,7 @@ use std::marker::Model;
 /// The lines so far; none once they are over the limits of a text.
 #[derive(Drop)]
 pub struct Gathered {
-    lines: Vec<Vec<u8>>,
+    lines: LineList,
     /// The octets of these lines, each counted with one more for its end.
     octets: usize,
     large: bool,
@@ -18,13 +18,13 @@ pub struct Gathered {
 
 impl Model for Gathered {
     ghost use Rattle.std.specs.Prelude.{◌≡◌, ◌≤◌, List, ℕ, Option, Some, None, if◌then◌else◌, length};
-    ghost use Rattle.pd_text.specs.Text.{lists_of, octets_of, AreLines};
+    ghost use Rattle.pd_text.specs.Text.{octets_of};
 
     ghost Value = { Option (List (List ℕ)) };
 
-    ghost view = { λ g. if g.large then None else Some (lists_of g.lines.items) };
+    ghost view = { λ g. if g.large then None else Some g.lines };
 
-    ghost invariant = { λ g. (g.octets ≡ octets_of (lists_of g.lines.items)) × (g.octets ≤ 65536) × (length g.lines.items ≤ 4096) × AreLines (lists_of g.lines.items) };
+    ghost invariant = { λ g. (g.octets ≡ octets_of g.lines) × (g.octets ≤ 65536) × (length g.lines ≤ 4096) };
 }
 
 impl Gathered {
@@ -32,16 +32,16 @@ impl Gathered {
         ensures { result ≡ Some [] }
     {
         Gathered {
-            lines: Vec::new(alloc),
+            lines: LineList::new(alloc),
             octets: 0,
             large: false,
         }
     }
 
     /// Adds a line.
-    pub fn add(&mut self, line: Vec<u8>) -> Result<(), AllocError>
-        requires { NoNewline line.items }
-        ensures { OnOk result (self.new ≡ option_and_then (λ t. fitted (t ++ line.items ∷ [])) self.old) }
+    pub fn add(&mut self, line: &[u8]) -> Result<(), AllocError>
+        requires { NoNewline line.now }
+        ensures { OnOk result (self.new ≡ option_and_then (λ t. fitted (t ++ line.now ∷ [])) self.old) }
     {
         if self.large {
             return Ok(());
@@ -63,14 +63,19 @@ impl Gathered {
         self.large = true;
     }
 
+    /// The lines, in no more room than they take.
     pub fn into_lines(self) -> Option<LineList>
         ensures { result ≡ self }
     {
-        let Gathered { lines, large, .. } = self;
+        let Gathered {
+            mut lines,
+            large,
+            ..
+        } = self;
         if large {
-            None
-        } else {
-            Some(LineList::new(lines))
+            return None;
         }
+        lines.shrink_to_fit();
+        Some(lines)
     }
 }

@@ -12,6 +12,7 @@ use memchr::memchr;
 use std::alloc::{AllocError, Global};
 use std::io::Read;
 use std::marker::Model;
+use std::mem::replace;
 
 /// How many octets one read may give at most.
 const BLOCK: usize = 4_096;
@@ -35,6 +36,8 @@ pub struct Intake {
     block: Vec<u8>,
     used: usize,
     reads: u32,
+    /// The room of a line that was given back.
+    line: Vec<u8>,
 }
 
 impl Model for Intake {
@@ -55,6 +58,7 @@ impl Intake {
             block: Vec::new(alloc),
             used: 0,
             reads: READS,
+            line: Vec::new(alloc),
         }
     }
 
@@ -80,6 +84,23 @@ impl Intake {
         Ok(taken_of(line, found, limit))
     }
 
+    /// Takes back a line that was taken, so that the next one takes no room of its own.
+    pub fn give_back(&mut self, line: Vec<u8>)
+        ensures { self.new ≡ self.old }
+    {
+        self.line = line;
+    }
+
+    /// An empty line, in the room of one that was given back.
+    fn empty_line(&mut self, alloc: Global) -> Vec<u8>
+        ensures line { result.items ≡ [] }
+        ensures same { self.new ≡ self.old }
+    {
+        let mut line = replace(&mut self.line, Vec::new(alloc));
+        line.clear();
+        line
+    }
+
     /// Reads one line with its newline, or the last one; what is beyond so many octets is dropped.
     fn read_line<R: Read>(
         &mut self,
@@ -93,7 +114,7 @@ impl Intake {
         ensures less { IfOk result (λ _. work_left self.new < work_left self.old) }
         ensures only { IfErr result IsIo }
     {
-        let mut line = Vec::new(alloc);
+        let mut line = self.empty_line(alloc);
         loop {
             if self.take_piece(&mut line, cap)? {
                 return Ok((line, true));

@@ -1,5 +1,5 @@
 //! Names, texts and edits made of octets.
-ghost use Rattle.std.specs.Prelude.{◌≡◌, IfOk};
+ghost use Rattle.std.specs.Prelude.{◌≡◌};
 ghost use Rattle.pd_text.specs.Text.{is_line};
 
 use pd_text::{LineEdit, LineList, Lines, Name, TextFault};
@@ -10,9 +10,7 @@ pub fn name(alloc: Global, octets: &[u8]) -> Result<Name, AllocError> {
     Ok(Name::new(owned(alloc, octets)?))
 }
 
-fn owned(alloc: Global, octets: &[u8]) -> Result<Vec<u8>, AllocError>
-    ensures { IfOk result (λ own. own.items ≡ octets.now) }
-{
+fn owned(alloc: Global, octets: &[u8]) -> Result<Vec<u8>, AllocError> {
     let mut own = Vec::new(alloc);
     own.extend_from_slice(octets)?;
     Ok(own)
@@ -26,13 +24,11 @@ fn is_line(octets: &[u8]) -> bool
 
 /// The list of this one line, which holds no newline; else the empty list.
 fn line_list(alloc: Global, octets: &[u8]) -> Result<LineList, AllocError> {
-    let line = owned(alloc, octets)?;
-    if is_line(line.as_slice()) {
-        let mut lines = Vec::new(alloc);
-        lines.push(line)?;
-        return Ok(LineList::new(lines));
+    let mut list = LineList::new(alloc);
+    if is_line(octets) {
+        list.push(octets)?;
     }
-    Ok(LineList::new(Vec::new(alloc)))
+    Ok(list)
 }
 
 /// An edit that removes lines and inserts one, which holds no newline.
@@ -54,7 +50,7 @@ pub fn edit(
 /// # Errors
 /// `TooLarge` where they are over the limits of a text.
 pub fn text(alloc: Global, written: &str) -> Result<Lines, TextFault> {
-    let mut text = Lines::new(Vec::new(alloc))?;
+    let mut text = Lines::new(LineList::new(alloc))?;
     for line in written.split(" | ") {
         let behind = edit(alloc, text.len() + 1, 0, line.as_bytes())?;
         text = text.apply(&behind)?;

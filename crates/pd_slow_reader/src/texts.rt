@@ -1,5 +1,5 @@
 //! Texts, made of octets and read as octets.
-ghost use Rattle.std.specs.Prelude.{◌≡◌, IfOk};
+ghost use Rattle.std.specs.Prelude.{◌≡◌};
 ghost use Rattle.pd_text.specs.Text.{is_line};
 
 use pd_text::{LineEdit, LineList, Lines, TextFault};
@@ -7,7 +7,7 @@ use std::alloc::{AllocError, Global};
 
 /// The text whose lines are parted by the newlines of these octets.
 pub fn text(alloc: Global, octets: &[u8]) -> Result<Lines, TextFault> {
-    let mut text = Lines::new(Vec::new(alloc))?;
+    let mut text = Lines::new(LineList::new(alloc))?;
     if octets.is_empty() {
         return Ok(text);
     }
@@ -24,21 +24,11 @@ pub fn text(alloc: Global, octets: &[u8]) -> Result<Lines, TextFault> {
 
 /// The list of this line, which holds no newline.
 fn one_line(alloc: Global, line: &[u8]) -> Result<LineList, AllocError> {
-    let mut lines = Vec::new(alloc);
-    let line = owned(alloc, line)?;
-    if is_line(line.as_slice()) {
-        lines.push(line)?;
-        return Ok(LineList::new(lines));
+    let mut list = LineList::new(alloc);
+    if is_line(line) {
+        list.push(line)?;
     }
-    Ok(LineList::new(Vec::new(alloc)))
-}
-
-fn owned(alloc: Global, octets: &[u8]) -> Result<Vec<u8>, AllocError>
-    ensures { IfOk result (λ own. own.items ≡ octets.now) }
-{
-    let mut own = Vec::new(alloc);
-    own.extend_from_slice(octets)?;
-    Ok(own)
+    Ok(list)
 }
 
 fn is_line(octets: &[u8]) -> bool

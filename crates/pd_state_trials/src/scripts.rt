@@ -1,11 +1,11 @@
 //! Scripts of one line.
-ghost use Rattle.std.specs.Prelude.{◌≡◌, IfOk};
+ghost use Rattle.std.specs.Prelude.{◌≡◌};
 ghost use Rattle.pd_text.specs.Text.{is_line};
 
 use crate::watching::Watching;
 use pd_run::{Verdict, run_with};
 use pd_settings::Settings;
-use pd_text::{Lines, TextFault};
+use pd_text::{LineList, Lines, TextFault};
 use std::alloc::{AllocError, Global};
 
 /// What comes before a script that begins with a `+`.
@@ -42,22 +42,11 @@ fn is_line(octets: &[u8]) -> bool
     octets.iter().all(|octet| *octet != b'\n')
 }
 
-fn owned(alloc: Global, octets: &[u8]) -> Result<Vec<u8>, AllocError>
-    ensures { IfOk result (λ own. own.items ≡ octets.now) }
-{
-    let mut own = Vec::new(alloc);
-    own.extend_from_slice(octets)?;
-    Ok(own)
-}
-
 /// The text of one line.
 fn text(alloc: Global, written: &str) -> Result<Lines, TextFault> {
-    let mut lines = Vec::new(alloc);
-    let line = owned(alloc, written.as_bytes())?;
-    if is_line(line.as_slice()) {
-        if lines.push(line).is_err() {
-            return Err(TextFault::OutOfMemory);
-        }
+    let mut list = LineList::new(alloc);
+    if is_line(written.as_bytes()) {
+        list.push(written.as_bytes())?;
     }
-    Lines::new(lines)
+    Lines::new(list)
 }

@@ -1,34 +1,45 @@
--- An edit of lines leaves lines.
-use Rattle.std.proofs.Common.{◌≡◌, ℕ, Bool, true, false, ◌&&◌, List, [], ◌∷◌, take, drop, suc, zero, refl, arith}
-use Rattle.std.proofs.lemmas.List.Folds.{list_all-append}
-use Rattle.std.specs.List.{list_all}
+-- How many lines and octets an edit leaves.
+use Rattle.std.proofs.Common.{◌≡◌, ℕ, ◌+◌, ◌-◌, ◌≤◌, nat_le, Bool, true, false, List, ◌++◌, length, take, drop, refl, sym, ap, arith, length-append}
+use Rattle.std.proofs.lemmas.List.{length-take, length-drop, drop-drop}
 use Rattle.std.proofs.lemmas.Bool.Decides.{nat_tests}
-use Rattle.pd_text.specs.Text.{AreLines, FitsText, fits_text, is_line}
-use Rattle.pd_text.specs.Edit.{edited}
+use Rattle.pd_text.specs.Text.{fits_text, octets_of}
+use Rattle.pd_text.specs.Edit.{is_in_range, edited}
 use Rattle.pd_text.specs.declared.line_edit.LineEdit.{LineEdit}
+use Rattle.pd_text.proofs.Spanned.{both}
+use Rattle.pd_text.proofs.Ranges.{octets_append, octets_split}
 
-both : (a b : Bool) → (a && b) ≡ true → (a ≡ true) × (b ≡ true)
-both true true h = (refl, refl)
-both true false h = absurd cc
-both false b h = absurd cc
+pub in_range : (lines : List (List ℕ)) (edit : LineEdit) → is_in_range lines edit ≡ true → (1 ≤ edit.from) × (edit.from + edit.remove ≤ length lines + 1)
+in_range lines edit h =
+    let parts = both (nat_le 1 edit.from) (nat_le (edit.from + edit.remove) (length lines + 1)) h in
+    (grind (arith, nat_tests, parts.0), grind (arith, nat_tests, parts.1))
 
-all_taken : {X : Type 0} (p : X → Bool) (n : ℕ) (xs : List X) → list_all p xs ≡ true → list_all p (take n xs) ≡ true
-all_taken p zero xs h = refl
-all_taken p (suc n) [] h = refl
-all_taken p (suc n) (x ∷ xs) h =
-    let parts : (p x ≡ true) × (list_all p xs ≡ true) = both (p x) (list_all p xs) h in
-    rw (parts.0) (all_taken p n xs parts.1)
+abbrev pub removed : List (List ℕ) → LineEdit → List (List ℕ)
+removed lines edit = take (edit.from - 1 + edit.remove - (edit.from - 1)) (drop (edit.from - 1) lines)
 
-all_dropped : {X : Type 0} (p : X → Bool) (n : ℕ) (xs : List X) → list_all p xs ≡ true → list_all p (drop n xs) ≡ true
-all_dropped p zero xs h = h
-all_dropped p (suc n) [] h = refl
-all_dropped p (suc n) (x ∷ xs) h = all_dropped p n xs (both (p x) (list_all p xs) h).1
+pub edited_length : (lines : List (List ℕ)) (edit : LineEdit) → is_in_range lines edit ≡ true → length (edited lines edit) + edit.remove ≡ length lines + length edit.insert
+edited_length lines edit h =
+    let range = in_range lines edit h in
+    let first = edit.from - 1 in
+    omega (arith, range.0, range.1, length-append (take first lines ++ edit.insert) (drop (first + edit.remove) lines), length-append (take first lines) edit.insert, length-take first lines, length-drop (first + edit.remove) lines)
 
-pub are_edited_lines : (lines : List (List ℕ)) (edit : LineEdit) → AreLines lines → AreLines edit.insert → AreLines (edited lines edit)
-are_edited_lines lines edit l i =
-    rw (list_all-append, list_all-append, all_taken is_line _ lines l, i) (all_dropped is_line _ lines l)
+pub edited_octets : (lines : List (List ℕ)) (edit : LineEdit) → octets_of (edited lines edit) + octets_of (removed lines edit) ≡ octets_of lines + octets_of edit.insert
+edited_octets lines edit =
+    let first = edit.from - 1 in
+    let n : first + edit.remove - first ≡ edit.remove = omega arith in
+    let same : octets_of (removed lines edit) ≡ octets_of (take edit.remove (drop first lines)) = ap (λ (m : ℕ). octets_of (take m (drop first lines))) n in
+    let behind : octets_of (drop edit.remove (drop first lines)) ≡ octets_of (drop (first + edit.remove) lines) = ap octets_of (drop-drop edit.remove first lines) in
+    omega (arith, same, behind, octets_append (take first lines ++ edit.insert) (drop (first + edit.remove) lines), octets_append (take first lines) edit.insert, octets_split lines first, octets_split (drop first lines) edit.remove)
 
--- an edit that was found to fit leaves a text
-pub edited_text : (lines after : List (List ℕ)) (edit : LineEdit) → AreLines lines → AreLines edit.insert
-    → after ≡ edited lines edit → fits_text (edited lines edit) ≡ true → FitsText after × AreLines after
-edited_text lines after edit l i same fits = rw same (grind (arith, nat_tests), are_edited_lines lines edit l i)
+-- the tests of the limits
+
+pub fits_known : (lines : List (List ℕ)) → length lines ≤ 4096 → octets_of lines ≤ 65536 → true ≡ fits_text lines
+fits_known lines a b = grind (arith, nat_tests, a, b)
+
+pub not_fitting : (lines : List (List ℕ)) → (length lines ≤ 4096 → octets_of lines ≤ 65536 → ⊥) → false ≡ fits_text lines
+not_fitting lines f = go (fits_text lines) refl
+  where
+    go : (b : Bool) → fits_text lines ≡ b → false ≡ fits_text lines
+    go false e = sym e
+    go true e =
+        let parts = both (nat_le (length lines) 4096) (nat_le (octets_of lines) 65536) e in
+        absurd (f (grind (arith, nat_tests, parts.0)) (grind (arith, nat_tests, parts.1)))

@@ -1,4 +1,5 @@
 -- Lemmas on texts.
 pub mod SameLines
-pub mod CopiedLines
+pub mod Spanned
+pub mod Ranges
 pub mod EditedLines

@@ -1,13 +1,7 @@
 -- Texts as lists of lines.
-use Rattle.std.specs.Prelude.{ℕ, ◌+◌, ◌≤◌, ◌==◌, Bool, not, ◌&&◌, nat_le, List, length, map, sum_by, IsTrue}
+use Rattle.std.specs.Prelude.{ℕ, ◌+◌, ◌≤◌, ◌==◌, Bool, not, ◌&&◌, nat_le, List, length, sum_by, IsTrue}
 use Rattle.std.specs.List.{list_all, common_prefix_len}
 use Rattle.std.specs.Str.{bytes_eq}
-use Rattle.std.specs.declared.vec.Vec.{Vec}
-use Rattle.std.specs.declared.alloc.Global.{Global}
-
--- the octets of each line, without its newline
-abbrev pub lists_of : List (Vec ℕ Global) → List (List ℕ)
-lists_of lines = map (λ (line : Vec ℕ Global). line.items) lines
 
 -- a line holds no newline, the octet 10
 abbrev pub is_line : List ℕ → Bool

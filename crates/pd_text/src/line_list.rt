@@ -1,90 +1,187 @@
 //! Lists of lines, of any length.
-ghost use Rattle.std.specs.Prelude.{◌≡◌, ◌++◌, ◌↔◌, length, IfOk, OnOk, IsTrue};
-ghost use Rattle.pd_text.specs.Text.{lists_of, AreLines};
+ghost use Rattle.std.specs.Prelude.{◌≡◌, ◌+◌, ◌-◌, ◌≤◌, ◌<◌, ◌++◌, ◌∷◌, ◌↔◌, [], Some, length, take, drop, option_copied, slice_get, IfOk, OnOk, OnErr, IsTrue};
+ghost use Rattle.pd_text.specs.Text.{front, is_line, octets_of, AreLines};
 
-use std::alloc::AllocError;
+use std::alloc::{AllocError, Global};
 use std::marker::Model;
+
+/// Where a line stands among the octets of its list.
+#[derive(Clone, Copy, PartialEq, Eq)]
+struct Span {
+    from: usize,
+    to: usize,
+}
 
 /// A list of lines, each its octets without the newline.
 #[derive(Drop)]
 pub struct LineList {
-    lines: Vec<Vec<u8>>,
+    octets: Vec<u8>,
+    spans: Vec<Span>,
 }
 
 impl Model for LineList {
-    ghost use Rattle.std.specs.Prelude.{List, ℕ};
-    ghost use Rattle.pd_text.specs.Text.{lists_of, AreLines};
+    ghost use Rattle.std.specs.Prelude.{◌≡◌, ◌+◌, List, ℕ, length, IsTrue};
+    ghost use Rattle.std.specs.List.{list_all};
+    ghost use Rattle.pd_text.specs.Text.{octets_of, AreLines};
+    ghost use Rattle.pd_text.specs.Spans.{lines_at, is_within};
 
     ghost Value = { List (List ℕ) };
 
-    ghost view = { λ l. lists_of l.lines.items };
+    ghost view = { λ l. lines_at l.octets.items l.spans.items };
 
-    ghost invariant = { λ l. AreLines (lists_of l.lines.items) };
+    ghost invariant = { λ l. IsTrue (list_all (is_within (length l.octets.items)) l.spans.items) × AreLines (lines_at l.octets.items l.spans.items) × (octets_of (lines_at l.octets.items l.spans.items) ≡ length l.octets.items + length l.spans.items) };
 }
 
 impl LineList {
-    /// The list of these lines, none of which holds a newline.
-    pub fn new(lines: Vec<Vec<u8>>) -> LineList
-        requires { AreLines (lists_of lines.items) }
-        ensures { result ≡ lists_of lines.items }
+    /// A list of no line.
+    pub fn new(alloc: Global) -> LineList
+        ensures { result ≡ [] }
     {
-        LineList { lines }
+        LineList {
+            octets: Vec::new(alloc),
+            spans: Vec::new(alloc),
+        }
     }
 
-    /// The lines, each without its newline.
-    pub fn as_slice(&self) -> &[Vec<u8>]
-        ensures value { lists_of result.now ≡ self.now }
-        ensures lines { AreLines self.now }
+    /// Adds a line, which holds no newline.
+    pub fn push(&mut self, line: &[u8]) -> Result<(), AllocError>
+        requires { IsTrue (is_line line.now) }
+        ensures ok { OnOk result (self.new ≡ self.old ++ line.now ∷ []) }
+        ensures same { OnErr result (self.new ≡ self.old) }
     {
-        self.lines.as_slice()
+        self.spans.reserve(1)?;
+        let from = self.octets.len();
+        self.octets.extend_from_slice(line)?;
+        let to = self.octets.len();
+        self.spans.push(Span { from, to }).unwrap();
+        Ok(())
     }
 
     /// How many lines it has.
     pub fn len(&self) -> usize
-        ensures { result ≡ length self.now }
+        ensures len { result ≡ length self.now }
+        ensures lines { AreLines self.now }
     {
-        self.lines.len()
+        self.spans.len()
+    }
+
+    /// How many octets its lines have, without their newlines.
+    pub fn octets(&self) -> usize
+        ensures { result + length self.now ≡ octets_of self.now }
+    {
+        self.octets.len()
+    }
+
+    /// Line `i`, counted from 0, or `None` behind the last.
+    #[inline(always)]
+    pub fn get(&self, i: usize) -> Option<&[u8]>
+        ensures line { option_copied result ≡ slice_get self.now i }
+        ensures lines { AreLines self.now }
+    {
+        if i < self.spans.len() {
+            Some(self.at(i))
+        } else {
+            None
+        }
+    }
+
+    /// Line `i`, counted from 0.
+    #[inline(always)]
+    fn at(&self, i: usize) -> &[u8]
+        requires { i < length self.now }
+        ensures line { slice_get self.now i ≡ Some result.now }
+        ensures lines { AreLines self.now }
+    {
+        let span = self.spans[i];
+        &self.octets[span.from..span.to]
     }
 
     /// Whether both have the same lines.
     pub fn is_same(&self, other: &LineList) -> bool
         ensures { IsTrue result ↔ (self.now ≡ other.now) }
     {
-        self.lines == other.lines
+        self.stands_as(other) || (self.len() == other.len() && self.same_front(other) == self.len())
     }
 
-    /// The lines themselves; takes no memory.
-    pub fn into_lines(self) -> Vec<Vec<u8>>
-        ensures value { lists_of result.items ≡ self }
-        ensures lines { AreLines self }
+    /// Whether both have the same octets at the same places.
+    fn stands_as(&self, other: &LineList) -> bool
+        ensures { IsTrue result → self.now ≡ other.now }
     {
-        let LineList { lines } = self;
-        lines
+        self.octets == other.octets && self.spans == other.spans
+    }
+
+    /// How many of their first lines are equal; takes no memory.
+    pub fn same_front(&self, other: &LineList) -> usize
+        ensures { result ≡ front self.now other.now }
+    {
+        let most = self.len().min(other.len());
+        'lines: for i in 0..most {
+            if self.at(i) != other.at(i) {
+                return i;
+            }
+        }
+        most
+    }
+
+    /// How many octets lines `from` up to `to` have, counted from 0, without their newlines.
+    pub fn octets_between(&self, from: usize, to: usize) -> usize
+        requires { (from ≤ to) × (to ≤ length self.now) }
+        ensures { result + (to - from) ≡ octets_of (take (to - from) (drop from self.now)) }
+    {
+        let _all = self.octets();
+        let mut octets = 0;
+        'lines: for i in from..to {
+            octets += self.at(i).len();
+        }
+        octets
+    }
+
+    /// Adds lines `first` up to `end` of another list, counted from 0.
+    pub fn push_lines(
+        &mut self,
+        list: &LineList,
+        first: usize,
+        end: usize,
+    ) -> Result<(), AllocError>
+        requires { (first ≤ end) × (end ≤ length list.now) }
+        ensures { OnOk result (self.new ≡ self.old ++ take (end - first) (drop first list.now)) }
+    {
+        'lines: for i in first..end {
+            self.push(list.at(i))?;
+        }
+        Ok(())
+    }
+
+    /// Makes room for so many lines with so many octets.
+    pub fn reserve(&mut self, lines: usize, octets: usize) -> Result<(), AllocError>
+        ensures { self.new ≡ self.old }
+    {
+        self.spans.reserve(lines)?;
+        self.octets.reserve(octets)
+    }
+
+    /// Gives back the room that no line takes.
+    pub fn shrink_to_fit(&mut self)
+        ensures { self.new ≡ self.old }
+    {
+        self.octets.shrink_to_fit();
+        self.spans.shrink_to_fit();
     }
 
     /// An equal list of its own.
     pub fn copy(&self) -> Result<LineList, AllocError>
         ensures { IfOk result (λ list. list ≡ self.now) }
     {
-        let mut lines = Vec::new(*self.lines.allocator());
-        push_copies(&mut lines, self.as_slice())?;
-        Ok(LineList { lines })
+        let alloc = *self.octets.allocator();
+        let mut octets = Vec::new(alloc);
+        octets.extend_from_slice(self.octets.as_slice())?;
+        let mut spans = Vec::new(alloc);
+        spans.extend_from_slice(self.spans.as_slice())?;
+        Ok(LineList { octets, spans })
     }
-}
 
-/// Puts copies of the lines of `from` behind those of `lines`.
-pub fn push_copies(lines: &mut Vec<Vec<u8>>, from: &[Vec<u8>]) -> Result<(), AllocError>
-    ensures { OnOk result (lists_of lines.new.items ≡ lists_of lines.old.items ++ lists_of from.now) }
-{
-    lines.reserve(from.len())?;
-    for line in from {
-        lines.push(copied(line)?)?;
+    /// The allocator that its octets come from.
+    pub fn allocator(&self) -> Global {
+        *self.octets.allocator()
     }
-    Ok(())
-}
-
-fn copied(line: &Vec<u8>) -> Result<Vec<u8>, AllocError>
-    ensures { IfOk result (λ copy. copy.items ≡ line.now.items) }
-{
-    line.clone()
 }

@@ -1,7 +1,10 @@
 //! The limits of a text.
-ghost use Rattle.std.specs.Prelude.{◌≡◌, ◌++◌};
-ghost use Rattle.pd_text.specs.Text.{lists_of, fits_text};
-ghost use Rattle.pd_text.specs.Room.{room_after};
+ghost use Rattle.std.specs.Prelude.{◌≡◌, true, is_some};
+ghost use Rattle.pd_text.specs.Text.{fits_text, FitsText};
+ghost use Rattle.pd_text.specs.Edit.{is_in_range, edited};
+
+use crate::line_edit::LineEdit;
+use crate::line_list::LineList;
 
 /// The greatest number of lines of a text.
 pub const MAX_LINES: usize = 4_096;
@@ -9,53 +12,36 @@ pub const MAX_LINES: usize = 4_096;
 /// The greatest number of octets of a text, each line counted with one more for its end.
 pub const MAX_OCTETS: usize = 65_536;
 
-/// How many lines and octets a text may still get.
-#[derive(Clone, Copy, PartialEq, Eq)]
-pub struct Room {
+/// Whether these lines make a text within the limits.
+pub fn fits(list: &LineList) -> bool
+    ensures { result ≡ fits_text list.now }
+{
+    list.len() <= MAX_LINES && list.octets() <= MAX_OCTETS - list.len()
+}
+
+/// How many lines a text has, and how many octets without the lines' ends.
+#[derive(Clone, Copy)]
+pub struct Size {
     pub lines: usize,
     pub octets: usize,
 }
 
-impl Room {
-    fn whole() -> Room
-        ensures { result ≡ record { lines = 4096; octets = 65536 } }
-    {
-        Room {
-            lines: MAX_LINES,
-            octets: MAX_OCTETS,
-        }
-    }
-
-    fn after(self, lines: &[Vec<u8>]) -> Option<Room>
-        ensures { result ≡ room_after self (lists_of lines.now) }
-    {
-        if lines.len() > self.lines {
-            return None;
-        }
-        let mut octets = self.octets;
-        for line in lines {
-            let len = line.len();
-            if len >= octets {
-                return None;
-            }
-            octets -= len + 1;
-        }
-        Some(Room {
-            lines: self.lines - lines.len(),
-            octets,
-        })
-    }
-}
-
-/// Whether the three lists make a text within the limits.
-pub fn fits(front: &[Vec<u8>], middle: &[Vec<u8>], back: &[Vec<u8>]) -> bool
-    ensures { result ≡ fits_text (lists_of front.now ++ lists_of middle.now ++ lists_of back.now) }
+/// The size of a text after an edit that lies within it, or `None` over the limits.
+pub fn edited_size(text: &LineList, edit: &LineEdit) -> Option<Size>
+    requires range { is_in_range text.now edit.now ≡ true }
+    requires fits { FitsText text.now }
+    ensures { is_some result ≡ fits_text (edited text.now edit.now) }
 {
-    let Some(room) = Room::whole().after(front) else {
-        return false;
-    };
-    let Some(room) = room.after(middle) else {
-        return false;
-    };
-    room.after(back).is_some()
+    let first = edit.from - 1;
+    let lines = text.len() - edit.remove;
+    let octets = text.octets() - text.octets_between(first, first + edit.remove);
+    let room = MAX_OCTETS - octets - lines;
+    let more = edit.insert.len();
+    if more > MAX_LINES - lines || more > room || edit.insert.octets() > room - more {
+        return None;
+    }
+    Some(Size {
+        lines: lines + more,
+        octets: octets + edit.insert.octets(),
+    })
 }

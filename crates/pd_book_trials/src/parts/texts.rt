@@ -86,7 +86,7 @@ fn name_said(name: &Name, copy: &Name) -> &'static str {
 
 /// How many lines the longest text has, and how many without all but the last.
 pub fn longest(alloc: Global) -> Result<String, StoryFault> {
-    let empty = Lines::new(Vec::new(alloc))?;
+    let empty = Lines::new(LineList::new(alloc))?;
     let longest = replaced(alloc, &empty, 0, MAX_LINES)?;
     let shortened = replaced(alloc, &longest, MAX_LINES - 1, 0)?;
     let lines = decimal(alloc, longest.len() as u64)?;
@@ -108,9 +108,9 @@ fn replaced(alloc: Global, lines: &Lines, remove: usize, count: usize) -> Result
 }
 
 fn empty_lines(alloc: Global, count: usize) -> Result<LineList, AllocError> {
-    let mut lines = Vec::new(alloc);
-    'pushing: for _ in 0..count {
-        lines.push(Vec::new(alloc))?;
+    let mut list = LineList::new(alloc);
+    for _ in 0..count {
+        list.push(&[])?;
     }
-    Ok(LineList::new(lines))
+    Ok(list)
 }

@@ -6,7 +6,7 @@ use crate::random::kinds::line;
 use crate::stories::{edit, name};
 use pd_book::{Done, Job};
 use pd_settings::Settings;
-use pd_text::{LineEdit, Lines, Name, Text, TextFault};
+use pd_text::{LineEdit, LineList, Lines, Name, Text, TextFault};
 use std::alloc::{AllocError, Global};
 
 /// The octets of a script's name.
@@ -25,7 +25,7 @@ pub fn text_of(alloc: Global, kinds: &[u8]) -> Result<Lines, AllocError> {
 }
 
 fn made_text(alloc: Global, kinds: &[u8]) -> Result<Lines, TextFault> {
-    let mut text = Lines::new(Vec::new(alloc))?;
+    let mut text = Lines::new(LineList::new(alloc))?;
     for kind in kinds {
         let behind = edit(alloc, text.len() + 1, 0, Some(line(*kind)))?;
         text = applied(&text, &behind)?;

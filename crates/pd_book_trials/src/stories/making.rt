@@ -1,5 +1,5 @@
 //! Names, texts and edits made of octets.
-ghost use Rattle.std.specs.Prelude.{◌≡◌, IfOk};
+ghost use Rattle.std.specs.Prelude.{◌≡◌};
 ghost use Rattle.pd_text.specs.Text.{is_line};
 
 use pd_text::{LineEdit, LineList, Lines, Name, TextFault};
@@ -10,9 +10,7 @@ pub fn name(alloc: Global, octets: &[u8]) -> Result<Name, AllocError> {
     Ok(Name::new(owned(alloc, octets)?))
 }
 
-fn owned(alloc: Global, octets: &[u8]) -> Result<Vec<u8>, AllocError>
-    ensures { IfOk result (λ own. own.items ≡ octets.now) }
-{
+fn owned(alloc: Global, octets: &[u8]) -> Result<Vec<u8>, AllocError> {
     let mut own = Vec::new(alloc);
     own.extend_from_slice(octets)?;
     Ok(own)
@@ -26,15 +24,13 @@ fn is_line(octets: &[u8]) -> bool
 
 /// The list of at most one line, which holds no newline.
 fn line_list(alloc: Global, line: Option<&[u8]>) -> Result<LineList, AllocError> {
+    let mut list = LineList::new(alloc);
     if let Some(octets) = line {
-        let line = owned(alloc, octets)?;
-        if is_line(line.as_slice()) {
-            let mut lines = Vec::new(alloc);
-            lines.push(line)?;
-            return Ok(LineList::new(lines));
+        if is_line(octets) {
+            list.push(octets)?;
         }
     }
-    Ok(LineList::new(Vec::new(alloc)))
+    Ok(list)
 }
 
 /// An edit that removes lines and inserts at most one, which holds no newline.
@@ -56,7 +52,7 @@ pub fn edit(
 /// # Errors
 /// `TooLarge` where they are over the limits of a text.
 pub fn text(alloc: Global, written: &str) -> Result<Lines, TextFault> {
-    let mut text = Lines::new(Vec::new(alloc))?;
+    let mut text = Lines::new(LineList::new(alloc))?;
     if written.is_empty() {
         return Ok(text);
     }

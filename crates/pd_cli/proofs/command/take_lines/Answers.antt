@@ -1,6 +1,6 @@
-use Rattle.std.proofs.Common.{ℕ, List, [], ◌∷◌, ◌++◌, option_and_then, ◌+◌, ◌∙◌, arith}
+use Rattle.std.proofs.Common.{ℕ, List, [], ◌∷◌, ◌++◌, option_and_then, ◌+◌, ◌∙◌, ◌≡◌, ap, arith}
 use Rattle.pd_cli.specs.Commands.{fitted}
-use Rattle.pd_cli.specs.Input.{to_come}
+use Rattle.pd_cli.specs.Input.{IfKnown, to_come, work_left}
 use Rattle.pd_cli.specs.TakenLines.{TakesLine}
 use Rattle.pd_cli.specs.Taking.{TakesLines, LinesFault}
 use Rattle.pd_cli.specs.declared.intake.Taken.TheVariants.{Whole, Long, End}
@@ -23,15 +23,21 @@ loop-turn-preserved g c =
     let new = to_come c.next_line.new.self (g.R.Read.remaining c.next_line.new.reader) in
     let far = SoFar c.loop-turn._turn c.loop-turn.gathered in
     let next = SoFar (c.loop-turn._turn + 1) c.match-branch-2.gathered in
+    let back : c.match-branch-2.intake ≡ c.next_line.new.self =
+    elim c.match-branch-2.branch [
+      | in-Whole+in_ok-add-in-Whole w ↦ w.intake-is ∙ w.give_back.ensures
+      | in-Long w ↦ w.intake-is
+    ] in
+    let so_far : IfKnown next old new =
+    elim c.match-branch-2.branch [
+      | in-Whole+in_ok-add-in-Whole w ↦ known_then far (TakesLine 65536 (Whole w.in-Whole.line)) next old mid new
+          (λ x y z s t. so_whole c.loop-turn._turn c.loop-turn.gathered c.match-branch-2.gathered w.in-Whole.line.items x y z (◌∙◌ {c = option_and_then (λ (texts : List (List ℕ)). fitted (texts ++ w.in-Whole.line.items ∷ [])) c.loop-turn.gathered} w.gathered-is (rw w.as_slice.ensures.value at w.in_ok-add-in-Whole.ensures)) s t) c.loop-turn.invariant.so_far (rw w.in-Whole.is at c.in_ok-line.ensures.line)
+      | in-Long w ↦ known_then far (TakesLine 65536 Long) next old mid new
+          (λ x y z s t. so_long c.loop-turn._turn c.loop-turn.gathered c.match-branch-2.gathered x y z (w.gathered-is ∙ w.add_long.ensures) s t) c.loop-turn.invariant.so_far (rw w.in-Long.is at c.in_ok-line.ensures.line)
+    ] in
     record {
-      less = omega (arith, c.in_ok-line.ensures.less, c.loop-turn.invariant.less);
-      so_far =
-          elim c.match-branch-2.branch [
-            | in-Whole+in_ok-add-in-Whole w ↦ known_then far (TakesLine 65536 (Whole w.in-Whole.line)) next old mid new
-                (λ x y z s t. so_whole c.loop-turn._turn c.loop-turn.gathered c.match-branch-2.gathered w.in-Whole.line.items x y z (◌∙◌ {c = option_and_then (λ (texts : List (List ℕ)). fitted (texts ++ w.in-Whole.line.items ∷ [])) c.loop-turn.gathered} w.gathered-is w.in_ok-add-in-Whole.ensures) s t) c.loop-turn.invariant.so_far (rw w.in-Whole.is at c.in_ok-line.ensures.line)
-            | in-Long w ↦ known_then far (TakesLine 65536 Long) next old mid new
-                (λ x y z s t. so_long c.loop-turn._turn c.loop-turn.gathered c.match-branch-2.gathered x y z (w.gathered-is ∙ w.add_long.ensures) s t) c.loop-turn.invariant.so_far (rw w.in-Long.is at c.in_ok-line.ensures.line)
-          ];
+      less = omega (arith, c.in_ok-line.ensures.less, c.loop-turn.invariant.less, ap work_left back);
+      so_far = rw back so_far;
     }
 
 pub loop-turn-init : goal.loop-turn-init

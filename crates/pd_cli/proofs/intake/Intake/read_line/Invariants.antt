@@ -5,7 +5,7 @@ use Rattle.pd_cli.proofs.Fronts.{Front}
 use Rattle.pd_cli.proofs.intake.Intake.read_line.Given as goal
 
 abbrev pub invariant-loop-line : goal.invariant-loop-line
-invariant-loop-line g l = record { room : length l.line.items ≤ l.cap; less : work_left l.self ≤ work_left l.initial.self; front : Front l.cap l.line.items (prepend_known l.initial.self.0 (g.R.Read.remaining l.initial.reader)) (prepend_known l.self.0 (g.R.Read.remaining l.reader)) }
+invariant-loop-line g l = record { room : length l.line.items ≤ l.cap; less : work_left l.self ≤ work_left l.fn.self; front : Front l.cap l.line.items (prepend_known l.fn.self.0 (g.R.Read.remaining l.fn.reader)) (prepend_known l.self.0 (g.R.Read.remaining l.reader)) }
 
 abbrev pub decreases-loop-line : goal.decreases-loop-line
 decreases-loop-line g l = work_left l.self
