@@ -2,13 +2,15 @@
 ghost use Rattle.std.specs.Prelude.{◌≡◌};
 ghost use Rattle.pd_lex.specs.Numbers.{first_octet};
 ghost use Rattle.pd_lex.specs.Lexing.{IsNext};
+ghost use Rattle.pd_text.specs.Text.{AreLines};
 ghost use Rattle.pd_lex.specs.Next.{IsCut, HasLine, HasText};
+ghost use Rattle.pd_lex.specs.Scanned.{IsLeftInLine};
 
 use crate::numbers::number_of;
-use crate::plain::plain_at;
+use crate::plain::{plain_at, sign_at};
 use crate::standing::behind_blanks;
 use crate::step::{Step, step_at};
-use crate::token::{Lexed, Place, Token};
+use crate::token::{Lexed, Place, Token, TokenKind};
 use pd_text::Lines;
 
 /// The first token from a place on, with the place behind it: blanks and comments are passed over.
@@ -33,7 +35,7 @@ pub fn read_next<'a>(lines: &'a Lines, place: Place, next: &mut Lexed<'a>)
     ensures line { HasLine lines.now next.new }
     ensures text { HasText lines.now next.new }
 {
-    // The common tokens, with blanks and newlines alone before them, need no more.
+    // A sign, with blanks and newlines alone before it, needs no more.
     let mut here = place;
     'lines: loop {
         let Some(line) = lines.line(here.line) else {
@@ -49,22 +51,49 @@ pub fn read_next<'a>(lines: &'a Lines, place: Place, next: &mut Lexed<'a>)
             at,
         };
         let rest = &line[at..];
-        let Some(plain) = plain_at(rest) else {
-            return read_on(lines, from, next);
+        let Some(octet) = sign_at(rest) else {
+            return read_at(lines, from, rest, next);
         };
         *next = Lexed::Token(Token {
-            kind: plain.kind,
-            symbol: plain.symbol,
-            number: plain.number,
-            text: &rest[..plain.len],
+            kind: TokenKind::Symbol,
+            symbol: octet,
+            number: 0,
+            text: &rest[..1],
             from,
             to: Place {
                 line: from.line,
-                at: at + plain.len,
+                at: at + 1,
             },
         });
         return;
     }
+}
+
+/// Reads a token that is no sign, at a place in a line of which this much is left. It stands apart,
+/// since a sign needs few registers.
+#[inline(never)]
+fn read_at<'a>(lines: &'a Lines, from: Place, rest: &'a [u8], next: &mut Lexed<'a>)
+    requires left { IsLeftInLine lines.now from rest.now }
+    requires plain { AreLines lines.now }
+    ensures next { IsNext lines.now from next.new }
+    ensures cut { IsCut lines.now from next.new }
+    ensures line { HasLine lines.now next.new }
+    ensures text { HasText lines.now next.new }
+{
+    let Some(plain) = plain_at(rest) else {
+        return read_on(lines, from, next);
+    };
+    *next = Lexed::Token(Token {
+        kind: plain.kind,
+        symbol: plain.symbol,
+        number: plain.number,
+        text: &rest[..plain.len],
+        from,
+        to: Place {
+            line: from.line,
+            at: from.at + plain.len,
+        },
+    });
 }
 
 /// Reads any token, also behind comments.

@@ -128,6 +128,22 @@ fn symbol(octet: u8) -> Option<Plain>
     })
 }
 
+/// The octet at the front, where it begins a Symbol and nothing else.
+#[inline(always)]
+pub fn sign_at(s: &[u8]) -> Option<u8>
+    ensures piece { IfSome result (λ _. Whole Symbol 1 ≡ piece s.now) }
+    ensures within { IfSome result (λ _. 1 ≤ length s.now) }
+    ensures symbol { IfSome result (λ octet. take 1 s.now ≡ octet ∷ []) }
+{
+    let [octet, ..] = s else {
+        return None;
+    };
+    match class_of(*octet) {
+        Class::Sign => Some(*octet),
+        _ => None,
+    }
+}
+
 /// The token at the front of what is left of a line, where it is one of the common.
 #[inline(always)]
 pub fn plain_at(s: &[u8]) -> Option<Plain>

@@ -7,7 +7,7 @@ use Rattle.std.proofs.Math.Seq.{take-append-add}
 use Rattle.pd_reparse.specs.declared.decided.Decided.{Decided}
 use Rattle.pd_reparse.specs.Blocks.{AreBlocks, events_in}
 
-pub length_events : (bs : List (List Decided)) → AreBlocks bs → length (events_in bs) ≡ 8 * length bs
+pub length_events : (bs : List (List Decided)) → AreBlocks bs → length (events_in bs) ≡ 16 * length bs
 length_events [] h = refl
 length_events (b ∷ bs) h =
     let long = length-append b (events_in bs) in
@@ -16,32 +16,32 @@ length_events (b ∷ bs) h =
     omega (arith, long, more, one)
 
 -- the first blocks have the first events
-pub take_blocks : (n : ℕ) (bs : List (List Decided)) → AreBlocks bs → n ≤ length bs → take (8 * n) (events_in bs) ≡ events_in (take n bs)
+pub take_blocks : (n : ℕ) (bs : List (List Decided)) → AreBlocks bs → n ≤ length bs → take (16 * n) (events_in bs) ≡ events_in (take n bs)
 take_blocks zero bs h k = refl
 take_blocks (suc n) [] h k = absurd (omega (arith, k))
 take_blocks (suc n) (b ∷ bs) h k =
     let one = h.0 in
-    let at : 8 * suc n ≡ length b + 8 * n = omega (arith, one) in
-    ap (λ (m : ℕ). take m (b ++ events_in bs)) at ∙ take-append-add b (events_in bs) (8 * n) ∙ ap (λ (l : List Decided). b ++ l) (take_blocks n bs h.1 (omega (arith, k)))
+    let at : 16 * suc n ≡ length b + 16 * n = omega (arith, one) in
+    ap (λ (m : ℕ). take m (b ++ events_in bs)) at ∙ take-append-add b (events_in bs) (16 * n) ∙ ap (λ (l : List Decided). b ++ l) (take_blocks n bs h.1 (omega (arith, k)))
 
--- the event at an index stands in the block of its eighth
-pub in_block : (i j : ℕ) (bs : List (List Decided)) (e : List Decided) (d : Decided) → AreBlocks bs → i < length bs → j < 8 → get_or (events_in bs) (8 * i + j) d ≡ get_or (get_or bs i e) j d
+-- the event at an index stands in the block of its sixteenth part
+pub in_block : (i j : ℕ) (bs : List (List Decided)) (e : List Decided) (d : Decided) → AreBlocks bs → i < length bs → j < 16 → get_or (events_in bs) (16 * i + j) d ≡ get_or (get_or bs i e) j d
 in_block i j [] e d h k l = absurd (omega (arith, k))
 in_block zero j (b ∷ bs) e d h k l =
     let one = h.0 in
-    let at : 8 * 0 + j ≡ j = omega arith in
+    let at : 16 * 0 + j ≡ j = omega arith in
     ap (λ (m : ℕ). get_or (b ++ events_in bs) m d) at ∙ get_or_append_left b (events_in bs) d j (omega (arith, one, l))
 in_block (suc i) j (b ∷ bs) e d h k l =
     let one = h.0 in
-    let at : 8 * suc i + j ≡ length b + (8 * i + j) = omega (arith, one) in
-    ap (λ (m : ℕ). get_or (b ++ events_in bs) m d) at ∙ get_or-append-add b (events_in bs) (8 * i + j) d ∙ in_block i j bs e d h.1 (omega (arith, k)) l
+    let at : 16 * suc i + j ≡ length b + (16 * i + j) = omega (arith, one) in
+    ap (λ (m : ℕ). get_or (b ++ events_in bs) m d) at ∙ get_or-append-add b (events_in bs) (16 * i + j) d ∙ in_block i j bs e d h.1 (omega (arith, k)) l
 
-pub block_holds : (i : ℕ) (bs : List (List Decided)) (e : List Decided) → AreBlocks bs → i < length bs → length (get_or bs i e) ≡ 8
+pub block_holds : (i : ℕ) (bs : List (List Decided)) (e : List Decided) → AreBlocks bs → i < length bs → length (get_or bs i e) ≡ 16
 block_holds i [] e h k = absurd (omega (arith, k))
 block_holds zero (b ∷ bs) e h k = h.0
 block_holds (suc i) (b ∷ bs) e h k = block_holds i bs e h.1 (omega (arith, k))
 
-pub blocks_more : (bs : List (List Decided)) (b : List Decided) → AreBlocks bs → length b ≡ 8 → AreBlocks (bs ++ b ∷ [])
+pub blocks_more : (bs : List (List Decided)) (b : List Decided) → AreBlocks bs → length b ≡ 16 → AreBlocks (bs ++ b ∷ [])
 blocks_more [] b h e = (e, tt)
 blocks_more (x ∷ xs) b h e = (h.0, blocks_more xs b h.1 e)
 
@@ -51,30 +51,30 @@ blocks_first (suc n) [] h = tt
 blocks_first (suc n) (b ∷ bs) h = (h.0, blocks_first n bs h.1)
 
 -- the event at an index of the whole stands in a block
-pub at_in_block : (index : ℕ) (bs : List (List Decided)) (rest b : List Decided) (d : Decided) → AreBlocks bs → index / 8 < length bs → b ≡ get_or bs (index / 8) b → d ≡ get_or b (index % 8) d → d ≡ get_or (events_in bs ++ rest) index d
+pub at_in_block : (index : ℕ) (bs : List (List Decided)) (rest b : List Decided) (d : Decided) → AreBlocks bs → index / 16 < length bs → b ≡ get_or bs (index / 16) b → d ≡ get_or b (index % 16) d → d ≡ get_or (events_in bs ++ rest) index d
 at_in_block index bs rest b d h k eb ed =
     let whole = length_events bs h in
     let left = get_or_append_left (events_in bs) rest d index (omega (arith, whole, k)) in
-    let at : index ≡ 8 * (index / 8) + index % 8 = omega arith in
-    let inside = in_block (index / 8) (index % 8) bs b d h k (omega arith) in
-    ed ∙ ap (λ (l : List Decided). get_or l (index % 8) d) eb ∙ sym inside ∙ ap (λ (m : ℕ). get_or (events_in bs) m d) (sym at) ∙ sym left
+    let at : index ≡ 16 * (index / 16) + index % 16 = omega arith in
+    let inside = in_block (index / 16) (index % 16) bs b d h k (omega arith) in
+    ed ∙ ap (λ (l : List Decided). get_or l (index % 16) d) eb ∙ sym inside ∙ ap (λ (m : ℕ). get_or (events_in bs) m d) (sym at) ∙ sym left
 
 -- or behind them
-pub at_behind : (index : ℕ) (bs : List (List Decided)) (rest : List Decided) (d : Decided) → AreBlocks bs → length bs ≤ index / 8 → d ≡ get_or rest (index - 8 * length bs) d → d ≡ get_or (events_in bs ++ rest) index d
+pub at_behind : (index : ℕ) (bs : List (List Decided)) (rest : List Decided) (d : Decided) → AreBlocks bs → length bs ≤ index / 16 → d ≡ get_or rest (index - 16 * length bs) d → d ≡ get_or (events_in bs ++ rest) index d
 at_behind index bs rest d h k ed =
-    ed ∙ sym (get_or-append_right (events_in bs) rest (8 * length bs) index d (length_events bs h) (omega (arith, k)))
+    ed ∙ sym (get_or-append_right (events_in bs) rest (16 * length bs) index d (length_events bs h) (omega (arith, k)))
 
-pub length_whole : (bs : List (List Decided)) (rest : List Decided) → AreBlocks bs → length (events_in bs ++ rest) ≡ 8 * length bs + length rest
+pub length_whole : (bs : List (List Decided)) (rest : List Decided) → AreBlocks bs → length (events_in bs ++ rest) ≡ 16 * length bs + length rest
 length_whole bs rest h =
     let both = length-append (events_in bs) rest in
-    let eight = length_events bs h in
-    omega (arith, both, eight)
+    let whole = length_events bs h in
+    omega (arith, both, whole)
 
 -- the events of the first blocks are the first of all
-pub first_of_whole : (n : ℕ) (bs : List (List Decided)) (rest : List Decided) → AreBlocks bs → n ≤ length bs → events_in (take n bs) ≡ take (8 * n) (events_in bs ++ rest)
+pub first_of_whole : (n : ℕ) (bs : List (List Decided)) (rest : List Decided) → AreBlocks bs → n ≤ length bs → events_in (take n bs) ≡ take (16 * n) (events_in bs ++ rest)
 first_of_whole n bs rest h k =
     let whole = length_events bs h in
-    sym (take_blocks n bs h k) ∙ sym (take-append-le (8 * n) (events_in bs) rest (omega (arith, whole, k)))
+    sym (take_blocks n bs h k) ∙ sym (take-append-le (16 * n) (events_in bs) rest (omega (arith, whole, k)))
 
 -- ---- lists that are copied one by one
 
@@ -113,7 +113,7 @@ counted_more p i bs b k eb =
     ∙ sum_by-append (λ (d : Decided). cond (p d) 1 0) (events_in (take i bs)) (b ++ [])
     ∙ ap (λ l. count_by p (events_in (take i bs)) + count_by p l) (append-nil b)
 
-pub counted_few : (p : Decided → Bool) (i : ℕ) (bs : List (List Decided)) → AreBlocks bs → i ≤ length bs → count_by p (events_in (take i bs)) ≤ 8 * i
+pub counted_few : (p : Decided → Bool) (i : ℕ) (bs : List (List Decided)) → AreBlocks bs → i ≤ length bs → count_by p (events_in (take i bs)) ≤ 16 * i
 counted_few p i bs h k =
     let few = count_by-le-length p (events_in (take i bs)) in
     let long = length_events (take i bs) (blocks_first i bs h) in

@@ -1,24 +1,21 @@
 -- The steps of the loop over events.
-use Rattle.std.proofs.Common.{◌≡◌, ℕ, zero, suc, ◌+◌, ◌-◌, ◌<◌, ◌≤◌, Bool, true, false, cond, List, [], ◌∷◌, ◌++◌, length, Option, Some, None, is_some, Ok, Err, refl, sym, ap, subst, ◌∙◌, arith, append_assoc}
+use Rattle.std.proofs.Common.{◌≡◌, ℕ, zero, suc, ◌+◌, ◌-◌, ◌<◌, Bool, true, false, cond, List, [], ◌∷◌, ◌++◌, length, Option, Some, None, is_some, Ok, Err, refl, sym, ap, ◌∙◌, arith, append_assoc}
 use Rattle.std.proofs.lemmas.List.{append-nil, length-append}
 use Rattle.pd_lex.specs.declared.token.Place.{Place}
 use Rattle.pd_lex.specs.Tokens.{Item}
-use Rattle.pd_lex.specs.Lexing.{items}
 use Rattle.pd_script.specs.declared.script_events.Event.{Event}
 use Rattle.pd_script.specs.Items.{starts_event, is_end, goes_on, next_is}
 use Rattle.pd_script.specs.Reader.{Read}
 use Rattle.pd_script.specs.Reading.{next_line, event_at}
 use Rattle.pd_script.specs.Script.{followed, may_follow}
-use Rattle.pd_script.proofs.Apart.{or-elim, or-right}
-use Rattle.pd_script.proofs.Laws.{value_is, rest_is, ok}
-use Rattle.pd_script.specs.declared.deciding.NextEvent.{NextEvent}
+use Rattle.pd_script.proofs.Apart.{or-right}
+use Rattle.pd_script.proofs.Laws.{rest_is, ok}
 use Rattle.pd_script.specs.declared.deciding.NextEvent.TheVariants.{Got, End, Fault}
 use Rattle.pd_reparse.specs.declared.decided.Decided.{Decided}
-use Rattle.pd_reparse.specs.declared.steps.Step.{Step}
-use Rattle.pd_reparse.specs.declared.steps.Step.TheVariants.{Goes, Stops}
+use Rattle.pd_reparse.specs.declared.steps.Step.TheVariants.{Goes}
 use Rattle.pd_reparse.specs.Steps.{IsStep}
 use Rattle.pd_script.specs.Next.{next_place, reach_of, got, next_in}
-use Rattle.pd_reparse.specs.Reading.{DecidedEvents, decided, with_decided, none_decided, decided_in, in_front}
+use Rattle.pd_reparse.specs.Reading.{with_decided, none_decided, decided_in, in_front}
 
 -- ---- what the next event tells
 
@@ -122,11 +119,12 @@ one_too_many ts e after line h =
     rw (G.start, G.reads, F.0, F.1) refl
 
 -- it is kept
-pub got_kept : (n : ℕ) (ts : List Item) (e : Event) (after : Place) (reach : Option ℕ) (behind : List Item) → next_in ts ≡ Got e after reach → event_at ts ≡ Ok (e, behind) → (n ≡ 0 → reach ≡ None) → (decided_in (suc n) ts ≡ in_front (record { event = e; reach = reach; after = after } ∷ []) (decided_in n behind)) × (n ≡ 0 → next_is is_end behind ≡ true)
+pub got_kept : (n : ℕ) (ts : List Item) (e : Event) (after : Place) (reach : Option ℕ) (behind : List Item) → next_in ts ≡ Got e after reach → followed goes_on (event_at ts) ≡ Ok (e, behind) → (n ≡ 0 → reach ≡ None) → (decided_in (suc n) ts ≡ in_front (record { event = e; reach = reach; after = after } ∷ []) (decided_in n behind)) × (n ≡ 0 → next_is is_end behind ≡ true)
 unfolding decided_in
 got_kept n ts e after reach behind h there few =
     let G = got_is ts e after reach h in
-    let same : G.rest ≡ behind = rest_is e e G.rest behind (sym G.reads ∙ there) in
+    let read : followed goes_on (event_at ts) ≡ ok e G.rest = rw (G.reads, G.follows) refl in
+    let same : G.rest ≡ behind = rest_is e e G.rest behind (sym read ∙ there) in
     let follows : next_is (may_follow n) G.rest ≡ true = may n few G.rest G.reach_is G.follows in
     let here : decided_in (suc n) ts ≡ in_front (record { event = e; reach = reach; after = after } ∷ []) (decided_in n G.rest) = rw (G.start, G.reads, follows, G.place, G.reach_is) refl in
     (here ∙ ap (λ (l : List Item). in_front (record { event = e; reach = reach; after = after } ∷ []) (decided_in n l)) same, λ z. ap (next_is is_end) (sym same) ∙ ends_there G.rest (G.reach_is ∙ few z))
@@ -137,12 +135,12 @@ got_kept n ts e after reach behind h there few =
 
 -- ---- steps
 
-pub stops_at_limit : (lines : List (List ℕ)) (ts : List Item) (n : ℕ) (e : Event) (after : Place) (reach : Option ℕ) → next_in ts ≡ Got e after reach → n ≡ 0 → is_some reach ≡ true → IsStep lines ts n (Stops reach)
-stops_at_limit lines ts n e after (Some line) h z some = ap (λ (m : ℕ). decided_in (suc m) ts) z ∙ one_too_many ts e after line h
-stops_at_limit lines ts n e after None h z some = absurd cc
+pub stops_at_limit : (ts : List Item) (n : ℕ) (e : Event) (after : Place) (reach : Option ℕ) → next_in ts ≡ Got e after reach → n ≡ 0 → is_some reach ≡ true → decided_in (suc n) ts ≡ record { events = []; fault = reach }
+stops_at_limit ts n e after (Some line) h z some = ap (λ (m : ℕ). decided_in (suc m) ts) z ∙ one_too_many ts e after line h
+stops_at_limit ts n e after None h z some = absurd cc
 
-pub goes_further_on : (lines : List (List ℕ)) (ts : List Item) (n : ℕ) (e : Event) (after : Place) (reach : Option ℕ) → next_in ts ≡ Got e after reach → event_at ts ≡ Ok (e, items lines after) → (n ≡ 0 → is_some reach ≡ false) → IsStep lines ts n (Goes (record { event = e; reach = reach; after = after }))
-goes_further_on lines ts n e after reach h there few = got_kept n ts e after reach (items lines after) h there (λ z. none_is reach (few z))
+pub goes_further_on : (rest ts : List Item) (n : ℕ) (e : Event) (after : Place) (reach : Option ℕ) → next_in ts ≡ Got e after reach → followed goes_on (event_at ts) ≡ Ok (e, rest) → (n ≡ 0 → is_some reach ≡ false) → IsStep rest ts n (Goes (record { event = e; reach = reach; after = after }))
+goes_further_on rest ts n e after reach h there few = got_kept n ts e after reach rest h there (λ z. none_is reach (few z))
   where
     none_is : (r : Option ℕ) → is_some r ≡ false → r ≡ None
     none_is None e = refl
@@ -159,15 +157,14 @@ pub record OnTheWay (front : List Decided) (limit : ℕ) (start : List Item) (ev
 pub on_the_way : (front : List Decided) (start : List Item) → length front < 4096 → OnTheWay front (4096 - length front) start front (length front) start
 on_the_way front start few = record { whole = refl; count = refl; last = λ e. absurd (omega (arith, e, few)) }
 
-pub one_more : (front : List Decided) (limit : ℕ) (start : List Item) (events : List Decided) (i : ℕ) (lines : List (List ℕ)) (now : List Item) (d : Decided) → OnTheWay front limit start events i now → i < 4096 → IsStep lines now (4096 - i - 1) (Goes d) → OnTheWay front limit start (events ++ d ∷ []) (i + 1) (items lines d.after)
-one_more front limit start events i lines now d W lt S =
+pub one_more : (front : List Decided) (limit : ℕ) (start : List Item) (events : List Decided) (i : ℕ) (rest now : List Item) (d : Decided) → OnTheWay front limit start events i now → i < 4096 → IsStep rest now (4096 - i - 1) (Goes d) → OnTheWay front limit start (events ++ d ∷ []) (i + 1) rest
+one_more front limit start events i rest now d W lt S =
     let n = 4096 - (i + 1) in
     let is : 4096 - i ≡ suc (4096 - i - 1) = omega (arith, lt) in
     let less : 4096 - i - 1 ≡ n = omega (arith, lt) in
-    let behind = items lines d.after in
-    let goes : decided_in (4096 - i) now ≡ in_front (d ∷ []) (decided_in n behind) = ap (λ (m : ℕ). decided_in m now) is ∙ S.0 ∙ ap (λ (m : ℕ). in_front (d ∷ []) (decided_in m behind)) less in
+    let goes : decided_in (4096 - i) now ≡ in_front (d ∷ []) (decided_in n rest) = ap (λ (m : ℕ). decided_in m now) is ∙ S.0 ∙ ap (λ (m : ℕ). in_front (d ∷ []) (decided_in m rest)) less in
     record {
-      whole = ap (λ (es : List Decided). record { events = es; fault = (decided_in n behind).fault }) (append_assoc events (d ∷ []) (decided_in n behind).events) ∙ ap (in_front events) (sym goes) ∙ W.whole;
+      whole = ap (λ (es : List Decided). record { events = es; fault = (decided_in n rest).fault }) (append_assoc events (d ∷ []) (decided_in n rest).events) ∙ ap (in_front events) (sym goes) ∙ W.whole;
       count = length-append events (d ∷ []) ∙ (let c = W.count in omega (arith, c));
       last = λ z. S.1 (omega (arith, z));
     }
@@ -177,8 +174,8 @@ pub no_more : (front : List Decided) (limit : ℕ) (start : List Item) (events :
 no_more front limit start events i now fault W none =
     ap (λ (es : List Decided). record { events = es; fault = fault }) (sym (append-nil events)) ∙ ap (in_front events) (sym none) ∙ W.whole
 
-pub none_more : (front : List Decided) (limit : ℕ) (start : List Item) (events : List Decided) (i : ℕ) (lines : List (List ℕ)) (now : List Item) (fault : Option ℕ) → OnTheWay front limit start events i now → i < 4096 → IsStep lines now (4096 - i - 1) (Stops fault) → record { events = events; fault = fault } ≡ in_front front (decided_in limit start)
-none_more front limit start events i lines now fault W lt S =
+pub none_more : (front : List Decided) (limit : ℕ) (start : List Item) (events : List Decided) (i : ℕ) (now : List Item) (fault : Option ℕ) → OnTheWay front limit start events i now → i < 4096 → decided_in (suc (4096 - i - 1)) now ≡ record { events = []; fault = fault } → record { events = events; fault = fault } ≡ in_front front (decided_in limit start)
+none_more front limit start events i now fault W lt S =
     let is : 4096 - i ≡ suc (4096 - i - 1) = omega (arith, lt) in
     no_more front limit start events i now fault W (ap (λ (m : ℕ). decided_in m now) is ∙ S)
 

@@ -9,9 +9,9 @@ use std::marker::Model;
 use std::sync::Arc;
 
 /// How many events stand in a block.
-pub const BLOCK: usize = 8;
+pub const BLOCK: usize = 16;
 
-/// Eight events, held once however many readings keep them.
+/// So many events, held once however many readings keep them.
 #[derive(Drop)]
 pub struct EventBlock {
     events: Arc<Vec<Decided>>,

@@ -1,5 +1,5 @@
 //! The events of a reading.
-ghost use Rattle.std.specs.Prelude.{◌≡◌, ◌≤◌, ◌<◌, ◌++◌, ◌∷◌, [], length, take, drop, ◌-◌, ◌*◌, get_or, count_by, IfOk, OnOk};
+ghost use Rattle.std.specs.Prelude.{◌≡◌, ◌≤◌, ◌<◌, ◌++◌, ◌∷◌, [], length, take, drop, ◌-◌, ◌*◌, get_or, count_by, IfOk, OnOk, OnErr};
 ghost use Rattle.pd_reparse.specs.Reading.{is_within};
 ghost use Rattle.pd_reparse.specs.Blocks.{AreBlocks, events_in};
 ghost use Rattle.pd_reparse.specs.declared.decided.Decided.{Decided};
@@ -10,8 +10,8 @@ use std::alloc::{AllocError, Global};
 use std::marker::Model;
 use std::mem;
 
-/// At most 4,096 events in order, each with what decided it: in blocks that other readings may keep too, and behind them fewer than a
-/// block.
+/// At most 4,096 events in order, each with what decided it: in blocks that other readings may keep
+/// too, and behind them fewer than a block.
 #[derive(Drop)]
 pub struct EventList {
     blocks: Vec<EventBlock>,
@@ -27,7 +27,7 @@ impl Model for EventList {
 
     ghost view = { λ l. events_in l.blocks.items ++ l.rest.items };
 
-    ghost invariant = { λ l. AreBlocks l.blocks.items × (length l.rest.items < 8) × (8 * length l.blocks.items + length l.rest.items ≤ 4096) };
+    ghost invariant = { λ l. AreBlocks l.blocks.items × (length l.rest.items < 16) × (16 * length l.blocks.items + length l.rest.items ≤ 4096) };
 }
 
 impl EventList {
@@ -67,7 +67,7 @@ impl EventList {
         requires { length self.old < 4096 }
         ensures { OnOk result (self.new ≡ self.old ++ decided ∷ []) }
     {
-        self.rest.push(decided)?;
+        append(&mut self.rest, decided)?;
         if self.rest.len() == BLOCK {
             let alloc = *self.rest.allocator();
             let full = mem::replace(&mut self.rest, Vec::new(alloc));
@@ -90,9 +90,9 @@ impl EventList {
 
     /// The first blocks, shared.
     fn first_blocks(&self, count: usize) -> Result<Vec<EventBlock>, AllocError>
-        requires { 8 * count ≤ length self.now }
+        requires { 16 * count ≤ length self.now }
         ensures blocks { IfOk result (λ blocks. AreBlocks blocks.items) }
-        ensures events { IfOk result (λ blocks. events_in blocks.items ≡ take (8 * count) self.now) }
+        ensures events { IfOk result (λ blocks. events_in blocks.items ≡ take (16 * count) self.now) }
         ensures few { IfOk result (λ _. length self.now ≤ 4096) }
     {
         let mut blocks = Vec::with_capacity(*self.blocks.allocator(), count)?;
@@ -108,7 +108,7 @@ impl EventList {
         requires within { to ≤ length self.now }
         ensures { IfOk result (λ copies. copies.items ≡ take (to - from) (drop from self.now)) }
     {
-        let mut copies = Vec::new(*self.rest.allocator());
+        let mut copies = Vec::with_capacity(*self.rest.allocator(), BLOCK)?;
         for i in from..to {
             copies.push(self.at(i).copy()?)?;
         }
@@ -125,4 +125,14 @@ impl EventList {
         }
         count + count_within(self.rest.as_slice(), same)
     }
+}
+
+/// Puts an event behind these, the first with room for a whole block.
+fn append(events: &mut Vec<Decided>, decided: Decided) -> Result<(), AllocError>
+    ensures ok { OnOk result (events.new.items ≡ events.old.items ++ decided ∷ []) }
+    ensures err { OnErr result (events.new.items ≡ events.old.items) }
+{
+    events.reserve(if events.is_empty() { BLOCK } else { 1 })?;
+    events.push_reserved(decided);
+    Ok(())
 }

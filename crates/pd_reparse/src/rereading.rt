@@ -10,7 +10,7 @@ use crate::kept::Reread;
 use crate::reading::Reading;
 use crate::steps::Step;
 use pd_lex::{Place, first_lines};
-use pd_script::{Header, MAX_EVENTS, NextEvent, items_stand_there, next_event, read_header};
+use pd_script::{EventReader, Header, MAX_EVENTS, NextEvent, items_stand_there, read_header};
 use pd_text::Lines;
 use std::alloc::{AllocError, Global};
 
@@ -72,13 +72,10 @@ fn read_on(
     ensures { IfOk result (λ reading. IsReadOn reading header front (4096 - length front) (items lines.now place)) }
 {
     let mut events = front;
-    let mut place = place;
+    let mut reader = EventReader::at(lines, place);
     'events: for i in events.len()..MAX_EVENTS {
-        match next_step(alloc, lines, place, MAX_EVENTS - i - 1)? {
-            Step::Goes(decided) => {
-                place = decided.after;
-                events.push(decided)?;
-            }
+        match next_step(alloc, &mut reader, MAX_EVENTS - i - 1)? {
+            Step::Goes(decided) => events.push(decided)?,
             Step::Stops(fault) => return Ok(Reading::new(header, events, fault)),
         }
     }
@@ -86,11 +83,11 @@ fn read_on(
     Ok(Reading::new(header, events, None))
 }
 
-/// Reads the event at a place, where so many more may follow it.
-fn next_step(alloc: Global, lines: &Lines, place: Place, more: usize) -> Result<Step, AllocError>
-    ensures { IfOk result (IsStep lines.now (items lines.now place) more) }
+/// Reads the next event, where so many more may follow it.
+fn next_step(alloc: Global, reader: &mut EventReader, more: usize) -> Result<Step, AllocError>
+    ensures { IfOk result (IsStep reader.new reader.old more) }
 {
-    match next_event(alloc, lines, place)? {
+    match reader.next_event(alloc)? {
         NextEvent::Got(event, after, reach) => {
             if more == 0 && reach.is_some() {
                 return Ok(Step::Stops(reach));

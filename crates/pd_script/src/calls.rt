@@ -1,6 +1,7 @@
 //! System calls as a script writes them.
 ghost use Rattle.std.specs.Prelude.{◌≡◌, [], ◌∷◌, ◌++◌, length, IfOk, OnOk};
 
+use smallvec::SmallVec;
 use std::alloc::{AllocError, Global};
 use std::marker::Model;
 
@@ -27,10 +28,10 @@ pub enum Function {
     Unknown,
 }
 
-/// The arguments of a call, in order.
+/// The arguments of a call, in order; up to three need no allocation.
 #[derive(Drop)]
 pub struct Arguments {
-    arguments: Vec<Argument>,
+    arguments: SmallVec<Argument, 3>,
 }
 
 impl Model for Arguments {
@@ -43,7 +44,7 @@ impl Model for Arguments {
 }
 
 /// An argument of a call.
-#[derive(Clone, Copy)]
+#[derive(Clone, Copy, Default)]
 pub enum Argument {
     /// A whole number in digits; one above the greatest `u64` stands as that.
     Int(u64),
@@ -52,6 +53,7 @@ pub enum Argument {
     /// A whole number in digits between `[` and `]`, as `Int`.
     Element(u64),
     /// Anything else.
+    #[default]
     Other,
 }
 
@@ -110,7 +112,7 @@ impl Arguments {
         ensures { result ≡ [] }
     {
         Arguments {
-            arguments: Vec::new(alloc),
+            arguments: SmallVec::new(alloc),
         }
     }
 
@@ -132,6 +134,7 @@ impl Arguments {
     {
         self.arguments.as_slice()
     }
+
     /// The same arguments once more.
     ///
     /// # Errors

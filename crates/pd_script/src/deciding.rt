@@ -1,11 +1,7 @@
 //! The next event of a text, decided by what follows it.
 ghost use Rattle.std.specs.Prelude.{◌≡◌, IfOk};
 ghost use Rattle.pd_lex.specs.Lexing.{items};
-ghost use Rattle.pd_script.specs.Items.{goes_on};
-ghost use Rattle.pd_script.specs.Reading.{event_at};
-ghost use Rattle.pd_script.specs.Script.{followed};
 ghost use Rattle.pd_script.specs.Next.{next_in, reach_of, IsNextEvent, GoesOn, LeavesNext};
-ghost use Rattle.pd_script.specs.Cursor.{Leaves};
 
 use crate::cursor::Cursor;
 use crate::script_events::Event;
@@ -13,6 +9,7 @@ use crate::stops::Stop;
 use pd_lex::{Place, items_behind_tokens};
 use pd_text::Lines;
 use std::alloc::{AllocError, Global};
+use std::marker::Model;
 
 /// What stands next among the events of a text.
 #[derive(Drop)]
@@ -28,6 +25,44 @@ pub enum NextEvent {
     Fault(usize),
 }
 
+/// A reader of the events of a text.
+#[derive(Drop)]
+pub struct EventReader<'a> {
+    cursor: Cursor<'a>,
+}
+
+impl<'a> Model for EventReader<'a> {
+    ghost use Rattle.std.specs.Prelude.{List};
+    ghost use Rattle.pd_lex.specs.Tokens.{Item};
+
+    ghost Value = { List Item };
+
+    ghost view = { λ r. r.cursor };
+}
+
+impl<'a> EventReader<'a> {
+    /// A reader of the events from a place of a text on.
+    pub fn at(lines: &'a Lines, place: Place) -> EventReader<'a>
+        ensures { result ≡ items lines.now place }
+    {
+        EventReader {
+            cursor: Cursor::at(lines, place),
+        }
+    }
+
+    /// Reads the next event.
+    ///
+    /// # Errors
+    /// `AllocError` where a growth is refused.
+    #[inline(always)]
+    pub fn next_event(&mut self, alloc: Global) -> Result<NextEvent, AllocError>
+        ensures next { IfOk result (λ next. next ≡ next_in self.old) }
+        ensures left { IfOk result (λ next. LeavesNext next self.new self.old) }
+    {
+        self.cursor.next_event(alloc)
+    }
+}
+
 impl<'a> Cursor<'a> {
     /// The line of the next token, if there is one.
     pub fn reach(&self) -> Option<usize>
@@ -37,18 +72,6 @@ impl<'a> Cursor<'a> {
             None
         } else {
             Some(self.line())
-        }
-    }
-
-    /// Takes an event, if another one or the end may begin behind it.
-    fn followed_event(&mut self, alloc: Global) -> Result<Event, Stop>
-        ensures { Leaves result self.new (followed goes_on (event_at self.old)) }
-    {
-        let event = self.event(alloc)?;
-        if self.starts_event() || self.is_end() {
-            Ok(event)
-        } else {
-            Err(Stop::Syntax)
         }
     }
 
@@ -64,11 +87,18 @@ impl<'a> Cursor<'a> {
         if !self.starts_event() {
             return Ok(NextEvent::Fault(self.line()));
         }
-        match self.followed_event(alloc) {
-            Ok(event) => Ok(NextEvent::Got(event, self.next_place(), self.reach())),
-            Err(Stop::Syntax) => Ok(NextEvent::Fault(self.line())),
-            Err(Stop::OutOfMemory) => Err(AllocError),
+        let event = match self.event(alloc) {
+            Ok(event) => event,
+            Err(Stop::Syntax) => return Ok(NextEvent::Fault(self.line())),
+            Err(Stop::OutOfMemory) => return Err(AllocError),
+        };
+        if self.is_end() {
+            return Ok(NextEvent::Got(event, self.next_place(), None));
         }
+        if !self.starts_event() {
+            return Ok(NextEvent::Fault(self.line()));
+        }
+        Ok(NextEvent::Got(event, self.next_place(), Some(self.line())))
     }
 }
 

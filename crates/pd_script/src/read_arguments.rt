@@ -21,6 +21,7 @@ impl<'a> Cursor<'a> {
     }
 
     /// Takes the arguments of a call and the bracket that ends them.
+    #[inline(never)]
     pub fn arguments(&mut self, alloc: Global) -> Result<Arguments, Stop>
         ensures { Leaves result self.new (arguments_at self.old) }
     {

@@ -2,6 +2,7 @@
 use Rattle.std.proofs.Common.{◌≡◌, ◌∙◌, ◌+◌, ◌-◌, refl, ap, ◌<◌, length, take, drop, arith}
 use Rattle.std.proofs.lemmas.List.{length-drop, take_rest}
 use Rattle.pd_lex.specs.declared.token.Place.{Place}
+use Rattle.pd_lex.specs.declared.token.TokenKind.TheVariants.{Symbol}
 use Rattle.pd_lex.specs.Places.{octets_from, between, line_at}
 use Rattle.pd_lex.specs.Lexing.{lexeme_of}
 use Rattle.pd_lex.specs.Spellings.{here}
@@ -44,25 +45,35 @@ lines-preserved c =
     let on = over_line lines c.in-Some.ensures.lines c.lines.here one le c.behind_blanks-at.result (rw line at c.behind_blanks-at.ensures.place) (rw line at c.if-at-line.true) in
     rw c.line_start-here.ensures (record { same = c.lines.invariant.same ∙ on.same; skipped = Skips-over c.lines.invariant.skipped on.skipped })
 
-pub returns-in_default-plain_at-clause-next : goal.returns-in_default-plain_at-clause-next
-returns-in_default-plain_at-clause-next c =
+pub read_at-requires-clause-left : goal.read_at-requires-clause-left
+read_at-requires-clause-left c =
     let lines = c.args.lines.now in
     let one = line_from_one c.lines.here.line c.in-Some.line.now _ c.in-Some.ensures.line in
     let le = line_within lines c.lines.here.line one c.in-Some.line.now c.in-Some.ensures.line in
     let line = line_is lines c.lines.here.line one c.in-Some.line.now c.in-Some.ensures.line in
-    let from : Place = record { line = c.lines.here.line; at = c.behind_blanks-at.result } in
     let on = over_blanks lines c.in-Some.ensures.lines c.lines.here one le c.behind_blanks-at.result (rw line at c.behind_blanks-at.ensures.place) (rw line at c.if-at-line.false) in
-    next_on lines c.args.place from (c.lines.invariant.same ∙ on.same) (Skips-over c.lines.invariant.skipped on.skipped) c.read_on-in_default-plain_at.new.next c.read_on-in_default-plain_at.ensures.next
+    let rest = take_rest c.in-Some.line.now c.behind_blanks-at.result in
+    record { place = on.place; line = le; rest_is = rw (rest, line) refl; some = omega (arith, c.if-at-line.false, ap length rest, length-drop c.behind_blanks-at.result c.in-Some.line.now); small = omega (arith, c.if-at-line.false, c.behind_blanks-at.ensures.small, ap length rest, length-drop c.behind_blanks-at.result c.in-Some.line.now) }
 
-pub returns-in_default-plain_at-clause-cut : goal.returns-in_default-plain_at-clause-cut
-returns-in_default-plain_at-clause-cut c =
+pub returns-in_default-sign_at-clause-next : goal.returns-in_default-sign_at-clause-next
+returns-in_default-sign_at-clause-next c =
     let lines = c.args.lines.now in
     let one = line_from_one c.lines.here.line c.in-Some.line.now _ c.in-Some.ensures.line in
     let le = line_within lines c.lines.here.line one c.in-Some.line.now c.in-Some.ensures.line in
     let line = line_is lines c.lines.here.line one c.in-Some.line.now c.in-Some.ensures.line in
     let from : Place = record { line = c.lines.here.line; at = c.behind_blanks-at.result } in
     let on = over_blanks lines c.in-Some.ensures.lines c.lines.here one le c.behind_blanks-at.result (rw line at c.behind_blanks-at.ensures.place) (rw line at c.if-at-line.false) in
-    cut_on lines c.args.place from (c.lines.invariant.same ∙ on.same) (Skips-over c.lines.invariant.skipped on.skipped) c.read_on-in_default-plain_at.new.next c.read_on-in_default-plain_at.ensures.cut
+    next_on lines c.args.place from (c.lines.invariant.same ∙ on.same) (Skips-over c.lines.invariant.skipped on.skipped) c.read_at.new.next c.read_at.ensures.next
+
+pub returns-in_default-sign_at-clause-cut : goal.returns-in_default-sign_at-clause-cut
+returns-in_default-sign_at-clause-cut c =
+    let lines = c.args.lines.now in
+    let one = line_from_one c.lines.here.line c.in-Some.line.now _ c.in-Some.ensures.line in
+    let le = line_within lines c.lines.here.line one c.in-Some.line.now c.in-Some.ensures.line in
+    let line = line_is lines c.lines.here.line one c.in-Some.line.now c.in-Some.ensures.line in
+    let from : Place = record { line = c.lines.here.line; at = c.behind_blanks-at.result } in
+    let on = over_blanks lines c.in-Some.ensures.lines c.lines.here one le c.behind_blanks-at.result (rw line at c.behind_blanks-at.ensures.place) (rw line at c.if-at-line.false) in
+    cut_on lines c.args.place from (c.lines.invariant.same ∙ on.same) (Skips-over c.lines.invariant.skipped on.skipped) c.read_at.new.next c.read_at.ensures.cut
 
 pub returns-in-lines : goal.returns-in-lines
 unfolding lexeme_of between
@@ -75,15 +86,13 @@ returns-in-lines c =
     let on = over_blanks lines c.in-Some.ensures.lines c.lines.here one le c.behind_blanks-at.result (rw line at c.behind_blanks-at.ensures.place) (rw line at c.if-at-line.false) in
     let rest = take_rest c.in-Some.line.now c.behind_blanks-at.result in
     let s = take (length c.in-Some.line.now - c.behind_blanks-at.result) (drop c.behind_blanks-at.result c.in-Some.line.now) in
-    let kind = c.in-Some-plain_at.plain.kind in
-    let n = c.in-Some-plain_at.plain.len in
-    let to : Place = record { line = c.lines.here.line; at = c.behind_blanks-at.result + n } in
+    let to : Place = record { line = c.lines.here.line; at = c.behind_blanks-at.result + 1 } in
     let same : s ≡ drop from.at (line_at lines from.line) = rw (rest, line) refl in
     let some : 0 < length s = omega (arith, c.if-at-line.false, ap length rest, length-drop c.behind_blanks-at.result c.in-Some.line.now) in
-    let whole = step_whole lines from on.place le s kind n same c.in-Some-plain_at.ensures.piece some c.in-Some-plain_at.ensures.within in
+    let whole = step_whole lines from on.place le s Symbol 1 same c.in-Some-sign_at.ensures.piece some c.in-Some-sign_at.ensures.within in
     record {
-      next = c.lines.invariant.same ∙ on.same ∙ items_at_token lines c.in-Some.ensures.lines from to kind on.place whole.0 whole.1;
-      cut = record { skipped = Skips-over c.lines.invariant.skipped on.skipped; longest = longest_token (octets_from lines from) (octets_from lines to) kind whole.1; from = on.place; behind = whole.0 };
-      line = token_line lines c.in-Some.ensures.lines from to kind on.place whole.1;
+      next = c.lines.invariant.same ∙ on.same ∙ items_at_token lines c.in-Some.ensures.lines from to Symbol on.place whole.0 whole.1;
+      cut = record { skipped = Skips-over c.lines.invariant.skipped on.skipped; longest = longest_token (octets_from lines from) (octets_from lines to) Symbol whole.1; from = on.place; behind = whole.0 };
+      line = token_line lines c.in-Some.ensures.lines from to Symbol on.place whole.1;
       text = whole.3;
     }

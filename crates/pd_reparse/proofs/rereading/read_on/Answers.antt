@@ -1,21 +1,21 @@
 -- What was found on the way is what is found from the start.
-use Rattle.std.proofs.Common.{◌≡◌, ◌∙◌, ◌-◌, ℕ, ap, length, Option, None, arith}
+use Rattle.std.proofs.Common.{◌∙◌, ◌-◌, ℕ, ap, length, Option, None, arith}
 use Rattle.pd_lex.specs.Lexing.{items}
 use Rattle.pd_script.specs.Header.{Heading}
-use Rattle.pd_reparse.specs.Reading.{DecidedEvents, DecidedScript}
-use Rattle.pd_reparse.proofs.OnTheWay.{none_more, one_more, at_limit}
+use Rattle.pd_reparse.specs.Reading.{DecidedEvents}
+use Rattle.pd_reparse.proofs.OnTheWay.{none_more, at_limit}
 use Rattle.pd_reparse.proofs.rereading.read_on.Goals as goal
 
 pub returns-in-Stops : goal.returns-in-Stops
 returns-in-Stops c =
     let front = c.args.front in
     let step = rw c.in-Stops.is at c.in_ok-decided.ensures in
-    let found = none_more front (4096 - length front) (items c.args.lines.now c.args.place) c.events.events c.events.i c.args.lines.now (items c.args.lines.now c.events.place) c.in-Stops.fault c.events.invariant.1 (omega arith) step in
+    let found = none_more front (4096 - length front) (items c.args.lines.now c.args.place) c.events.events c.events.i c.events.reader c.in-Stops.fault c.events.invariant.1 (omega arith) step in
     c.new.ensures ∙ ap (λ (h : Heading). record { header = h; events = c.events.events; fault = c.in-Stops.fault }) c.events.invariant.0 ∙ ap (λ (f : DecidedEvents). record { header = c.args.header; events = f.events; fault = f.fault }) found
 
 pub returns : goal.returns
 returns c =
     let none : Option ℕ = None in
     let front = c.args.front in
-    let found = at_limit front (4096 - length front) (items c.args.lines.now c.args.place) c.events.events c.events.i (items c.args.lines.now c.events.place) c.events.invariant.1 (omega arith) in
+    let found = at_limit front (4096 - length front) (items c.args.lines.now c.args.place) c.events.events c.events.i c.events.reader c.events.invariant.1 (omega arith) in
     c.new-2.ensures ∙ ap (λ (h : Heading). record { header = h; events = c.events.events; fault = none }) c.events.invariant.0 ∙ ap (λ (f : DecidedEvents). record { header = c.args.header; events = f.events; fault = f.fault }) found

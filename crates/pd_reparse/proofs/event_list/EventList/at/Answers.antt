@@ -8,7 +8,7 @@ index-requires-else-block-len c =
     let bs = c.self.inside.blocks.items in
     let rest = c.self.inside.rest.items in
     let whole = length_whole bs rest c.self.invariant.0 in
-    let within : c.args.index < 8 * length bs + length rest = rw (← whole, c.self.view_is) c.requires in
+    let within : c.args.index < 16 * length bs + length rest = rw (← whole, c.self.view_is) c.requires in
     omega (arith, within, c.len.ensures, c.len-else-block-len.ensures, c.if-block-len.false)
 
 pub returns-then-block-len : goal.returns-then-block-len
@@ -18,4 +18,4 @@ returns-then-block-len c =
 pub returns-else-block-len : goal.returns-else-block-len
 returns-else-block-len c =
     let count : c.len-else-block-len.result ≡ length c.self.inside.blocks.items = omega (arith, c.len-else-block-len.ensures) in
-    rw (← c.self.view_is) (at_behind c.args.index c.self.inside.blocks.items c.self.inside.rest.items c.index-else-block-len.result.now c.self.invariant.0 (omega (arith, c.len.ensures, c.if-block-len.false)) (c.index-else-block-len.ensures ∙ ap (λ n. get_or c.self.inside.rest.items (c.args.index - 8 * n) c.index-else-block-len.result.now) count))
+    rw (← c.self.view_is) (at_behind c.args.index c.self.inside.blocks.items c.self.inside.rest.items c.index-else-block-len.result.now c.self.invariant.0 (omega (arith, c.len.ensures, c.if-block-len.false)) (c.index-else-block-len.ensures ∙ ap (λ n. get_or c.self.inside.rest.items (c.args.index - 16 * n) c.index-else-block-len.result.now) count))

@@ -6,7 +6,7 @@ use Rattle.pd_reparse.proofs.event_list.EventList.first_events.Goals as goal
 
 pub invariant_of-result : goal.invariant_of-result
 invariant_of-result c =
-    let n = 8 * (c.args.count / 8) in
+    let n = 16 * (c.args.count / 16) in
     let all = c.args.self.now in
     let blocks = length_events c.in_ok-first_blocks.field-0.items c.in_ok-first_blocks.ensures.blocks in
     let events = ap length c.in_ok-first_blocks.ensures.events in
@@ -18,7 +18,7 @@ invariant_of-result c =
 
 pub returns : goal.returns
 returns c =
-    let n = 8 * (c.args.count / 8) in
+    let n = 16 * (c.args.count / 16) in
     let all = c.args.self.now in
     let whole : n + (c.args.count - n) ≡ c.args.count = omega arith in
     ap (λ l. l ++ c.in_ok-copies.field-0.items) c.in_ok-first_blocks.ensures.events ∙ ap (λ l. take n all ++ l) c.in_ok-copies.ensures ∙ take_apart n (c.args.count - n) all ∙ ap (λ m. take m all) whole

@@ -1,4 +1,4 @@
--- The blocks have eight events each.
+-- The blocks have sixteen events each.
 use Rattle.std.proofs.Common.{◌≡◌, arith}
 use Rattle.pd_reparse.proofs.Blocks.{length_whole}
 use Rattle.pd_reparse.proofs.event_list.EventList.len.Goals as goal
