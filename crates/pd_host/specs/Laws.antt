@@ -27,6 +27,11 @@ pub record IsUpTo (b : Settings) (now : ℕ) (s : State) : Type 0 where
   pub timer : IfSome s.endpoint.connection (λ c. GoesBy b c.timer)
   pub deadline : IfSome (deadline_of s) (λ at. (now < at) × (at ≤ now + b.max_rto_us))
 
+-- the settings that the connection goes by which one more input leaves: those held where the input begins it, else its own
+abbrev pub begun_under : (held b : Settings) → Option ControlBlock → Settings
+begun_under held b None = held
+begun_under held b (Some c) = b
+
 -- so it is at the start, where no connection was begun,
 abbrev pub StartsUpToDate : Type 0
 StartsUpToDate = (settings : Settings) → IsUpTo settings 0 (fresh settings).state
@@ -38,10 +43,6 @@ AdvancesKeepUp =
 
 -- after an arrival at that moment: a connection that the arrival begins goes by the settings held then, and one that was begun
 -- before goes on by its own,
-abbrev pub begun_under : (held b : Settings) → Option ControlBlock → Settings
-begun_under held b None = held
-begun_under held b (Some c) = b
-
 abbrev pub ArrivalsKeepUp : Type 0
 ArrivalsKeepUp =
     (b : Settings) (segment : Segment) (now : ℕ) (s t : State) → IsUpTo b now s → arrived segment now s ≡ Ok t

@@ -19,3 +19,4 @@ pub mod InputLaws
 pub mod SendingLaws
 pub mod Invariants
 pub mod Outcome
+pub mod Bare

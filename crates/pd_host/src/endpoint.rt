@@ -1,11 +1,11 @@
 //! What the sender's rules work on.
-ghost use Rattle.std.specs.Prelude.{◌≡◌, IfOk};
+ghost use Rattle.std.specs.Prelude.{◌≡◌};
 ghost use Rattle.pd_host.specs.Sender.{fresh_endpoint};
 
 use crate::connection::Connection;
 use crate::listeners::Listener;
 use crate::outbox::Outbox;
-use std::alloc::{AllocError, Global};
+use std::alloc::Global;
 
 /// Descriptor 3, the connection once it was begun, and the packets that were put out and not yet taken.
 #[derive(Drop)]
@@ -25,20 +25,5 @@ impl Endpoint {
             connection: None,
             outbox: Outbox::new(alloc),
         }
-    }
-
-    /// The same endpoint once more.
-    pub fn copy(&self) -> Result<Endpoint, AllocError>
-        ensures { IfOk result (λ copy. copy ≡ self.now) }
-    {
-        let connection = match &self.connection {
-            None => None,
-            Some(connection) => Some(connection.copy()?),
-        };
-        Ok(Endpoint {
-            listener: self.listener,
-            connection,
-            outbox: self.outbox.copy()?,
-        })
     }
 }

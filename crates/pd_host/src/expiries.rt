@@ -8,6 +8,7 @@ use crate::sender_state::State;
 
 impl State {
     /// Performs all expiries up to a moment, in order, each at its own.
+    #[inline(always)]
     pub fn advance(&mut self, until: u64) -> Result<(), Ending>
         requires early { until < 2 ^ 62 }
         ensures { Gives (advanced until self.old) result self.new }
@@ -40,6 +41,7 @@ impl State {
     }
 
     /// An expiry at a moment: what is sent again is put out.
+    #[inline(never)]
     fn expire(&mut self, at: u64) -> Result<(), Ending>
         requires early { at < 2 ^ 62 }
         ensures { Gives (expired_next at self.old.endpoint.connection self.old) result self.new }

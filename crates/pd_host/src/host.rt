@@ -1,6 +1,7 @@
 //! A host: the sender behind one interface, with the reason why it has ended.
-ghost use Rattle.std.specs.Prelude.{◌≡◌, ◌<◌, ◌^◌, Some, IfOk, IsErr, slice_get};
+ghost use Rattle.std.specs.Prelude.{◌≡◌, ◌<◌, ◌^◌, true, Some, IfOk, IsErr, slice_get};
 ghost use Rattle.pd_host.specs.Arrivals.{arrived};
+ghost use Rattle.pd_host.specs.Bare.{is_bare, board_of};
 ghost use Rattle.pd_host.specs.Calls.{called};
 ghost use Rattle.pd_host.specs.ConnStates.{conn_state};
 ghost use Rattle.pd_host.specs.Outcome.{Goes, Answers};
@@ -12,6 +13,7 @@ ghost use Rattle.pd_host.specs.declared.halts.Ending.TheVariants.{OutOfMemory};
 use crate::conn_states::ConnState;
 use crate::endpoint::Endpoint;
 use crate::halts::{Ending, Halt};
+use crate::held::Held;
 use crate::outbox::Outbox;
 use crate::requests::Request;
 use crate::sender_state::State;
@@ -94,6 +96,7 @@ impl Host {
     }
 
     /// Performs all expiries up to a moment, in order.
+    #[inline(always)]
     pub fn advance(&mut self, until: u64) -> Result<(), Ending>
         requires early { until < 2 ^ 62 }
         ensures { Goes self.old (advanced until) result self.new }
@@ -186,13 +189,68 @@ impl Host {
         ensures ok { IfOk result (λ copy. copy ≡ self.now) }
         ensures again { self.now.ended ≡ Some OutOfMemory → IsErr result }
     {
+        let held = self.held()?;
+        Ok(self.with_held(held))
+    }
+
+    /// Whether nothing has ended it, no connection was begun and no packet stands untaken.
+    #[inline(always)]
+    pub fn is_bare(&self) -> bool
+        ensures { result ≡ is_bare self.now }
+    {
+        self.ended.is_none()
+            && self.state.endpoint.connection.is_none()
+            && self.state.endpoint.outbox.is_empty()
+    }
+
+    /// The same host once more, where it is bare. Takes no memory.
+    #[inline(always)]
+    pub fn bare_copy(&self) -> Host
+        requires { is_bare self.now ≡ true }
+        ensures { result ≡ self.now }
+    {
+        let endpoint = Endpoint::new(self.state.endpoint.outbox.allocator());
+        Host {
+            state: State {
+                settings: self.state.settings,
+                uses: self.state.uses,
+                endpoint: Endpoint {
+                    listener: self.state.endpoint.listener,
+                    ..endpoint
+                },
+            },
+            ended: None,
+        }
+    }
+
+    /// Copies of what of it takes memory.
+    pub fn held(&self) -> Result<Held, AllocError>
+        ensures board { IfOk result (λ held. held.board ≡ board_of self.now.state.endpoint.connection) }
+        ensures outbox { IfOk result (λ held. held.outbox ≡ self.now.state.endpoint.outbox) }
+        ensures again { self.now.ended ≡ Some OutOfMemory → IsErr result }
+    {
         if let Some(Ending::OutOfMemory) = self.ended {
             return Err(AllocError);
         }
-        Ok(Host {
-            state: self.state.copy()?,
+        let held = Held::of(&self.state.endpoint)?;
+        Ok(held)
+    }
+
+    /// The same host once more, with equal copies of what of it takes memory. Takes none itself.
+    #[inline(always)]
+    pub fn with_held(&self, held: Held) -> Host
+        requires board { held.board ≡ board_of self.now.state.endpoint.connection }
+        requires outbox { held.outbox ≡ self.now.state.endpoint.outbox }
+        ensures { result ≡ self.now }
+    {
+        Host {
+            state: State {
+                settings: self.state.settings,
+                uses: self.state.uses,
+                endpoint: self.state.endpoint.with_held(held),
+            },
             ended: self.ended,
-        })
+        }
     }
 
     /// The host has ended by this.

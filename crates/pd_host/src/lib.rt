@@ -11,6 +11,7 @@ mod endpoint;
 mod established;
 mod expiries;
 mod halts;
+mod held;
 mod host;
 mod laws;
 mod listeners;
@@ -28,6 +29,7 @@ mod uses;
 
 pub use conn_states::ConnState;
 pub use halts::{Ending, Halt};
+pub use held::Held;
 pub use host::Host;
 pub use laws::{
     advances_are_lawful, arrivals_are_lawful, calls_are_lawful, growth_is_lawful,

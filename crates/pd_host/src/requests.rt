@@ -38,6 +38,7 @@ pub fn is_run(call: &Call) -> bool
 
 impl Request {
     /// What a call asks, or `None` for a call whose name or shape isn't run.
+    #[inline(always)]
     pub fn of(call: &Call) -> Option<Request>
         ensures { result ≡ request_of call.now }
     {

@@ -1,11 +1,10 @@
 //! The sender's state, with the settings that it consults.
-ghost use Rattle.std.specs.Prelude.{◌≡◌, IfOk};
+ghost use Rattle.std.specs.Prelude.{◌≡◌};
 ghost use Rattle.pd_host.specs.ConnStates.{conn_state};
 
 use crate::conn_states::ConnState;
 use crate::endpoint::Endpoint;
 use pd_settings::{Settings, UseSet};
-use std::alloc::AllocError;
 
 /// The endpoint, and beside it the settings and which of them were consulted so far.
 #[derive(Drop)]
@@ -16,17 +15,6 @@ pub struct State {
 }
 
 impl State {
-    /// The same state once more.
-    pub fn copy(&self) -> Result<State, AllocError>
-        ensures { IfOk result (λ copy. copy ≡ self.now) }
-    {
-        Ok(State {
-            settings: self.settings,
-            uses: self.uses,
-            endpoint: self.endpoint.copy()?,
-        })
-    }
-
     /// The state of the connection, or of the listener where none was begun.
     pub fn conn_state(&self) -> ConnState
         ensures { result ≡ conn_state self.now }

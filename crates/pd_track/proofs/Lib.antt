@@ -1,5 +1,6 @@
 -- Lemmas on tracks and jobs.
 pub mod Beginnings
+pub mod Blocks
 pub mod Fourths
 pub mod Greatest
 pub mod Held

@@ -14,6 +14,8 @@ mod progress;
 mod resuming;
 mod running;
 mod snap;
+mod snap_block;
+mod snap_list;
 mod task;
 mod track;
 mod trail;

@@ -5,7 +5,7 @@ ghost use Rattle.pd_run.specs.Laws.{IsUnderway};
 ghost use Rattle.pd_run.specs.Run.{verdict_from, stepped_from, states_from};
 ghost use Rattle.pd_track.specs.Reuse.{fourths};
 
-use crate::snap::Snap;
+use crate::snap_list::SnapList;
 use pd_reparse::EventList;
 use pd_run::{RunState, StepEnd, Stepper, Verdict, runs_are_bounded};
 use pd_settings::Settings;
@@ -16,7 +16,7 @@ use std::alloc::{AllocError, Global};
 pub struct Progress {
     pub state: RunState,
     pub passed: usize,
-    pub snaps: Vec<Snap>,
+    pub snaps: SnapList,
 }
 
 impl Progress {
@@ -24,19 +24,18 @@ impl Progress {
     pub fn new(alloc: Global, state: RunState) -> Progress
         ensures state { result.state ≡ state }
         ensures passed { result.passed ≡ 0 }
-        ensures snaps { result.snaps.items ≡ [] }
+        ensures snaps { result.snaps ≡ [] }
     {
         Progress {
             state,
             passed: 0,
-            snaps: Vec::new(alloc),
+            snaps: SnapList::new(alloc),
         }
     }
 
     /// Runs those of the events that are left, up to the first that stops the run.
     pub fn run<S: Stepper>(
         &mut self,
-        alloc: Global,
         events: &EventList,
         settings: &Settings,
         stepper: &mut S,
@@ -49,12 +48,12 @@ impl Progress {
         ensures verdict { IfOk result (λ verdict. verdict ≡ verdict_from self.old.passed (events_behind self.old.passed events.now) self.old.state) }
         ensures steps { OnOk result (S.counted stepper.new ≡ S.counted stepper.old + stepped_from (events_behind self.old.passed events.now) self.old.state) }
         ensures few { OnOk result (S.counted stepper.new ≤ S.counted stepper.old + length events.now) }
-        ensures snaps { OnOk result (self.new.snaps.items ≡ self.old.snaps.items ++ fourths 3 (states_from (events_behind self.old.passed events.now) self.old.state)) }
+        ensures snaps { OnOk result (self.new.snaps ≡ self.old.snaps ++ fourths 3 (states_from (events_behind self.old.passed events.now) self.old.state)) }
     {
         runs_are_bounded();
         for i in self.passed..events.len() {
             match stepper.step(&mut self.state, &events.at(i).event, settings)? {
-                StepEnd::Go => self.pass(alloc)?,
+                StepEnd::Go => self.pass()?,
                 StepEnd::Stop(verdict) => return Ok(verdict),
             }
         }
@@ -62,15 +61,15 @@ impl Progress {
     }
 
     /// One more event has passed: each fourth state is kept.
-    fn pass(&mut self, alloc: Global) -> Result<(), AllocError>
+    fn pass(&mut self) -> Result<(), AllocError>
         requires { self.old.passed < 4096 }
         ensures state { self.new.state ≡ self.old.state }
         ensures passed { OnOk result (self.new.passed ≡ self.old.passed + 1) }
-        ensures snaps { OnOk result (self.new.snaps.items ≡ self.old.snaps.items ++ (if (self.old.passed + 1) % 4 == 0 then self.new.state ∷ [] else [])) }
+        ensures snaps { OnOk result (self.new.snaps ≡ self.old.snaps ++ (if (self.old.passed + 1) % 4 == 0 then self.new.state ∷ [] else [])) }
     {
         self.passed += 1;
         if self.passed % 4 == 0 {
-            self.snaps.push(Snap::new(alloc, &self.state)?)?;
+            self.snaps.push(&self.state)?;
         }
         Ok(())
     }

@@ -10,7 +10,7 @@ ghost use Rattle.pd_track.specs.Resuming.{BeginsIn, Resumes};
 
 use crate::job::Job;
 use crate::progress::Progress;
-use crate::snap::Snap;
+use crate::snap_list::SnapList;
 use crate::track::Track;
 use pd_reparse::{Reread, first_events, read, reread};
 use pd_run::{RunState, runs_are_bounded, runs_only_use};
@@ -54,7 +54,7 @@ pub fn begin(alloc: Global, job: &Job, kept: usize, fresh: RunState) -> Result<P
     requires kept { kept ≡ kept_before job.now }
     requires fresh { BeginsIn job.now.task.text job.now.task.settings fresh }
     ensures passed { IfOk result (λ p. p.passed ≡ from job.now) }
-    ensures resumes { IfOk result (λ p. Resumes job.now.task.text job.now.task.settings p.passed p.state p.snaps.items) }
+    ensures resumes { IfOk result (λ p. Resumes job.now.task.text job.now.task.settings p.passed p.state p.snaps) }
 {
     match job.track() {
         Some(track) => begin_after(alloc, track, kept, job.text(), &job.settings(), fresh),
@@ -71,7 +71,7 @@ fn begin_fresh(
 ) -> Result<Progress, AllocError>
     requires fresh { BeginsIn _text.now _settings.now fresh }
     ensures passed { IfOk result (λ p. p.passed ≡ 0) }
-    ensures resumes { IfOk result (λ p. Resumes _text.now _settings.now p.passed p.state p.snaps.items) }
+    ensures resumes { IfOk result (λ p. Resumes _text.now _settings.now p.passed p.state p.snaps) }
 {
     runs_are_bounded();
     Ok(Progress::new(alloc, fresh))
@@ -89,7 +89,7 @@ fn begin_after(
     requires events { events ≡ kept track.now.text text.now }
     requires fresh { BeginsIn text.now settings.now fresh }
     ensures passed { IfOk result (λ p. p.passed ≡ from_track track.now text.now settings.now) }
-    ensures resumes { IfOk result (λ p. Resumes text.now settings.now p.passed p.state p.snaps.items) }
+    ensures resumes { IfOk result (λ p. Resumes text.now settings.now p.passed p.state p.snaps) }
 {
     let count = serving(track, events, settings);
     if count == 0 {
@@ -100,7 +100,7 @@ fn begin_after(
     have_lines(track.text());
     have_lines(text);
     runs_only_use();
-    let snaps = first_of(alloc, track, count)?;
+    let snaps = first_of(track, count)?;
     let mut state = state_at(track, count).copy()?;
     state.rebind(settings);
     Ok(Progress {
@@ -166,36 +166,15 @@ fn state_at(track: &Track, count: usize) -> &RunState
     requires within { count ≤ length (fourths 3 (states_of track.now.text track.now.settings)) }
     ensures { slice_get (fourths 3 (states_of track.now.text track.now.settings)) (count - 1) ≡ Some (rebound_run track.now.settings result.now) }
 {
-    last(track.snaps(), count).state()
+    track.snaps().last(count).state()
 }
 
 /// The track's first states, shared.
-fn first_of(alloc: Global, track: &Track, count: usize) -> Result<Vec<Snap>, AllocError>
+fn first_of(track: &Track, count: usize) -> Result<SnapList, AllocError>
     requires { count ≤ length (fourths 3 (states_of track.now.text track.now.settings)) }
-    ensures states { IfOk result (λ shared. map (rebound_run track.now.settings) shared.items ≡ take count (fourths 3 (states_of track.now.text track.now.settings))) }
-    ensures held { IfOk result (λ shared. AreHeld track.now.settings shared.items) }
+    ensures states { IfOk result (λ shared. map (rebound_run track.now.settings) shared ≡ take count (fourths 3 (states_of track.now.text track.now.settings))) }
+    ensures held { IfOk result (λ shared. AreHeld track.now.settings shared) }
 {
-    let shared = share_first(alloc, track.snaps(), count)?;
+    let shared = track.snaps().first_states(count)?;
     Ok(shared)
-}
-
-/// The first states, shared.
-fn share_first(alloc: Global, snaps: &[Snap], count: usize) -> Result<Vec<Snap>, AllocError>
-    requires { count ≤ length snaps.now }
-    ensures { IfOk result (λ shared. shared.items ≡ take count snaps.now) }
-{
-    let mut shared = Vec::with_capacity(alloc, count)?;
-    for i in 0..count {
-        shared.push(snaps[i].share()?)?;
-    }
-    Ok(shared)
-}
-
-/// The last of the first states.
-fn last(snaps: &[Snap], count: usize) -> &Snap
-    requires some { 0 < count }
-    requires within { count ≤ length snaps.now }
-    ensures { slice_get snaps.now (count - 1) ≡ Some result.now }
-{
-    &snaps[count - 1]
 }

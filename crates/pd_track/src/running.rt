@@ -8,7 +8,7 @@ use crate::done::{Done, Unfinished};
 use crate::job::Job;
 use crate::progress::Progress;
 use crate::resuming::{begin, read_job};
-use crate::snap::Snap;
+use crate::snap_list::SnapList;
 use crate::task::Task;
 use crate::track::Track;
 use pd_reparse::{Reading, Reread, readings};
@@ -20,7 +20,7 @@ use std::alloc::{AllocError, Global};
 struct Outcome {
     verdict: Verdict,
     reading: Reading,
-    snaps: Vec<Snap>,
+    snaps: SnapList,
 }
 
 /// Runs a job with this stepper, which has room for 4,096 steps. The run begins in the last state of the job's track that
@@ -47,7 +47,7 @@ pub fn run_job<S: Stepper>(alloc: Global, job: Job, stepper: &mut S) -> Result<D
 
 /// The result of a task that was run.
 fn finish(alloc: Global, task: Task, outcome: Outcome) -> Result<Done, AllocError>
-    requires { IsOutcome task outcome.verdict outcome.reading outcome.snaps.items }
+    requires { IsOutcome task outcome.verdict outcome.reading outcome.snaps }
     ensures { IfOk result (λ done. done ≡ task) }
 {
     let Outcome {
@@ -61,7 +61,7 @@ fn finish(alloc: Global, task: Task, outcome: Outcome) -> Result<Done, AllocErro
 
 fn run<S: Stepper>(alloc: Global, job: &Job, stepper: &mut S) -> Result<Outcome, AllocError>
     requires room { S.counted stepper.old + 4096 < 2 ^ 64 }
-    ensures outcome { IfOk result (λ o. IsOutcome job.now.task o.verdict o.reading o.snaps.items) }
+    ensures outcome { IfOk result (λ o. IsOutcome job.now.task o.verdict o.reading o.snaps) }
     ensures steps { OnOk result (S.counted stepper.new ≡ S.counted stepper.old + steps job.now) }
     ensures few { OnOk result (S.counted stepper.new ≤ S.counted stepper.old + 4096) }
 {
@@ -71,7 +71,7 @@ fn run<S: Stepper>(alloc: Global, job: &Job, stepper: &mut S) -> Result<Outcome,
         return Ok(Outcome {
             verdict: Verdict::Syntax(line),
             reading,
-            snaps: Vec::new(alloc),
+            snaps: SnapList::new(alloc),
         });
     }
     match RunState::new(alloc, reading.header(), &job.settings()) {
@@ -82,7 +82,7 @@ fn run<S: Stepper>(alloc: Global, job: &Job, stepper: &mut S) -> Result<Outcome,
         Err(verdict) => Ok(Outcome {
             verdict,
             reading,
-            snaps: Vec::new(alloc),
+            snaps: SnapList::new(alloc),
         }),
     }
 }
@@ -98,15 +98,15 @@ fn go_on<S: Stepper>(
     requires room { S.counted stepper.old + 4096 < 2 ^ 64 }
     requires reading { reading ≡ reading_of job.now.task.text }
     requires passed { progress.passed ≡ from job.now }
-    requires resumes { Resumes job.now.task.text job.now.task.settings progress.passed progress.state progress.snaps.items }
-    ensures outcome { IfOk result (λ o. IsOutcome job.now.task o.verdict o.reading o.snaps.items) }
+    requires resumes { Resumes job.now.task.text job.now.task.settings progress.passed progress.state progress.snaps }
+    ensures outcome { IfOk result (λ o. IsOutcome job.now.task o.verdict o.reading o.snaps) }
     ensures steps { OnOk result (S.counted stepper.new ≡ S.counted stepper.old + steps job.now) }
     ensures few { OnOk result (S.counted stepper.new ≤ S.counted stepper.old + 4096) }
 {
     readings();
     runs_only_use();
     let mut progress = progress;
-    let verdict = progress.run(alloc, reading.events(), &job.settings(), stepper)?;
+    let verdict = progress.run(reading.events(), &job.settings(), stepper)?;
     Ok(Outcome {
         verdict,
         reading,

@@ -2,14 +2,13 @@
 ghost use Rattle.std.specs.Prelude.{◌≡◌, IfOk};
 
 use pd_run::RunState;
-use std::alloc::{AllocError, Global};
+use std::alloc::AllocError;
 use std::marker::Model;
-use std::sync::Arc;
 
-/// A state on the way of a run, held once however many tracks keep it.
+/// A state on the way of a run.
 #[derive(Drop)]
 pub struct Snap {
-    state: Arc<RunState>,
+    state: RunState,
 }
 
 impl Model for Snap {
@@ -17,25 +16,17 @@ impl Model for Snap {
 
     ghost Value = { Running };
 
-    ghost view = { λ s. s.state.value };
+    ghost view = { λ s. s.state };
 }
 
 impl Snap {
     /// A copy of a state.
-    pub(crate) fn new(alloc: Global, state: &RunState) -> Result<Snap, AllocError>
+    #[inline(always)]
+    pub(crate) fn new(state: &RunState) -> Result<Snap, AllocError>
         ensures { IfOk result (λ snap. snap ≡ state.now) }
     {
         Ok(Snap {
-            state: Arc::new(alloc, state.copy()?)?,
-        })
-    }
-
-    /// Another owner of the same state. Fails only where the count of owners is full.
-    pub(crate) fn share(&self) -> Result<Snap, AllocError>
-        ensures { IfOk result (λ snap. snap ≡ self.now) }
-    {
-        Ok(Snap {
-            state: self.state.clone()?,
+            state: state.copy()?,
         })
     }
 

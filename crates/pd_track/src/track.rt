@@ -7,6 +7,7 @@ ghost use Rattle.pd_settings.specs.Uses.{Agree};
 ghost use Rattle.pd_track.specs.Reuse.{AreHeld, fourths, uses};
 
 use crate::snap::Snap;
+use crate::snap_list::SnapList;
 use crate::trail::Trail;
 use pd_reparse::Reading;
 use pd_settings::Settings;
@@ -38,9 +39,9 @@ impl Track {
         text: Text,
         settings: Settings,
         reading: Reading,
-        snaps: Vec<Snap>,
+        snaps: SnapList,
     ) -> Result<Track, AllocError>
-        requires { IsTrack text settings reading snaps.items }
+        requires { IsTrack text settings reading snaps }
         ensures { IfOk result (λ track. track ≡ record { text = text; settings = settings }) }
     {
         Ok(Track {
@@ -79,7 +80,7 @@ impl Track {
     }
 
     /// The states after 4, 8, 12 .. events that passed, but for the settings held in them.
-    pub(crate) fn snaps(&self) -> &[Snap]
+    pub(crate) fn snaps(&self) -> &SnapList
         ensures states { map (rebound_run self.now.settings) result.now ≡ fourths 3 (states_of self.now.text self.now.settings) }
         ensures held { AreHeld self.now.settings result.now }
     {
@@ -92,12 +93,6 @@ impl Track {
         ensures state { option_map (rebound_run self.now.settings) (option_copied result) ≡ slice_get (states_of self.now.text self.now.settings) (4 * k + 3) }
         ensures held { IfSome (option_copied result) (λ state. Agree (uses self.now (4 * (k + 1))) self.now.settings state.host.state.settings) }
     {
-        snap_at(self.snaps(), k)
+        self.snaps().get(k)
     }
-}
-
-fn snap_at(snaps: &[Snap], k: usize) -> Option<&Snap>
-    ensures { option_copied result ≡ slice_get snaps.now k }
-{
-    snaps.get(k)
 }

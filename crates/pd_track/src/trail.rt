@@ -5,7 +5,7 @@ ghost use Rattle.pd_run.specs.Consulted.{rebound_run};
 ghost use Rattle.pd_run.specs.Run.{states_of};
 ghost use Rattle.pd_track.specs.Reuse.{AreHeld, fourths};
 
-use crate::snap::Snap;
+use crate::snap_list::SnapList;
 use pd_reparse::Reading;
 use pd_settings::Settings;
 use pd_text::Text;
@@ -18,7 +18,7 @@ pub struct Trail {
     text: Text,
     settings: Settings,
     reading: Reading,
-    snaps: Vec<Snap>,
+    snaps: SnapList,
 }
 
 impl Model for Trail {
@@ -28,14 +28,14 @@ impl Model for Trail {
 
     ghost view = { λ t. record { text = t.text; settings = t.settings } };
 
-    ghost invariant = { λ t. IsTrack t.text t.settings t.reading t.snaps.items };
+    ghost invariant = { λ t. IsTrack t.text t.settings t.reading t.snaps };
 }
 
 impl Trail {
     ghost use Rattle.pd_track.specs.Reuse.{IsTrack};
 
-    pub fn new(text: Text, settings: Settings, reading: Reading, snaps: Vec<Snap>) -> Trail
-        requires { IsTrack text settings reading snaps.items }
+    pub fn new(text: Text, settings: Settings, reading: Reading, snaps: SnapList) -> Trail
+        requires { IsTrack text settings reading snaps }
         ensures { result ≡ record { text = text; settings = settings } }
     {
         Trail {
@@ -64,10 +64,10 @@ impl Trail {
         &self.reading
     }
 
-    pub fn snaps(&self) -> &[Snap]
+    pub fn snaps(&self) -> &SnapList
         ensures states { map (rebound_run self.now.settings) result.now ≡ fourths 3 (states_of self.now.text self.now.settings) }
         ensures held { AreHeld self.now.settings result.now }
     {
-        self.snaps.as_slice()
+        &self.snaps
     }
 }

@@ -2,19 +2,30 @@
 ghost use Rattle.std.specs.Prelude.{◌≡◌, IfOk};
 
 use super::Connection;
+use pd_board::Board;
 use std::alloc::AllocError;
 
 impl Connection {
-    /// The same connection once more.
-    pub fn copy(&self) -> Result<Connection, AllocError>
-        ensures { IfOk result (λ copy. copy ≡ self.now) }
+    /// Its scoreboard once more.
+    pub fn board_copy(&self) -> Result<Board, AllocError>
+        ensures { IfOk result (λ board. board ≡ self.now.board) }
     {
-        Ok(Connection {
+        let board = self.board.copy()?;
+        Ok(board)
+    }
+
+    /// The same connection on an equal scoreboard. Takes no memory.
+    #[inline(always)]
+    pub fn with_board(&self, board: Board) -> Connection
+        requires { board ≡ self.now.board }
+        ensures { result ≡ self.now }
+    {
+        Connection {
             announced: self.announced,
             sack: self.sack,
             scaling: self.scaling,
             rcv_wnd: self.rcv_wnd,
-            board: self.board.copy()?,
+            board,
             fin: self.fin,
             timer: self.timer,
             timed: self.timed,
@@ -22,6 +33,6 @@ impl Connection {
             resent: self.resent,
             established: self.established,
             reset: self.reset,
-        })
+        }
     }
 }

@@ -1,0 +1,61 @@
+//! What of a host takes memory.
+ghost use Rattle.std.specs.Prelude.{◌≡◌, IfOk};
+ghost use Rattle.pd_host.specs.Bare.{board_of};
+
+use crate::connection::Connection;
+use crate::endpoint::Endpoint;
+use crate::outbox::Outbox;
+use pd_board::Board;
+use std::alloc::AllocError;
+
+/// Copies of what of an endpoint takes memory: the scoreboard of its connection, and the packets that stand untaken.
+#[derive(Drop)]
+pub struct Held {
+    pub board: Option<Board>,
+    pub outbox: Outbox,
+}
+
+impl Held {
+    /// What this endpoint holds.
+    pub fn of(endpoint: &Endpoint) -> Result<Held, AllocError>
+        ensures board { IfOk result (λ held. held.board ≡ board_of endpoint.now.connection) }
+        ensures outbox { IfOk result (λ held. held.outbox ≡ endpoint.now.outbox) }
+    {
+        let board = board_copy(&endpoint.connection)?;
+        let outbox = endpoint.outbox.copy()?;
+        Ok(Held { board, outbox })
+    }
+}
+
+fn board_copy(connection: &Option<Connection>) -> Result<Option<Board>, AllocError>
+    ensures { IfOk result (λ board. board ≡ board_of connection.now) }
+{
+    match connection {
+        None => Ok(None),
+        Some(connection) => {
+            let board = connection.board_copy()?;
+            Ok(Some(board))
+        }
+    }
+}
+
+impl Endpoint {
+    /// The same endpoint, with equal copies of what it holds. Takes no memory.
+    #[inline(always)]
+    pub fn with_held(&self, held: Held) -> Endpoint
+        requires board { held.board ≡ board_of self.now.connection }
+        requires outbox { held.outbox ≡ self.now.outbox }
+        ensures { result ≡ self.now }
+    {
+        let Held { board, outbox } = held;
+        let connection = match (&self.connection, board) {
+            (Some(connection), Some(board)) => Some(connection.with_board(board)),
+            _ => None,
+        };
+        Endpoint {
+            listener: self.listener,
+            connection,
+            outbox,
+        }
+    }
+}
