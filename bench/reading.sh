@@ -1,6 +1,8 @@
 #!/bin/sh
-# Measures how scripts are read, as the built program takes them: long argument lists, and scripts of 60 events.
-# Tells octets per second, and where valgrind is there the instructions an octet, which don't vary with the load.
+# Measures how scripts are read, as the built program takes them: long argument lists, scripts of 60 events that stop at
+# their first one, so that little but reading is left, and the same scripts run to their end, with a state kept behind each
+# fourth event. Tells octets per second, and where valgrind is there the instructions an octet, which don't vary with the
+# load.
 #
 #   bench/reading.sh [OCTETS]      about 1,000,000 octets of each if nothing is said
 . "$(dirname "$0")/program.sh"
@@ -20,21 +22,25 @@ awk -v octets="$octets" 'BEGIN {
     }
 }' >"$work/arguments"
 
-# Each script opens, binds and then listens on the descriptor again and again.
-awk -v octets="$octets" 'BEGIN {
-    for (s = 1; said < octets; s++) {
-        print "add events" s, 60
-        print "0 socket(..., SOCK_STREAM, IPPROTO_TCP) = 3"
-        print "+0 bind(3, ..., ...) = 0"
-        for (e = 3; e <= 60; e++) {
-            line = sprintf("+0.%03d listen(3, %d) = 0", (s * 7 + e * 13) % 1000, e)
-            print line
-            said += length(line) + 1
+# Each script listens on the descriptor again and again, once it opened and bound it; without that its first event stops it.
+events() { # whether the descriptor is opened
+    awk -v octets="$octets" -v opened="$1" 'BEGIN {
+        for (s = 1; said < octets; s++) {
+            print "add events" s, 60
+            print opened ? "0 socket(..., SOCK_STREAM, IPPROTO_TCP) = 3" : "0 listen(3, 1) = 0"
+            print "+0 bind(3, ..., ...) = 0"
+            for (e = 3; e <= 60; e++) {
+                line = sprintf("+0.%03d listen(3, %d) = 0", (s * 7 + e * 13) % 1000, e)
+                print line
+                said += length(line) + 1
+            }
         }
-    }
-}' >"$work/events"
+    }'
+}
+events 0 >"$work/stopped"
+events 1 >"$work/events"
 
-for input in arguments events; do
+for input in arguments stopped events; do
     count=$(wc -c <"$work/$input")
     begin=$(date +%s%N)
     "$program" <"$work/$input" >/dev/null || [ $? -eq 1 ]

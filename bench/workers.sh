@@ -1,29 +1,52 @@
 #!/bin/sh
 # Measures a settle beside workers, over generated scripts that take long: without workers, with 1 and with 4, and how the
-# times compare. Where valgrind is there, it also tells the instructions without workers and with 1, which don't vary with
-# the load, on a tenth of the scripts.
+# times compare. A settle behind a changed setting is measured, so that taking the scripts in, which no worker shares, and a
+# first settle are taken off. Far more scripts stand there than tracks are kept, and they come in the same order each time: a
+# script's track is gone before its turn comes, so each is read and run whole. Of several tries the best counts, since times
+# are noisy. Where valgrind is there, it also tells the instructions without workers and with 1, which don't vary with the
+# load, on a tenth of the scripts.
 #
-#   bench/workers.sh [SCRIPTS [EVENTS]]      1,000 scripts of 2,000 events if nothing is said
+#   bench/workers.sh [SCRIPTS [EVENTS [TRIES]]]      1,000 scripts of 2,000 events, 5 tries if nothing is said
 . "$(dirname "$0")/program.sh"
 scripts=${1:-1000}
 events=${2:-2000}
+tries=${3:-5}
+rounds=3
 
-# The nanoseconds of a run with so many workers, whose octets are to be those without.
-took() {
+generate "$scripts" "$events" >"$work/settled"
+echo settle >>"$work/settled"
+{
+    cat "$work/settled"
+    for round in $(seq "$rounds"); do
+        echo "set tolerance_us $((4000 + round))"
+        echo settle
+    done
+} >"$work/changed"
+
+# The nanoseconds of an input with so many workers, whose octets are to be those without.
+took() { # workers, the input
     begin=$(date +%s%N)
-    "$program" --workers "$1" <"$work/input" >"$work/output.$1"
+    "$program" --workers "$1" <"$work/$2" >"$work/output.$2.$1"
     end=$(date +%s%N)
-    cmp "$work/output.0" "$work/output.$1" >&2
+    cmp "$work/output.$2.0" "$work/output.$2.$1" >&2
     echo $((end - begin))
 }
 
-generate "$scripts" "$events" >"$work/input"
-alone=$(took 0)
-tail -n 1 "$work/output.0"
-one=$(took 1)
-four=$(took 4)
+# The nanoseconds of one settle with so many workers, the best of the tries.
+settled() { # workers
+    for try in $(seq "$tries"); do
+        first=$(took "$1" settled)
+        all=$(took "$1" changed)
+        echo $(((all - first) / rounds))
+    done | sort -n | head -n 1
+}
+
+alone=$(settled 0)
+tail -n 1 "$work/output.changed.0"
+one=$(settled 1)
+four=$(settled 4)
 awk -v alone="$alone" -v one="$one" -v four="$four" 'BEGIN {
-    printf "without workers %.3f s, with 1 %.3f s, with 4 %.3f s\n", alone / 1e9, one / 1e9, four / 1e9
+    printf "a settle without workers %.3f s, with 1 %.3f s, with 4 %.3f s\n", alone / 1e9, one / 1e9, four / 1e9
     printf "1 worker takes %.2f times the time without, 4 settle %.2f times as fast as 1\n", one / alone, one / four
 }'
 
