@@ -8,7 +8,7 @@ use Rattle.pd_lex.specs.declared.scan.Piece.TheVariants.{Whole}
 use Rattle.pd_lex.specs.declared.token.Place.{Place}
 use Rattle.pd_lex.specs.declared.token.TokenKind.{TokenKind}
 use Rattle.pd_lex.specs.declared.token.TokenKind.TheVariants.{Int, Word, Decimal, Symbol}
-use Rattle.pd_lex.specs.declared.classes.Class.TheVariants.{Digit, Letter, Point, Sign, Other}
+use Rattle.pd_lex.specs.declared.classes.Class.TheVariants as classes
 use Rattle.pd_lex.specs.Classes.{begins_more, class_of}
 use Rattle.pd_lex.specs.Octets.{is_digit, is_word, is_blank, is_printable}
 use Rattle.pd_lex.specs.Pieces.{fraction_len, word_piece, piece, front, token}
@@ -59,9 +59,9 @@ decimal_piece (b ∷ s) h f = by_first (is_digit b) refl
     by_first false d = absurd (omega (arith, h, digits_stop b s d))
 
 -- an octet that begins a symbol and nothing else
-pub sign_piece : (b : ℕ) (s : List ℕ) → class_of b ≡ Sign → Whole Symbol 1 ≡ piece (b ∷ s)
+pub symbol_piece : (b : ℕ) (s : List ℕ) → class_of b ≡ classes.Symbol → Whole Symbol 1 ≡ piece (b ∷ s)
 unfolding piece
-sign_piece b s h = by_tests (is_digit b) (is_word b) (b == 46) (is_printable b) (begins_more b) refl refl refl refl refl h
+symbol_piece b s h = by_tests (is_digit b) (is_word b) (b == 46) (is_printable b) (begins_more b) refl refl refl refl refl h
   where
     no_blank_here : is_printable b ≡ true → is_blank b ≡ false
     no_blank_here h = grind (arith, nat_tests)
@@ -81,7 +81,7 @@ sign_piece b s h = by_tests (is_digit b) (is_word b) (b == 46) (is_printable b) 
     grind_percent : begins_more b ≡ false → nat_eq 37 b ≡ false
     grind_percent h = grind (arith, nat_tests)
 
-    by_tests : (d w p r m : Bool) → is_digit b ≡ d → is_word b ≡ w → (b == 46) ≡ p → is_printable b ≡ r → begins_more b ≡ m → cond d Digit (cond w Letter (cond p Point (cond (r && not m) Sign Other))) ≡ Sign → Whole Symbol 1 ≡ piece (b ∷ s)
+    by_tests : (d w p r m : Bool) → is_digit b ≡ d → is_word b ≡ w → (b == 46) ≡ p → is_printable b ≡ r → begins_more b ≡ m → cond d classes.Digit (cond w classes.Letter (cond p classes.Point (cond (r && not m) classes.Symbol classes.Other))) ≡ classes.Symbol → Whole Symbol 1 ≡ piece (b ∷ s)
     by_tests true w p r m de we pe re me h = absurd cc
     by_tests false true p r m de we pe re me h = absurd cc
     by_tests false false true r m de we pe re me h = absurd cc
@@ -90,9 +90,9 @@ sign_piece b s h = by_tests (is_digit b) (is_word b) (b == 46) (is_printable b) 
     by_tests false false false true false de we pe re me h =
         rw (no_blank_here re, we, pe, grind_dash me, grind_slash me, grind_quote me, grind_backquote me, grind_percent me, re) refl
 
-pub sign_front : (s : List ℕ) → 0 < length s → class_of (get_or s 0 0) ≡ Sign → Whole Symbol 1 ≡ piece s
-sign_front [] h e = absurd (omega (arith, h))
-sign_front (b ∷ s) h e = sign_piece b s e
+pub symbol_front : (s : List ℕ) → 0 < length s → class_of (get_or s 0 0) ≡ classes.Symbol → Whole Symbol 1 ≡ piece s
+symbol_front [] h e = absurd (omega (arith, h))
+symbol_front (b ∷ s) h e = symbol_piece b s e
 
 pub name_piece : (s : List ℕ) → begins_name s ≡ true → Whole Word (prefix_len is_word s) ≡ piece s
 name_piece [] h = absurd cc

@@ -1,7 +1,7 @@
 -- Classes of octets: what one at the front of a line begins.
 use Rattle.std.specs.Prelude.{ℕ, Bool, ◌&&◌, ◌||◌, not, ◌==◌, if◌then◌else◌}
 use Rattle.pd_lex.specs.declared.classes.Class.{Class}
-use Rattle.pd_lex.specs.declared.classes.Class.TheVariants.{Digit, Letter, Point, Sign, Other}
+use Rattle.pd_lex.specs.declared.classes.Class.TheVariants.{Digit, Letter, Point, Symbol, Other}
 use Rattle.pd_lex.specs.Octets.{quote, dash, point, backquote, is_digit, is_word, is_printable}
 
 -- `-`, `/`, `"`, a backquote or `%`, which may begin more than a symbol
@@ -13,4 +13,4 @@ class_of b =
     if is_digit b then Digit
     else (if is_word b then Letter
     else (if b == point then Point
-    else (if is_printable b && not (begins_more b) then Sign else Other)))
+    else (if is_printable b && not (begins_more b) then Symbol else Other)))

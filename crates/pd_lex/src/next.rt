@@ -7,7 +7,7 @@ ghost use Rattle.pd_lex.specs.Next.{IsCut, HasLine, HasText};
 ghost use Rattle.pd_lex.specs.Scanned.{IsLeftInLine};
 
 use crate::numbers::number_of;
-use crate::plain::{plain_at, sign_at};
+use crate::plain::{plain_at, symbol_at};
 use crate::standing::behind_blanks;
 use crate::step::{Step, step_at};
 use crate::token::{Lexed, Place, Token, TokenKind};
@@ -35,7 +35,7 @@ pub fn read_next<'a>(lines: &'a Lines, place: Place, next: &mut Lexed<'a>)
     ensures line { HasLine lines.now next.new }
     ensures text { HasText lines.now next.new }
 {
-    // A sign, with blanks and newlines alone before it, needs no more.
+    // A symbol that its octet tells, with blanks and newlines alone before it, needs no more.
     let mut here = place;
     'lines: loop {
         let Some(line) = lines.line(here.line) else {
@@ -51,7 +51,7 @@ pub fn read_next<'a>(lines: &'a Lines, place: Place, next: &mut Lexed<'a>)
             at,
         };
         let rest = &line[at..];
-        let Some(octet) = sign_at(rest) else {
+        let Some(octet) = symbol_at(rest) else {
             return read_at(lines, from, rest, next);
         };
         *next = Lexed::Token(Token {
@@ -69,8 +69,8 @@ pub fn read_next<'a>(lines: &'a Lines, place: Place, next: &mut Lexed<'a>)
     }
 }
 
-/// Reads a token that is no sign, at a place in a line of which this much is left. It stands apart,
-/// since a sign needs few registers.
+/// Reads a token that its first octet doesn't tell for a symbol, at a place in a line of which this
+/// much is left. It stands apart, since a symbol needs few registers.
 #[inline(never)]
 fn read_at<'a>(lines: &'a Lines, from: Place, rest: &'a [u8], next: &mut Lexed<'a>)
     requires left { IsLeftInLine lines.now from rest.now }

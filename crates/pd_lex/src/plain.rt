@@ -130,7 +130,7 @@ fn symbol(octet: u8) -> Option<Plain>
 
 /// The octet at the front, where it begins a Symbol and nothing else.
 #[inline(always)]
-pub fn sign_at(s: &[u8]) -> Option<u8>
+pub fn symbol_at(s: &[u8]) -> Option<u8>
     ensures piece { IfSome result (λ _. Whole Symbol 1 ≡ piece s.now) }
     ensures within { IfSome result (λ _. 1 ≤ length s.now) }
     ensures symbol { IfSome result (λ octet. take 1 s.now ≡ octet ∷ []) }
@@ -139,7 +139,7 @@ pub fn sign_at(s: &[u8]) -> Option<u8>
         return None;
     };
     match class_of(*octet) {
-        Class::Sign => Some(*octet),
+        Class::Symbol => Some(*octet),
         _ => None,
     }
 }
@@ -159,7 +159,7 @@ pub fn plain_at(s: &[u8]) -> Option<Plain>
         Class::Digit => number_at(s),
         Class::Letter => name(s),
         Class::Point => point(s),
-        Class::Sign => symbol(*octet),
+        Class::Symbol => symbol(*octet),
         Class::Other => None,
     }
 }

@@ -1,5 +1,7 @@
 //! Taking the next token for what it is.
-ghost use Rattle.std.specs.Prelude.{◌≡◌};
+ghost use Rattle.std.specs.Prelude.{◌≡◌, Ok, Err, if◌then◌else◌};
+ghost use Rattle.pd_script.specs.declared.stops.Stop.TheVariants.{Syntax};
+ghost use Rattle.pd_script.specs.Items.{is_small};
 ghost use Rattle.pd_script.specs.TokenReading.{symbol_at, int_at, dots_at};
 ghost use Rattle.pd_script.specs.PacketReading.{int_from_at, int_of_at, named_at, letters_at, option_name_at};
 ghost use Rattle.pd_script.specs.Reading.{hex_at, num_at, num_from_at, command_at, code_at, function_at, error_at};
@@ -14,23 +16,34 @@ use crate::script_events::Action;
 use crate::stops::Stop;
 use pd_lex::{Lexed, Token, TokenKind};
 
+/// These fields of the next token, if it is of this kind; else the method ends at a fault of syntax.
+macro_rules! next_token {
+    ($cursor:expr, $kind:pat $(, $field:ident)*) => {
+        match *$cursor.peek() {
+            Lexed::Token(Token { kind: $kind, $($field,)* .. }) => ($($field),*),
+            _ => return Err(Stop::Syntax),
+        }
+    };
+}
+
+/// A number of the grammar, of which none is above 4,294,967,295.
+#[inline(always)]
+fn bounded(number: u64) -> Result<u32, Stop>
+    ensures { result ≡ (if is_small number then Ok number else Err Syntax) }
+{
+    let Ok(number) = u32::try_from(number) else {
+        return Err(Stop::Syntax);
+    };
+    Ok(number)
+}
+
 impl<'a> Cursor<'a> {
     /// Takes a symbol, and answers its line.
     #[tactic(auto, using(crate::proofs::Symbols::one_octet), unfolding(pd_lex::specs::Lexing::lexeme_of))]
     pub fn symbol(&mut self, octet: u8) -> Result<usize, Stop>
         ensures { Leaves result self.new (symbol_at octet self.old) }
     {
-        let Lexed::Token(
-            Token {
-                kind: TokenKind::Symbol,
-                symbol,
-                from,
-                ..
-            },
-        ) = *self.peek()
-        else {
-            return Err(Stop::Syntax);
-        };
+        let (symbol, from) = next_token!(self, TokenKind::Symbol, symbol, from);
         if symbol != octet {
             return Err(Stop::Syntax);
         }
@@ -43,19 +56,7 @@ impl<'a> Cursor<'a> {
     pub fn int(&mut self) -> Result<u32, Stop>
         ensures { Leaves result self.new (int_at self.old) }
     {
-        let Lexed::Token(
-            Token {
-                kind: TokenKind::Int,
-                number,
-                ..
-            },
-        ) = *self.peek()
-        else {
-            return Err(Stop::Syntax);
-        };
-        let Ok(number) = u32::try_from(number) else {
-            return Err(Stop::Syntax);
-        };
+        let number = bounded(next_token!(self, TokenKind::Int, number))?;
         self.take();
         Ok(number)
     }
@@ -65,19 +66,7 @@ impl<'a> Cursor<'a> {
     pub fn int_from(&mut self, least: u32) -> Result<u32, Stop>
         ensures { Leaves result self.new (int_from_at least self.old) }
     {
-        let Lexed::Token(
-            Token {
-                kind: TokenKind::Int,
-                number,
-                ..
-            },
-        ) = *self.peek()
-        else {
-            return Err(Stop::Syntax);
-        };
-        let Ok(number) = u32::try_from(number) else {
-            return Err(Stop::Syntax);
-        };
+        let number = bounded(next_token!(self, TokenKind::Int, number))?;
         if number < least {
             return Err(Stop::Syntax);
         }
@@ -90,19 +79,7 @@ impl<'a> Cursor<'a> {
     pub fn int_equal(&mut self, wanted: u32) -> Result<u32, Stop>
         ensures { Leaves result self.new (int_of_at wanted self.old) }
     {
-        let Lexed::Token(
-            Token {
-                kind: TokenKind::Int,
-                number,
-                ..
-            },
-        ) = *self.peek()
-        else {
-            return Err(Stop::Syntax);
-        };
-        let Ok(number) = u32::try_from(number) else {
-            return Err(Stop::Syntax);
-        };
+        let number = bounded(next_token!(self, TokenKind::Int, number))?;
         if number != wanted {
             return Err(Stop::Syntax);
         }
@@ -115,19 +92,8 @@ impl<'a> Cursor<'a> {
     pub fn hex(&mut self) -> Result<u32, Stop>
         ensures { Leaves result self.new (hex_at self.old) }
     {
-        let Lexed::Token(
-            Token {
-                kind: TokenKind::Hex,
-                text,
-                ..
-            },
-        ) = *self.peek()
-        else {
-            return Err(Stop::Syntax);
-        };
-        let Ok(number) = u32::try_from(hex_number(text)) else {
-            return Err(Stop::Syntax);
-        };
+        let text = next_token!(self, TokenKind::Hex, text);
+        let number = bounded(hex_number(text))?;
         self.take();
         Ok(number)
     }
@@ -137,17 +103,7 @@ impl<'a> Cursor<'a> {
     pub fn num(&mut self) -> Result<(usize, u64), Stop>
         ensures { Leaves result self.new (num_at self.old) }
     {
-        let Lexed::Token(
-            Token {
-                kind: TokenKind::Int | TokenKind::Decimal,
-                text,
-                from,
-                ..
-            },
-        ) = *self.peek()
-        else {
-            return Err(Stop::Syntax);
-        };
+        let (text, from) = next_token!(self, TokenKind::Int | TokenKind::Decimal, text, from);
         let time = microseconds(text);
         if time >= TIME_LIMIT {
             return Err(Stop::Syntax);
@@ -161,16 +117,7 @@ impl<'a> Cursor<'a> {
     pub fn num_from(&mut self, least: u64) -> Result<u64, Stop>
         ensures { Leaves result self.new (num_from_at least self.old) }
     {
-        let Lexed::Token(
-            Token {
-                kind: TokenKind::Int | TokenKind::Decimal,
-                text,
-                ..
-            },
-        ) = *self.peek()
-        else {
-            return Err(Stop::Syntax);
-        };
+        let text = next_token!(self, TokenKind::Int | TokenKind::Decimal, text);
         let time = microseconds(text);
         if time >= TIME_LIMIT || time < least {
             return Err(Stop::Syntax);
@@ -184,16 +131,7 @@ impl<'a> Cursor<'a> {
     pub fn letters(&mut self) -> Result<Flags, Stop>
         ensures { Leaves result self.new (letters_at self.old) }
     {
-        let Lexed::Token(
-            Token {
-                kind: TokenKind::Word,
-                text,
-                ..
-            },
-        ) = *self.peek()
-        else {
-            return Err(Stop::Syntax);
-        };
+        let text = next_token!(self, TokenKind::Word, text);
         if !are_flags(text) {
             return Err(Stop::Syntax);
         }
@@ -206,16 +144,7 @@ impl<'a> Cursor<'a> {
     pub fn option_name(&mut self) -> Result<OptionName, Stop>
         ensures { Leaves result self.new (option_name_at self.old) }
     {
-        let Lexed::Token(
-            Token {
-                kind: TokenKind::Word,
-                text,
-                ..
-            },
-        ) = *self.peek()
-        else {
-            return Err(Stop::Syntax);
-        };
+        let text = next_token!(self, TokenKind::Word, text);
         let Some(name) = option_named(text) else {
             return Err(Stop::Syntax);
         };
@@ -228,16 +157,7 @@ impl<'a> Cursor<'a> {
     pub fn function(&mut self) -> Result<Function, Stop>
         ensures { Leaves result self.new (function_at self.old) }
     {
-        let Lexed::Token(
-            Token {
-                kind: TokenKind::Word,
-                text,
-                ..
-            },
-        ) = *self.peek()
-        else {
-            return Err(Stop::Syntax);
-        };
+        let text = next_token!(self, TokenKind::Word, text);
         self.take();
         Ok(function_named(text))
     }
@@ -247,16 +167,7 @@ impl<'a> Cursor<'a> {
     pub fn error(&mut self) -> Result<ErrorName, Stop>
         ensures { Leaves result self.new (error_at self.old) }
     {
-        let Lexed::Token(
-            Token {
-                kind: TokenKind::Word,
-                text,
-                ..
-            },
-        ) = *self.peek()
-        else {
-            return Err(Stop::Syntax);
-        };
+        let text = next_token!(self, TokenKind::Word, text);
         self.take();
         Ok(error_named(text))
     }
@@ -266,15 +177,7 @@ impl<'a> Cursor<'a> {
     pub fn dots(&mut self) -> Result<(), Stop>
         ensures { Leaves result self.new (dots_at self.old) }
     {
-        let Lexed::Token(
-            Token {
-                kind: TokenKind::Dots,
-                ..
-            },
-        ) = *self.peek()
-        else {
-            return Err(Stop::Syntax);
-        };
+        next_token!(self, TokenKind::Dots);
         self.take();
         Ok(())
     }
@@ -284,16 +187,7 @@ impl<'a> Cursor<'a> {
     pub fn named(&mut self, name: &[u8]) -> Result<(), Stop>
         ensures { Leaves result self.new (named_at name.now self.old) }
     {
-        let Lexed::Token(
-            Token {
-                kind: TokenKind::Word,
-                text,
-                ..
-            },
-        ) = *self.peek()
-        else {
-            return Err(Stop::Syntax);
-        };
+        let text = next_token!(self, TokenKind::Word, text);
         if text != name {
             return Err(Stop::Syntax);
         }
@@ -306,15 +200,7 @@ impl<'a> Cursor<'a> {
     pub fn command(&mut self) -> Result<Action, Stop>
         ensures { Leaves result self.new (command_at self.old) }
     {
-        let Lexed::Token(
-            Token {
-                kind: TokenKind::Cmd,
-                ..
-            },
-        ) = *self.peek()
-        else {
-            return Err(Stop::Syntax);
-        };
+        next_token!(self, TokenKind::Cmd);
         self.take();
         Ok(Action::Command)
     }
@@ -324,15 +210,7 @@ impl<'a> Cursor<'a> {
     pub fn code(&mut self) -> Result<Action, Stop>
         ensures { Leaves result self.new (code_at self.old) }
     {
-        let Lexed::Token(
-            Token {
-                kind: TokenKind::Code,
-                ..
-            },
-        ) = *self.peek()
-        else {
-            return Err(Stop::Syntax);
-        };
+        next_token!(self, TokenKind::Code);
         self.take();
         Ok(Action::Code)
     }

@@ -3,7 +3,7 @@ use Rattle.std.proofs.Common.{◌≡◌, ◌∙◌, sym, ap, ℕ, zero, suc, ◌
 use Rattle.std.proofs.lemmas.Bool.{cases_eq}
 use Rattle.std.proofs.lemmas.Bool.Decides.{nat_tests}
 use Rattle.pd_lex.specs.declared.classes.Class.{Class}
-use Rattle.pd_lex.specs.declared.classes.Class.TheVariants.{Digit, Letter, Point, Sign, Other}
+use Rattle.pd_lex.specs.declared.classes.Class.TheVariants.{Digit, Letter, Point, Symbol, Other}
 use Rattle.pd_lex.specs.declared.classes.TheConstants.{CLASSES}
 use Rattle.pd_lex.specs.Classes.{class_of}
 use Rattle.pd_lex.proofs.classes.class_of.Goals as goal
@@ -12,21 +12,21 @@ abbrev number_of : Class → ℕ
 number_of Digit = 0
 number_of Letter = 1
 number_of Point = 2
-number_of Sign = 3
+number_of Symbol = 3
 number_of Other = 4
 
 abbrev numbered : ℕ → Class
 numbered zero = Digit
 numbered (suc zero) = Letter
 numbered (suc (suc zero)) = Point
-numbered (suc (suc (suc zero))) = Sign
+numbered (suc (suc (suc zero))) = Symbol
 numbered (suc (suc (suc (suc n)))) = Other
 
 numbered_back : (c : Class) → numbered (number_of c) ≡ c
 numbered_back Digit = refl
 numbered_back Letter = refl
 numbered_back Point = refl
-numbered_back Sign = refl
+numbered_back Symbol = refl
 numbered_back Other = refl
 
 same_class : (c d : Class) → number_of c ≡ number_of d → c ≡ d

@@ -55,8 +55,8 @@ read_at-requires-clause-left c =
     let rest = take_rest c.in-Some.line.now c.behind_blanks-at.result in
     record { place = on.place; line = le; rest_is = rw (rest, line) refl; some = omega (arith, c.if-at-line.false, ap length rest, length-drop c.behind_blanks-at.result c.in-Some.line.now); small = omega (arith, c.if-at-line.false, c.behind_blanks-at.ensures.small, ap length rest, length-drop c.behind_blanks-at.result c.in-Some.line.now) }
 
-pub returns-in_default-sign_at-clause-next : goal.returns-in_default-sign_at-clause-next
-returns-in_default-sign_at-clause-next c =
+pub returns-in_default-symbol_at-clause-next : goal.returns-in_default-symbol_at-clause-next
+returns-in_default-symbol_at-clause-next c =
     let lines = c.args.lines.now in
     let one = line_from_one c.lines.here.line c.in-Some.line.now _ c.in-Some.ensures.line in
     let le = line_within lines c.lines.here.line one c.in-Some.line.now c.in-Some.ensures.line in
@@ -65,8 +65,8 @@ returns-in_default-sign_at-clause-next c =
     let on = over_blanks lines c.in-Some.ensures.lines c.lines.here one le c.behind_blanks-at.result (rw line at c.behind_blanks-at.ensures.place) (rw line at c.if-at-line.false) in
     next_on lines c.args.place from (c.lines.invariant.same ∙ on.same) (Skips-over c.lines.invariant.skipped on.skipped) c.read_at.new.next c.read_at.ensures.next
 
-pub returns-in_default-sign_at-clause-cut : goal.returns-in_default-sign_at-clause-cut
-returns-in_default-sign_at-clause-cut c =
+pub returns-in_default-symbol_at-clause-cut : goal.returns-in_default-symbol_at-clause-cut
+returns-in_default-symbol_at-clause-cut c =
     let lines = c.args.lines.now in
     let one = line_from_one c.lines.here.line c.in-Some.line.now _ c.in-Some.ensures.line in
     let le = line_within lines c.lines.here.line one c.in-Some.line.now c.in-Some.ensures.line in
@@ -89,7 +89,7 @@ returns-in-lines c =
     let to : Place = record { line = c.lines.here.line; at = c.behind_blanks-at.result + 1 } in
     let same : s ≡ drop from.at (line_at lines from.line) = rw (rest, line) refl in
     let some : 0 < length s = omega (arith, c.if-at-line.false, ap length rest, length-drop c.behind_blanks-at.result c.in-Some.line.now) in
-    let whole = step_whole lines from on.place le s Symbol 1 same c.in-Some-sign_at.ensures.piece some c.in-Some-sign_at.ensures.within in
+    let whole = step_whole lines from on.place le s Symbol 1 same c.in-Some-symbol_at.ensures.piece some c.in-Some-symbol_at.ensures.within in
     record {
       next = c.lines.invariant.same ∙ on.same ∙ items_at_token lines c.in-Some.ensures.lines from to Symbol on.place whole.0 whole.1;
       cut = record { skipped = Skips-over c.lines.invariant.skipped on.skipped; longest = longest_token (octets_from lines from) (octets_from lines to) Symbol whole.1; from = on.place; behind = whole.0 };
