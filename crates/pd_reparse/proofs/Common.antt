@@ -1,8 +1,7 @@
 -- What stands before a token that ends in the equal first lines is equal too.
-use Rattle.std.proofs.Common.{◌≡◌, ℕ, ◌≤◌, Bool, true, false, List, [], ◌∷◌, ◌++◌, refl, sym, ap, subst, ◌∙◌, arith, append_assoc}
+use Rattle.std.proofs.Common.{◌≡◌, ℕ, ◌≤◌, true, List, [], ◌∷◌, ◌++◌, refl, sym, ap, subst, ◌∙◌, arith, append_assoc}
 use Rattle.std.specs.List.{list_all}
 use Rattle.std.proofs.lemmas.List.Folds.{list_all-append}
-use Rattle.pd_lex.specs.Kinds.{stays_in_line}
 use Rattle.pd_lex.specs.Tokens.{Lexeme, Item, lexeme, ending, bad}
 use Rattle.pd_lex.specs.Agreement.{last_line, IsInOrder, AgreeTo}
 use Rattle.pd_script.proofs.Apart.{is_lexeme}

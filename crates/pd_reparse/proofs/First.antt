@@ -1,5 +1,5 @@
 -- The headers of two texts, and their first events.
-use Rattle.std.proofs.Common.{◌≡◌, ℕ, zero, suc, ◌+◌, ◌-◌, ◌<◌, ◌≤◌, Bool, true, false, cond, List, [], ◌∷◌, ◌++◌, length, take, max, ◌&&◌, refl, sym, ap, subst, ◌∙◌, arith, append_assoc}
+use Rattle.std.proofs.Common.{◌≡◌, ℕ, zero, suc, ◌+◌, ◌<◌, ◌≤◌, Bool, true, false, cond, List, [], ◌∷◌, ◌++◌, length, take, max, ◌&&◌, refl, sym, ap, subst, ◌∙◌, arith}
 use Rattle.std.specs.List.{list_all, count_by}
 use Rattle.std.specs.Str.{bytes_eq}
 use Rattle.std.proofs.lemmas.List.Recursion.{is_count_by}
@@ -9,21 +9,20 @@ use Rattle.std.proofs.lemmas.Slice.Eq.{bytes_eq-Decides}
 use Rattle.pd_text.specs.Text.{AreLines, front}
 use Rattle.pd_lex.specs.declared.token.Place.{Place}
 use Rattle.pd_lex.specs.Places.{first_place}
-use Rattle.pd_lex.specs.Tokens.{Lexeme, Item, lexeme, ending, bad}
+use Rattle.pd_lex.specs.Tokens.{Item, lexeme, ending, bad}
 use Rattle.pd_lex.specs.Lexing.{items}
 use Rattle.pd_lex.specs.Agreement.{last_line, IsInOrder, AgreeTo, ItemsAreInOrder, FirstLinesAgree}
 use Rattle.pd_script.specs.declared.script_events.Event.{Event}
 use Rattle.pd_script.specs.Items.{is_header, starts_event, next_is}
-use Rattle.pd_script.specs.Reading.{event_at}
 use Rattle.pd_script.specs.Script.{header_of, header_end, header_in, behind_header, script_of}
 use Rattle.pd_script.proofs.Apart.{is_lexeme}
 use Rattle.pd_script.proofs.GrammarLaws.{Reads-event}
 use Rattle.pd_reparse.specs.declared.decided.Decided.{Decided}
-use Rattle.pd_reparse.specs.Reading.{DecidedScript, decided_in, reading_in, reading_of, events_of, script_part, is_within, kept_of, in_front, IsReadingOfFirst}
-use Rattle.pd_script.specs.Header.{Heading, behind}
+use Rattle.pd_reparse.specs.Reading.{DecidedScript, decided_in, reading_in, reading_of, events_of, is_within, kept_of, IsReadingOfFirst}
+use Rattle.pd_script.specs.Header.{behind}
 use Rattle.pd_reparse.proofs.Scripts.{reading_is_script}
-use Rattle.pd_reparse.proofs.Common.{Shared, shared}
-use Rattle.pd_reparse.proofs.Stays.{tally, First, IsFirst, first_is, Both, both, Behind, behind as behind_tokens, Stay, stays, start_stays, starts_no_header}
+use Rattle.pd_reparse.proofs.Common.{shared}
+use Rattle.pd_reparse.proofs.Stays.{tally, first_is, both, behind as behind_tokens, Stay, stays, start_stays, starts_no_header}
 
 -- ---- headers
 

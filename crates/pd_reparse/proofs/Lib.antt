@@ -6,4 +6,4 @@ pub mod First
 pub mod OnTheWay
 pub mod Taken
 pub mod ReadOn
-pub mod Blocks
+pub mod Counted

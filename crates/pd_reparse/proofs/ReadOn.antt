@@ -1,5 +1,5 @@
 -- What is kept and what is read behind it are the reading of the whole text.
-use Rattle.std.proofs.Common.{◌≡◌, ℕ, zero, suc, ◌-◌, ◌<◌, ◌≤◌, Bool, true, List, [], ◌∷◌, ◌++◌, length, take, min, refl, sym, ap, subst, ◌∙◌, arith, append_assoc}
+use Rattle.std.proofs.Common.{◌≡◌, ℕ, zero, suc, ◌-◌, ◌<◌, ◌≤◌, List, [], ◌∷◌, ◌++◌, length, take, refl, sym, ap, subst, ◌∙◌, arith, append_assoc}
 use Rattle.std.proofs.lemmas.List.{length-take-le}
 use Rattle.pd_text.specs.Text.{AreLines}
 use Rattle.pd_lex.specs.declared.token.Place.{Place}
@@ -14,8 +14,8 @@ use Rattle.pd_reparse.specs.declared.decided.Decided.{Decided}
 use Rattle.pd_script.specs.Header.{Heading}
 use Rattle.pd_script.specs.Laws.{ItemsStandThere}
 use Rattle.pd_reparse.specs.Reading.{DecidedScript, DecidedEvents, decided_in, reading_in, reading_of, kept_of, last_place, in_front, IsReadOn, IsReadingOfFirst}
-use Rattle.pd_reparse.proofs.Stays.{tally, tally_below, Stay, IsAt}
-use Rattle.pd_reparse.proofs.First.{Again, again_in, kept_is, tally_short, header_parts}
+use Rattle.pd_reparse.proofs.Stays.{tally_below, Stay, IsAt}
+use Rattle.pd_reparse.proofs.First.{again_in, kept_is, tally_short, header_parts}
 
 -- no more events are kept than there are
 pub kept_within : (same : ℕ) (r : DecidedScript) → kept_of same r ≤ length r.events

@@ -1,15 +1,14 @@
 -- A reading without what decided its events is the script.
-use Rattle.std.proofs.Common.{◌≡◌, ℕ, zero, suc, Bool, true, false, cond, List, [], ◌∷◌, Ok, Err, refl, sym, ap}
+use Rattle.std.proofs.Common.{◌≡◌, ℕ, zero, suc, Bool, true, false, cond, List, ◌∷◌, Ok, Err, refl, ap}
 use Rattle.pd_lex.specs.Places.{first_place}
 use Rattle.pd_lex.specs.Tokens.{Item}
 use Rattle.pd_lex.specs.Lexing.{items}
 use Rattle.pd_script.specs.Items.{starts_event, next_is}
 use Rattle.pd_script.specs.Reader.{Read}
 use Rattle.pd_script.specs.Reading.{event_at}
-use Rattle.pd_script.specs.Script.{found_in, followed, may_follow, with_event, at_end, script_in, script_of, header_of, behind_header}
+use Rattle.pd_script.specs.Script.{found_in, followed, may_follow, with_event, at_end, script_in, script_of, behind_header}
 use Rattle.pd_script.specs.declared.script_events.Event.{Event}
 use Rattle.pd_script.specs.declared.parsing.Found.{Found}
-use Rattle.pd_script.specs.declared.parsing.Parsed.{Parsed}
 use Rattle.pd_reparse.specs.Reading.{DecidedEvents, with_decided, none_decided, decided_in, reading_in, reading_of, events_of, script_part}
 
 -- the same events and fault

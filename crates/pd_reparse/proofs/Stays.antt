@@ -1,6 +1,6 @@
 -- Events that the equal first lines decide stay, and what follows them is read on.
-use Rattle.std.proofs.Common.{◌≡◌, ℕ, zero, suc, ◌+◌, ◌-◌, ◌<◌, ◌≤◌, nat_le, Bool, true, false, cond, List, [], ◌∷◌, ◌++◌, length, take, Option, Some, None, Ok, Err, refl, sym, ap, subst, ◌∙◌, arith, append_assoc, inl, inr}
-use Rattle.std.specs.Prelude.{◌⊎◌, ◌||◌}
+use Rattle.std.proofs.Common.{◌≡◌, ℕ, zero, suc, ◌+◌, ◌-◌, ◌<◌, ◌≤◌, nat_le, Bool, true, false, cond, List, [], ◌∷◌, ◌++◌, take, Ok, Err, refl, sym, ap, subst, ◌∙◌, arith, append_assoc}
+use Rattle.std.specs.Prelude.{◌||◌}
 use Rattle.std.specs.List.{list_all}
 use Rattle.std.proofs.lemmas.Bool.Decides.{nat_tests}
 use Rattle.std.proofs.lemmas.List.{append_cancel_right}
@@ -12,7 +12,7 @@ use Rattle.pd_lex.specs.Kinds.{stays_in_line}
 use Rattle.pd_lex.specs.Tokens.{Lexeme, Item, lexeme, ending, bad}
 use Rattle.pd_lex.specs.Agreement.{last_line, IsInOrder, AgreeTo}
 use Rattle.pd_script.specs.declared.script_events.Event.{Event}
-use Rattle.pd_script.specs.Items.{is_num_kind, is_symbol_kind, is_header_kind, is_header, is_num, is_symbol, starts_event, is_end, goes_on, next_is}
+use Rattle.pd_script.specs.Items.{is_num_kind, is_symbol_kind, is_header_kind, is_header, is_num, is_symbol, starts_event, is_end, next_is}
 use Rattle.pd_script.specs.Reader.{Read}
 use Rattle.pd_script.specs.Reading.{event_at}
 use Rattle.pd_script.specs.Script.{followed, may_follow}
@@ -20,9 +20,9 @@ use Rattle.pd_script.proofs.Apart.{is_lexeme, apart, num_kind, symbol_kind, or-e
 use Rattle.pd_script.proofs.Laws.{ok, next-same}
 use Rattle.pd_script.proofs.GrammarLaws.{Reads-event}
 use Rattle.pd_reparse.specs.declared.decided.Decided.{Decided}
-use Rattle.pd_script.specs.Next.{reach_of, next_place}
-use Rattle.pd_reparse.specs.Reading.{DecidedEvents, decided, with_decided, none_decided, decided_in, is_within, last_place, in_front}
-use Rattle.pd_reparse.proofs.Common.{rises_to, Shared, shared}
+use Rattle.pd_script.specs.Next.{reach_of}
+use Rattle.pd_reparse.specs.Reading.{decided, with_decided, none_decided, decided_in, is_within, last_place, in_front}
+use Rattle.pd_reparse.proofs.Common.{shared}
 
 -- ---- the token that decides an event lies within its line
 

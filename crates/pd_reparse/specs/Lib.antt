@@ -2,4 +2,3 @@
 pub mod Reading
 pub mod Steps
 pub mod Laws
-pub mod Blocks

@@ -1,11 +1,11 @@
 -- What a text is read as, with what decided each event.
-use Rattle.std.specs.Prelude.{◌≡◌, ℕ, zero, suc, ◌+◌, ◌≤◌, nat_le, Bool, false, List, [], ◌∷◌, ◌++◌, take, drop, length, map, count_by, Option, Some, None, Ok, Err, if◌then◌else◌}
+use Rattle.std.specs.Prelude.{◌≡◌, ℕ, zero, suc, ◌≤◌, nat_le, Bool, false, List, [], ◌∷◌, ◌++◌, take, drop, length, map, count_by, Option, Some, None, Ok, Err, if◌then◌else◌}
 use Rattle.pd_text.specs.Text.{AreLines}
 use Rattle.pd_lex.specs.declared.token.Place.{Place}
 use Rattle.pd_lex.specs.Places.{first_place}
-use Rattle.pd_lex.specs.Tokens.{Item, lexeme, ending, bad}
+use Rattle.pd_lex.specs.Tokens.{Item}
 use Rattle.pd_lex.specs.Lexing.{items}
-use Rattle.pd_script.specs.Items.{starts_event, is_end, next_is}
+use Rattle.pd_script.specs.Items.{starts_event, next_is}
 use Rattle.pd_script.specs.Reader.{Read}
 use Rattle.pd_script.specs.Reading.{next_line, event_at}
 use Rattle.pd_script.specs.Script.{followed, may_follow, at_end, header_in, behind_header}

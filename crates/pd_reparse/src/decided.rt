@@ -1,9 +1,11 @@
 //! Events, each with what decided it.
-ghost use Rattle.std.specs.Prelude.{◌≡◌, IfOk};
+ghost use Rattle.std.specs.Prelude.{◌≡◌, ◌≤◌, length, count_by, IfOk};
 ghost use Rattle.pd_reparse.specs.Reading.{is_within};
+ghost use Rattle.pd_reparse.specs.declared.decided.Decided.{Decided};
 
 use pd_lex::Place;
 use pd_script::Event;
+use pd_shared::{Copied, SharedList};
 use std::alloc::AllocError;
 
 /// An event of a script, and what follows it in the text.
@@ -28,15 +30,37 @@ impl Decided {
             None => false,
         }
     }
+}
 
-    /// An equal value of its own.
-    pub fn copy(&self) -> Result<Decided, AllocError>
-        ensures { IfOk result (λ copy. copy ≡ self.now) }
-    {
+impl Copied for Decided {
+    fn copied(&self) -> Result<Decided, AllocError> {
         Ok(Decided {
             event: self.event.copy()?,
             reach: self.reach,
             after: self.after,
         })
     }
+}
+
+/// How many of the events, at most 4,096, one of the first `same` lines decided.
+pub fn count_within(events: &SharedList<Decided>, same: usize) -> usize
+    requires { length events.now ≤ 4096 }
+    ensures { result ≡ count_by (λ (d : Decided). is_within same d.reach) events.now }
+{
+    let (blocks, rest) = events.parts();
+    let mut count = 0;
+    for block in blocks {
+        count += count_in(block.as_slice(), same);
+    }
+    count + count_in(rest, same)
+}
+
+/// The same of events that stand together.
+fn count_in(events: &[Decided], same: usize) -> usize
+    ensures { result ≡ count_by (λ (d : Decided). is_within same d.reach) events.now }
+{
+    events
+        .iter()
+        .filter(|decided| decided.is_within(same))
+        .count()
 }

@@ -2,8 +2,6 @@
 #![tactic(auto)]
 
 mod decided;
-mod event_block;
-mod event_list;
 mod kept;
 mod laws;
 mod reading;
@@ -11,7 +9,6 @@ mod rereading;
 mod steps;
 
 pub use decided::Decided;
-pub use event_list::EventList;
 pub use kept::Reread;
 pub use laws::{first_events, readings};
 pub use reading::Reading;

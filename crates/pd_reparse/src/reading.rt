@@ -3,9 +3,10 @@ ghost use Rattle.std.specs.Prelude.{◌≡◌, ◌≤◌, ◌<◌, length, take,
 ghost use Rattle.pd_lex.specs.declared.token.Place.{Place};
 ghost use Rattle.pd_reparse.specs.Reading.{kept_of, last_place};
 
-use crate::event_list::EventList;
+use crate::decided::{Decided, count_within};
 use pd_lex::Place;
 use pd_script::Header;
+use pd_shared::SharedList;
 use std::alloc::AllocError;
 use std::marker::Model;
 
@@ -14,7 +15,7 @@ use std::marker::Model;
 #[derive(Drop)]
 pub struct Reading {
     header: Header,
-    events: EventList,
+    events: SharedList<Decided>,
     fault: Option<usize>,
 }
 
@@ -30,16 +31,25 @@ impl Model for Reading {
 }
 
 impl Reading {
-    /// The reading of these parts; a script has at most 4,096 events.
-    pub fn new(header: Header, events: EventList, fault: Option<usize>) -> Reading
+    /// The reading of these parts, whose events others may share; a script has at most 4,096 events.
+    ///
+    /// # Errors
+    /// `AllocError` where a growth is refused.
+    pub fn new(
+        header: Header,
+        events: SharedList<Decided>,
+        fault: Option<usize>,
+    ) -> Result<Reading, AllocError>
         requires { length events ≤ 4096 }
-        ensures { result ≡ record { header = header; events = events; fault = fault } }
+        ensures { IfOk result (λ reading. reading ≡ record { header = header; events = events; fault = fault }) }
     {
-        Reading {
+        let mut events = events;
+        events.seal()?;
+        Ok(Reading {
             header,
             events,
             fault,
-        }
+        })
     }
 
     pub fn header(&self) -> &Header
@@ -49,7 +59,7 @@ impl Reading {
     }
 
     /// Its events, at most 4,096.
-    pub fn events(&self) -> &EventList
+    pub fn events(&self) -> &SharedList<Decided>
         ensures value { result.now ≡ self.now.events }
         ensures few { length result.now ≤ 4096 }
     {
@@ -71,15 +81,15 @@ impl Reading {
     pub fn count_within(&self, same: usize) -> usize
         ensures { result ≡ kept_of same self.now }
     {
-        self.events.count_within(same)
+        count_within(&self.events, same)
     }
 
     /// The first events.
-    pub fn first_events(&self, count: usize) -> Result<EventList, AllocError>
+    pub fn first_events(&self, count: usize) -> Result<SharedList<Decided>, AllocError>
         requires { count ≤ length self.now.events }
         ensures { IfOk result (λ events. events ≡ take count self.now.events) }
     {
-        self.events.first_events(count)
+        self.events.first(count)
     }
 
     /// The place behind the first events, one at least.

@@ -5,12 +5,12 @@ ghost use Rattle.pd_reparse.specs.Reading.{IsReadingOfFirst, IsReadOn, reading_o
 ghost use Rattle.pd_reparse.specs.Steps.{IsStep};
 
 use crate::decided::Decided;
-use crate::event_list::EventList;
 use crate::kept::Reread;
 use crate::reading::Reading;
 use crate::steps::Step;
 use pd_lex::{Place, first_lines};
 use pd_script::{EventReader, Header, MAX_EVENTS, NextEvent, items_stand_there, read_header};
+use pd_shared::SharedList;
 use pd_text::Lines;
 use std::alloc::{AllocError, Global};
 
@@ -24,7 +24,7 @@ pub fn read(alloc: Global, lines: &Lines) -> Result<Reading, AllocError>
 {
     let header = read_header(alloc, lines)?;
     let place = header.end();
-    read_on(alloc, lines, header, EventList::new(alloc), place)
+    read_on(alloc, lines, header, SharedList::new(alloc), place)
 }
 
 /// Reads a text again whose first `same` lines are those of the text that was read before: the
@@ -65,7 +65,7 @@ fn read_on(
     alloc: Global,
     lines: &Lines,
     header: Header,
-    front: EventList,
+    front: SharedList<Decided>,
     place: Place,
 ) -> Result<Reading, AllocError>
     requires { length front < 4096 }
@@ -76,11 +76,11 @@ fn read_on(
     'events: for i in events.len()..MAX_EVENTS {
         match next_step(alloc, &mut reader, MAX_EVENTS - i - 1)? {
             Step::Goes(decided) => events.push(decided)?,
-            Step::Stops(fault) => return Ok(Reading::new(header, events, fault)),
+            Step::Stops(fault) => return Ok(Reading::new(header, events, fault)?),
         }
     }
     // The end of the text follows the last event that a script may have.
-    Ok(Reading::new(header, events, None))
+    Ok(Reading::new(header, events, None)?)
 }
 
 /// Reads the next event, where so many more may follow it.

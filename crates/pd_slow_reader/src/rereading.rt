@@ -1,4 +1,7 @@
 //! Reads edited texts again, and whole, and keeps what differs.
+ghost use Rattle.std.specs.Prelude.{◌≡◌, IfOk};
+ghost use Rattle.pd_reparse.specs.Reading.{reading_of};
+
 use crate::dice::Dice;
 use crate::edits::random_edit;
 use crate::stops::Stop;
@@ -83,24 +86,38 @@ fn add(octets: &mut Vec<u8>, more: &[u8]) -> Result<(), AllocError> {
     octets.extend_from_slice(more)
 }
 
-/// Reads a text, and an edited one again and whole.
+/// Reads a text, and an edited one again and whole; and behind that the first text once more.
 pub fn read_both(alloc: Global, old: &Lines, new: &Lines) -> Result<Outcome, Stop> {
     let before = read(alloc, old)?;
     let again = read_again(alloc, old, new)?;
+    let back = read_back(alloc, old, new)?;
     let whole = read(alloc, new)?;
     let same = old.same_front(new);
+    let is_right = is_same(&again.reading, &whole) && is_same(&back.reading, &before);
+    let is_kept = again.kept == counted(&before, same) && back.kept == counted(&whole, same);
     Ok(Outcome {
         same,
         kept: again.kept,
-        is_right: is_same(&again.reading, &whole) && again.kept == counted(&before, same),
+        is_right: is_right && is_kept,
     })
 }
 
-fn read_again(alloc: Global, old: &Lines, new: &Lines) -> Result<Reread, AllocError> {
+/// Reads an edited text again.
+fn read_again(alloc: Global, old: &Lines, new: &Lines) -> Result<Reread, AllocError>
+    ensures { IfOk result (λ again. again.reading ≡ reading_of new.now) }
+{
     let before = read(alloc, old)?;
     // A look at a line tells that no line holds a newline.
     let _ = old.line(1);
     reread(alloc, &before, new, old.same_front(new))
+}
+
+/// Reads an edited text again, and behind that the first one.
+fn read_back(alloc: Global, old: &Lines, new: &Lines) -> Result<Reread, AllocError> {
+    let again = read_again(alloc, old, new)?;
+    // A look at a line tells that no line holds a newline.
+    let _ = new.line(1);
+    reread(alloc, &again.reading, old, new.same_front(old))
 }
 
 /// The number of events whose reach is one of the first lines.

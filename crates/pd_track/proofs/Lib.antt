@@ -1,6 +1,5 @@
 -- Lemmas on tracks and jobs.
 pub mod Beginnings
-pub mod Blocks
 pub mod Fourths
 pub mod Greatest
 pub mod Held

@@ -14,8 +14,6 @@ mod progress;
 mod resuming;
 mod running;
 mod snap;
-mod snap_block;
-mod snap_list;
 mod task;
 mod track;
 mod trail;

@@ -5,10 +5,11 @@ ghost use Rattle.pd_run.specs.Laws.{IsUnderway};
 ghost use Rattle.pd_run.specs.Run.{verdict_from, stepped_from, states_from};
 ghost use Rattle.pd_track.specs.Reuse.{fourths};
 
-use crate::snap_list::SnapList;
-use pd_reparse::EventList;
+use crate::snap::Snap;
+use pd_reparse::Decided;
 use pd_run::{RunState, StepEnd, Stepper, Verdict, runs_are_bounded};
 use pd_settings::Settings;
+use pd_shared::SharedList;
 use std::alloc::{AllocError, Global};
 
 /// How far a run has come: its state after so many events, and those after each fourth of them.
@@ -16,7 +17,7 @@ use std::alloc::{AllocError, Global};
 pub struct Progress {
     pub state: RunState,
     pub passed: usize,
-    pub snaps: SnapList,
+    pub snaps: SharedList<Snap>,
 }
 
 impl Progress {
@@ -29,14 +30,14 @@ impl Progress {
         Progress {
             state,
             passed: 0,
-            snaps: SnapList::new(alloc),
+            snaps: SharedList::new(alloc),
         }
     }
 
     /// Runs those of the events that are left, up to the first that stops the run.
     pub fn run<S: Stepper>(
         &mut self,
-        events: &EventList,
+        events: &SharedList<Decided>,
         settings: &Settings,
         stepper: &mut S,
     ) -> Result<Verdict, AllocError>
@@ -69,7 +70,7 @@ impl Progress {
     {
         self.passed += 1;
         if self.passed % 4 == 0 {
-            self.snaps.push(&self.state)?;
+            self.snaps.push(Snap::new(&self.state)?)?;
         }
         Ok(())
     }

@@ -10,11 +10,12 @@ ghost use Rattle.pd_track.specs.Resuming.{BeginsIn, Resumes};
 
 use crate::job::Job;
 use crate::progress::Progress;
-use crate::snap_list::SnapList;
+use crate::snap::Snap;
 use crate::track::Track;
 use pd_reparse::{Reread, first_events, read, reread};
 use pd_run::{RunState, runs_are_bounded, runs_only_use};
 use pd_settings::{Settings, UseSet};
+use pd_shared::SharedList;
 use pd_text::Text;
 use std::alloc::{AllocError, Global};
 
@@ -166,15 +167,15 @@ fn state_at(track: &Track, count: usize) -> &RunState
     requires within { count ≤ length (fourths 3 (states_of track.now.text track.now.settings)) }
     ensures { slice_get (fourths 3 (states_of track.now.text track.now.settings)) (count - 1) ≡ Some (rebound_run track.now.settings result.now) }
 {
-    track.snaps().last(count).state()
+    track.snaps().at(count - 1).state()
 }
 
 /// The track's first states, shared.
-fn first_of(track: &Track, count: usize) -> Result<SnapList, AllocError>
+fn first_of(track: &Track, count: usize) -> Result<SharedList<Snap>, AllocError>
     requires { count ≤ length (fourths 3 (states_of track.now.text track.now.settings)) }
     ensures states { IfOk result (λ shared. map (rebound_run track.now.settings) shared ≡ take count (fourths 3 (states_of track.now.text track.now.settings))) }
     ensures held { IfOk result (λ shared. AreHeld track.now.settings shared) }
 {
-    let shared = track.snaps().first_states(count)?;
+    let shared = track.snaps().first(count)?;
     Ok(shared)
 }

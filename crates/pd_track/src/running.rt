@@ -8,11 +8,12 @@ use crate::done::{Done, Unfinished};
 use crate::job::Job;
 use crate::progress::Progress;
 use crate::resuming::{begin, read_job};
-use crate::snap_list::SnapList;
+use crate::snap::Snap;
 use crate::task::Task;
 use crate::track::Track;
 use pd_reparse::{Reading, Reread, readings};
 use pd_run::{RunState, Stepper, Verdict, runs_only_use};
+use pd_shared::SharedList;
 use std::alloc::{AllocError, Global};
 
 /// What a run came to, what was read, and the states on its way.
@@ -20,7 +21,7 @@ use std::alloc::{AllocError, Global};
 struct Outcome {
     verdict: Verdict,
     reading: Reading,
-    snaps: SnapList,
+    snaps: SharedList<Snap>,
 }
 
 /// Runs a job with this stepper, which has room for 4,096 steps. The run begins in the last state of the job's track that
@@ -71,7 +72,7 @@ fn run<S: Stepper>(alloc: Global, job: &Job, stepper: &mut S) -> Result<Outcome,
         return Ok(Outcome {
             verdict: Verdict::Syntax(line),
             reading,
-            snaps: SnapList::new(alloc),
+            snaps: SharedList::new(alloc),
         });
     }
     match RunState::new(alloc, reading.header(), &job.settings()) {
@@ -82,7 +83,7 @@ fn run<S: Stepper>(alloc: Global, job: &Job, stepper: &mut S) -> Result<Outcome,
         Err(verdict) => Ok(Outcome {
             verdict,
             reading,
-            snaps: SnapList::new(alloc),
+            snaps: SharedList::new(alloc),
         }),
     }
 }

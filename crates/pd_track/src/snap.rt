@@ -2,6 +2,7 @@
 ghost use Rattle.std.specs.Prelude.{◌≡◌, IfOk};
 
 use pd_run::RunState;
+use pd_shared::Copied;
 use std::alloc::AllocError;
 use std::marker::Model;
 
@@ -35,5 +36,11 @@ impl Snap {
         ensures { result.now ≡ self.now }
     {
         &self.state
+    }
+}
+
+impl Copied for Snap {
+    fn copied(&self) -> Result<Snap, AllocError> {
+        Snap::new(&self.state)
     }
 }

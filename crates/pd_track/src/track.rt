@@ -7,10 +7,10 @@ ghost use Rattle.pd_settings.specs.Uses.{Agree};
 ghost use Rattle.pd_track.specs.Reuse.{AreHeld, fourths, uses};
 
 use crate::snap::Snap;
-use crate::snap_list::SnapList;
 use crate::trail::Trail;
 use pd_reparse::Reading;
 use pd_settings::Settings;
+use pd_shared::SharedList;
 use pd_text::Text;
 use std::alloc::{AllocError, Global};
 use std::marker::Model;
@@ -39,11 +39,13 @@ impl Track {
         text: Text,
         settings: Settings,
         reading: Reading,
-        snaps: SnapList,
+        snaps: SharedList<Snap>,
     ) -> Result<Track, AllocError>
         requires { IsTrack text settings reading snaps }
         ensures { IfOk result (λ track. track ≡ record { text = text; settings = settings }) }
     {
+        let mut snaps = snaps;
+        snaps.seal()?;
         Ok(Track {
             trail: Arc::new(alloc, Trail::new(text, settings, reading, snaps))?,
         })
@@ -80,7 +82,7 @@ impl Track {
     }
 
     /// The states after 4, 8, 12 .. events that passed, but for the settings held in them.
-    pub(crate) fn snaps(&self) -> &SnapList
+    pub(crate) fn snaps(&self) -> &SharedList<Snap>
         ensures states { map (rebound_run self.now.settings) result.now ≡ fourths 3 (states_of self.now.text self.now.settings) }
         ensures held { AreHeld self.now.settings result.now }
     {

@@ -5,9 +5,10 @@ ghost use Rattle.pd_run.specs.Consulted.{rebound_run};
 ghost use Rattle.pd_run.specs.Run.{states_of};
 ghost use Rattle.pd_track.specs.Reuse.{AreHeld, fourths};
 
-use crate::snap_list::SnapList;
+use crate::snap::Snap;
 use pd_reparse::Reading;
 use pd_settings::Settings;
+use pd_shared::SharedList;
 use pd_text::Text;
 use std::alloc::{AllocError, Global};
 use std::marker::Model;
@@ -18,7 +19,7 @@ pub struct Trail {
     text: Text,
     settings: Settings,
     reading: Reading,
-    snaps: SnapList,
+    snaps: SharedList<Snap>,
 }
 
 impl Model for Trail {
@@ -34,7 +35,7 @@ impl Model for Trail {
 impl Trail {
     ghost use Rattle.pd_track.specs.Reuse.{IsTrack};
 
-    pub fn new(text: Text, settings: Settings, reading: Reading, snaps: SnapList) -> Trail
+    pub fn new(text: Text, settings: Settings, reading: Reading, snaps: SharedList<Snap>) -> Trail
         requires { IsTrack text settings reading snaps }
         ensures { result ≡ record { text = text; settings = settings } }
     {
@@ -64,7 +65,7 @@ impl Trail {
         &self.reading
     }
 
-    pub fn snaps(&self) -> &SnapList
+    pub fn snaps(&self) -> &SharedList<Snap>
         ensures states { map (rebound_run self.now.settings) result.now ≡ fourths 3 (states_of self.now.text self.now.settings) }
         ensures held { AreHeld self.now.settings result.now }
     {

@@ -11,11 +11,11 @@ returns-in-Stops c =
     let front = c.args.front in
     let step = rw c.in-Stops.is at c.in_ok-decided.ensures in
     let found = none_more front (4096 - length front) (items c.args.lines.now c.args.place) c.events.events c.events.i c.events.reader c.in-Stops.fault c.events.invariant.1 (omega arith) step in
-    c.new.ensures ∙ ap (λ (h : Heading). record { header = h; events = c.events.events; fault = c.in-Stops.fault }) c.events.invariant.0 ∙ ap (λ (f : DecidedEvents). record { header = c.args.header; events = f.events; fault = f.fault }) found
+    c.in_ok-new-in-Stops.ensures ∙ ap (λ (h : Heading). record { header = h; events = c.events.events; fault = c.in-Stops.fault }) c.events.invariant.0 ∙ ap (λ (f : DecidedEvents). record { header = c.args.header; events = f.events; fault = f.fault }) found
 
 pub returns : goal.returns
 returns c =
     let none : Option ℕ = None in
     let front = c.args.front in
     let found = at_limit front (4096 - length front) (items c.args.lines.now c.args.place) c.events.events c.events.i c.events.reader c.events.invariant.1 (omega arith) in
-    c.new-2.ensures ∙ ap (λ (h : Heading). record { header = h; events = c.events.events; fault = none }) c.events.invariant.0 ∙ ap (λ (f : DecidedEvents). record { header = c.args.header; events = f.events; fault = f.fault }) found
+    c.in_ok-new.ensures ∙ ap (λ (h : Heading). record { header = h; events = c.events.events; fault = none }) c.events.invariant.0 ∙ ap (λ (f : DecidedEvents). record { header = c.args.header; events = f.events; fault = f.fault }) found

@@ -1,5 +1,5 @@
 -- What is kept is what the first lines decide, and the rest is read behind it.
-use Rattle.std.proofs.Common.{◌≡◌, ◌∙◌, ℕ, ◌≤◌, ap, sym, length, take, arith}
+use Rattle.std.proofs.Common.{◌≡◌, ◌∙◌, ℕ, ap, sym, length, take, arith}
 use Rattle.pd_lex.specs.declared.token.Place.{Place}
 use Rattle.std.proofs.lemmas.List.{length-take-le}
 use Rattle.pd_reparse.specs.Reading.{kept_of, last_place}

@@ -1,11 +1,16 @@
 -- The state, but for the settings held.
-use Rattle.std.proofs.Common.{◌-◌, ◌∙◌, ap, sym, slice_get, option_map, Some}
+use Rattle.std.proofs.Common.{◌-◌, ◌<◌, ◌∙◌, ap, sym, length, slice_get, option_map, Some, arith}
 use Rattle.std.proofs.lemmas.Option.{slice_get-map}
+use Rattle.std.proofs.lemmas.List.{length-map}
+use Rattle.pd_shared.proofs.Blocks.{found_at}
 use Rattle.pd_run.specs.Consulted.{rebound_run}
 use Rattle.pd_track.proofs.resuming.state_at.Goals as goal
 
 pub returns : goal.returns
 returns c =
+    let all = ap length c.snaps.ensures.states in
+    let same = length-map c.snaps.result.now (rebound_run c.args.track.now.settings) in
+    let below : c.args.count - 1 < length c.snaps.result.now = omega (arith, all, same, c.requires.some, c.requires.within) in
     ap (λ rs. slice_get rs (c.args.count - 1)) (sym c.snaps.ensures.states)
     ∙ (slice_get-map (rebound_run c.args.track.now.settings) c.snaps.result.now (c.args.count - 1)
-    ∙ ap (option_map (rebound_run c.args.track.now.settings)) (c.last.ensures ∙ ap (λ s. Some s) (sym c.state.ensures)))
+    ∙ ap (option_map (rebound_run c.args.track.now.settings)) (found_at (c.args.count - 1) c.snaps.result.now c.at.result.now below c.at.ensures ∙ ap (λ s. Some s) (sym c.state.ensures)))

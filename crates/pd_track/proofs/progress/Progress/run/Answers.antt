@@ -21,7 +21,7 @@ loop-i-preserved g c =
     ∙ ap ok (sym c.pass.ensures.state) in
     let rest : List Decided = drop (c.loop-i.i + 1) c.args.events.now in
     let split : drop c.loop-i.i c.args.events.now ≡ c.at.result.now ∷ rest =
-    drop_more c.args.events.now c.loop-i.i c.at.result.now (omega (arith, c.loop-i-test.true, c.len-i-end.ensures.len))
+    drop_more c.args.events.now c.loop-i.i c.at.result.now (omega (arith, c.loop-i-test.true, c.len-i-end.ensures))
     ∙ ap (λ (d : Decided). d ∷ rest) (sym c.at.ensures) in
     let passed : c.pass.new.self.passed ≡ c.loop-i.self.passed + 1 = c.in_ok-pass-in-Go.ensures.passed in
     let more : Advances c.loop-i.self.passed c.pass.new.self.passed (events_of (drop c.loop-i.i c.args.events.now)) (events_of rest) c.loop-i.self.state c.pass.new.self.state =

@@ -1,9 +1,0 @@
--- Those in the blocks so far.
-use Rattle.std.proofs.Common.{◌≡◌, take, count_by}
-use Rattle.pd_reparse.specs.Reading.{is_within}
-use Rattle.pd_reparse.specs.Blocks.{events_in}
-use Rattle.pd_reparse.specs.declared.decided.Decided.{Decided}
-use Rattle.pd_reparse.proofs.event_list.EventList.count_within.Given as goal
-
-abbrev pub invariant-loop-block : goal.invariant-loop-block
-invariant-loop-block l = l.count ≡ count_by (λ (d : Decided). is_within l.fn.same d.reach) (events_in (take l.block-index l.block-items))

@@ -1,0 +1,2 @@
+-- The definitions of lists in blocks.
+pub mod Blocks

@@ -1,0 +1,68 @@
+//! Blocks of items, which several lists keep.
+ghost use Rattle.std.specs.Prelude.{◌≡◌, ◌≤◌, length, take, IfOk};
+
+use std::alloc::{AllocError, Global};
+use std::marker::Model;
+use std::sync::Arc;
+
+/// Fewer items than these are copied, so that no list consists of many small blocks.
+const FEW: usize = 8;
+
+/// The first of some items, which are held once however many blocks they are the first of.
+#[derive(Drop)]
+pub struct Block<T> {
+    items: Arc<Vec<T>>,
+    used: usize,
+}
+
+impl<T> Model for Block<T> {
+    ghost use Rattle.std.specs.Prelude.{◌≤◌, List, length, take};
+
+    ghost Value = { List T };
+
+    ghost view = { λ b. take b.used b.items.value.items };
+
+    ghost invariant = { λ b. b.used ≤ length b.items.value.items };
+}
+
+impl<T: Drop> Block<T> {
+    /// The block of all these items.
+    pub(crate) fn new(alloc: Global, items: Vec<T>) -> Result<Block<T>, AllocError>
+        ensures { IfOk result (λ block. block ≡ items.items) }
+    {
+        let used = items.len();
+        Ok(Block {
+            items: Arc::new(alloc, items)?,
+            used,
+        })
+    }
+
+    /// The first items, shared. Fails only where the count of owners is full.
+    pub(crate) fn first(&self, count: usize) -> Result<Block<T>, AllocError>
+        requires { count ≤ length self.now }
+        ensures { IfOk result (λ block. block ≡ take count self.now) }
+    {
+        Ok(Block {
+            items: self.items.clone()?,
+            used: count,
+        })
+    }
+
+    /// Whether so many of its items are better shared than copied: at least half of those that are held then, and not few.
+    pub(crate) fn is_worth_sharing(&self, count: usize) -> bool {
+        FEW <= count && self.items.len() / 2 <= count
+    }
+
+    pub(crate) fn len(&self) -> usize
+        ensures { result ≡ length self.now }
+    {
+        self.used
+    }
+
+    /// Its items.
+    pub fn as_slice(&self) -> &[T]
+        ensures { result.now ≡ self.now }
+    {
+        &self.items.as_slice()[..self.used]
+    }
+}

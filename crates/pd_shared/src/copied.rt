@@ -1,0 +1,11 @@
+//! Items that can be copied.
+ghost use Rattle.std.specs.Prelude.{◌≡◌, IfOk};
+
+use std::alloc::AllocError;
+
+/// What a list copies where sharing doesn't pay.
+pub trait Copied: Sized {
+    /// An equal value of its own.
+    fn copied(&self) -> Result<Self, AllocError>
+        ensures { IfOk result (λ copy. copy ≡ self.now) };
+}

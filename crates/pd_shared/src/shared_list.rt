@@ -1,0 +1,226 @@
+//! Lists that share their first items.
+ghost use Rattle.std.specs.Prelude.{◌≡◌, ◌≤◌, ◌<◌, ◌++◌, ◌∷◌, ◌+◌, [], length, take, get_or, slice_get, IfOk, OnOk, OnErr};
+ghost use Rattle.std.specs.Option.{option_copied};
+ghost use Rattle.pd_shared.specs.Blocks.{items_in};
+
+use crate::block::Block;
+use crate::copied::Copied;
+use std::alloc::{AllocError, Global};
+use std::marker::Model;
+use std::mem;
+
+/// How many items stand in a block at most.
+const BLOCK: usize = 64;
+
+/// For how many items the first makes room.
+const ROOM: usize = 16;
+
+/// Items in order: in blocks that other lists may keep too, and behind them fewer than a block, which no other keeps.
+#[derive(Drop)]
+pub struct SharedList<T> {
+    blocks: Vec<Block<T>>,
+    rest: Vec<T>,
+    count: usize,
+}
+
+impl<T> Model for SharedList<T> {
+    ghost use Rattle.std.specs.Prelude.{List, ◌≡◌, ◌++◌, length};
+    ghost use Rattle.pd_shared.specs.Blocks.{items_in};
+
+    ghost Value = { List T };
+
+    ghost view = { λ l. items_in l.blocks.items ++ l.rest.items };
+
+    ghost invariant = { λ l. l.count ≡ length (items_in l.blocks.items ++ l.rest.items) };
+}
+
+impl<T: Drop> SharedList<T> {
+    /// No items.
+    pub fn new(alloc: Global) -> SharedList<T>
+        ensures { result ≡ [] }
+    {
+        SharedList {
+            blocks: Vec::new(alloc),
+            rest: Vec::new(alloc),
+            count: 0,
+        }
+    }
+
+    /// How many they are.
+    pub fn len(&self) -> usize
+        ensures { result ≡ length self.now }
+    {
+        self.count
+    }
+
+    /// The item at an index, from 0.
+    pub fn at(&self, index: usize) -> &T
+        requires { index < length self.now }
+        ensures { result.now ≡ get_or self.now index result.now }
+    {
+        let (block, at) = place(self.blocks.as_slice(), index);
+        if block < self.blocks.len() {
+            &self.blocks[block].as_slice()[at]
+        } else {
+            &self.rest[at]
+        }
+    }
+
+    /// The item at an index, if there is one.
+    pub fn get(&self, index: usize) -> Option<&T>
+        ensures { option_copied result ≡ slice_get self.now index }
+    {
+        if index < self.len() {
+            Some(self.at(index))
+        } else {
+            None
+        }
+    }
+
+    /// The blocks, and the items behind them.
+    pub fn parts(&self) -> (&[Block<T>], &[T])
+        ensures { items_in result.0.now ++ result.1.now ≡ self.now }
+    {
+        (self.blocks.as_slice(), self.rest.as_slice())
+    }
+
+    /// Puts an item behind the others.
+    ///
+    /// # Errors
+    /// `AllocError` where a growth is refused, and then nothing is said of what the list holds.
+    pub fn push(&mut self, item: T) -> Result<(), AllocError>
+        ensures { OnOk result (self.new ≡ self.old ++ item ∷ []) }
+    {
+        if self.count == usize::MAX {
+            return Err(AllocError);
+        }
+        append(&mut self.rest, item)?;
+        self.count += 1;
+        if self.rest.len() == BLOCK {
+            self.seal()?;
+        }
+        Ok(())
+    }
+
+    /// Puts all items into blocks, so that lists of the first of them share them.
+    ///
+    /// # Errors
+    /// As for `push`.
+    pub fn seal(&mut self) -> Result<(), AllocError>
+        ensures { OnOk result (self.new ≡ self.old) }
+    {
+        if self.rest.is_empty() {
+            return Ok(());
+        }
+        self.blocks.reserve(1)?;
+        let alloc = *self.rest.allocator();
+        let mut items = mem::replace(&mut self.rest, Vec::new(alloc));
+        let count = self.count;
+        self.count -= items.len();
+        items.shrink_to_fit();
+        self.blocks.push_reserved(Block::new(alloc, items)?);
+        self.count = count;
+        Ok(())
+    }
+}
+
+impl<T: Copied + Drop> SharedList<T> {
+    /// The first items: all blocks of them but the last are shared, and the last where that pays.
+    ///
+    /// # Errors
+    /// `AllocError` where memory for what isn't shared is refused.
+    pub fn first(&self, count: usize) -> Result<SharedList<T>, AllocError>
+        requires { count ≤ length self.now }
+        ensures { IfOk result (λ list. list ≡ take count self.now) }
+    {
+        let alloc = *self.rest.allocator();
+        if count == 0 {
+            return Ok(SharedList::new(alloc));
+        }
+        let (whole, last) = place(self.blocks.as_slice(), count - 1);
+        let mut blocks = shared(alloc, self.blocks.as_slice(), whole)?;
+        let rest = if whole < self.blocks.len() {
+            share(alloc, &mut blocks, &self.blocks[whole], last + 1)?
+        } else {
+            copies(alloc, self.rest.as_slice(), last + 1)?
+        };
+        Ok(SharedList {
+            blocks,
+            rest,
+            count,
+        })
+    }
+}
+
+/// In which block the item at an index stands, and where in it; behind the blocks where it stands in none.
+fn place<T: Drop>(blocks: &[Block<T>], index: usize) -> (usize, usize)
+    ensures within { result.0 ≤ length blocks.now }
+    ensures before { length (items_in (take result.0 blocks.now)) + result.1 ≡ index }
+    ensures inside { result.0 < length blocks.now → result.1 < length (get_or blocks.now result.0 []) }
+{
+    let mut left = index;
+    for i in 0..blocks.len() {
+        let len = blocks[i].len();
+        if left < len {
+            return (i, left);
+        }
+        left -= len;
+    }
+    (blocks.len(), left)
+}
+
+/// The first blocks, shared.
+fn shared<T: Drop>(
+    alloc: Global,
+    blocks: &[Block<T>],
+    count: usize,
+) -> Result<Vec<Block<T>>, AllocError>
+    requires { count ≤ length blocks.now }
+    ensures { IfOk result (λ shared. shared.items ≡ take count blocks.now) }
+{
+    let mut shared = Vec::with_capacity(alloc, count + 1)?;
+    for i in 0..count {
+        let block = &blocks[i];
+        shared.push(block.first(block.len())?)?;
+    }
+    Ok(shared)
+}
+
+/// Puts the first items of a block behind these blocks where that pays, else gives copies of them.
+fn share<T: Copied + Drop>(
+    alloc: Global,
+    blocks: &mut Vec<Block<T>>,
+    block: &Block<T>,
+    count: usize,
+) -> Result<Vec<T>, AllocError>
+    requires { count ≤ length block.now }
+    ensures { IfOk result (λ rest. items_in blocks.new.items ++ rest.items ≡ items_in blocks.old.items ++ take count block.now) }
+{
+    if block.is_worth_sharing(count) {
+        blocks.push(block.first(count)?)?;
+        return Ok(Vec::new(alloc));
+    }
+    copies(alloc, block.as_slice(), count)
+}
+
+/// Copies of the first items.
+fn copies<T: Copied + Drop>(alloc: Global, items: &[T], count: usize) -> Result<Vec<T>, AllocError>
+    requires { count ≤ length items.now }
+    ensures { IfOk result (λ copies. copies.items ≡ take count items.now) }
+{
+    let mut copies = Vec::with_capacity(alloc, count)?;
+    for i in 0..count {
+        copies.push(items[i].copied()?)?;
+    }
+    Ok(copies)
+}
+
+/// Puts an item behind these, the first with room for some more.
+fn append<T: Drop>(items: &mut Vec<T>, item: T) -> Result<(), AllocError>
+    ensures ok { OnOk result (items.new.items ≡ items.old.items ++ item ∷ []) }
+    ensures err { OnErr result (items.new.items ≡ items.old.items) }
+{
+    items.reserve(if items.is_empty() { ROOM } else { 1 })?;
+    items.push_reserved(item);
+    Ok(())
+}
