@@ -41,7 +41,7 @@ pub struct Book {
     pub(crate) settings: Settings,
     numbers: u64,
     records: Records,
-    tracks: Tracks,
+    pub(crate) tracks: Tracks,
 }
 
 impl Model for Book {

@@ -1,9 +1,12 @@
 //! The tracks that a book keeps, one under a name.
 ghost use Rattle.std.specs.Prelude.{◌≡◌, ◌⊎◌, ◌≤◌, [], option_copied, OnOk, OnErr, if◌then◌else◌};
 ghost use Rattle.std.specs.NonZero.{non_zero_usize_get};
+ghost use Rattle.std.specs.Str.{bytes_eq};
+ghost use Rattle.lru.specs.LruCache.{lru_cache, put_entries};
 ghost use Rattle.pd_text.specs.Text.{front};
 ghost use Rattle.pd_book.specs.Tracks.{track_of, used, put_first, without_track, source_of, shares_more};
 
+use crate::book_core::Book;
 use lru::LruCache;
 use pd_text::{Name, Text};
 use pd_track::{Done, Track};
@@ -17,6 +20,8 @@ pub struct Tracks {
     /// None as long as no track was kept.
     cache: Option<LruCache<Name, Track>>,
     most: NonZeroUsize,
+    /// The track that fell out last, until another does or it is taken.
+    spent: Option<Track>,
 }
 
 impl Model for Tracks {
@@ -41,6 +46,7 @@ impl Tracks {
         Tracks {
             cache: None,
             most: NonZeroUsize::new(most).unwrap_or(NonZeroUsize::MIN),
+            spent: None,
         }
     }
 
@@ -91,6 +97,13 @@ impl Tracks {
         }
     }
 
+    /// Hands out the track that fell out last, if it is still there.
+    pub fn take_spent(&mut self) -> Option<Track>
+        ensures { self.new ≡ self.old }
+    {
+        self.spent.take()
+    }
+
     fn put(&mut self, alloc: Global, done: &Done) -> Result<(), AllocError>
         ensures put { OnOk result (self.new ≡ put_first done.now.name (source_of done.now) self.old) }
         ensures same { OnErr result (self.new ≡ self.old) }
@@ -101,11 +114,35 @@ impl Tracks {
             self.cache = Some(LruCache::new(alloc, self.most)?);
         }
         if let Some(cache) = &mut self.cache {
-            if cache.put(name, track).is_err() {
-                return Err(AllocError);
-            }
+            self.spent = push(cache, name, track)?;
         }
         Ok(())
+    }
+}
+
+impl Book {
+    /// Hands out the track that a finish dropped last, if it is still there. Freeing one takes far longer than a finish: who
+    /// shares the book takes it along, and drops it where no other waits.
+    pub fn take_spent(&mut self) -> Option<Track>
+        ensures { self.new ≡ self.old }
+    {
+        self.tracks.take_spent()
+    }
+}
+
+/// Keeps a track at the front, and gives the one that falls out.
+fn push(
+    cache: &mut LruCache<Name, Track>,
+    name: Name,
+    track: Track,
+) -> Result<Option<Track>, AllocError>
+    ensures put { OnOk result (cache.new ≡ lru_cache (put_entries bytes_eq cache.old name track) cache.old.cap) }
+    ensures same { OnErr result (cache.new ≡ cache.old) }
+{
+    match cache.push(name, track) {
+        Ok(Some((_name, spent))) => Ok(Some(spent)),
+        Ok(None) => Ok(None),
+        Err(_) => Err(AllocError),
     }
 }
 

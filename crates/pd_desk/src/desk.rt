@@ -141,7 +141,8 @@ impl Desk {
         reply
     }
 
-    /// Takes the result of an outstanding job.
+    /// Takes the result of an outstanding job. It wakes the others where no verdict is awaited any more, since it gives no
+    /// worker anything to do. A track that is kept no longer is freed outside the lock.
     ///
     /// # Errors
     /// Those of `Held::finish`.
@@ -156,8 +157,15 @@ impl Desk {
         ensures room { is_unended seat.old.own done.now.number ≡ true → result ≢ Err FinishFault.OutOfMemory }
         ensures refuses { OnErr result (seat.new ≡ seat.old) }
     {
-        let reply = self.room.lock(rt).held.finish(seat, done);
-        self.moved.notify_all();
+        let mut room = self.room.lock(rt);
+        let reply = room.held.finish(seat, done);
+        let spent = room.held.take_spent();
+        let is_awaited = room.is_awaited();
+        drop(room);
+        if !is_awaited {
+            self.moved.notify_all();
+        }
+        drop(spent);
         reply
     }
 

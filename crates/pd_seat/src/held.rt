@@ -16,6 +16,7 @@ use crate::seat::Seat;
 use pd_book::{Act, Book, BookFault, Done, FinishFault, Job, Report, Ruling};
 use pd_settings::{Key, Settings, Value};
 use pd_text::{LineEdit, Lines, Name, Text};
+use pd_track::Track;
 use std::alloc::{AllocError, Global};
 use std::marker::Model;
 
@@ -211,6 +212,13 @@ impl Held {
         record(&mut seat.own, Act::Finish(done.number(), ruling));
         drop_job(&mut seat.open_jobs, done.number());
         Ok(ruling)
+    }
+
+    /// Hands out a track that is kept no longer, as `Book::take_spent` does.
+    pub fn take_spent(&mut self) -> Option<Track>
+        ensures { self.new ≡ self.old }
+    {
+        self.book.take_spent()
     }
 
     /// Gives up an outstanding job.
