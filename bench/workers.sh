@@ -3,8 +3,9 @@
 # times compare. A settle behind a changed setting is measured, so that taking the scripts in, which no worker shares, and a
 # first settle are taken off. Far more scripts stand there than tracks are kept, and they come in the same order each time: a
 # script's track is gone before its turn comes, so each is read and run whole. Of several tries the best counts, since times
-# are noisy. Where valgrind is there, it also tells the instructions without workers and with 1, which don't vary with the
-# load, on a tenth of the scripts.
+# are noisy. A processor alone is often faster than four that are busy: so it also tells what 1 worker takes while three more
+# such programs run, and how 4 compare with that. Where valgrind is there, it also tells the instructions without workers and
+# with 1, which don't vary with the load, on a tenth of the scripts.
 #
 #   bench/workers.sh [SCRIPTS [EVENTS [TRIES]]]      1,000 scripts of 2,000 events, 5 tries if nothing is said
 . "$(dirname "$0")/program.sh"
@@ -23,31 +24,37 @@ echo settle >>"$work/settled"
     done
 } >"$work/changed"
 
-# The nanoseconds of an input with so many workers, whose octets are to be those without.
-took() { # workers, the input
+# The nanoseconds of an input with so many workers, in so many programs at once, whose octets are to be those without.
+took() { # workers, the input, programs
     begin=$(date +%s%N)
+    for more in $(seq 2 "$3"); do
+        "$program" --workers "$1" <"$work/$2" >/dev/null &
+    done
     "$program" --workers "$1" <"$work/$2" >"$work/output.$2.$1"
+    wait
     end=$(date +%s%N)
     cmp "$work/output.$2.0" "$work/output.$2.$1" >&2
     echo $((end - begin))
 }
 
-# The nanoseconds of one settle with so many workers, the best of the tries.
-settled() { # workers
+# The nanoseconds of one settle with so many workers, in so many programs at once, the best of the tries.
+settled() { # workers, programs
     for try in $(seq "$tries"); do
-        first=$(took "$1" settled)
-        all=$(took "$1" changed)
+        first=$(took "$1" settled "$2")
+        all=$(took "$1" changed "$2")
         echo $(((all - first) / rounds))
     done | sort -n | head -n 1
 }
 
-alone=$(settled 0)
+alone=$(settled 0 1)
 tail -n 1 "$work/output.changed.0"
-one=$(settled 1)
-four=$(settled 4)
-awk -v alone="$alone" -v one="$one" -v four="$four" 'BEGIN {
+one=$(settled 1 1)
+four=$(settled 4 1)
+busy=$(settled 1 4)
+awk -v alone="$alone" -v one="$one" -v four="$four" -v busy="$busy" 'BEGIN {
     printf "a settle without workers %.3f s, with 1 %.3f s, with 4 %.3f s\n", alone / 1e9, one / 1e9, four / 1e9
     printf "1 worker takes %.2f times the time without, 4 settle %.2f times as fast as 1\n", one / alone, one / four
+    printf "1 beside three more programs %.3f s, 4 settle %.2f times as fast as that\n", busy / 1e9, busy / four
 }'
 
 command -v valgrind >/dev/null || exit 0
