@@ -52,7 +52,7 @@ acknowledged x s = record s { una = x; next = max s.next x; sacked = octets_wher
 abbrev pub covers : Span → ℕ → Bool
 covers block x = nat_le block.start x && nat_lt x block.end
 
--- the octets of a block from una on are SACKed too (RFC 2018, section 3)
+-- the octets of a block from una on are SACKed too (RFC 2018, section 5)
 abbrev pub marked : Span → Scoreboard → Scoreboard
 marked block s = record s { sacked = octets_where (λ x. contains s.sacked x || covers block x) s.una s.top }
 
@@ -60,7 +60,7 @@ marked block s = record s { sacked = octets_where (λ x. contains s.sacked x || 
 abbrev pub has_new : Span → Scoreboard → Bool
 has_new block s = list_any (λ x. covers block x && not (contains s.sacked x)) (interval s.una s.top)
 
--- no octet is SACKed (RFC 2018, section 8: after a timeout)
+-- no octet is SACKed (RFC 2018, section 5: after a timeout)
 abbrev pub unmarked : Scoreboard → Scoreboard
 unmarked s = record s { sacked = [] }
 

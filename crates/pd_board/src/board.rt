@@ -19,12 +19,19 @@ use std::marker::Model;
 /// A scoreboard that has found no memory answers that to each later call that can.
 #[derive(Drop)]
 pub struct Board {
+    /// SMSS, in octets: 64 to 65,495 (RFC 9293, section 3.7.1).
     smss: u16,
+    /// SND.UNA: the sequence number of the oldest octet that isn't acknowledged (RFC 9293, section 3.3.1).
     una: u32,
+    /// SND.NXT: the sequence number from which sending goes on (RFC 9293, section 3.3.1).
     next: u32,
+    /// The sequence number after the highest octet sent.
     top: u32,
+    /// The sequence number after the last octet queued, below 2^31.
     end: u32,
+    /// The octets from `una` on and below `top` that SACK blocks told (RFC 6675, section 3).
     ranges: Ranges,
+    /// Whether a call has found no memory.
     exhausted: bool,
 }
 
@@ -109,7 +116,6 @@ impl Board {
     /// A segment was sent that ends at `x`.
     ///
     /// # Errors
-    ///
     /// Want of memory, where a call before has found none.
     pub fn sent(&mut self, x: u32) -> Result<(), AllocError>
         requires low { self.old.una ≤ x }
@@ -137,11 +143,10 @@ impl Board {
         self.ranges.drop_below(x);
     }
 
-    /// The octets of a block are SACKed, and whether one of them is new (RFC 2018, section 3). Those below `una` don't
+    /// The octets of a block are SACKed, and whether one of them is new (RFC 2018, section 5). Those below `una` don't
     /// count, and where the block's start isn't below its end nothing is.
     ///
     /// # Errors
-    ///
     /// Want of memory: nothing more is SACKed then, and later calls answer it too.
     pub fn mark(&mut self, block: Span) -> Result<bool, AllocError>
         requires { block.end ≤ self.old.top }
@@ -164,7 +169,7 @@ impl Board {
         inserted
     }
 
-    /// Nothing is SACKed any more (RFC 2018, section 8).
+    /// Nothing is SACKed any more (RFC 2018, section 5).
     pub fn clear_marks(&mut self)
         ensures { self.new ≡ unmarked self.old }
     {
@@ -260,7 +265,6 @@ impl Board {
     /// The same scoreboard once more.
     ///
     /// # Errors
-    ///
     /// Want of memory, also where a call before has found none.
     pub fn copy(&self) -> Result<Board, AllocError>
         ensures ok { IfOk result (λ copy. copy ≡ self.now) }

@@ -9,7 +9,9 @@ use crate::ranges::Ranges;
 /// How many runs and how many octets lie from a place on.
 #[derive(Clone, Copy)]
 pub struct Above {
+    /// How many runs of SACKed octets.
     pub runs: usize,
+    /// How many SACKed octets.
     pub octets: u32,
 }
 

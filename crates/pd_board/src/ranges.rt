@@ -12,7 +12,9 @@ use std::alloc::{AllocError, Global};
 /// Ranges of octets in ascending order, any two apart by at least one octet, and how many octets they have.
 #[derive(Drop)]
 pub struct Ranges {
+    /// The ranges in ascending order.
     pub spans: Vec<Span>,
+    /// How many octets they have in all.
     pub octets: u32,
 }
 
@@ -36,6 +38,9 @@ impl Ranges {
     }
 
     /// Adds the octets from `first` on and below `end`, and answers whether one of them was new.
+    ///
+    /// # Errors
+    /// `AllocError` where a growth is refused; the octets are as before then.
     pub fn insert(&mut self, first: u32, end: u32) -> Result<bool, AllocError>
         requires ranges { AreRanges 0 (2 ^ 31) self.old }
         requires order { first < end }
@@ -77,6 +82,9 @@ impl Ranges {
     }
 
     /// The same ranges once more.
+    ///
+    /// # Errors
+    /// `AllocError` where a growth is refused.
     pub fn copy(&self) -> Result<Ranges, AllocError>
         ensures spans { IfOk result (λ copy. copy.spans.items ≡ self.now.spans.items) }
         ensures octets { IfOk result (λ copy. copy.octets ≡ self.now.octets) }

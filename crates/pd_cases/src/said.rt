@@ -103,7 +103,8 @@ fn named<'a>(alloc: Global, words: &[&'a str]) -> Result<Vec<&'a str>, AllocErro
     Ok(all)
 }
 
-/// Runs the program without workers on these streams and gives its status. Its promises stay in here: callers compare what was written.
+/// Runs the program without workers on these streams and gives its status. Its promises stay in here: callers compare what
+/// was written.
 fn run_on(
     alloc: Global,
     words: &[&str],

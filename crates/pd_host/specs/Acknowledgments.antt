@@ -27,52 +27,55 @@ use Rattle.pd_host.specs.declared.halts.Halt.{Halt}
 use Rattle.pd_host.specs.declared.halts.Halt.TheVariants.{Limit}
 use Rattle.pd_host.specs.declared.sender_state.State.{State}
 
--- 7. The number and the blocks
+-- The ack number and the SACK blocks
 
 -- N: how many octets the segment acknowledges that weren't acknowledged
 abbrev pub newly_acked : ControlBlock → Segment → ℕ
 newly_acked c segment = segment.ack - c.board.una
 
--- all below the ack number is acknowledged (RFC 9293, section 3.10.7.4: SND.UNA), and is sent no more
+-- SND.UNA becomes SEG.ACK (RFC 9293, section 3.10.7.4, fifth check): all below it is acknowledged, and is sent no more
 abbrev pub with_number : Segment → ControlBlock → ControlBlock
 with_number segment c = record c { board = acknowledged segment.ack c.board }
 
--- the blocks of an option
+-- the blocks of a SACK option (RFC 2018, section 3); another option has none
 abbrev pub blocks_in : SegOption → List Span
 blocks_in (Sack blocks) = blocks
 blocks_in _ = []
 
--- the SACK blocks of a segment in order, before the end of its options (RFC 2018, section 3)
+-- the SACK blocks of options, in their order (RFC 2018, section 3)
 abbrev pub blocks_of : List SegOption → List Span
 blocks_of [] = []
 blocks_of (option ∷ options) = blocks_in option ++ blocks_of options
 
--- a block of octets that were sent
+-- a block has octets, and ends at or below the number after all that was sent
 abbrev pub is_block_sent : Scoreboard → Span → Bool
 is_block_sent s block = nat_lt block.start block.end && nat_le block.end s.top
 
--- the scoreboard with one block more, and whether it told a new octet
+-- the scoreboard with one block more, and whether a block has told a new octet; one beyond what was sent is left out
 abbrev pub told_block : Span → Scoreboard × Bool → Scoreboard × Bool
 told_block block told =
     if is_block_sent told.0 block then (marked block told.0, told.1 || has_new block told.0) else told
 
+-- the same with several blocks, one after the other
 abbrev pub told_blocks : List Span → Scoreboard × Bool → Scoreboard × Bool
 told_blocks [] told = told
 told_blocks (block ∷ blocks) told = told_blocks blocks (told_block block told)
 
--- the scoreboard after the blocks of a segment, and whether they told a new octet; without SACK they tell nothing
+-- the scoreboard after the blocks of a segment, up to the end of its options, and whether they told a new octet; without
+-- SACK they tell nothing
 abbrev pub scored : Segment → ControlBlock → Scoreboard × Bool
 scored segment c =
     if c.sack then told_blocks (blocks_of (looked_at segment.options)) (c.board, false) else (c.board, false)
 
--- 8. The timer: only an ACK of new octets moves it (RFC 6298, section 5.3)
+-- the timer: only an ACK of new octets samples the round trip and moves the timer (RFC 6298, sections 5.2 and 5.3)
 abbrev pub with_timing : ℕ → ℕ → ℕ → ControlBlock → ControlBlock
 with_timing now granularity n c =
     if nat_lt 0 n then with_timer_moved now (with_sample now granularity c.board.una c) else c
 
--- 9. The window
+-- The peer's window (SND.WND)
 
--- the segment is no older than the one that the window was taken from
+-- the segment is no older than the one that the window was taken from: SND.WL1 < SEG.SEQ, or SND.WL1 = SEG.SEQ and
+-- SND.WL2 <= SEG.ACK (RFC 9293, section 3.10.7.4, fifth check)
 abbrev pub is_current : Established → Segment → Bool
 is_current e segment = nat_lt e.wl1 segment.start || (e.wl1 == segment.start && nat_le e.wl2 segment.ack)
 
@@ -83,7 +86,7 @@ with_new_window segment e c =
     then record c { widest = max c.widest (window_in c segment); established = Some (with_window (window_in c segment) segment e) }
     else c
 
--- 10. Congestion control, and what is sent
+-- What congestion control makes of the ACK
 
 -- what the blocks tell, where SACK was agreed; fresh says whether they told a new octet
 abbrev pub news_of : Bool → ControlBlock → Option News
@@ -109,17 +112,18 @@ responding c e ack =
     let response = acked ack e.congestion in
     (record c { established = Some (record e { congestion = response.0 }) }, response.1)
 
+-- the same of a segment, on the connection after it: nothing follows before the end of the handshake
 abbrev pub answering : Segment → ℕ → Bool → Established → ControlBlock → Option Established → ControlBlock × Then
 answering segment n fresh before c None = (c, Nothing)
 answering segment n fresh before c (Some after) = responding c after (ack_of_segment segment n fresh before after c)
 
--- Points 7 to 10 on a connection
+-- A segment that passed all checks, on a connection
 
--- its blocks are SACKed
+-- the octets of its blocks are SACKed (RFC 2018, section 5)
 abbrev pub with_blocks : Segment → ControlBlock → ControlBlock
 with_blocks segment c = record c { board = (scored segment c).0 }
 
--- the connection after points 7 to 9, and whether the blocks told a new octet
+-- the connection after the ack number, the SACK blocks, the timer and the window, and whether the blocks told a new octet
 abbrev pub with_ack : ℕ → Segment → Established → ControlBlock → ControlBlock × Bool
 with_ack now segment e c =
     let numbered = with_number segment c in
@@ -138,30 +142,35 @@ abbrev pub FollowsQueued : Then → ControlBlock → Type 0
 FollowsQueued (NewSegment segment) c = IsQueued segment c
 FollowsQueued _ c = ⊤
 
+-- so it is on the connection, where one was begun
 abbrev pub FollowsQueuedOn : Then → Option ControlBlock → Type 0
 FollowsQueuedOn next connection = ForSome connection (FollowsQueued next)
 
 -- What follows
 
--- a state of loss recovery: the sender, and how many octets count as on the way
+-- the sender, and Pipe: how many octets count as on the way (RFC 6675, section 4, SetPipe)
 abbrev pub OnTheWay : Type 0
 OnTheWay = State × ℕ
 
--- step C (RFC 6675, section 5): what NextSeg gives while the window has room for it
+-- Step C (RFC 6675, section 5): what NextSeg gives while the window has room for it
 
+-- the segment that step C sends next on a connection at this pipe: what NextSeg gives while cwnd - pipe is at least SMSS;
+-- none before the end of the handshake
 abbrev pub step_c_on : ℕ → ControlBlock → Option Established → Option NextSegment
 step_c_on on_the_way c None = None
 step_c_on on_the_way c (Some e) = step_c_segment e.rwnd on_the_way c.board e.congestion
 
+-- the same, by whether a connection was begun
 abbrev pub step_c_found : ℕ → Option ControlBlock → Option NextSegment
 step_c_found on_the_way None = None
 step_c_found on_the_way (Some c) = step_c_on on_the_way c c.established
 
--- new octets move the sending place; octets sent again leave it
+-- a segment that NextSeg gave was sent at a moment: new octets move the sending place (SND.NXT), octets sent again leave it
 abbrev pub sent_as : ℕ → NextSegment → ControlBlock → ControlBlock
 sent_as now (New segment) c = sent_on now segment c
 sent_as now sent c = clocked now (segment_of sent) c
 
+-- where octets were sent again, HighRxt or RescueRxt moves (RFC 6675, section 4, NextSeg, rule 4, and section 5, step C.2)
 abbrev pub noted_on : NextSegment → ControlBlock → Option Established → ControlBlock
 noted_on sent c None = c
 noted_on sent c (Some e) = record c { established = Some (record e { congestion = noted sent e.congestion }) }
@@ -170,6 +179,7 @@ noted_on sent c (Some e) = record c { established = Some (record e { congestion 
 abbrev pub octets_of : Span → ℕ
 octets_of segment = segment.end - segment.start
 
+-- one segment of step C is put out at a moment, and its octets count as on the way (RFC 6675, section 5, step C.4)
 abbrev pub step_c_sent : ℕ → NextSegment → Option ControlBlock → OnTheWay → OnTheWay
 step_c_sent now sent None t = t
 step_c_sent now sent (Some c) t = (
@@ -177,21 +187,22 @@ step_c_sent now sent (Some c) t = (
   t.1 + octets_of (segment_of sent),
 )
 
--- the sender of what came
+-- the sender alone, without its pipe, or the halt
 abbrev pub sender_of : Result OnTheWay Halt → Result State Halt
 sender_of (Ok t) = Ok t.0
 sender_of (Err halt) = Err halt
 
--- what is on the way on a connection
+-- Pipe of a connection, by its HighRxt (RFC 6675, section 4, SetPipe); 0 before the end of the handshake
 abbrev pub pipe_on : ControlBlock → Option Established → ℕ
 pipe_on c None = 0
 pipe_on c (Some e) = pipe e.congestion.high_rxt c.board
 
+-- the same, 0 where no connection was begun
 abbrev pub pipe_of : Option ControlBlock → ℕ
 pipe_of None = 0
 pipe_of (Some c) = pipe_on c c.established
 
--- step C from such a state on
+-- step C at a moment from such a state on, until no segment is found (RFC 6675, section 5, step C.5)
 abbrev pub step_c_from : ℕ → OnTheWay → Result State Halt
 step_c_from now t = sender_of (
     repeated (λ u. step_c_found u.1 u.0.endpoint.connection) (λ sent u. step_c_sent now sent u.0.endpoint.connection u)
@@ -201,20 +212,25 @@ step_c_from now t = sender_of (
 abbrev pub step_c : ℕ → State → Result State Halt
 step_c now s = step_c_from now (s, pipe_of s.endpoint.connection)
 
--- limited transmit (RFC 6675, section 5, step 3): new octets while the window has room for them
+-- Limited transmit (RFC 6675, section 5, step 3; RFC 3042): new octets while the window has room for them
 
+-- the segment that limited transmit sends next on a connection at this pipe: new octets, within the peer's window, while
+-- cwnd - pipe is at least SMSS; none before the end of the handshake
 abbrev pub limited_on : ℕ → ControlBlock → Option Established → Option Span
 limited_on on_the_way c None = None
 limited_on on_the_way c (Some e) = limited_segment e.rwnd on_the_way c.board e.congestion
 
+-- the same, by whether a connection was begun
 abbrev pub limited_found : ℕ → Option ControlBlock → Option Span
 limited_found on_the_way None = None
 limited_found on_the_way (Some c) = limited_on on_the_way c c.established
 
+-- the octets that limited transmit sends are counted: ssthresh is set without them (RFC 5681, section 3.2, step 2)
 abbrev pub counted_on : ℕ → ControlBlock → Option Established → ControlBlock
 counted_on octets c None = c
 counted_on octets c (Some e) = record c { established = Some (record e { congestion = with_limited octets e.congestion }) }
 
+-- one segment of limited transmit is put out at a moment, and its octets count as on the way (RFC 6675, section 5, step 3)
 abbrev pub limited_sent : ℕ → Span → Option ControlBlock → OnTheWay → OnTheWay
 limited_sent now segment None t = t
 limited_sent now segment (Some c) t = (
@@ -222,12 +238,13 @@ limited_sent now segment (Some c) t = (
   t.1 + octets_of segment,
 )
 
--- limited transmit from such a state on
+-- limited transmit at a moment from such a state on, until no segment is found
 abbrev pub limited_from : ℕ → OnTheWay → Result State Halt
 limited_from now t = sender_of (
     repeated (λ u. limited_found u.1 u.0.endpoint.connection) (λ segment u. limited_sent now segment u.0.endpoint.connection u)
     (places_left t.0) t)
 
+-- limited transmit at a moment; the pipe is computed once, and grows by what is sent
 abbrev pub limited_transmit : ℕ → State → Result State Halt
 limited_transmit now s = limited_from now (s, pipe_of s.endpoint.connection)
 
@@ -236,11 +253,12 @@ abbrev pub put_segment : ℕ → Span → ControlBlock → ControlBlock → Stat
 put_segment now segment before after s =
     if nat_lt 0 (places_left s) then Ok (with_segment now segment before after s) else Err Limit
 
--- recovery begins: the segment at una is sent again, unless its first octet is SACKed (RFC 6675, section 5, step 4.3)
+-- an entry into loss recovery has sent this segment again: HighRxt and RescueRxt are its end (RFC 6675, section 5, step 4.3)
 abbrev pub entered_on : Span → ControlBlock → Option Established → ControlBlock
 entered_on segment c None = c
 entered_on segment c (Some e) = record c { established = Some (record e { congestion = entered_to segment.end e.congestion }) }
 
+-- recovery begins: the segment at SND.UNA is sent again, unless its first octet is SACKed (RFC 6675, section 5, step 4.3)
 abbrev pub entry : ℕ → ControlBlock → State → Result State Halt
 entry now c s =
     let segment = run_at c.board.una c.board in
@@ -248,21 +266,25 @@ entry now c s =
     then put_segment now segment c (entered_on segment (clocked now segment c) c.established) s
     else Ok (with_block (entered_on segment c c.established) s)
 
--- the same by whether a connection was begun
+-- The same by whether a connection was begun
 
+-- a segment of new octets is put out at a moment, and the sending place moves behind it (SND.NXT)
 abbrev pub put_new : ℕ → Span → State → Option ControlBlock → Result State Halt
 put_new now segment s None = Ok s
 put_new now segment s (Some c) = put_segment now segment c (sent_on now segment c) s
 
+-- a segment is put out again at a moment; the sending place stays
 abbrev pub put_again : ℕ → Span → State → Option ControlBlock → Result State Halt
 put_again now segment s None = Ok s
 put_again now segment s (Some c) = put_segment now segment c (clocked now segment c) s
 
+-- recovery begins at a moment
 abbrev pub entry_on : ℕ → State → Option ControlBlock → Result State Halt
 entry_on now s None = Ok s
 entry_on now s (Some c) = entry now c s
 
--- what an ACK leads to, on the connection that it left
+-- what an ACK leads to, on the connection that it left: an entry is followed by step C (RFC 6675, section 5, step 4.5), a
+-- fast retransmit (RFC 5681, section 3.2, step 3) by ordinary sending
 abbrev pub led_to : ℕ → ControlBlock → State → Then → Result State Halt
 led_to now c s Ordinary = ordinary now s
 led_to now c s StepC = step_c now s
@@ -272,6 +294,7 @@ led_to now c s (NewSegment segment) = put_segment now segment c (sent_on now seg
 led_to now c s (FastRetransmit segment) = then_on (ordinary now) (put_segment now segment c (clocked now segment c) s)
 led_to now c s Nothing = Ok s
 
+-- what an ACK leads to, on a connection if one was begun
 abbrev pub led_on : ℕ → State → Then → Option ControlBlock → Result State Halt
 led_on now s next None = Ok s
 led_on now s next (Some c) = led_to now c s next

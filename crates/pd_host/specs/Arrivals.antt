@@ -35,38 +35,38 @@ is_next_fin c segment = is_awaited (peer_fin_in c.established) && segment.start 
 abbrev pub is_stray_fin : ControlBlock → Segment → Bool
 is_stray_fin c segment = segment.flags.fin && (is_in_window c segment && not (is_next_fin c segment))
 
--- 1. data, a SYN, a FIN in the receive window that isn't the next octet, and whatever comes to a closed connection isn't run
--- (own profile)
+-- the contents: data, a SYN, a FIN in the receive window that isn't the next octet, and whatever comes to a closed
+-- connection isn't run (own profile)
 abbrev pub check_contents : ControlBlock → Segment → Option Ruling
 check_contents c segment =
     if nat_lt 0 (length_of segment) || (segment.flags.syn || (is_stray_fin c segment || is_closed (state_of c)))
     then Some NotRun
     else None
 
--- 2. outside the receive window an RST is dropped; any other segment is answered by an ACK and dropped (RFC 9293, section
--- 3.10.7.4, first check)
+-- the sequence number: outside the receive window an RST is dropped; any other segment is answered by an ACK and dropped
+-- (RFC 9293, section 3.10.7.4, first check)
 abbrev pub check_window : ControlBlock → Segment → Option Ruling
 check_window c segment =
     if is_in_window c segment then None else Some (if segment.flags.rst then StrayRst else OutsideWindow)
 
--- 3. an RST at RCV.NXT resets the connection; elsewhere in the window it is answered by an ACK and dropped (RFC 9293,
--- section 3.10.7.4, second check; RFC 5961, section 3.2)
+-- the RST flag: an RST at RCV.NXT resets the connection; elsewhere in the window it is answered by an ACK and dropped
+-- (RFC 9293, section 3.10.7.4, second check; RFC 5961, section 3.2)
 abbrev pub check_rst : ControlBlock → Segment → Option Ruling
 check_rst c segment =
     if segment.flags.rst then Some (if segment.start == rcv_nxt c then ExactRst else ChallengedRst) else None
 
--- 4. a segment without the ACK flag is dropped (RFC 9293, section 3.10.7.4, fifth check)
+-- the ACK flag: a segment without it is dropped (RFC 9293, section 3.10.7.4, fifth check)
 abbrev pub check_ack_flag : Segment → Option Ruling
 check_ack_flag segment = if segment.flags.ack then None else Some WithoutAck
 
--- 5. in the handshake an ACK of our SYN establishes the connection, and its FIN is looked at; any other is refused by an RST (RFC 9293, section
--- 3.10.7.4, fifth check, SYN-RECEIVED)
+-- the handshake: an ACK of our SYN, above SND.UNA and not of more than was sent, establishes the connection, and its FIN is
+-- looked at; any other is refused by an RST (RFC 9293, section 3.10.7.4, fifth check, SYN-RECEIVED)
 abbrev pub check_handshake : ControlBlock → Segment → Option Ruling
 check_handshake c segment =
     if is_some c.established then None
     else Some (if nat_lt c.board.una segment.ack && nat_le segment.ack c.board.top then FirstAck else RefusedAck)
 
--- 6. an ACK of what wasn't sent is answered by an ACK and dropped; of one below what is acknowledged the FIN alone is looked
+-- the ack number: an ACK of what wasn't sent is answered by an ACK and dropped; of one below SND.UNA the FIN alone is looked
 -- at (RFC 9293, section 3.10.7.4, fifth check, ESTABLISHED)
 abbrev pub check_ack : ControlBlock → Segment → Option Ruling
 check_ack c segment =
@@ -122,10 +122,10 @@ abbrev pub ruled_on : ℕ → Segment → State → Option Ruling → Option Con
 ruled_on now segment s r None = Ok s
 ruled_on now segment s r (Some c) = ruled now segment c s r
 
--- 11. the FIN
+-- The FIN (RFC 9293, section 3.10.7.4, eighth check)
 
--- a segment's FIN is looked at where it establishes the connection, where its ACK is old, and where it passed all checks; one
--- that is dropped has none
+-- a segment's FIN is looked at where it establishes the connection, where its ACK is old, and where it passed all checks; a
+-- segment that is dropped has none
 abbrev pub goes_on : Option Ruling → Bool
 goes_on (Some FirstAck) = true
 goes_on (Some OldAck) = true

@@ -41,8 +41,8 @@ abbrev pub peer_fin_in : Option Established → PeerFin
 peer_fin_in None = Awaited
 peer_fin_in (Some e) = e.peer_fin
 
--- the number of the next octet that the peer sends: its FIN is octet 1, since no data of it is run (own profile), and nothing
--- comes behind it
+-- the number of the next octet that the peer sends: its FIN is octet 1, since no data of it is run (own profile), and
+-- nothing comes behind it
 abbrev pub next_from : PeerFin → ℕ
 next_from Awaited = 1
 next_from _ = 2

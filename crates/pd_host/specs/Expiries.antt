@@ -18,6 +18,7 @@ abbrev pub deadline_on : Option ControlBlock → Option ℕ
 deadline_on None = None
 deadline_on (Some c) = c.timer.deadline
 
+-- the same of the sender's state
 abbrev pub deadline_of : State → Option ℕ
 deadline_of s = deadline_on s.endpoint.connection
 
@@ -30,11 +31,11 @@ due_by until (Some at) = if nat_le at until then Some at else None
 abbrev pub with_backoff : ℕ → ControlBlock → ControlBlock
 with_backoff at c = record c { timer = backed_off at c.timer; timed = None }
 
--- in the handshake the SYN/ACK is sent again
+-- in the handshake the SYN/ACK is sent again, which is noted (RFC 5681, section 3.1; RFC 6298, section 5.7)
 abbrev pub resent_by : ℕ → ControlBlock → ControlBlock
 resent_by at c = record (with_backoff at c) { resent = true }
 
--- later the window shrinks to one segment, and no octet counts as SACKed (RFC 5681, section 3.1; RFC 2018, section 8;
+-- later the window shrinks to one segment, and no octet counts as SACKed (RFC 5681, section 3.1; RFC 2018, section 5;
 -- RFC 6675, section 5.1)
 abbrev pub collapsed : Established → ControlBlock → ControlBlock
 collapsed e c = record c {
@@ -42,10 +43,12 @@ collapsed e c = record c {
   established = Some (record e { congestion = timed_out c.board.smss c.board.una c.board.top e.congestion });
 }
 
--- the segment at una is sent again, and sending goes on behind it (RFC 6298, section 5.4)
+-- the segment that is sent again: the one at SND.UNA, of which no octet counts as SACKed (RFC 6298, section 5.4)
 abbrev pub first_again : ControlBlock → Span
 first_again c = run_at c.board.una (unmarked c.board)
 
+-- the connection after an expiry behind the handshake: the window collapses, and sending goes on behind the segment that is
+-- sent again (RFC 6298, section 5.4)
 abbrev pub expired_by : ℕ → Established → ControlBlock → ControlBlock
 expired_by at e c =
     let d = collapsed e (with_backoff at c) in

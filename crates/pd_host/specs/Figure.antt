@@ -42,8 +42,8 @@ is_double_edge _ _ = false
 abbrev pub MovesByCall : ConnState → ConnState → Type 0
 MovesByCall from to = (to ≡ from) ⊎ (is_call_edge from to ≡ true)
 
--- a segment leaves the state, or moves it along one edge, or with a FIN along two; an RST leads to CLOSED from anywhere, which
--- the figure leaves out
+-- a segment leaves the state, or moves it along one edge, or with a FIN along two; an RST leads to CLOSED from anywhere,
+-- where the figure has one from SYN-RECEIVED back to LISTEN alone (own)
 abbrev pub MovesBySegment : Segment → ConnState → ConnState → Type 0
 MovesBySegment segment from to =
     (to ≡ from)

@@ -52,7 +52,7 @@ abbrev pub is_sack_ok : SegOption → Bool
 is_sack_ok SackOk = true
 is_sack_ok _ = false
 
--- the peer's MSS, if it names one; of a repeated option the first counts (RFC 9293, section 3.7.1)
+-- the peer's MSS, if it names one (RFC 9293, section 3.7.1); of a repeated option the first counts (own)
 abbrev pub offered_mss : List SegOption → Option ℕ
 offered_mss options = slice_get (filter_map mss_in (looked_at options)) 0
 
@@ -115,8 +115,8 @@ scaling_of settings offers = option_map (λ count. record { own = settings.wscal
 abbrev pub syn_octet : Span
 syn_octet = record { start = 0; end = 1 }
 
--- the connection after a SYN at a moment: our SYN is sent and timed (RFC 6298, section 5.1), and the SYN's own window isn't
--- shifted (RFC 7323, section 2.2)
+-- the connection after a SYN at a moment: our SYN is sent, which starts the timer, and timed (RFC 6298, sections 3 and
+-- 5.1), and the window of the peer's SYN isn't shifted (RFC 7323, section 2.2)
 abbrev pub begun : ℕ → Settings → Segment → ControlBlock
 begun now settings syn = record {
   announced = settings.mss;

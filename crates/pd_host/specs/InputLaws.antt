@@ -15,7 +15,8 @@ use Rattle.pd_host.specs.Laws.{AreInOrder, IsUpTo}
 use Rattle.pd_host.specs.Sender.{Sender}
 use Rattle.pd_host.specs.declared.sender_state.State.{State}
 
--- a segment with a number outside the receive window leaves the connection as it is (RFC 5961: blind attacks)
+-- a segment with a number outside the receive window leaves the connection as it is (RFC 9293, section 3.10.7.4;
+-- RFC 5961, section 3.2)
 abbrev pub OutsideIsHarmless : Type 0
 OutsideIsHarmless =
     (segment : Segment) (now : ℕ) (s t : State) (c : ControlBlock)

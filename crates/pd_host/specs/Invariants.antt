@@ -26,8 +26,8 @@ pub record IsAgreed (b : Settings) (announced smss rcv_wnd : ℕ) : Type 0 where
   pub no_longer : smss ≤ b.mss
   pub window : rcv_wnd ≡ b.rcv_wnd
 
--- where our FIN is queued descriptor 4 is closed, so that nothing is queued behind it (RFC 9293, section 3.10.4); a FIN of the
--- peer that is noted as behind ours came behind ours
+-- where our FIN is queued descriptor 4 is closed, so that nothing is queued behind it (RFC 9293, section 3.10.4); where a
+-- FIN of the peer is noted as behind ours, ours is queued
 abbrev pub IsEnding : Bool → Option Established → Type 0
 IsEnding fin o = (fin ≡ true → stream_in o ≡ stream.Closed) × (peer_fin_in o ≡ BehindOurs → fin ≡ true)
 
@@ -77,16 +77,18 @@ pub record IsReached (b : Settings) (now : ℕ) (c : ControlBlock) : Type 0 wher
   pub phase : IsOfPhase c.established c.board.una c.board.top c.board.end
   pub fin : IsEnding c.fin c.established
   pub bounds : IfSome c.established (IsInBounds b c.board.smss c.board.top c.widest)
-  -- the timer runs while octets are outstanding, our SYN too, and not else; no timer runs after an RST (RFC 6298, sections
-  -- 5.1 and 5.2)
+  -- the timer runs while octets are outstanding, our SYN too, and not else (RFC 6298, sections 5.1 and 5.2), and not after
+  -- an RST (RFC 9293, section 3.10.7.4)
   pub runs : is_some c.timer.deadline ≡ (nat_lt c.board.una c.board.top && not c.reset)
   pub timed : IfSome c.timed (IsTimed now c.board.una c.board.top)
 
 -- with SACK loss recovery goes on only while una is below RecoveryPoint (RFC 6675, section 5)
 
+-- while loss recovery goes on, una lies below RecoveryPoint
 abbrev pub RecoversBelow : ℕ → Option Established → Type 0
 RecoversBelow una o = IfSome o (λ e. e.congestion.recovering ≡ true → una < e.congestion.recovery_point)
 
+-- so it is on a connection where SACK was agreed
 abbrev pub IsBelowPoint : ControlBlock → Type 0
 IsBelowPoint c = c.sack ≡ true → RecoversBelow c.board.una c.established
 
@@ -105,10 +107,11 @@ abbrev pub AdvancesStayLawful : Type 0
 AdvancesStayLawful =
     (now until : ℕ) (s t : State) → now ≤ until → IsLawful now s → advanced until s ≡ Ok t → IsLawful until t
 
--- of an arrival and a call at that moment,
+-- of an arrival at that moment,
 abbrev pub ArrivalsStayLawful : Type 0
 ArrivalsStayLawful = (segment : Segment) (now : ℕ) (s t : State) → IsLawful now s → arrived segment now s ≡ Ok t → IsLawful now t
 
+-- of a call at that moment,
 abbrev pub CallsStayLawful : Type 0
 CallsStayLawful =
     (call : Call) (now : ℕ) (s t : State) (answer : Answer) → IsLawful now s → called call now s ≡ Ok (t, answer) → IsLawful now t

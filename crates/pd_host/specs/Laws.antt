@@ -19,9 +19,9 @@ abbrev pub AreInOrder : ℕ → List Sent → Type 0
 AreInOrder now [] = ⊤
 AreInOrder now (p ∷ packets) = (p.at ≤ now) × (AllByRecursion (λ q. p.at ≤ q.at) packets × AreInOrder now packets)
 
--- the state of a sender at a moment, with all expiries up to it performed, whose connection was begun under these settings: the
--- packets are in order, the connection's timeout lies within the bounds that the settings say, and the next expiry lies ahead,
--- by at most the greatest timeout
+-- the state of a sender at a moment, with all expiries up to it performed, whose connection was begun under these settings:
+-- the packets are in order, the connection's RTO lies within the bounds that the settings say, and the next expiry lies
+-- ahead, by at most the greatest RTO
 pub record IsUpTo (b : Settings) (now : ℕ) (s : State) : Type 0 where
   pub packets : AreInOrder now s.endpoint.outbox
   pub timer : IfSome s.endpoint.connection (λ c. GoesBy b c.timer)
@@ -41,8 +41,8 @@ abbrev pub AdvancesKeepUp : Type 0
 AdvancesKeepUp =
     (b : Settings) (now until : ℕ) (s t : State) → now ≤ until → IsUpTo b now s → advanced until s ≡ Ok t → IsUpTo b until t
 
--- after an arrival at that moment: a connection that the arrival begins goes by the settings held then, and one that was begun
--- before goes on by its own,
+-- after an arrival at that moment: a connection that the arrival begins goes by the settings held then, and one that was
+-- begun before goes on by its own,
 abbrev pub ArrivalsKeepUp : Type 0
 ArrivalsKeepUp =
     (b : Settings) (segment : Segment) (now : ℕ) (s t : State) → IsUpTo b now s → arrived segment now s ≡ Ok t

@@ -1,4 +1,4 @@
--- The segments that the handshake and its checks put out.
+-- The segments that a connection puts out: data with our FIN, ACKs, the SYN/ACK, and the RST that refuses an ACK.
 use Rattle.std.specs.Prelude.{ℕ, ◌/◌, ◌^◌, min, nat_lt, nat_le, ◌&&◌, Bool, true, false, List, [], ◌∷◌, ◌++◌, Option, Some, None}
 use Rattle.pd_seg.specs.declared.control_bits.Flags.{Flags}
 use Rattle.pd_seg.specs.declared.option_list.SegOption.{SegOption}

@@ -25,7 +25,7 @@ with_packet_sent now segment s = record s {
   endpoint = record s.endpoint { outbox = s.endpoint.outbox ++ record { segment = segment; at = now } ∷ [] };
 }
 
--- the same with the connection that it leaves
+-- the state with this connection
 abbrev pub with_block : ControlBlock → State → State
 with_block c s = record s { endpoint = record s.endpoint { connection = Some c } }
 
@@ -58,7 +58,7 @@ usable c e = window_edge c e - c.board.next
 abbrev pub unsent : ControlBlock → ℕ
 unsent c = c.board.end - c.board.next
 
--- the octets that both let leave
+-- how many octets can leave: min(D, U) (RFC 9293, section 3.8.6.2.1)
 abbrev pub sendable : ControlBlock → Established → ℕ
 sendable c e = min (unsent c) (usable c e)
 
@@ -70,7 +70,7 @@ new_segment c e = record { start = c.board.next; end = c.board.next + min (senda
 abbrev pub is_full : ControlBlock → Established → Bool
 is_full c e = nat_le c.board.smss (sendable c e)
 
--- all that is queued can leave (RFC 9293, section 3.8.6.2.1, rule 2: D <= U)
+-- all that is queued can leave (RFC 9293, section 3.8.6.2.1, rule 2: D <= U; each write counts as pushed)
 abbrev pub is_all : ControlBlock → Established → Bool
 is_all c e = nat_le (unsent c) (usable c e)
 
@@ -103,7 +103,7 @@ next_segment c e = if nat_lt c.board.next c.board.top then next_again c e else n
 
 -- How a segment is sent
 
--- the sending place moves past SACKed octets (RFC 2018, section 8)
+-- the sending place moves past SACKed octets (RFC 2018, section 5)
 abbrev pub past_sacked : ControlBlock → ControlBlock
 past_sacked c = record c { board = skipped c.board }
 
@@ -123,16 +123,17 @@ IsQueued segment c = (c.board.una ≤ segment.end) × (segment.end ≤ c.board.e
 abbrev pub IsQueuedOn : Span → Option ControlBlock → Type 0
 IsQueuedOn segment connection = ForSome connection (IsQueued segment)
 
--- what ordinary sending finds on a connection
+-- the segment that ordinary sending sends next on a connection; none before the end of the handshake
 abbrev pub found_on : ControlBlock → Option Established → Option Span
 found_on c None = None
 found_on c (Some e) = next_segment c e
 
+-- the same, by whether a connection was begun
 abbrev pub found : Option ControlBlock → Option Span
 found None = None
 found (Some c) = found_on c c.established
 
--- what it does with that
+-- that segment is put out at a moment, and the sending place moves behind it and past SACKed octets
 abbrev pub sent_ordinarily : ℕ → Span → Option ControlBlock → State → State
 sent_ordinarily now segment None s = s
 sent_ordinarily now segment (Some c) s = with_segment now segment c (past_sacked (sent_on now segment c)) s
@@ -142,7 +143,7 @@ abbrev pub sent_next : ℕ → Span → Option ControlBlock → State → Result
 sent_next now segment None s = Ok s
 sent_next now segment (Some c) s = with_place s (sent_ordinarily now segment (Some c) s)
 
--- the sending place before anything is sent
+-- before anything is sent, the sending place moves past SACKed octets (RFC 2018, section 5)
 abbrev pub ready : Option ControlBlock → State → State
 ready None s = s
 ready (Some c) s = with_block (past_sacked c) s
@@ -152,6 +153,7 @@ abbrev pub sent_until_done : ℕ → State → Result State Halt
 sent_until_done now s =
     repeated (λ t. found t.endpoint.connection) (λ segment t. sent_ordinarily now segment t.endpoint.connection t) (places_left s) s
 
+-- ordinary sending at a moment: the sending place moves past SACKed octets, and then segments leave until none may
 abbrev pub ordinary : ℕ → State → Result State Halt
 ordinary now s = sent_until_done now (ready s.endpoint.connection s)
 
@@ -160,6 +162,6 @@ abbrev pub is_recovering : Option Established → Bool
 is_recovering None = false
 is_recovering (Some e) = e.congestion.recovering
 
--- ordinary sending after a call: not in recovery (RFC 6675, section 5; RFC 5681, section 3.2)
+-- ordinary sending after a call: not in recovery (own; RFC 6675, section 5, goes on behind an ACK)
 abbrev pub ordinary_outside_recovery : ℕ → ControlBlock → State → Result State Halt
 ordinary_outside_recovery now c s = if is_recovering c.established then Ok s else ordinary now s

@@ -59,11 +59,12 @@ abbrev pub sent_in : Option ControlBlock → ℕ
 sent_in None = 0
 sent_in (Some c) = c.board.top
 
--- the number after the last octet that the peer's window takes
+-- the number after the last octet that the peer's window takes, 0 before the end of the handshake
 abbrev pub window_end : ControlBlock → Option Established → ℕ
 window_end c None = 0
 window_end c (Some e) = c.board.una + e.rwnd
 
+-- the same, 0 where no connection was begun
 abbrev pub taken_in : Option ControlBlock → ℕ
 taken_in None = 0
 taken_in (Some c) = window_end c c.established
@@ -96,11 +97,12 @@ pub record StaysInWindow : Type 0 where
 
 -- Congestion control (RFC 5681, section 3.1; RFC 6675, section 5)
 
--- below this number both windows let octets leave
+-- below this number both windows let octets leave, 0 before the end of the handshake
 abbrev pub edge_on : ControlBlock → Option Established → ℕ
 edge_on c None = 0
 edge_on c (Some e) = window_edge c e
 
+-- the same, 0 where no connection was begun
 abbrev pub edge_of : Option ControlBlock → ℕ
 edge_of None = 0
 edge_of (Some c) = edge_on c c.established
@@ -129,11 +131,12 @@ abbrev pub octets_in : List Sent → ℕ
 octets_in [] = 0
 octets_in (p ∷ packets) = (end_with_fin p.segment - p.segment.start) + octets_in packets
 
--- the congestion window
+-- cwnd, 0 before the end of the handshake
 abbrev pub cwnd_on : Option Established → ℕ
 cwnd_on None = 0
 cwnd_on (Some e) = e.congestion.cwnd
 
+-- the same, 0 where no connection was begun
 abbrev pub cwnd_in : Option ControlBlock → ℕ
 cwnd_in None = 0
 cwnd_in (Some c) = cwnd_on c.established
@@ -275,7 +278,7 @@ pub record EndsWithFin : Type 0 where
       → advanced until s ≡ Ok t
       → (d.fin ≡ c.fin) × (d.board.end ≡ c.board.end)
 
--- Octets that the peer has (RFC 2018, section 8; RFC 6675, section 4)
+-- Octets that the peer has (RFC 2018, section 5; RFC 6675, section 4)
 
 -- no octet of a segment that is chosen is SACKed
 pub record SparesWhatArrived : Type 0 where

@@ -10,7 +10,8 @@ abbrev pub overlaps : Span → Span → Bool
 overlaps a b = nat_lt a.start b.end && nat_lt b.start a.end
 
 -- the segment that is timed after another one was sent at a moment, top being where it was before: a segment of new octets
--- is timed while none is, and one that overlaps the timed segment gives the timing up (RFC 6298, section 3: Karn's algorithm)
+-- is timed while none is, and one that overlaps the timed segment gives the timing up (RFC 6298, section 3: Karn's
+-- algorithm)
 abbrev pub timed_after : ℕ → Span → ℕ → Option Timing → Option Timing
 timed_after now segment top None = if nat_le top segment.start then Some (record { segment = segment; sent_at = now }) else None
 timed_after now segment top (Some t) = if overlaps t.segment segment then None else Some t
@@ -22,7 +23,7 @@ clocked now segment c = record c {
   timed = timed_after now segment c.board.top c.timed;
 }
 
--- the timed segment is acknowledged by an ACK below this number
+-- the timed segment is acknowledged, where all octets below this number are
 abbrev pub is_measured : ℕ → Timing → Bool
 is_measured ack t = nat_le t.segment.end ack
 
@@ -34,11 +35,11 @@ measured now granularity ack c (Some t) =
     then record c { timer = sampled (now - t.sent_at) granularity c.timer; timed = None }
     else c
 
--- 8. an ACK of new octets gives a sample, if the timed segment is acknowledged
+-- an ACK of new octets gives a sample, if the timed segment is acknowledged (RFC 6298, section 3)
 abbrev pub with_sample : ℕ → ℕ → ℕ → ControlBlock → ControlBlock
 with_sample now granularity ack c = measured now granularity ack c c.timed
 
--- and starts the timer anew, or stops it where all that was sent is acknowledged (RFC 6298, sections 5.2 and 5.3)
+-- and it starts the timer anew, or stops it where all that was sent is acknowledged (RFC 6298, sections 5.2 and 5.3)
 abbrev pub with_timer_moved : ℕ → ControlBlock → ControlBlock
 with_timer_moved now c =
     record c { timer = if c.board.una == c.board.top then stopped c.timer else restarted now c.timer }

@@ -23,6 +23,10 @@ fn put(connection: &Connection, outbox: &mut Outbox, segment: Span, now: u64) ->
 
 impl State {
     /// Sends at a moment what an ACK led to.
+    ///
+    /// # Errors
+    /// Of the first packet that fails: `Halted` by `Limit` where the outbox is full, else `OutOfMemory` where its growth is
+    /// refused or the scoreboard has found no memory before.
     pub fn respond(&mut self, next: Then, now: u64) -> Result<(), Ending>
         requires early { now < 2 ^ 62 }
         requires queued { FollowsQueuedOn next self.old.endpoint.connection }

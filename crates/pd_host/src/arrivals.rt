@@ -19,6 +19,10 @@ const NOT_RUN: Ending = Ending::Halted(Halt::Unsupported);
 
 impl State {
     /// A segment arrives at a moment: the first one, or one on the connection that was begun.
+    ///
+    /// # Errors
+    /// `Halted` by `Unsupported` where the segment isn't run; else `OutOfMemory` where memory is refused, or `Halted` by
+    /// `Limit` where a packet finds the outbox full, whichever comes first.
     pub fn arrive(&mut self, segment: &Segment, now: u64) -> Result<(), Ending>
         requires early { now < 2 ^ 62 }
         ensures { Gives (arrived segment.now now self.old) result self.new }

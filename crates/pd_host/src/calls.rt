@@ -60,6 +60,10 @@ impl Endpoint {
 
 impl State {
     /// Answers a request at a moment. A descriptor that isn't open answers EBADF, before all else.
+    ///
+    /// # Errors
+    /// `Halted` by `Unsupported` for a `socket` that isn't the first, and for a `close` of 3 while a connection was begun
+    /// that isn't accepted; for a `write` and a `close` of 4 those of `send`.
     pub fn call(&mut self, request: Request, now: u64) -> Result<Answer, Ending>
         requires early { now < 2 ^ 62 }
         requires short { IsShort self.old }

@@ -37,22 +37,34 @@ use std::marker::Model;
 const DEFAULT_MSS: u16 = 536;
 
 /// The greatest shift count (RFC 7323, section 2.3).
-const MOST_SHIFT: u8 = 14;
+const MAX_SHIFT: u8 = 14;
 
 /// A connection that a SYN has begun.
 #[derive(Drop)]
 pub struct Connection {
+    /// The MSS that our SYN/ACK names, in octets (RFC 9293, section 3.7.1).
     announced: u16,
+    /// Whether SACK was agreed (RFC 2018, section 2).
     sack: bool,
+    /// By how much windows are shifted, if that was agreed (RFC 7323, section 2).
     scaling: Option<Scaling>,
+    /// RCV.WND: how many octets the peer may send (RFC 9293, section 3.3.1).
     rcv_wnd: u32,
+    /// SMSS, the numbers that are sent by, and the SACKed octets (RFC 9293, section 3.3.1; RFC 6675, section 3).
     board: Board,
+    /// Whether the last octet queued is our FIN (RFC 9293, section 3.4).
     fin: bool,
+    /// The retransmission timer (RFC 6298).
     timer: Rto,
+    /// The segment whose round trip is measured, if one is (RFC 6298, section 3).
     timed: Option<Timing>,
+    /// Max(SND.WND): the largest of the peer's windows seen so far, the SYN's too, in octets (RFC 9293, section 3.8.6.2.1).
     widest: u32,
+    /// Whether the SYN/ACK was sent again (RFC 5681, section 3.1; RFC 6298, section 5.7).
     resent: bool,
+    /// What the connection has from the end of its handshake on.
     established: Option<Established>,
+    /// Whether an RST has ended it (RFC 9293, section 3.10.7.4, second check).
     reset: bool,
 }
 
@@ -96,7 +108,7 @@ fn scaling_of(settings: &Settings, offers: Offers) -> Option<Scaling>
         None => None,
         Some(count) => Some(Scaling {
             own: settings.wscale,
-            peer: count.min(MOST_SHIFT),
+            peer: count.min(MAX_SHIFT),
         }),
     }
 }
@@ -283,6 +295,7 @@ impl Connection {
         }
     }
 
+    /// Whether loss recovery goes on; not before the establishment.
     pub fn is_recovering(&self) -> bool
         ensures { result ≡ is_recovering self.now.established }
     {
@@ -292,6 +305,7 @@ impl Connection {
         }
     }
 
+    /// Whether the handshake has ended, also where an RST came since.
     pub fn is_established(&self) -> bool
         ensures { result ≡ is_some self.now.established }
     {
@@ -308,6 +322,7 @@ impl Connection {
         }
     }
 
+    /// Whether an RST has ended the connection.
     pub fn is_reset(&self) -> bool
         ensures { result ≡ self.now.reset }
     {

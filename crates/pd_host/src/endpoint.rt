@@ -10,8 +10,11 @@ use std::alloc::Global;
 /// Descriptor 3, the connection once it was begun, and the packets that were put out and not yet taken.
 #[derive(Drop)]
 pub struct Endpoint {
+    /// How far descriptor 3 has come.
     pub listener: Listener,
+    /// The connection, once a SYN has begun it.
     pub connection: Option<Connection>,
+    /// The packets that were put out and not yet taken.
     pub outbox: Outbox,
 }
 

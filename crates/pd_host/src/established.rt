@@ -25,6 +25,7 @@ pub struct Established {
     pub congestion: Cong,
     /// Descriptor 4.
     pub stream: Stream,
+    /// Whether the peer's FIN was taken, and whether ours was queued then (RFC 9293, section 3.6).
     pub peer_fin: PeerFin,
 }
 

@@ -8,6 +8,10 @@ use crate::sender_state::State;
 
 impl State {
     /// Performs all expiries up to a moment, in order, each at its own.
+    ///
+    /// # Errors
+    /// Of the first expiry that fails: `OutOfMemory` where memory for the packet is refused or the scoreboard has found none
+    /// before, else `Halted` by `Limit` where the outbox is full, else `OutOfMemory` where its growth is refused.
     #[inline(always)]
     pub fn advance(&mut self, until: u64) -> Result<(), Ending>
         requires early { until < 2 ^ 62 }

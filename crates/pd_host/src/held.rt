@@ -11,12 +11,17 @@ use std::alloc::AllocError;
 /// Copies of what of an endpoint takes memory: the scoreboard of its connection, and the packets that stand untaken.
 #[derive(Drop)]
 pub struct Held {
+    /// The scoreboard of the connection, once it was begun.
     pub board: Option<Board>,
+    /// The packets that stand untaken.
     pub outbox: Outbox,
 }
 
 impl Held {
     /// What this endpoint holds.
+    ///
+    /// # Errors
+    /// `AllocError` where a growth is refused, or the scoreboard has found no memory before.
     pub fn of(endpoint: &Endpoint) -> Result<Held, AllocError>
         ensures board { IfOk result (λ held. held.board ≡ board_of endpoint.now.connection) }
         ensures outbox { IfOk result (λ held. held.outbox ≡ endpoint.now.outbox) }

@@ -28,7 +28,9 @@ use std::marker::Model;
 /// A host that has halted, or found no memory, answers that to each later input.
 #[derive(Drop)]
 pub struct Host {
+    /// What the rules work on.
     state: State,
+    /// Why the host has ended, if it has.
     ended: Option<Ending>,
 }
 
@@ -58,8 +60,8 @@ impl Host {
     /// A system call at a moment.
     ///
     /// # Errors
-    ///
-    /// `Halted` for a call that isn't run, and where more than 1,024 packets would stand untaken.
+    /// What ended the host before; else `Halted` for a call that isn't run, and where more than 1,024 packets would stand
+    /// untaken, and `OutOfMemory`.
     pub fn call(&mut self, call: &Call, now: u64) -> Result<Answer, Ending>
         requires early { now < 2 ^ 62 }
         requires short { IsShort self.old.state }
@@ -80,8 +82,8 @@ impl Host {
     /// A segment arrives at a moment.
     ///
     /// # Errors
-    ///
-    /// `Halted` for a segment that isn't run, and where more than 1,024 packets would stand untaken.
+    /// What ended the host before; else `Halted` for a segment that isn't run, and where more than 1,024 packets would stand
+    /// untaken, and `OutOfMemory`.
     pub fn arrive(&mut self, segment: &Segment, now: u64) -> Result<(), Ending>
         requires early { now < 2 ^ 62 }
         ensures { Goes self.old (arrived segment.now now) result self.new }
@@ -96,6 +98,9 @@ impl Host {
     }
 
     /// Performs all expiries up to a moment, in order.
+    ///
+    /// # Errors
+    /// What ended the host before; else `Halted` where more than 1,024 packets would stand untaken, and `OutOfMemory`.
     #[inline(always)]
     pub fn advance(&mut self, until: u64) -> Result<(), Ending>
         requires early { until < 2 ^ 62 }
@@ -183,7 +188,6 @@ impl Host {
     /// The same host once more.
     ///
     /// # Errors
-    ///
     /// Want of memory, also where the host has ended by it.
     pub fn copy(&self) -> Result<Host, AllocError>
         ensures ok { IfOk result (λ copy. copy ≡ self.now) }
@@ -224,6 +228,9 @@ impl Host {
     }
 
     /// Copies of what of it takes memory.
+    ///
+    /// # Errors
+    /// `AllocError` where the host has ended for want of memory, or a growth is refused.
     pub fn held(&self) -> Result<Held, AllocError>
         ensures board { IfOk result (λ held. held.board ≡ board_of self.now.state.endpoint.connection) }
         ensures outbox { IfOk result (λ held. held.outbox ≡ self.now.state.endpoint.outbox) }

@@ -15,12 +15,14 @@ pub enum Listener {
 }
 
 impl Listener {
+    /// Whether descriptor 3 is open: `socket` was called, and it wasn't closed.
     pub fn is_open(self) -> bool
         ensures { result ≡ is_listener_open self }
     {
         !matches!(self, Listener::Absent | Listener::Closed)
     }
 
+    /// Whether descriptor 3 listens.
     pub fn is_listening(self) -> bool
         ensures { result ≡ is_listening self }
     {

@@ -5,7 +5,7 @@ ghost use Rattle.pd_host.specs.Handshake.{offered_too, offers_of, is_mss_run};
 use pd_seg::SegOption;
 
 /// The least MSS of a peer that is run, in octets.
-const LEAST_PEER_MSS: u16 = 64;
+const MIN_PEER_MSS: u16 = 64;
 
 /// What the options of a SYN offer.
 #[derive(Clone, Copy, PartialEq, Eq)]
@@ -62,6 +62,6 @@ pub fn is_mss_run(octets: Option<u16>) -> bool
 {
     match octets {
         None => true,
-        Some(octets) => octets >= LEAST_PEER_MSS,
+        Some(octets) => octets >= MIN_PEER_MSS,
     }
 }

@@ -1,6 +1,5 @@
 //! The packets that were put out and not yet taken.
 ghost use Rattle.std.specs.Prelude.{◌≡◌, ◌==◌, [], nat_le, length, slice_get, drop, IfOk};
-ghost use Rattle.std.specs.Option.{option_copied};
 ghost use Rattle.pd_host.specs.Outcome.{Gives};
 ghost use Rattle.pd_host.specs.Sender.{with_packet};
 
@@ -11,11 +10,12 @@ use std::collections::VecDeque;
 use std::marker::Model;
 
 /// The most packets that stand untaken.
-const MOST_PACKETS: usize = 1_024;
+const MAX_PACKETS: usize = 1_024;
 
 /// The packets that were put out and not yet taken, the oldest first: at most 1,024.
 #[derive(Drop)]
 pub struct Outbox {
+    /// The packets with their moments, the oldest first.
     packets: VecDeque<Sent>,
 }
 
@@ -40,12 +40,14 @@ impl Outbox {
         }
     }
 
+    /// How many packets stand untaken, at most 1,024.
     pub fn len(&self) -> usize
         ensures { result ≡ length self.now }
     {
         self.packets.len()
     }
 
+    /// Whether no packet stands untaken.
     pub fn is_empty(&self) -> bool
         ensures { result ≡ (length self.now == 0) }
     {
@@ -56,21 +58,13 @@ impl Outbox {
     fn is_full(&self) -> bool
         ensures { result ≡ nat_le 1024 (length self.now) }
     {
-        self.packets.len() >= MOST_PACKETS
-    }
-
-    /// The oldest packet, if there is one.
-    pub fn oldest(&self) -> Option<&Sent>
-        ensures { option_copied result ≡ slice_get self.now 0 }
-    {
-        self.packets.front()
+        self.packets.len() >= MAX_PACKETS
     }
 
     /// Puts a segment out at a moment, behind the others.
     ///
     /// # Errors
-    ///
-    /// `Halted` by `Limit` where the outbox is full.
+    /// `Halted` by `Limit` where the outbox is full, else `OutOfMemory` where a growth is refused.
     pub fn put_out(&mut self, segment: Segment, now: u64) -> Result<(), Ending>
         ensures { Gives (with_packet now segment self.old) result self.new }
     {
@@ -92,6 +86,9 @@ impl Outbox {
     }
 
     /// The same packets once more.
+    ///
+    /// # Errors
+    /// `AllocError` where a growth is refused.
     pub fn copy(&self) -> Result<Outbox, AllocError>
         ensures { IfOk result (λ copy. copy ≡ self.now) }
     {

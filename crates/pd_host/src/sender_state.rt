@@ -9,8 +9,11 @@ use pd_settings::{Settings, UseSet};
 /// The endpoint, and beside it the settings and which of them were consulted so far.
 #[derive(Drop)]
 pub struct State {
+    /// The settings, which are copied where a rule consults them.
     pub settings: Settings,
+    /// Which of them were consulted so far.
     pub uses: UseSet,
+    /// The descriptors, the connection and the packets.
     pub endpoint: Endpoint,
 }
 

@@ -9,6 +9,10 @@ use pd_seg::Span;
 
 impl State {
     /// Sends at a moment what the windows and Nagle's algorithm let leave.
+    ///
+    /// # Errors
+    /// Of the first packet that fails: `Halted` by `Limit` where the outbox is full, else `OutOfMemory` where its growth is
+    /// refused or the scoreboard has found no memory before.
     pub fn send(&mut self, now: u64) -> Result<(), Ending>
         requires early { now < 2 ^ 62 }
         ensures { Gives (ordinary now self.old) result self.new }

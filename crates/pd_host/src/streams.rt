@@ -19,6 +19,7 @@ impl Stream {
         matches!(self, Stream::Waiting)
     }
 
+    /// Whether descriptor 4 is open: `accept` has handed it out, and it wasn't closed.
     pub fn is_open(self) -> bool
         ensures { result ≡ is_open self }
     {

@@ -8,6 +8,7 @@ use Rattle.pd_lex.specs.Octets.{quote, dash, point, backquote, is_digit, is_word
 abbrev pub begins_more : ℕ → Bool
 begins_more b = (b == dash) || (b == 47) || (b == quote) || (b == backquote) || (b == 37)
 
+-- the class of an octet: a digit, a letter or `_`, the point, an octet that can only be a symbol, or another
 abbrev pub class_of : ℕ → Class
 class_of b =
     if is_digit b then Digit

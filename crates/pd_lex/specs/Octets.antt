@@ -1,27 +1,35 @@
 -- The octets that tokens are made of, in ASCII.
 use Rattle.std.specs.Prelude.{ℕ, Bool, ◌&&◌, ◌||◌, not, nat_le, ◌==◌}
 
+-- the end of a line
 abbrev pub newline : ℕ
 newline = 10
 
+-- `"`
 abbrev pub quote : ℕ
 quote = 34
 
+-- `-`
 abbrev pub dash : ℕ
 dash = 45
 
+-- `.`
 abbrev pub point : ℕ
 point = 46
 
+-- `=`
 abbrev pub equals : ℕ
 equals = 61
 
+-- `\`
 abbrev pub backslash : ℕ
 backslash = 92
 
+-- `_`
 abbrev pub underscore : ℕ
 underscore = 95
 
+-- a backquote
 abbrev pub backquote : ℕ
 backquote = 96
 

@@ -90,10 +90,12 @@ opener_text openers.Quote = codes "\""
 opener_text openers.Backquote = codes "`"
 opener_text openers.Brace = codes "%{"
 
+-- how many octets open it
 abbrev pub opener_len : Opener → ℕ
 opener_len o = length (opener_text o)
 
--- what stands at the front of a text: nothing, a blank or a comment, a token, or what begins nothing; and what is left behind it
+-- what can stand at the front of a text: nothing, a blank or a comment, a token, or what begins nothing; and what is left
+-- behind it
 pub data Front : Type 0 where
   nothing : Front
   gap : List ℕ → Front
@@ -115,6 +117,7 @@ parted s (Whole kind n) = token kind (drop n s)
 parted s (Open o) = closed o (after_end o (drop (opener_len o) s))
 parted s Stray = stray
 
+-- what stands at the front of a text: nothing where it ends, else what its first piece makes
 unfoldable pub front : List ℕ → Front
 front [] = nothing
 front (b ∷ s) = parted (b ∷ s) (piece (b ∷ s))

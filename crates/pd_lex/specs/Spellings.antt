@@ -59,6 +59,7 @@ IsCode text = (body : List ℕ) × (text ≡ codes "%{" ++ body ++ codes "}%") �
 abbrev pub IsSymbol : List ℕ → Type 0
 IsSymbol text = (b : ℕ) × (text ≡ b ∷ []) × IsTrue (is_printable b) × (is_word b ≡ false)
 
+-- how a token of each kind is spelled
 abbrev pub IsSpelled : TokenKind → List ℕ → Type 0
 IsSpelled Int text = AreSome is_digit text
 IsSpelled Hex text = IsHex text
@@ -71,6 +72,7 @@ IsSpelled Cmd text = IsCmd text
 IsSpelled Code text = IsCode text
 IsSpelled Symbol text = IsSymbol text
 
+-- one blank: a space, a tab, a carriage return or a newline
 abbrev pub IsBlank : List ℕ → Type 0
 IsBlank text = (b : ℕ) × (text ≡ b ∷ []) × IsTrue (is_blank b)
 

@@ -15,9 +15,13 @@ use crate::token::TokenKind;
 /// A token of so many octets of the line, with the octet of a Symbol and the number of an Int.
 #[derive(Clone, Copy)]
 pub struct Plain {
+    /// What the token is.
     pub kind: TokenKind,
+    /// The octet of a Symbol.
     pub symbol: u8,
+    /// How many octets of the line it has.
     pub len: usize,
+    /// The number of an Int.
     pub number: u64,
 }
 

@@ -46,6 +46,7 @@ pub enum Piece {
     Stray,
 }
 
+/// Whether an octet is a digit.
 pub fn digit(b: u8) -> bool
     ensures { result ≡ is_digit b }
 {
@@ -58,12 +59,14 @@ fn hex_digit(b: u8) -> bool
     b.is_ascii_hexdigit()
 }
 
+/// Whether an octet may stand in a word: a digit, a letter or an underscore.
 pub fn word(b: u8) -> bool
     ensures { result ≡ is_word b }
 {
     matches!(class_of(b), Class::Digit | Class::Letter)
 }
 
+/// Whether an octet is a space, a tab, a carriage return or a newline.
 pub fn blank(b: u8) -> bool
     ensures { result ≡ is_blank b }
 {
@@ -90,6 +93,7 @@ fn digits_len(s: &[u8]) -> usize
     s.iter().take_while(|b| digit(**b)).count()
 }
 
+/// How many octets of a word stand at the front.
 #[inline(always)]
 pub fn word_len(s: &[u8]) -> usize
     ensures len { result ≡ prefix_len is_word s.now }
@@ -127,6 +131,7 @@ fn hex(s: &[u8]) -> bool
     }
 }
 
+/// How many octets a point and the digits behind it have at the front; 0 where no point or no digit stands there.
 #[inline(always)]
 pub fn fraction(s: &[u8]) -> usize
     ensures len { result ≡ fraction_len s.now }

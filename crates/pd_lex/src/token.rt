@@ -34,7 +34,9 @@ pub enum TokenKind {
 /// line.
 #[derive(Clone, Copy)]
 pub struct Place {
+    /// The line, counted from 1.
     pub line: usize,
+    /// How many octets of the line lie before the place.
     pub at: usize,
 }
 
@@ -57,6 +59,7 @@ impl Place {
 /// A token: what it is, its octets, where it begins, and the place behind it.
 #[derive(Clone, Copy)]
 pub struct Token<'a> {
+    /// What the token is.
     pub kind: TokenKind,
     /// The octet of a Symbol.
     pub symbol: u8,
@@ -64,7 +67,9 @@ pub struct Token<'a> {
     pub number: u64,
     /// As written, where its kind stays in its line; of a Str, a Cmd and Code none.
     pub text: &'a [u8],
+    /// Where it begins.
     pub from: Place,
+    /// The place behind it.
     pub to: Place,
     ghost symbol_is: { kind ≡ Symbol → text.now ≡ symbol ∷ [] },
     ghost number_is: { kind ≡ Int → number ≡ capped_number text.now },

@@ -21,6 +21,7 @@ const COMPARED: [Kind; 6] = [
 /// An outbound packet of a script, and when it may be sent.
 #[derive(Clone, Copy)]
 pub struct Expect<'a> {
+    /// The packet as the script writes it.
     pub packet: &'a Packet,
     /// The first and the last moment, in microseconds since the start of the run; None for `*`.
     pub moments: Option<(u64, u64)>,

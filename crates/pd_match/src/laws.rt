@@ -1,4 +1,4 @@
-//! Laws of comparisons: functions without code, whose contracts are the laws.
+//! Laws of comparisons: a function without code, whose contract is the laws.
 ghost use Rattle.pd_match.specs.Laws.{MismatchIsFirst, MatchIsResult};
 
 /// What it says that a packet, or the answer of a call, differs in nothing or in a field.

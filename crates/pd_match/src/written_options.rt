@@ -5,6 +5,8 @@ ghost use Rattle.pd_match.specs.Packets.{each_pair, same_block, same_option, sam
 use pd_script::{Block, Options, PacketOption};
 use pd_seg::{SegOption, SegOptions, Span};
 
+/// Whether the options that were sent are those that a script writes: any for `<...>`, none where it writes no angle
+/// brackets, else the same ones in the same order.
 pub fn has_options(written: &Options, sent: &SegOptions) -> bool
     ensures { result ≡ same_options written.now sent.now }
 {

@@ -15,7 +15,7 @@ pub record IsAck (ack : Ack) : Type 0 where
   pub queued : ack.top ≤ ack.end
   pub small : ack.end < 2 ^ 31
 
--- an ACK of new octets begins the counts anew
+-- an ACK of new octets begins the counts anew, and no expiry is noted any more
 abbrev pub renewed : Ack → Congestion → Congestion
 renewed ack w =
     if nat_lt 0 ack.acked
@@ -56,7 +56,7 @@ entered ack w = record w {
 }
 
 -- a duplicate that told a new octet: below RecoveryPoint it begins nothing; the third, or one that shows una to be lost,
--- begins recovery; another leads to limited transmit (steps 1 to 3)
+-- begins recovery; another puts HighRxt at HighACK and leads to limited transmit (steps 1 to 3)
 abbrev pub selective_duplicate : Ack → Bool → Congestion → Congestion × Then
 selective_duplicate ack lost w =
     if nat_lt ack.una w.recovery_point then (w, Ordinary)

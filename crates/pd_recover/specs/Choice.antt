@@ -27,7 +27,7 @@ pub record IsSendable (s : Scoreboard) (segment : Span) : Type 0 where
 abbrev pub lost_run : Scoreboard → Congestion → Option NextSegment
 lost_run s w = option_map (λ x. Lost (run_at x s)) (next_lost w.high_rxt s)
 
--- rule 2: new data, where the peer's window takes it
+-- rule 2: up to SMSS octets of new data, where the peer's window takes them
 abbrev pub new_data : ℕ → Scoreboard → Option Span
 new_data rwnd s = new_segment s.smss s.una s.top s.end rwnd
 
@@ -35,7 +35,7 @@ new_data rwnd s = new_segment s.smss s.una s.top s.end rwnd
 abbrev pub hole_run : Scoreboard → Congestion → Option NextSegment
 hole_run s w = option_map (λ x. Hole (run_at x s)) (next_hole w.high_rxt s)
 
--- rule 4: the last octets that aren't SACKed, where all up to RescueRxt is acknowledged
+-- rule 4: the last octets that aren't SACKed, where HighACK is above RescueRxt
 abbrev pub rescue_run : Scoreboard → Congestion → Option NextSegment
 rescue_run s w = if nat_lt w.rescue_rxt s.una then option_map (λ segment. Rescue segment) (rescue s) else None
 
@@ -51,7 +51,7 @@ first_given unsent s w =
 abbrev pub next_segment : ℕ → Scoreboard → Congestion → Option NextSegment
 next_segment rwnd s w = first_given (new_data rwnd s) s w
 
--- a full segment has room between what is on the way and the window
+-- cwnd - pipe is at least SMSS: a full segment has room between what is on the way and the window
 abbrev pub has_room : ℕ → Scoreboard → Congestion → Bool
 has_room pipe s w = nat_le s.smss (w.cwnd - pipe)
 

@@ -3,6 +3,7 @@ use Rattle.std.specs.Prelude.{ℕ, ◌+◌, ◌-◌, ◌*◌, ◌/◌, ◌^◌, 
 use Rattle.pd_settings.specs.declared.initial_window.InitialWindow.{InitialWindow}
 use Rattle.pd_settings.specs.declared.initial_window.InitialWindow.TheVariants.{Rfc5681, Rfc6928}
 
+-- the state of congestion control (RFC 5681, section 3.1) and of loss recovery (RFC 6675, section 2)
 pub record Congestion : Type 0 where
   -- the congestion window and the slow start threshold
   pub cwnd : ℕ
@@ -45,7 +46,8 @@ abbrev pub window_by : InitialWindow → ℕ → ℕ
 window_by Rfc5681 smss = first_segments smss * smss
 window_by Rfc6928 smss = min (10 * smss) (max (2 * smss) 14600)
 
--- the same, or one segment where the SYN/ACK was sent again (RFC 5681, section 3.1)
+-- the same, or one segment where the SYN/ACK was sent again (RFC 5681, section 3.1; own under RFC 6928, whose section 2
+-- goes back to one segment only where it was sent again more than once)
 abbrev pub first_window : InitialWindow → ℕ → Bool → ℕ
 first_window rule smss resent = if resent then smss else window_by rule smss
 

@@ -12,8 +12,8 @@ use Rattle.pd_recover.specs.Acks.{acked}
 use Rattle.pd_recover.specs.Choice.{IsSendable, segment_of, new_data, next_segment, step_c_segment, noted}
 use Rattle.pd_recover.specs.Congestion.{Congestion, begun, timed_out}
 
--- the window lies between one segment and 2^30, the threshold at or above 2 segments, or at or above its initial value
--- where that is lower
+-- the window lies between one segment and 2^30, the threshold between 2 segments, or its initial value where that is lower,
+-- and 2^30; in recovery it is at least 2 segments
 pub record IsWithin (smss initial_ssthresh : ℕ) (w : Congestion) : Type 0 where
   pub cwnd_from : smss ≤ w.cwnd
   pub cwnd_to : w.cwnd ≤ 2 ^ 30
@@ -49,7 +49,7 @@ pub record EndsInTime : Type 0 where
       → ((acked ack w).0.recovering ≡ false) ↔ (0 < ack.acked)
   pub expiry : (smss una top : ℕ) (w : Congestion) → (timed_out smss una top w).recovering ≡ false
 
--- within recovery with SACK an ACK leaves the window, RecoveryPoint, HighRxt and RescueRxt (RFC 6675, section 5)
+-- cwnd, ssthresh, RecoveryPoint, HighRxt and RescueRxt stay as they are (RFC 6675, section 5)
 pub record IsUnmoved (v w : Congestion) : Type 0 where
   pub cwnd : w.cwnd ≡ v.cwnd
   pub ssthresh : w.ssthresh ≡ v.ssthresh
@@ -57,6 +57,7 @@ pub record IsUnmoved (v w : Congestion) : Type 0 where
   pub high_rxt : w.high_rxt ≡ v.high_rxt
   pub rescue_rxt : w.rescue_rxt ≡ v.rescue_rxt
 
+-- an ACK with SACK that doesn't end recovery leaves them so
 abbrev pub RestsInRecovery : Type 0
 RestsInRecovery =
     (ack : Ack) (w : Congestion) → IsSome ack.sack → w.recovering ≡ true
@@ -86,7 +87,7 @@ KeepsWindow =
 abbrev pub IsSpared : Scoreboard → Span → Type 0
 IsSpared s segment = (x : ℕ) → segment.start ≤ x → x < segment.end → contains s.sacked x ≡ false
 
--- what is SACKed isn't sent again, neither by an entry nor by NextSeg (RFC 2018, section 8; RFC 6675, section 4)
+-- what is SACKed isn't sent again, neither by an entry nor by NextSeg (RFC 2018, section 5; RFC 6675, section 4)
 pub record SparesSacked : Type 0 where
   pub again : (s : Scoreboard) (start : ℕ) → IsSpared s (run_at start s)
   pub chosen :

@@ -10,20 +10,30 @@ use std::alloc::AllocError;
 use std::marker::Model;
 
 /// No connection has more octets than this.
-const MOST_NUMBERS: u32 = 0x8000_0000;
+const MAX_OCTETS: u32 = 0x8000_0000;
 
 /// The congestion window, the slow start threshold, and the variables of loss recovery of one connection.
 ///
 /// No call takes memory.
 pub struct Cong {
+    /// cwnd, the congestion window, in octets: 1 to 2^31 (RFC 5681, section 3.1).
     cwnd: u32,
+    /// ssthresh, the slow start threshold, in octets: 1 to 2^30 (RFC 5681, section 3.1).
     ssthresh: u32,
+    /// DupAcks: how many duplicates came since the last ACK of new octets or expiry; 4 stands for more too (RFC 6675,
+    /// section 5).
     dup_acks: u32,
+    /// How many octets limited transmit has sent since then (RFC 6675, section 5, step 3; RFC 3042).
     limited: u32,
+    /// Whether loss recovery goes on (RFC 5681, section 3.2; RFC 6675, section 5).
     recovering: bool,
+    /// RecoveryPoint, as the number after its octet (RFC 6675, section 5, step 4.1; an expiry's, section 5.1).
     recovery_point: u32,
+    /// HighRxt, as the number after its octet (RFC 6675, section 2).
     high_rxt: u32,
+    /// RescueRxt, as the number after its octet (RFC 6675, section 2).
     rescue_rxt: u32,
+    /// Whether the timer has expired since the establishment and the last ACK of new octets (RFC 5681, section 3.1).
     expired: bool,
 }
 
@@ -47,8 +57,8 @@ impl Clone for Cong {
 
 impl Copy for Cong {}
 
-/// The octets from which on RFC 6928's initial window is less than ten segments (section 2).
-const MOST_FIRST: u32 = 14_600;
+/// RFC 6928's initial window in octets, where ten segments are more and two are less (section 2).
+const LARGER_INITIAL_WINDOW: u32 = 14_600;
 
 /// How many segments the initial window of RFC 5681 holds, at this SMSS in octets (section 3.1).
 fn first_segments(smss: u16) -> u32
@@ -70,7 +80,7 @@ fn window_by(rule: InitialWindow, smss: u16) -> u32
     let segment = u32::from(smss);
     match rule {
         InitialWindow::Rfc5681 => first_segments(smss) * segment,
-        InitialWindow::Rfc6928 => (10 * segment).min((2 * segment).max(MOST_FIRST)),
+        InitialWindow::Rfc6928 => (10 * segment).min((2 * segment).max(LARGER_INITIAL_WINDOW)),
     }
 }
 
@@ -124,7 +134,8 @@ impl Cong {
         self.recovering
     }
 
-    /// HighRxt, as the number after the highest octet that this recovery has sent again (RFC 6675, section 2).
+    /// HighRxt, as the number after the highest octet that this recovery has sent again; `una` at the first two duplicates,
+    /// before one begins (RFC 6675, sections 2 and 5).
     pub fn high_rxt(&self) -> u32
         ensures { result ≡ self.now.high_rxt }
     {
@@ -160,11 +171,11 @@ impl Cong {
         self.rescue_rxt = end;
     }
 
-    /// Limited transmit with SACK has sent this many octets.
+    /// Limited transmit has sent this many octets; without SACK `on_ack` counts them itself.
     pub fn count_limited(&mut self, octets: u32)
         requires { octets ≤ 65495 }
         ensures { self.new ≡ with_limited octets self.old }
     {
-        self.limited = (self.limited + octets).min(MOST_NUMBERS);
+        self.limited = (self.limited + octets).min(MAX_OCTETS);
     }
 }

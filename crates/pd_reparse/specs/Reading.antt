@@ -30,10 +30,12 @@ pub record DecidedEvents : Type 0 where
 abbrev pub decided : Event → List Item → Decided
 decided event rest = record { event = event; reach = reach_of rest; after = next_place rest }
 
+-- an event that was read and what decided it, in front of those that are found further on; or the line of the fault
 abbrev pub with_decided : (List Item → DecidedEvents) → Read Event → DecidedEvents
 with_decided others (Ok x) = record { events = decided x.0 x.1 ∷ (others x.1).events; fault = (others x.1).fault }
 with_decided others (Err rest) = record { events = []; fault = Some (next_line rest) }
 
+-- no event: a fault where the text doesn't end there
 abbrev pub none_decided : List Item → DecidedEvents
 none_decided ts = record { events = []; fault = (at_end ts).fault }
 

@@ -11,6 +11,7 @@ use std::alloc::AllocError;
 /// An event of a script, and what follows it in the text.
 #[derive(Drop)]
 pub struct Decided {
+    /// The event.
     pub event: Event,
     /// The last line that decided it: the line of the token that follows it; none where the end of
     /// the text follows it.

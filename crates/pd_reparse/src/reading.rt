@@ -14,8 +14,11 @@ use std::marker::Model;
 /// fault, if the text is refused.
 #[derive(Drop)]
 pub struct Reading {
+    /// What stands before the events.
     header: Header,
+    /// The events in order, each with what decided it; at most 4,096.
     events: SharedList<Decided>,
+    /// The line at which no script goes on, if the text is refused.
     fault: Option<usize>,
 }
 
@@ -52,6 +55,7 @@ impl Reading {
         })
     }
 
+    /// Its header.
     pub fn header(&self) -> &Header
         ensures { result.now ≡ self.now.header }
     {
@@ -85,6 +89,9 @@ impl Reading {
     }
 
     /// The first events.
+    ///
+    /// # Errors
+    /// `AllocError` where memory for what isn't shared is refused.
     pub fn first_events(&self, count: usize) -> Result<SharedList<Decided>, AllocError>
         requires { count ≤ length self.now.events }
         ensures { IfOk result (λ events. events ≡ take count self.now.events) }

@@ -51,15 +51,15 @@ RunsOnlyUse =
     → Agree (uses_of s) a b
     → take (suc n) (states_of text b) ≡ map (rebound_run b) (take (suc n) (states_of text a))
 
--- a run of a text under settings passes through this state behind its first n + 1 events, and its verdict and steps are those
--- of going on from there
+-- a run of a text under settings passes through this state behind its first n + 1 events, and its verdict and steps are
+-- those of going on from there
 pub record PassesBy (text : List (List ℕ)) (settings : Settings) (n : ℕ) (s : Running) : Type 0 where
   pub state : slice_get (states_of text settings) n ≡ Some s
   pub verdict : verdict_of text settings ≡ verdict_from (suc n) (drop (suc n) (script_of text).events) s
   pub steps : stepped_of text settings ≡ suc n + stepped_from (drop (suc n) (script_of text).events) s
 
--- so a run may begin where one under other settings had come to, if they agree on all that was consulted until there, with the
--- settings held replaced
+-- so a run may begin where one under other settings had come to, if they agree on all that was consulted until there, with
+-- the settings held replaced
 abbrev pub RunsGoOnUnder : Type 0
 RunsGoOnUnder =
     (text : List (List ℕ)) (a b : Settings) (n : ℕ) (s : Running)

@@ -83,9 +83,10 @@ RebindingGoesOn = (n : ℕ) (r : Running) (settings : Settings) → IsUnderway n
 abbrev pub IsHeldUnder : Running → Type 0
 IsHeldUnder r = IsUpTo r.host.state.settings r.clock r.host.state
 
--- so it is before the first event, and after each step where it was so
+-- so it is before the first event,
 abbrev pub StartsHeld : Type 0
 StartsHeld = (header : List HeaderItem) (settings : Settings) (r : Running) → start_of header settings ≡ Ok r → IsHeldUnder r
 
+-- and after each step where it was so
 abbrev pub StepsStayHeld : Type 0
 StepsStayHeld = (n : ℕ) (r s : Running) (e : Event) → IsUnderway n r → IsHeldUnder r → step r e ≡ Ok s → IsHeldUnder s

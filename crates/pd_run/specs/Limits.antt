@@ -33,11 +33,11 @@ written_until None = []
 written_until (Some (AtLast t)) = t ∷ []
 written_until (Some (AfterLast t)) = t ∷ []
 
--- a written time is at most 3,600 seconds
+-- a written time is over its limit: above 3,600 seconds
 abbrev pub is_long : ℕ → Bool
 is_long t = nat_lt 3600000000 t
 
--- a sequence, ack or SACK number is at most 2^31 - 1
+-- a sequence, ack or SACK number is over its limit: above 2^31 - 1
 abbrev pub is_high : ℕ → Bool
 is_high n = nat_lt (2 ^ 31 - 1) n
 

@@ -18,6 +18,7 @@ abbrev pub tolerance_written : HeaderKind → Option ℕ
 tolerance_written (Tolerance t) = Some t
 tolerance_written _ = None
 
+-- the same of a header item
 abbrev pub tolerance_in : HeaderItem → Option ℕ
 tolerance_in item = tolerance_written item.kind
 
@@ -67,7 +68,7 @@ on_script {A} refused stopped run settings parsed = on_fault parsed.fault
 abbrev pub verdict_in : Settings → Parsed → Verdict
 verdict_in settings parsed = on_script (λ line. Syntax line) (λ v. v) (verdict_from 0 parsed.events) settings parsed
 
--- the number of events that its run takes
+-- the number of events that its run takes, the stop's included
 abbrev pub stepped_in : Settings → Parsed → ℕ
 stepped_in settings parsed = on_script (λ line. 0) (λ v. 0) (stepped_from parsed.events) settings parsed
 
@@ -79,9 +80,10 @@ states_in settings parsed = on_script (λ line. []) (λ v. []) (states_from pars
 abbrev pub verdict_of : List (List ℕ) → Settings → Verdict
 verdict_of text settings = verdict_in settings (script_of text)
 
--- how many events its run takes, and the states after them
+-- how many events its run takes, the stop's included
 abbrev pub stepped_of : List (List ℕ) → Settings → ℕ
 stepped_of text settings = stepped_in settings (script_of text)
 
+-- the states after its events, up to the stop
 abbrev pub states_of : List (List ℕ) → Settings → List Running
 states_of text settings = states_in settings (script_of text)

@@ -95,14 +95,16 @@ acted r e s = record (with_state r s) { clock = acts_at r e; base = moment_of r.
 abbrev pub arrives : Running → Event → Packet → Result State Halt
 arrives r e p = then_on (arrived (segment_in p) (acts_at r e)) (advanced (acts_at r e) r.host.state)
 
+-- what comes of the arrival: the run goes on, or a halt of the sender stops it at the event's line
 abbrev pub on_arrival : Running → Event → Result State Halt → Result Running Verdict
 on_arrival r e (Ok s) = Ok (acted r e s)
 on_arrival r e (Err h) = Err (verdict_by e.line h)
 
--- a call is made, after all expiries up to its moment, and its result is compared
+-- a call is made, after all expiries up to its moment
 abbrev pub answers : Running → Event → Call → Result (State × Answer) Halt
 answers r e call = then_on (called call (acts_at r e)) (advanced (acts_at r e) r.host.state)
 
+-- what comes of the call: its answer is compared with the written result, or a halt of the sender stops the run
 abbrev pub on_answer : Running → Event → Call → Result (State × Answer) Halt → Result Running Verdict
 on_answer r e call (Ok (s, answer)) = judged e.line (acted r e s) (result_mismatch call.result answer)
 on_answer r e call (Err h) = Err (verdict_by e.line h)
@@ -163,5 +165,6 @@ StepsFrom None old e end new = Tells (step old e) end new
 StepsFrom (Some (Halted h)) old e end new = Unit {0}
 StepsFrom (Some OutOfMemory) old e end new = ⊥
 
+-- the same of a run, by how its sender stands before the step
 abbrev pub Steps : Running → Event → StepEnd → Running → Type 0
 Steps old e end new = StepsFrom old.host.ended old e end new

@@ -17,7 +17,6 @@ use pd_seg::Answer;
 /// A packet arrives at a moment.
 ///
 /// # Errors
-///
 /// Why the host has ended, here or before.
 pub fn arrive(host: &mut Host, packet: &Packet, at: u64) -> Result<(), Ending>
     requires fits { is_packet_over packet.now ≡ false }
@@ -34,7 +33,6 @@ pub fn arrive(host: &mut Host, packet: &Packet, at: u64) -> Result<(), Ending>
 /// A call is made at a moment.
 ///
 /// # Errors
-///
 /// Why the host has ended, here or before.
 pub fn answer(host: &mut Host, call: &Call, now: u64) -> Result<Answer, Ending>
     requires early { now < 2 ^ 62 }

@@ -10,6 +10,9 @@ use pd_seg::{Flags, SackBlocks, SegOption, SegOptions, Segment, Span};
 use std::alloc::{AllocError, Global};
 
 /// The segment of a packet within the limits; a number that isn't written is 0.
+///
+/// # Errors
+/// `AllocError` where a growth is refused.
 pub fn segment_of(alloc: Global, packet: &Packet) -> Result<Segment, AllocError>
     requires fits { is_packet_over packet.now ≡ false }
     ensures { IfOk result (λ segment. segment ≡ segment_in packet.now) }

@@ -8,28 +8,28 @@ use pd_script::{
 };
 
 /// The greatest written time, in microseconds.
-const LONGEST_TIME: u64 = 3_600_000_000;
+const MAX_TIME_US: u64 = 3_600_000_000;
 
 /// The greatest sequence, ack or SACK number.
-const HIGHEST_NUMBER: u32 = 2_147_483_647;
+const MAX_NUMBER: u32 = 2_147_483_647;
 
 /// The greatest window field.
-const WIDEST_FIELD: u32 = 65_535;
+const MAX_WINDOW_FIELD: u32 = 65_535;
 
 /// The greatest MSS that an option can name, in octets.
-const GREATEST_MSS: u64 = 65_535;
+const MAX_MSS: u64 = 65_535;
 
 /// The greatest shift count that an option can name.
-const GREATEST_SHIFT: u64 = 255;
+const MAX_SHIFT: u64 = 255;
 
 /// The most options of a packet.
-const MOST_OPTIONS: usize = 16;
+const MAX_OPTIONS: usize = 16;
 
 /// The most blocks of a SACK option.
-const MOST_BLOCKS: usize = 4;
+const MAX_BLOCKS: usize = 4;
 
 /// The greatest count of one `write`, in octets.
-const LARGEST_WRITE: u64 = 262_144;
+const MAX_WRITE: u64 = 262_144;
 
 /// Whether some number of the event is over its limit.
 pub fn is_over_limit(event: &Event) -> bool
@@ -43,9 +43,9 @@ fn is_time_over(time: Time) -> bool
 {
     match time {
         Time::Any => false,
-        Time::Absolute(t) | Time::Relative(t) => t > LONGEST_TIME,
+        Time::Absolute(t) | Time::Relative(t) => t > MAX_TIME_US,
         Time::AbsoluteRange(first, last) | Time::RelativeRange(first, last) => {
-            first > LONGEST_TIME || last > LONGEST_TIME
+            first > MAX_TIME_US || last > MAX_TIME_US
         }
     }
 }
@@ -55,8 +55,8 @@ fn is_until_over(until: Option<Until>) -> bool
 {
     match until {
         None => false,
-        Some(Until::Absolute(t)) => t > LONGEST_TIME,
-        Some(Until::Relative(t)) => t > LONGEST_TIME,
+        Some(Until::Absolute(t)) => t > MAX_TIME_US,
+        Some(Until::Relative(t)) => t > MAX_TIME_US,
     }
 }
 
@@ -76,7 +76,7 @@ fn is_write_over(call: &Call) -> bool
     ensures { result ≡ is_action_over (Action.Call call.now) }
 {
     match (call.function, call.arguments.as_slice().get(2)) {
-        (Function::Write, Some(Argument::Int(count))) => *count > LARGEST_WRITE,
+        (Function::Write, Some(Argument::Int(count))) => *count > MAX_WRITE,
         _ => false,
     }
 }
@@ -84,10 +84,10 @@ fn is_write_over(call: &Call) -> bool
 fn is_packet_over(packet: &Packet) -> bool
     ensures { result ≡ is_packet_over packet.now }
 {
-    packet.start > HIGHEST_NUMBER
-        || packet.end > HIGHEST_NUMBER
-        || is_some_over(HIGHEST_NUMBER, packet.ack)
-        || is_some_over(WIDEST_FIELD, packet.win)
+    packet.start > MAX_NUMBER
+        || packet.end > MAX_NUMBER
+        || is_some_over(MAX_NUMBER, packet.ack)
+        || is_some_over(MAX_WINDOW_FIELD, packet.win)
         || are_options_over(&packet.options)
 }
 
@@ -104,7 +104,7 @@ fn are_options_over(options: &Options) -> bool
     ensures { result ≡ are_options_over options.now }
 {
     match options {
-        Options::Listed(list) => list.len() > MOST_OPTIONS || is_one_over(list.as_slice()),
+        Options::Listed(list) => list.len() > MAX_OPTIONS || is_one_over(list.as_slice()),
         Options::Absent => false,
         Options::Any => false,
     }
@@ -120,9 +120,9 @@ fn is_option_over(option: &PacketOption) -> bool
     ensures { result ≡ is_option_over option.now }
 {
     match option {
-        PacketOption::Mss(n) => *n > GREATEST_MSS,
-        PacketOption::Wscale(n) => *n > GREATEST_SHIFT,
-        PacketOption::Sack(blocks) => blocks.len() > MOST_BLOCKS || is_edge_high(blocks.as_slice()),
+        PacketOption::Mss(n) => *n > MAX_MSS,
+        PacketOption::Wscale(n) => *n > MAX_SHIFT,
+        PacketOption::Sack(blocks) => blocks.len() > MAX_BLOCKS || is_edge_high(blocks.as_slice()),
         _ => false,
     }
 }
@@ -130,7 +130,7 @@ fn is_option_over(option: &PacketOption) -> bool
 fn is_edge_high(blocks: &[Block]) -> bool
     ensures { result ≡ list_any is_block_over blocks.now }
 {
-    let highest = u64::from(HIGHEST_NUMBER);
+    let highest = u64::from(MAX_NUMBER);
     blocks
         .iter()
         .any(|block| block.left > highest || block.right > highest)

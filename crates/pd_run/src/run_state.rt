@@ -31,10 +31,15 @@ use std::marker::Model;
 /// A run that has found no memory answers that to each further step.
 #[derive(Drop)]
 pub struct RunState {
+    /// The sender.
     host: Host,
+    /// The present moment, in microseconds since the start of the run.
     clock: u64,
+    /// The moment from which relative times are counted, in microseconds since the start of the run.
     base: u64,
+    /// The header's tolerance, in microseconds, if it sets one.
     written: Option<u64>,
+    /// Whether a packet was expected without a header's tolerance, so that the setting `tolerance_us` was consulted.
     compared: bool,
 }
 
@@ -75,7 +80,6 @@ impl RunState {
     /// The same run once more.
     ///
     /// # Errors
-    ///
     /// Want of memory, also where a step before has found none.
     #[inline(always)]
     pub fn copy(&self) -> Result<RunState, AllocError>

@@ -13,6 +13,9 @@ use pd_text::Lines;
 use std::alloc::{AllocError, Global};
 
 /// The verdict of a text under settings, run from its first event on a fresh host.
+///
+/// # Errors
+/// `AllocError` where a growth is refused.
 pub fn run_all(alloc: Global, lines: &Lines, settings: &Settings) -> Result<Verdict, AllocError>
     ensures { IfOk result (λ verdict. verdict ≡ verdict_of lines.now settings.now) }
 {
@@ -21,6 +24,9 @@ pub fn run_all(alloc: Global, lines: &Lines, settings: &Settings) -> Result<Verd
 
 /// As `run_all`, with the stepper that takes the steps: as many as there are events up to the stop, the stop's included,
 /// and none for a text that the grammar or the header refuses. The stepper has room for 4,096 steps.
+///
+/// # Errors
+/// `AllocError` where a growth is refused, or the stepper answers it.
 pub fn run_with<S: Stepper>(
     alloc: Global,
     lines: &Lines,

@@ -37,6 +37,9 @@ pub trait Stepper {
 
     /// Takes one event from the state before it to the one after it. After a stop nothing is said of the state; one for
     /// which no memory was found takes no further step.
+    ///
+    /// # Errors
+    /// `AllocError` for want of memory, also where a step before has found none.
     fn step(
         &mut self,
         state: &mut RunState,
@@ -58,6 +61,7 @@ pub trait Stepper {
 /// The stepper of the product, seen as the number of steps that it took.
 #[derive(Drop)]
 pub struct Plain {
+    /// How many steps it took.
     steps: u64,
 }
 

@@ -27,6 +27,8 @@ abbrev pub closed : List Bracket → Item → Option (List Bracket)
 closed [] t = None
 closed (b ∷ open_pairs) t = if is_symbol (closing_octet b) t then Some open_pairs else None
 
+-- the pairs that are open behind a token, by the pair that it opens: one more, of at most so many; or else one fewer, where
+-- it closes the innermost
 abbrev pub paired : ℕ → List Bracket → Item → Option Bracket → Option (List Bracket)
 paired most open_pairs t (Some b) = if nat_lt (length open_pairs) most then Some (b ∷ open_pairs) else None
 paired most open_pairs t None = if is_closing t then closed open_pairs t else Some open_pairs

@@ -38,6 +38,7 @@ is_empty _ = false
 abbrev pub fresh : Inside
 fresh = record { pairs = []; draft = drafts.Empty }
 
+-- a token goes on with an argument, where its brackets fit the pairs that are open
 abbrev pub led : Draft → Item → Option (List Bracket) → Move Inside Argument
 led draft t None = stuck
 led draft t (Some open_pairs) = goes (record { pairs = open_pairs; draft = longer_draft draft t }) []
@@ -46,6 +47,7 @@ led draft t (Some open_pairs) = goes (record { pairs = open_pairs; draft = longe
 abbrev pub parted : Draft → Move Inside Argument → Move Inside Argument
 parted draft move = if is_empty draft then stuck else move
 
+-- a token of the arguments, by the pairs that are open and by what the argument is so far: at most 16 pairs may be open
 abbrev pub move_within : List Bracket → Draft → Item → Move Inside Argument
 move_within [] draft t =
     if is_symbol (sign ")") t then parted draft (ends (drafted draft ∷ []))
@@ -62,6 +64,7 @@ abbrev pub part_by : Draft → Item → List Item → Option (List Bracket) → 
 part_by draft t ts None = Err (t ∷ ts)
 part_by draft t ts (Some open_pairs) = Ok (record { pairs = open_pairs; draft = longer_draft draft t }, ts)
 
+-- the next item as a part of an argument
 abbrev pub part_at : Inside → Reader Inside
 part_at i [] = Err []
 part_at i (t ∷ ts) = part_by i.draft t ts (pairs_after 16 i.pairs t)
@@ -77,6 +80,7 @@ behind_token (bad line ∷ ts) = bad line ∷ ts
 abbrev pub is_between : Inside → List Item → Bool
 is_between i ts = (length i.pairs == 0) && (next_is (is_symbol (sign ")")) ts || next_is (is_symbol (sign ",")) ts)
 
+-- a token goes on with a note, where its brackets fit the pairs that are open
 abbrev pub note_led : Option (List Bracket) → Move (List Bracket) ℕ
 note_led None = stuck
 note_led (Some pairs) = goes pairs []
@@ -91,6 +95,7 @@ abbrev pub note_part_by : Item → List Item → Option (List Bracket) → Read 
 note_part_by t ts None = Err (t ∷ ts)
 note_part_by t ts (Some pairs) = Ok (pairs, ts)
 
+-- the next item as a part of a note
 abbrev pub note_part_at : List Bracket → Reader (List Bracket)
 note_part_at pairs [] = Err []
 note_part_at pairs (t ∷ ts) = note_part_by t ts (pairs_after 15 pairs t)

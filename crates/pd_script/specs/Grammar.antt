@@ -27,9 +27,11 @@ IsHex = one_of is_hex (λ t. hex_number (text_of t))
 abbrev pub IsNum : Spelling (ℕ × ℕ)
 IsNum = one_of is_num (λ t. (line_of t, microseconds (text_of t)))
 
+-- a word, as the name of a call
 abbrev pub IsFunction : Spelling Function
 IsFunction = one_of is_word (λ t. function_named (text_of t))
 
+-- a word, as the name of an error
 abbrev pub IsErrorName : Spelling ErrorName
 IsErrorName = one_of is_word (λ t. error_named (text_of t))
 
@@ -46,11 +48,13 @@ IsAbsoluteRange line first = do
   second ← IsNumFrom first
   made (line, times.AbsoluteRange first second)
 
+-- seconds, or a range of them: an absolute time
 abbrev pub IsAbsolute : Spelling (ℕ × Time)
 IsAbsolute = do
   n ← IsNum
   either (IsAbsoluteRange n.0 n.1) (made (n.0, times.Absolute n.1))
 
+-- `+` and seconds of at least so many microseconds
 abbrev pub IsPlusNumFrom : ℕ → Spelling ℕ
 IsPlusNumFrom least = do
   plus ← IsSymbol "+"
@@ -63,12 +67,14 @@ IsRelativeRange line first = do
   second ← either (IsPlusNumFrom first) (IsNumFrom first)
   made (line, times.RelativeRange first second)
 
+-- `+` and seconds, or a range of them: a relative time
 abbrev pub IsRelative : Spelling (ℕ × Time)
 IsRelative = do
   line ← IsSymbol "+"
   n ← IsNum
   either (IsRelativeRange line n.1) (made (line, times.Relative n.1))
 
+-- `*`: any time
 abbrev pub IsAnyTime : Spelling (ℕ × Time)
 IsAnyTime = do
   line ← IsSymbol "*"
@@ -78,12 +84,14 @@ IsAnyTime = do
 unfoldable pub IsTime : Spelling (ℕ × Time)
 IsTime = either IsAnyTime (either IsRelative IsAbsolute)
 
+-- `+` and seconds: a relative end of a blocking call
 abbrev pub IsRelativeUntil : Spelling Until
 IsRelativeUntil = do
   plus ← IsSymbol "+"
   n ← IsNum
   made (untils.Relative n.1)
 
+-- seconds: an absolute end of a blocking call
 abbrev pub IsAbsoluteUntil : Spelling Until
 IsAbsoluteUntil = do
   n ← IsNum
@@ -96,22 +104,25 @@ IsUntil = do
   until ← either IsRelativeUntil IsAbsoluteUntil
   made (Some until)
 
+-- the end of a blocking call, which may be left out
 unfoldable pub IsMaybeUntil : Spelling (Option Until)
 IsMaybeUntil = either IsUntil (made None)
 
 -- ---- calls
 
+-- a whole number, as a result
 abbrev pub IsWhole : Spelling Outcome
 IsWhole = do
   n ← IsInt
   made (outcomes.Int n)
 
+-- a hexadecimal number, as a result
 abbrev pub IsHexadecimal : Spelling Outcome
 IsHexadecimal = do
   n ← IsHex
   made (outcomes.Hex n)
 
--- the name of the error may be left out
+-- `-`, a whole number and the name of an error, which may be left out
 abbrev pub IsNegative : Spelling Outcome
 IsNegative = do
   minus ← IsSymbol "-"
@@ -122,10 +133,11 @@ IsNegative = do
         made (outcomes.Negative n (Some name)))
       (made (outcomes.Negative n None))
 
+-- the result of a call: a whole, a hexadecimal or a negative number
 unfoldable pub IsOutcome : Spelling Outcome
 IsOutcome = either IsWhole (either IsHexadecimal IsNegative)
 
--- the note may be left out
+-- a call: its name, its arguments, `=`, its result, and a note, which may be left out
 unfoldable pub IsCall : Spelling Call
 IsCall = do
   function ← IsFunction
@@ -138,14 +150,17 @@ IsCall = do
 
 -- ---- events
 
+-- a call, as an action
 abbrev pub IsCallAction : Spelling Action
 IsCallAction = do
   call ← IsCall
   made (actions.Call call)
 
+-- a shell command in backquotes
 abbrev pub IsCommand : Spelling Action
 IsCommand = one_of is_command (λ t. actions.Command)
 
+-- code between `%{` and `}%`
 abbrev pub IsCode : Spelling Action
 IsCode = one_of is_code (λ t. actions.Code)
 
@@ -163,10 +178,11 @@ IsOutbound = do
   packet ← IsPacket false
   made (actions.Outbound packet)
 
+-- an action: a command, code, a packet that arrives or leaves, or a call
 unfoldable pub IsAction : Spelling Action
 IsAction = either IsCommand (either IsCode (either IsInbound (either IsOutbound IsCallAction)))
 
--- an event has the line of its first token
+-- an event: a time, the end of a blocking call if there is one, and an action; it has the line of its first token
 unfoldable pub IsEvent : Spelling Event
 IsEvent = do
   start ← IsTime

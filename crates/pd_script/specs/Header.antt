@@ -21,15 +21,18 @@ option_kind text =
     then headers.Tolerance (number digits)
     else headers.OtherOption
 
+-- what a token of this kind with these octets is as a header item: an option is looked at, another is a command
 abbrev pub kind_of_token : TokenKind → List ℕ → HeaderKind
 kind_of_token kinds.Opt text = option_kind text
 kind_of_token _ text = headers.Command
 
+-- the same of an item; one that is no token counts as a command
 abbrev pub header_kind : Item → HeaderKind
 header_kind (lexeme x) = kind_of_token x.kind x.text
 header_kind (ending line) = headers.Command
 header_kind (bad line) = headers.Command
 
+-- an item as a header item, with its line
 abbrev pub header_item : Item → HeaderItem
 header_item t = record { line = line_of t; kind = header_kind t }
 

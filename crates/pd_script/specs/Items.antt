@@ -9,18 +9,22 @@ use Rattle.pd_lex.specs.Spellings.{IsSpelled}
 use Rattle.pd_lex.specs.Tokens.{Item, lexeme, ending, bad}
 use Rattle.pd_script.specs.Values.{sign, number, hex_number, microseconds, is_flag, option_named}
 
+-- digits alone
 abbrev pub is_int_kind : TokenKind → Bool
 is_int_kind kinds.Int = true
 is_int_kind _ = false
 
+-- `0x` with hexadecimal digits
 abbrev pub is_hex_kind : TokenKind → Bool
 is_hex_kind kinds.Hex = true
 is_hex_kind _ = false
 
+-- a word
 abbrev pub is_word_kind : TokenKind → Bool
 is_word_kind kinds.Word = true
 is_word_kind _ = false
 
+-- a symbol
 abbrev pub is_symbol_kind : TokenKind → Bool
 is_symbol_kind kinds.Symbol = true
 is_symbol_kind _ = false
@@ -85,18 +89,22 @@ is_num t = is_token (λ kind text. is_num_kind kind && nat_lt (microseconds text
 abbrev pub is_num_from : ℕ → Item → Bool
 is_num_from least t = is_num t && nat_le least (microseconds (text_of t))
 
+-- the kind of `...`
 abbrev pub is_dots_kind : TokenKind → Bool
 is_dots_kind kinds.Dots = true
 is_dots_kind _ = false
 
+-- the kind of a shell command in backquotes
 abbrev pub is_command_kind : TokenKind → Bool
 is_command_kind kinds.Cmd = true
 is_command_kind _ = false
 
+-- the kind of code between `%{` and `}%`
 abbrev pub is_code_kind : TokenKind → Bool
 is_code_kind kinds.Code = true
 is_code_kind _ = false
 
+-- `...`
 abbrev pub is_dots : Item → Bool
 is_dots t = is_token (λ kind text. is_dots_kind kind) t
 
@@ -104,9 +112,11 @@ is_dots t = is_token (λ kind text. is_dots_kind kind) t
 abbrev pub is_command : Item → Bool
 is_command t = is_token (λ kind text. is_command_kind kind) t
 
+-- code between `%{` and `}%`
 abbrev pub is_code : Item → Bool
 is_code t = is_token (λ kind text. is_code_kind kind) t
 
+-- any word
 abbrev pub is_word : Item → Bool
 is_word t = is_token (λ kind text. is_word_kind kind) t
 
@@ -126,12 +136,13 @@ is_option t = is_token (λ kind text. is_word_kind kind && is_some (option_named
 abbrev pub is_symbol : ℕ → Item → Bool
 is_symbol octet t = is_token (λ kind text. is_symbol_kind kind && bytes_eq text (octet ∷ [])) t
 
--- what a header item is: an option or a command
+-- the kinds of header items: an option or a command
 abbrev pub is_header_kind : TokenKind → Bool
 is_header_kind kinds.Opt = true
 is_header_kind kinds.Cmd = true
 is_header_kind _ = false
 
+-- a header item: an option or a command
 abbrev pub is_header : Item → Bool
 is_header t = is_token (λ kind text. is_header_kind kind) t
 

@@ -19,6 +19,7 @@ place_of (lexeme x) = x.from
 place_of (ending line) = record { line = line + 1; at = 0 }
 place_of (bad line) = record { line = line; at = 0 }
 
+-- where the next item stands; without one the text's first place
 abbrev pub next_place : List Item → Place
 next_place [] = first_place
 next_place (t ∷ ts) = place_of t

@@ -49,11 +49,13 @@ IsPoint f = do
   point ← IsSymbol "."
   made (with_ack f)
 
+-- letters of flags, and a point behind them if there is one
 abbrev pub IsLettered : Spelling Flags
 IsLettered = do
   f ← IsLetters
   either (IsPoint f) (made f)
 
+-- the flags of a packet: `-` for none, the point alone, or letters with or without it
 unfoldable pub IsFlags : Spelling Flags
 IsFlags = either IsNoFlags (either (IsPoint (flags_of [])) IsLettered)
 
@@ -77,6 +79,7 @@ IsNumbered name = do
   n ← IsInt
   made (Some n)
 
+-- `ack` and a number, which may be left out
 unfoldable pub IsAck : Spelling (Option ℕ)
 IsAck = either (IsNumbered (codes "ack")) (made None)
 
@@ -87,6 +90,7 @@ IsWin false = either (IsNumbered (codes "win")) (made None)
 
 -- ---- options
 
+-- a SACK block: its left edge, `:` and its right edge (RFC 2018, section 3)
 abbrev pub IsBlock : Spelling Block
 IsBlock = do
   left ← IsInt
@@ -101,6 +105,7 @@ AreBlocks = do
   bs ← Repeats IsBlock
   made (b ∷ bs)
 
+-- what stands behind `TS`: `val` and `ecr`, each with a number (RFC 7323, section 3.2)
 abbrev pub IsTimestamp : Spelling PacketOption
 IsTimestamp = do
   val ← IsNamed (codes "val")
@@ -119,11 +124,13 @@ IsOptionRest names.Eol = made options.Eol
 IsOptionRest names.Timestamp = IsTimestamp
 IsOptionRest names.Sack = in_turn AreBlocks (λ bs. made (options.Sack bs))
 
+-- a TCP option: its name and what stands behind it
 unfoldable pub IsOption : Spelling PacketOption
 IsOption = do
   name ← IsOptionName
   IsOptionRest name
 
+-- a comma and an option
 abbrev pub IsNextOption : Spelling PacketOption
 IsNextOption = do
   comma ← IsSymbol ","
@@ -136,12 +143,14 @@ AreOptions = do
   os ← Repeats IsNextOption
   made (o ∷ os)
 
+-- options and `>`
 abbrev pub IsListed : Spelling Options
 IsListed = do
   os ← AreOptions
   closing ← IsSymbol ">"
   made (lists.Listed os)
 
+-- `>` alone: an empty list
 abbrev pub IsUnlisted : Spelling Options
 IsUnlisted = do
   closing ← IsSymbol ">"
@@ -154,6 +163,7 @@ IsAnyOptions = do
   closing ← IsSymbol ">"
   made lists.Any
 
+-- a list of options, empty or not, up to `>`
 abbrev pub IsList : Spelling Options
 IsList = either IsUnlisted IsListed
 
@@ -162,16 +172,19 @@ abbrev pub IsInsideOptions : Bool → Spelling Options
 IsInsideOptions true = IsList
 IsInsideOptions false = either IsAnyOptions IsList
 
+-- options in angle brackets
 abbrev pub IsBracketedOptions : Bool → Spelling Options
 IsBracketedOptions inbound = do
   opening ← IsSymbol "<"
   IsInsideOptions inbound
 
+-- the options of a packet; no angle brackets mean none
 unfoldable pub IsOptions : Bool → Spelling Options
 IsOptions inbound = either (IsBracketedOptions inbound) (made lists.Absent)
 
 -- ---- packets
 
+-- a packet: its flags, its octets, an ack number, a window and options
 unfoldable pub IsPacket : Bool → Spelling Packet
 IsPacket inbound = do
   flags ← IsFlags

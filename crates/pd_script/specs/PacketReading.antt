@@ -17,26 +17,31 @@ use Rattle.pd_script.specs.declared.packets.Packet.{Packet}
 
 -- ---- tokens
 
+-- a whole number that is at least another
 abbrev pub int_from_at : ℕ → Reader ℕ
 int_from_at least = do
   t ← one (is_int_from least)
   done (number (text_of t))
 
+-- a whole number that is just this one
 abbrev pub int_of_at : ℕ → Reader ℕ
 int_of_at n = do
   t ← one (is_int_of n)
   done (number (text_of t))
 
+-- this word
 abbrev pub named_at : List ℕ → Reader ⊤
 named_at name = do
   t ← one (is_named name)
   done tt
 
+-- a word of flags' letters
 abbrev pub letters_at : Reader Flags
 letters_at = do
   t ← one is_flags
   done (flags_of (text_of t))
 
+-- a word that names a TCP option
 abbrev pub option_name_at : Reader OptionName
 option_name_at = do
   t ← one is_option
@@ -44,6 +49,7 @@ option_name_at = do
 
 -- ---- one after the other, each where the next item passes the test; at most so many
 
+-- at most so many of them, each where the next item passes the test
 unfoldable pub repeated_within : {A : Type 0} → ℕ → (Item → Bool) → Reader A → Reader (List A)
 repeated_within zero test p = done []
 repeated_within (suc n) test p = when test
@@ -59,21 +65,25 @@ repeated_at test p ts = repeated_within (length ts) test p ts
 
 -- ---- flags
 
+-- `-`: no flags
 abbrev pub no_flags_at : Reader Flags
 no_flags_at = do
   line ← symbol_at (sign "-")
   done (flags_of [])
 
+-- the point, which is the ACK flag, beside other flags
 abbrev pub point_at : Flags → Reader Flags
 point_at f = do
   line ← symbol_at (sign ".")
   done (with_ack f)
 
+-- letters of flags, and a point behind them if there is one
 abbrev pub lettered_at : Reader Flags
 lettered_at = do
   f ← letters_at
   when (is_symbol (sign ".")) (point_at f) (done f)
 
+-- the flags of a packet
 unfoldable pub flags_at : Reader Flags
 flags_at = when (is_symbol (sign "-")) no_flags_at (when (is_symbol (sign ".")) (point_at (flags_of [])) lettered_at)
 
@@ -90,22 +100,25 @@ octets_at = do
   closing ← symbol_at (sign ")")
   done (start, end, len)
 
+-- this word and a number
 abbrev pub numbered_at : List ℕ → Reader (Option ℕ)
 numbered_at name = do
   line ← named_at name
   n ← int_at
   done (Some n)
 
+-- the ack number, which may be left out
 unfoldable pub ack_at : Reader (Option ℕ)
 ack_at = when (is_named (codes "ack")) (numbered_at (codes "ack")) (done None)
 
--- an inbound packet has a window
+-- the window, which an inbound packet has and an outbound one may leave out
 unfoldable pub win_at : Bool → Reader (Option ℕ)
 win_at true = numbered_at (codes "win")
 win_at false = when (is_named (codes "win")) (numbered_at (codes "win")) (done None)
 
 -- ---- options
 
+-- a SACK block: its left edge, `:` and its right edge
 abbrev pub block_at : Reader Block
 block_at = do
   left ← int_at
@@ -113,12 +126,14 @@ block_at = do
   right ← int_at
   done (record { left = left; right = right })
 
+-- one block or more
 unfoldable pub blocks_at : Reader (List Block)
 blocks_at = do
   b ← block_at
   bs ← repeated_at is_int block_at
   done (b ∷ bs)
 
+-- what stands behind `TS`: `val` and `ecr`, each with a number
 abbrev pub timestamp_at : Reader PacketOption
 timestamp_at = do
   val ← named_at (codes "val")
@@ -127,6 +142,7 @@ timestamp_at = do
   e ← int_at
   done (options.Timestamp v e)
 
+-- what stands behind the name of an option
 unfoldable pub option_rest_at : OptionName → Reader PacketOption
 option_rest_at names.Mss = int_at >>= (λ n. done (options.Mss n))
 option_rest_at names.Wscale = int_at >>= (λ n. done (options.Wscale n))
@@ -136,39 +152,46 @@ option_rest_at names.Eol = done options.Eol
 option_rest_at names.Timestamp = timestamp_at
 option_rest_at names.Sack = blocks_at >>= (λ bs. done (options.Sack bs))
 
+-- a TCP option: its name and what stands behind it
 unfoldable pub option_at : Reader PacketOption
 option_at = do
   name ← option_name_at
   option_rest_at name
 
+-- a comma and an option
 abbrev pub next_option_at : Reader PacketOption
 next_option_at = do
   comma ← symbol_at (sign ",")
   option_at
 
+-- one option or more, parted by commas
 unfoldable pub some_options_at : Reader (List PacketOption)
 some_options_at = do
   o ← option_at
   os ← repeated_at (is_symbol (sign ",")) next_option_at
   done (o ∷ os)
 
+-- options and `>`
 abbrev pub listed_at : Reader Options
 listed_at = do
   os ← some_options_at
   closing ← symbol_at (sign ">")
   done (lists.Listed os)
 
+-- `>` alone: an empty list
 abbrev pub unlisted_at : Reader Options
 unlisted_at = do
   closing ← symbol_at (sign ">")
   done (lists.Listed [])
 
+-- `...` and `>`: any options
 abbrev pub any_options_at : Reader Options
 any_options_at = do
   dots ← dots_at
   closing ← symbol_at (sign ">")
   done lists.Any
 
+-- a list of options, empty or not, up to `>`
 abbrev pub list_at : Reader Options
 list_at = when (is_symbol (sign ">")) unlisted_at listed_at
 
@@ -177,16 +200,19 @@ abbrev pub inside_options_at : Bool → Reader Options
 inside_options_at true = list_at
 inside_options_at false = when is_dots any_options_at list_at
 
+-- options in angle brackets
 abbrev pub bracketed_options_at : Bool → Reader Options
 bracketed_options_at inbound = do
   opening ← symbol_at (sign "<")
   inside_options_at inbound
 
+-- the options of a packet; no angle brackets mean none
 unfoldable pub options_at : Bool → Reader Options
 options_at inbound = when (is_symbol (sign "<")) (bracketed_options_at inbound) (done lists.Absent)
 
 -- ---- packets
 
+-- a packet, inbound or not
 unfoldable pub packet_at : Bool → Reader Packet
 packet_at inbound = do
   flags ← flags_at

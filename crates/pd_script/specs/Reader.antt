@@ -3,12 +3,15 @@ use Rattle.std.specs.Prelude.{Bool, List, [], ◌∷◌, ◌++◌, Result, Ok, E
 use Rattle.pd_lex.specs.Tokens.{Item}
 use Rattle.pd_script.specs.Items.{next_is}
 
+-- what reading gives: a value and the items that are left, or what is left at the fault
 abbrev pub Read : Type 0 → Type 0
 Read A = Result (A × List Item) (List Item)
 
+-- a reader of values, from the items that are left
 abbrev pub Reader : Type 0 → Type 0
 Reader A = List Item → Read A
 
+-- a reader goes on with what was read; a fault stays
 abbrev pub then_read : {A B : Type 0} → Read A → (A → Reader B) → Read B
 then_read (Ok x) f = f x.0 x.1
 then_read (Err rest) f = Err rest
@@ -42,6 +45,7 @@ abbrev pub onto : {A : Type 0} → List A → Read (List A) → Read (List A)
 onto front (Ok x) = Ok (front ++ x.0, x.1)
 onto front (Err rest) = Err rest
 
+-- what a machine reads at an item, by what that does to its state; a refused item is the fault
 abbrev pub moved : {S A : Type 0} → (S → Read (List A)) → Item → List Item → Move S A → Read (List A)
 moved others t ts stuck = Err (t ∷ ts)
 moved others t ts (ends last) = Ok (last, ts)

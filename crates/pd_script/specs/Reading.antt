@@ -56,34 +56,40 @@ num_from_at least = do
   t ← one (is_num_from least)
   done (microseconds (text_of t))
 
+-- `~` and a second number, at least the first: a range of absolute times
 abbrev pub absolute_range_at : ℕ → ℕ → Reader (ℕ × Time)
 absolute_range_at line first = do
   tilde ← symbol_at (sign "~")
   second ← num_from_at first
   done (line, times.AbsoluteRange first second)
 
+-- an absolute time or a range of them, and its line
 abbrev pub absolute_at : Reader (ℕ × Time)
 absolute_at = do
   n ← num_at
   when (is_symbol (sign "~")) (absolute_range_at n.0 n.1) (done (n.0, times.Absolute n.1))
 
+-- `+` and a number of at least so many microseconds
 abbrev pub plus_num_from_at : ℕ → Reader ℕ
 plus_num_from_at least = do
   plus ← symbol_at (sign "+")
   num_from_at least
 
+-- `~` and a second number, at least the first, with or without a `+` of its own: a range of relative times
 abbrev pub relative_range_at : ℕ → ℕ → Reader (ℕ × Time)
 relative_range_at line first = do
   tilde ← symbol_at (sign "~")
   second ← when (is_symbol (sign "+")) (plus_num_from_at first) (num_from_at first)
   done (line, times.RelativeRange first second)
 
+-- a relative time or a range of them, and its line
 abbrev pub relative_at : Reader (ℕ × Time)
 relative_at = do
   line ← symbol_at (sign "+")
   n ← num_at
   when (is_symbol (sign "~")) (relative_range_at line n.1) (done (line, times.Relative n.1))
 
+-- `*`: any time, and its line
 abbrev pub any_time_at : Reader (ℕ × Time)
 any_time_at = do
   line ← symbol_at (sign "*")
@@ -93,17 +99,20 @@ any_time_at = do
 unfoldable pub time_at : Reader (ℕ × Time)
 time_at = when (is_symbol (sign "*")) any_time_at (when (is_symbol (sign "+")) relative_at absolute_at)
 
+-- `+` and a number: a relative end of a blocking call
 abbrev pub relative_until_at : Reader Until
 relative_until_at = do
   plus ← symbol_at (sign "+")
   n ← num_at
   done (untils.Relative n.1)
 
+-- a number: an absolute end of a blocking call
 abbrev pub absolute_until_at : Reader Until
 absolute_until_at = do
   n ← num_at
   done (untils.Absolute n.1)
 
+-- `...` and the end of a blocking call
 abbrev pub until_at : Reader (Option Until)
 until_at = do
   dots ← dots_at
@@ -114,21 +123,25 @@ until_at = do
 unfoldable pub maybe_until_at : Reader (Option Until)
 maybe_until_at = when is_dots until_at (done None)
 
+-- a whole number, as a result
 abbrev pub whole_at : Reader Outcome
 whole_at = do
   n ← int_at
   done (outcomes.Int n)
 
+-- a hexadecimal number, as a result
 abbrev pub hexadecimal_at : Reader Outcome
 hexadecimal_at = do
   n ← hex_at
   done (outcomes.Hex n)
 
+-- the name of the error, behind the number of a negative result
 abbrev pub named_error_at : ℕ → Reader Outcome
 named_error_at n = do
   name ← error_at
   done (outcomes.Negative n (Some name))
 
+-- a negative result, with or without the name of an error
 abbrev pub negative_at : Reader Outcome
 negative_at = do
   line ← symbol_at (sign "-")
@@ -139,6 +152,7 @@ negative_at = do
 unfoldable pub outcome_at : Reader Outcome
 outcome_at = when is_int whole_at (when is_hex hexadecimal_at negative_at)
 
+-- the bracket that ends a call's arguments, where there are none
 abbrev pub no_arguments_at : Reader (List Argument)
 no_arguments_at = do
   line ← symbol_at (sign ")")
@@ -155,10 +169,11 @@ note_at = do
   skipped ← machine_at note_move []
   done tt
 
--- it may be left out
+-- a note, which may be left out
 abbrev pub maybe_note_at : Reader ⊤
 maybe_note_at = when (is_symbol (sign "(")) note_at (done tt)
 
+-- a call: its name, its arguments, `=`, its result, and a note if there is one
 unfoldable pub call_at : Reader Call
 call_at = do
   function ← function_at
@@ -169,36 +184,43 @@ call_at = do
   note ← maybe_note_at
   done (record { function = function; arguments = arguments; result = outcome })
 
+-- a call, as an action
 abbrev pub call_action_at : Reader Action
 call_action_at = do
   call ← call_at
   done (actions.Call call)
 
+-- a shell command in backquotes
 abbrev pub command_at : Reader Action
 command_at = do
   t ← one is_command
   done actions.Command
 
+-- code between `%{` and `}%`
 abbrev pub code_at : Reader Action
 code_at = do
   t ← one is_code
   done actions.Code
 
+-- `<` and a packet that arrives
 abbrev pub inbound_at : Reader Action
 inbound_at = do
   line ← symbol_at (sign "<")
   packet ← packet_at true
   done (actions.Inbound packet)
 
+-- `>` and a packet that leaves
 abbrev pub outbound_at : Reader Action
 outbound_at = do
   line ← symbol_at (sign ">")
   packet ← packet_at false
   done (actions.Outbound packet)
 
+-- an action: a command, code, a packet that arrives or leaves, or a call
 unfoldable pub action_at : Reader Action
 action_at = when is_command command_at (when is_code code_at (when (is_symbol (sign "<")) inbound_at (when (is_symbol (sign ">")) outbound_at call_action_at)))
 
+-- an event, with the line of its first token
 unfoldable pub event_at : Reader Event
 event_at = do
   start ← time_at
@@ -206,6 +228,7 @@ event_at = do
   action ← action_at
   done (record { line = start.0; time = start.1; until = until; action = action })
 
+-- the end of the text: no more events
 abbrev pub end_at : Reader (List Event)
 end_at = do
   end ← one is_end

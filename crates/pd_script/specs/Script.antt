@@ -46,10 +46,12 @@ followed test (Err rest) = Err rest
 abbrev pub in_front : List Event → Found → Found
 in_front es found = record { events = es ++ found.events; fault = found.fault }
 
+-- an event that was read, in front of those that are found further on; or the line of the fault
 abbrev pub with_event : (List Item → Found) → Read Event → Found
 with_event others (Ok x) = in_front (x.0 ∷ []) (others x.1)
 with_event others (Err rest) = record { events = []; fault = Some (next_line rest) }
 
+-- no event: a fault where the text doesn't end there
 abbrev pub at_end : List Item → Found
 at_end ts = record { events = []; fault = if next_is is_end ts then None else Some (next_line ts) }
 

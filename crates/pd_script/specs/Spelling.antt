@@ -21,6 +21,7 @@ made x v ts rest = (x ≡ v) × (ts ≡ rest)
 abbrev pub in_turn : {A B : Type 0} → Spelling A → (A → Spelling B) → Spelling B
 in_turn {A = A} first second v ts rest = (a : A) × (middle : List Item) × first a ts middle × second a v middle rest
 
+-- the same as an operator
 infixl 10 ◌>>=◌
 abbrev pub ◌>>=◌ : {A B : Type 0} → Spelling A → (A → Spelling B) → Spelling B
 first >>= second = in_turn first second

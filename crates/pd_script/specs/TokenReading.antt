@@ -17,6 +17,7 @@ int_at = do
   t ← one is_int
   done (number (text_of t))
 
+-- `...`
 abbrev pub dots_at : Reader ⊤
 dots_at = do
   t ← one is_dots

@@ -59,6 +59,7 @@ fn is_closing(token: &Token) -> bool
 /// The pairs that are open, the innermost first; at most 16.
 #[derive(Drop)]
 pub struct OpenPairs {
+    /// The opening brackets, the outermost first.
     pairs: ArrayVec<Bracket, 16>,
 }
 
@@ -72,6 +73,7 @@ impl Model for OpenPairs {
 }
 
 impl OpenPairs {
+    /// No pair is open.
     pub fn new() -> OpenPairs
         ensures { result ≡ [] }
     {
@@ -80,6 +82,7 @@ impl OpenPairs {
         }
     }
 
+    /// Whether no pair is open.
     pub fn is_empty(&self) -> bool
         ensures { result ≡ (length self.now == 0) }
     {
@@ -107,6 +110,9 @@ impl OpenPairs {
     }
 
     /// Goes over a token, where at most so many pairs may be open.
+    ///
+    /// # Errors
+    /// `Syntax` where the token opens a pair while so many are open, or closes another than the innermost, or none is open.
     pub fn pass(&mut self, token: &Token, most: usize) -> Result<(), Stop>
         requires { most ≤ 16 }
         ensures ok { OnOk result (pairs_after most self.old (shown token.now) ≡ Some self.new) }

@@ -8,8 +8,11 @@ use std::marker::Model;
 /// A system call with its arguments and the result that the script expects.
 #[derive(Drop)]
 pub struct Call {
+    /// The name of the call.
     pub function: Function,
+    /// What it is called with.
     pub arguments: Arguments,
+    /// The result that the script expects.
     pub result: Outcome,
 }
 
@@ -31,6 +34,7 @@ pub enum Function {
 /// The arguments of a call, in order; up to three need no allocation.
 #[derive(Drop)]
 pub struct Arguments {
+    /// The arguments in order.
     arguments: SmallVec<Argument, 3>,
 }
 
@@ -108,6 +112,7 @@ impl Call {
 }
 
 impl Arguments {
+    /// No arguments.
     pub fn new(alloc: Global) -> Arguments
         ensures { result ≡ [] }
     {
@@ -116,6 +121,10 @@ impl Arguments {
         }
     }
 
+    /// Puts an argument behind the others.
+    ///
+    /// # Errors
+    /// `AllocError` where a growth is refused.
     pub fn push(&mut self, argument: Argument) -> Result<(), AllocError>
         ensures { OnOk result (self.new ≡ self.old ++ argument ∷ []) }
     {
@@ -123,12 +132,14 @@ impl Arguments {
         Ok(())
     }
 
+    /// How many they are.
     pub fn len(&self) -> usize
         ensures { result ≡ length self.now }
     {
         self.arguments.len()
     }
 
+    /// The arguments in order.
     pub fn as_slice(&self) -> &[Argument]
         ensures { result.now ≡ self.now }
     {

@@ -16,7 +16,9 @@ use std::marker::Model;
 /// A text from a place on, with its next token.
 #[derive(Drop)]
 pub struct Cursor<'a> {
+    /// The text.
     lines: &'a Lines,
+    /// What stands next in it.
     next: Lexed<'a>,
 }
 
@@ -95,6 +97,9 @@ impl<'a> Cursor<'a> {
 /// Parts of arguments and notes.
 impl<'a> Cursor<'a> {
     /// Takes a token that is a part of a note.
+    ///
+    /// # Errors
+    /// `Syntax` where no token stands next, or its bracket doesn't go with the open pairs; the cursor stays there.
     pub fn note_part(&mut self, pairs: OpenPairs) -> Result<OpenPairs, Stop>
         ensures { Leaves result self.new (note_part_at pairs self.old) }
     {
@@ -108,6 +113,9 @@ impl<'a> Cursor<'a> {
     }
 
     /// Takes a token that is a part of an argument.
+    ///
+    /// # Errors
+    /// `Syntax` where no token stands next, or its bracket doesn't go with the open pairs; the cursor stays there.
     pub fn part(&mut self, inside: &mut Inside) -> Result<(), Stop>
         ensures { Moves result inside.new self.new (part_at inside.old self.old) }
     {

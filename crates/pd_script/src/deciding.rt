@@ -28,6 +28,7 @@ pub enum NextEvent {
 /// A reader of the events of a text.
 #[derive(Drop)]
 pub struct EventReader<'a> {
+    /// The tokens that are left.
     cursor: Cursor<'a>,
 }
 
@@ -76,6 +77,9 @@ impl<'a> Cursor<'a> {
     }
 
     /// Takes the next event.
+    ///
+    /// # Errors
+    /// `AllocError` where a growth is refused.
     #[tactic(auto, unfolding(crate::specs::Next::next_in))]
     pub fn next_event(&mut self, alloc: Global) -> Result<NextEvent, AllocError>
         ensures next { IfOk result (λ next. next ≡ next_in self.old) }

@@ -65,6 +65,7 @@ impl Draft {
         }
     }
 
+    /// Whether there are no tokens so far.
     pub fn is_empty(self) -> bool
         ensures { result ≡ is_empty self }
     {
@@ -75,7 +76,9 @@ impl Draft {
 /// Within the brackets of a call: the pairs that are open there, and the tokens of the argument so far.
 #[derive(Drop)]
 pub struct Inside {
+    /// The pairs that are open.
     pub pairs: OpenPairs,
+    /// The tokens of the argument so far.
     pub draft: Draft,
 }
 

@@ -3,7 +3,7 @@ ghost use Rattle.std.specs.Prelude.{◌≡◌};
 ghost use Rattle.pd_script.specs.Items.{is_int, is_named, is_hex, is_num, is_dots, is_word, is_symbol, is_end, starts_event, next_is};
 
 use crate::cursor::Cursor;
-use crate::numbers::{GREATEST, TIME_LIMIT, hex_number, microseconds};
+use crate::numbers::{MAX_NUMBER, TIME_LIMIT, hex_number, microseconds};
 use pd_lex::{Lexed, TokenKind};
 
 impl<'a> Cursor<'a> {
@@ -34,7 +34,7 @@ impl<'a> Cursor<'a> {
     {
         match self.peek() {
             Lexed::Token(token) => {
-                matches!(token.kind, TokenKind::Int) && token.number <= GREATEST
+                matches!(token.kind, TokenKind::Int) && token.number <= MAX_NUMBER
             },
             _ => false,
         }
@@ -47,7 +47,7 @@ impl<'a> Cursor<'a> {
     {
         match self.peek() {
             Lexed::Token(token) => {
-                matches!(token.kind, TokenKind::Hex) && hex_number(token.text) <= GREATEST
+                matches!(token.kind, TokenKind::Hex) && hex_number(token.text) <= MAX_NUMBER
             },
             _ => false,
         }

@@ -12,7 +12,7 @@ use pd_lex::{digit_value, number, value_after};
 pub const TIME_LIMIT: u64 = 4_294_967_296_000_000;
 
 /// The greatest number of a packet or a result.
-pub const GREATEST: u64 = 4_294_967_295;
+pub const MAX_NUMBER: u64 = 4_294_967_295;
 
 /// The digits behind `0x`.
 fn hex_digits(text: &[u8]) -> &[u8]

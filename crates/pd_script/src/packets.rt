@@ -9,6 +9,7 @@ use std::marker::Model;
 /// A TCP segment as written. Sequence numbers are relative, the SYN at 0.
 #[derive(Drop)]
 pub struct Packet {
+    /// The flags as written.
     pub flags: Flags,
     /// The number of the first octet of data.
     pub start: u32,
@@ -20,6 +21,7 @@ pub struct Packet {
     pub ack: Option<u32>,
     /// The window field, if written; an inbound packet always has one.
     pub win: Option<u32>,
+    /// The TCP options as written.
     pub options: Options,
 }
 
@@ -127,6 +129,7 @@ pub enum Options {
 /// TCP options in order.
 #[derive(Drop)]
 pub struct OptionList {
+    /// The options in order.
     options: Vec<PacketOption>,
 }
 
@@ -161,6 +164,7 @@ pub enum PacketOption {
 /// The blocks of a `sack` option, in order.
 #[derive(Drop)]
 pub struct Blocks {
+    /// The blocks in order.
     blocks: Vec<Block>,
 }
 
@@ -176,7 +180,9 @@ impl Model for Blocks {
 /// A run of octets: the number of its first, and the number after its last.
 #[derive(Clone, Copy)]
 pub struct Block {
+    /// The number of the first octet, as written.
     pub left: u64,
+    /// The number after the last octet, as written.
     pub right: u64,
 }
 
@@ -217,6 +223,7 @@ impl PacketOption {
 }
 
 impl OptionList {
+    /// No options.
     pub fn new(alloc: Global) -> OptionList
         ensures { result ≡ [] }
     {
@@ -225,6 +232,10 @@ impl OptionList {
         }
     }
 
+    /// Puts an option behind the others.
+    ///
+    /// # Errors
+    /// `AllocError` where a growth is refused.
     pub fn push(&mut self, option: PacketOption) -> Result<(), AllocError>
         ensures { OnOk result (self.new ≡ self.old ++ option ∷ []) }
     {
@@ -232,12 +243,14 @@ impl OptionList {
         Ok(())
     }
 
+    /// How many they are.
     pub fn len(&self) -> usize
         ensures { result ≡ length self.now }
     {
         self.options.len()
     }
 
+    /// The options in order.
     pub fn as_slice(&self) -> &[PacketOption]
         ensures { result.now ≡ self.now }
     {
@@ -260,6 +273,7 @@ impl OptionList {
 }
 
 impl Blocks {
+    /// No blocks.
     pub fn new(alloc: Global) -> Blocks
         ensures { result ≡ [] }
     {
@@ -268,6 +282,10 @@ impl Blocks {
         }
     }
 
+    /// Puts a block behind the others.
+    ///
+    /// # Errors
+    /// `AllocError` where a growth is refused.
     pub fn push(&mut self, block: Block) -> Result<(), AllocError>
         ensures { OnOk result (self.new ≡ self.old ++ block ∷ []) }
     {
@@ -275,12 +293,14 @@ impl Blocks {
         Ok(())
     }
 
+    /// How many they are.
     pub fn len(&self) -> usize
         ensures { result ≡ length self.now }
     {
         self.blocks.len()
     }
 
+    /// The blocks in order.
     pub fn as_slice(&self) -> &[Block]
         ensures { result.now ≡ self.now }
     {

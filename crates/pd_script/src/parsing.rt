@@ -5,7 +5,9 @@ use crate::script_header::Header;
 /// What a text was read as.
 #[derive(Drop)]
 pub struct Parsed {
+    /// What stands before the events.
     pub header: Header,
+    /// The events in order.
     pub events: Events,
     /// The line at which no script goes on, if the text is refused.
     pub fault: Option<usize>,
@@ -14,6 +16,8 @@ pub struct Parsed {
 /// The events that were read, and the line of the fault.
 #[derive(Drop)]
 pub struct Found {
+    /// The events in order.
     pub events: Events,
+    /// The line at which no script goes on, if the text is refused.
     pub fault: Option<usize>,
 }

@@ -21,6 +21,10 @@ impl<'a> Cursor<'a> {
     }
 
     /// Takes the arguments of a call and the bracket that ends them.
+    ///
+    /// # Errors
+    /// `Syntax` where an argument is empty or none goes on, and the cursor stands there; `OutOfMemory` where a growth is
+    /// refused.
     #[inline(never)]
     pub fn arguments(&mut self, alloc: Global) -> Result<Arguments, Stop>
         ensures { Leaves result self.new (arguments_at self.old) }
@@ -57,6 +61,9 @@ impl<'a> Cursor<'a> {
     }
 
     /// Goes over what stands in a note, and the bracket that ends it.
+    ///
+    /// # Errors
+    /// `Syntax` where no note goes on; the cursor stands there.
     pub fn note_inside(&mut self) -> Result<(), Stop>
         ensures { SkipsNote result self.new (machine_at note_move [] self.old) }
     {

@@ -199,6 +199,9 @@ impl<'a> Cursor<'a> {
     }
 
     /// Takes a packet; an inbound one has a window and lists its options.
+    ///
+    /// # Errors
+    /// `Syntax` where no packet goes on, and the cursor stands there; `OutOfMemory` where a growth is refused.
     #[tactic(auto, unfolding(crate::specs::PacketReading::packet_at))]
     pub fn packet(&mut self, alloc: Global, inbound: bool) -> Result<Packet, Stop>
         ensures { Leaves result self.new (packet_at inbound self.old) }

@@ -12,9 +12,11 @@ use std::marker::Model;
 pub struct Event {
     /// The line of its first token, counted from 1.
     pub line: usize,
+    /// When it happens.
     pub time: Time,
     /// The end of a blocking call, if one is written.
     pub until: Option<Until>,
+    /// What happens.
     pub action: Action,
 }
 
@@ -36,6 +38,7 @@ pub enum Action {
 /// Events in order.
 #[derive(Drop)]
 pub struct Events {
+    /// The events in order.
     events: Vec<Event>,
 }
 
@@ -84,6 +87,7 @@ impl Model for Events {
 }
 
 impl Events {
+    /// No events.
     pub fn new(alloc: Global) -> Events
         ensures { result ≡ [] }
     {
@@ -92,6 +96,10 @@ impl Events {
         }
     }
 
+    /// Puts an event behind the others.
+    ///
+    /// # Errors
+    /// `AllocError` where a growth is refused.
     pub fn push(&mut self, event: Event) -> Result<(), AllocError>
         ensures { OnOk result (self.new ≡ self.old ++ event ∷ []) }
     {
@@ -99,12 +107,14 @@ impl Events {
         Ok(())
     }
 
+    /// How many they are.
     pub fn len(&self) -> usize
         ensures { result ≡ length self.now }
     {
         self.events.len()
     }
 
+    /// The events in order.
     pub fn as_slice(&self) -> &[Event]
         ensures { result.now ≡ self.now }
     {

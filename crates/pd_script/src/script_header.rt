@@ -12,6 +12,7 @@ use std::marker::Model;
 pub struct HeaderItem {
     /// The line of its first octet, counted from 1.
     pub line: usize,
+    /// What it is.
     pub kind: HeaderKind,
 }
 
@@ -29,7 +30,9 @@ pub enum HeaderKind {
 /// The items of a header, in order, and its end.
 #[derive(Drop)]
 pub struct Header {
+    /// The items in order.
     items: Vec<HeaderItem>,
+    /// The place behind the last item, or of the text's first octet.
     end: Place,
 }
 
@@ -72,6 +75,7 @@ impl HeaderKind {
 }
 
 impl Header {
+    /// No items; the end is where the text begins.
     pub fn new(alloc: Global) -> Header
         ensures { result ≡ record { items = []; end = first_place } }
     {
@@ -82,6 +86,9 @@ impl Header {
     }
 
     /// Puts one more item behind the others, with the place behind it.
+    ///
+    /// # Errors
+    /// `AllocError` where a growth is refused.
     pub fn push(&mut self, item: HeaderItem, end: Place) -> Result<(), AllocError>
         ensures { OnOk result (self.new ≡ record { items = self.old.items ++ item ∷ []; end = end }) }
     {
@@ -90,12 +97,14 @@ impl Header {
         Ok(())
     }
 
+    /// How many items it has.
     pub fn len(&self) -> usize
         ensures { result ≡ length self.now.items }
     {
         self.items.len()
     }
 
+    /// The items in order.
     pub fn as_slice(&self) -> &[HeaderItem]
         ensures { result.now ≡ self.now.items }
     {

@@ -39,6 +39,9 @@ fn bounded(number: u64) -> Result<u32, Stop>
 
 impl<'a> Cursor<'a> {
     /// Takes a symbol, and answers its line.
+    ///
+    /// # Errors
+    /// `Syntax` where the next token isn't this symbol, which isn't taken then.
     #[tactic(auto, using(crate::proofs::Symbols::one_octet), unfolding(pd_lex::specs::Lexing::lexeme_of))]
     pub fn symbol(&mut self, octet: u8) -> Result<usize, Stop>
         ensures { Leaves result self.new (symbol_at octet self.old) }
@@ -52,6 +55,9 @@ impl<'a> Cursor<'a> {
     }
 
     /// Takes a whole number.
+    ///
+    /// # Errors
+    /// `Syntax` where the next token is no whole number, or one above 4,294,967,295. It isn't taken then.
     #[tactic(auto, unfolding(pd_lex::specs::Lexing::lexeme_of))]
     pub fn int(&mut self) -> Result<u32, Stop>
         ensures { Leaves result self.new (int_at self.old) }
@@ -62,6 +68,9 @@ impl<'a> Cursor<'a> {
     }
 
     /// Takes a whole number that is at least another.
+    ///
+    /// # Errors
+    /// `Syntax` where the next token is no whole number, or one above 4,294,967,295 or below the least. It isn't taken then.
     #[tactic(auto, unfolding(pd_lex::specs::Lexing::lexeme_of))]
     pub fn int_from(&mut self, least: u32) -> Result<u32, Stop>
         ensures { Leaves result self.new (int_from_at least self.old) }
@@ -75,6 +84,9 @@ impl<'a> Cursor<'a> {
     }
 
     /// Takes a whole number that is just this one.
+    ///
+    /// # Errors
+    /// `Syntax` where the next token isn't a whole number with this value. It isn't taken then.
     #[tactic(auto, unfolding(pd_lex::specs::Lexing::lexeme_of))]
     pub fn int_equal(&mut self, wanted: u32) -> Result<u32, Stop>
         ensures { Leaves result self.new (int_of_at wanted self.old) }
@@ -88,6 +100,9 @@ impl<'a> Cursor<'a> {
     }
 
     /// Takes a hexadecimal number.
+    ///
+    /// # Errors
+    /// `Syntax` where the next token is no hexadecimal number, or one above 4,294,967,295. It isn't taken then.
     #[tactic(auto, unfolding(pd_lex::specs::Lexing::lexeme_of))]
     pub fn hex(&mut self) -> Result<u32, Stop>
         ensures { Leaves result self.new (hex_at self.old) }
@@ -99,6 +114,9 @@ impl<'a> Cursor<'a> {
     }
 
     /// Takes a number of microseconds, and answers its line with it.
+    ///
+    /// # Errors
+    /// `Syntax` where the next token is no number, or one of 4,294,967,296 seconds or more. It isn't taken then.
     #[tactic(auto, unfolding(pd_lex::specs::Lexing::lexeme_of))]
     pub fn num(&mut self) -> Result<(usize, u64), Stop>
         ensures { Leaves result self.new (num_at self.old) }
@@ -113,6 +131,10 @@ impl<'a> Cursor<'a> {
     }
 
     /// Takes a number of at least so many microseconds.
+    ///
+    /// # Errors
+    /// `Syntax` where the next token is no number, or one of 4,294,967,296 seconds or more, or below the least. It isn't
+    /// taken then.
     #[tactic(auto, unfolding(pd_lex::specs::Lexing::lexeme_of))]
     pub fn num_from(&mut self, least: u64) -> Result<u64, Stop>
         ensures { Leaves result self.new (num_from_at least self.old) }
@@ -127,6 +149,10 @@ impl<'a> Cursor<'a> {
     }
 
     /// Takes the letters of flags.
+    ///
+    /// # Errors
+    /// `Syntax` where the next token is no word, or has another octet than `F`, `S`, `R`, `P`, `U`, `E`, `W` and `C`. It
+    /// isn't taken then.
     #[tactic(auto, unfolding(pd_lex::specs::Lexing::lexeme_of))]
     pub fn letters(&mut self) -> Result<Flags, Stop>
         ensures { Leaves result self.new (letters_at self.old) }
@@ -140,6 +166,9 @@ impl<'a> Cursor<'a> {
     }
 
     /// Takes the name of a TCP option.
+    ///
+    /// # Errors
+    /// `Syntax` where the next token is no word that names an option. It isn't taken then.
     #[tactic(auto, unfolding(pd_lex::specs::Lexing::lexeme_of))]
     pub fn option_name(&mut self) -> Result<OptionName, Stop>
         ensures { Leaves result self.new (option_name_at self.old) }
@@ -153,6 +182,9 @@ impl<'a> Cursor<'a> {
     }
 
     /// Takes the name of a call.
+    ///
+    /// # Errors
+    /// `Syntax` where the next token is no word. It isn't taken then.
     #[tactic(auto, unfolding(pd_lex::specs::Lexing::lexeme_of))]
     pub fn function(&mut self) -> Result<Function, Stop>
         ensures { Leaves result self.new (function_at self.old) }
@@ -163,6 +195,9 @@ impl<'a> Cursor<'a> {
     }
 
     /// Takes the name of an error.
+    ///
+    /// # Errors
+    /// `Syntax` where the next token is no word. It isn't taken then.
     #[tactic(auto, unfolding(pd_lex::specs::Lexing::lexeme_of))]
     pub fn error(&mut self) -> Result<ErrorName, Stop>
         ensures { Leaves result self.new (error_at self.old) }
@@ -173,6 +208,9 @@ impl<'a> Cursor<'a> {
     }
 
     /// Takes three points.
+    ///
+    /// # Errors
+    /// `Syntax` where the next token isn't three points. It isn't taken then.
     #[tactic(auto, unfolding(pd_lex::specs::Lexing::lexeme_of))]
     pub fn dots(&mut self) -> Result<(), Stop>
         ensures { Leaves result self.new (dots_at self.old) }
@@ -183,6 +221,9 @@ impl<'a> Cursor<'a> {
     }
 
     /// Takes this word.
+    ///
+    /// # Errors
+    /// `Syntax` where the next token isn't this word. It isn't taken then.
     #[tactic(auto, unfolding(pd_lex::specs::Lexing::lexeme_of))]
     pub fn named(&mut self, name: &[u8]) -> Result<(), Stop>
         ensures { Leaves result self.new (named_at name.now self.old) }
@@ -196,6 +237,9 @@ impl<'a> Cursor<'a> {
     }
 
     /// Takes a shell command.
+    ///
+    /// # Errors
+    /// `Syntax` where the next token is no shell command. It isn't taken then.
     #[tactic(auto, unfolding(pd_lex::specs::Lexing::lexeme_of))]
     pub fn command(&mut self) -> Result<Action, Stop>
         ensures { Leaves result self.new (command_at self.old) }
@@ -206,6 +250,9 @@ impl<'a> Cursor<'a> {
     }
 
     /// Takes code.
+    ///
+    /// # Errors
+    /// `Syntax` where the next token isn't code. It isn't taken then.
     #[tactic(auto, unfolding(pd_lex::specs::Lexing::lexeme_of))]
     pub fn code(&mut self) -> Result<Action, Stop>
         ensures { Leaves result self.new (code_at self.old) }

@@ -12,6 +12,7 @@ pub fn is_any_int(token: &Token) -> bool
     matches!(token.kind, TokenKind::Int)
 }
 
+/// A word.
 pub fn is_word(token: &Token) -> bool
     ensures { result ≡ is_word (shown token.now) }
 {

@@ -44,6 +44,9 @@ impl SegOption {
     }
 
     /// The same option once more.
+    ///
+    /// # Errors
+    /// `AllocError` where a growth is refused.
     pub fn copy(&self) -> Result<SegOption, AllocError>
         ensures { IfOk result (λ copy. copy ≡ self.now) }
     {
@@ -62,6 +65,7 @@ impl SegOption {
 /// The options of a segment in order.
 #[derive(Drop)]
 pub struct SegOptions {
+    /// The options in order.
     options: Vec<SegOption>,
 }
 
@@ -85,6 +89,9 @@ impl SegOptions {
     }
 
     /// Adds an option behind the others.
+    ///
+    /// # Errors
+    /// `AllocError` where a growth is refused; the options are as before then.
     pub fn push(&mut self, option: SegOption) -> Result<(), AllocError>
         ensures ok { OnOk result (self.new ≡ self.old ++ option ∷ []) }
         ensures err { OnErr result (self.new ≡ self.old) }
@@ -108,6 +115,9 @@ impl SegOptions {
     }
 
     /// The same options once more.
+    ///
+    /// # Errors
+    /// `AllocError` where a growth is refused.
     pub fn copy(&self) -> Result<SegOptions, AllocError>
         ensures { IfOk result (λ copy. copy ≡ self.now) }
     {

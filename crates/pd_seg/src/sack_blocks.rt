@@ -7,7 +7,9 @@ use std::marker::Model;
 /// The octets from `start` up to `end`, which isn't one of them.
 #[derive(Clone, Copy, PartialEq, Eq)]
 pub struct Span {
+    /// The number of the first octet.
     pub start: u32,
+    /// The number after the last octet.
     pub end: u32,
 }
 
@@ -23,6 +25,7 @@ impl Span {
 /// The blocks of a SACK option in order (RFC 2018, section 3).
 #[derive(Drop)]
 pub struct SackBlocks {
+    /// The blocks in order.
     blocks: Vec<Span>,
 }
 
@@ -46,6 +49,9 @@ impl SackBlocks {
     }
 
     /// Adds a block behind the others.
+    ///
+    /// # Errors
+    /// `AllocError` where a growth is refused; the blocks are as before then.
     pub fn push(&mut self, block: Span) -> Result<(), AllocError>
         ensures ok { OnOk result (self.new ≡ self.old ++ block ∷ []) }
         ensures err { OnErr result (self.new ≡ self.old) }
@@ -69,6 +75,9 @@ impl SackBlocks {
     }
 
     /// The same blocks once more.
+    ///
+    /// # Errors
+    /// `AllocError` where a growth is refused.
     pub fn copy(&self) -> Result<SackBlocks, AllocError>
         ensures { IfOk result (λ copy. copy ≡ self.now) }
     {

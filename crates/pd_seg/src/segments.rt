@@ -8,6 +8,7 @@ use std::alloc::AllocError;
 /// A TCP segment. Sequence numbers are relative, both initial ones at 0.
 #[derive(Drop)]
 pub struct Segment {
+    /// The control bits.
     pub flags: Flags,
     /// The number of the first octet of data.
     pub start: u32,
@@ -17,12 +18,14 @@ pub struct Segment {
     pub ack: u32,
     /// The window field as it stands in the segment, not scaled.
     pub win: u16,
+    /// The TCP options in order.
     pub options: SegOptions,
 }
 
 /// A segment that was put out, and when.
 #[derive(Drop)]
 pub struct Sent {
+    /// The segment.
     pub segment: Segment,
     /// Microseconds since the start of the run.
     pub at: u64,
@@ -49,6 +52,9 @@ impl Segment {
     }
 
     /// The same segment once more.
+    ///
+    /// # Errors
+    /// `AllocError` where a growth is refused.
     pub fn copy(&self) -> Result<Segment, AllocError>
         ensures { IfOk result (λ copy. copy ≡ self.now) }
     {
@@ -72,6 +78,9 @@ impl Sent {
     }
 
     /// The same segment with the same time once more.
+    ///
+    /// # Errors
+    /// `AllocError` where a growth is refused.
     pub fn copy(&self) -> Result<Sent, AllocError>
         ensures { IfOk result (λ copy. copy ≡ self.now) }
     {

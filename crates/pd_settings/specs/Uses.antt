@@ -59,13 +59,15 @@ is_same_window Rfc5681 Rfc5681 = true
 is_same_window Rfc6928 Rfc6928 = true
 is_same_window _ _ = false
 
--- two numbers, two truth values and two rules are equal, or nobody asks
+-- two numbers are equal, or weren't consulted
 abbrev pub same_numbers : Bool → ℕ → ℕ → Bool
 same_numbers used a b = not used || a == b
 
+-- two truth values are
 abbrev pub same_truths : Bool → Bool → Bool → Bool
 same_truths used a b = not used || beq a b
 
+-- two rules for the initial window are
 abbrev pub same_windows : Bool → InitialWindow → InitialWindow → Bool
 same_windows used a b = not used || is_same_window a b
 

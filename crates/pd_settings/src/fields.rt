@@ -158,7 +158,6 @@ impl Settings {
     /// Takes no memory.
     ///
     /// # Errors
-    ///
     /// `UnknownKey` where no setting has the name, else `BadValue` where the setting doesn't take the value.
     pub fn with(&self, key: &[u8], value: Value) -> Result<Settings, SettingsFault>
         ensures value { result ≡ with_value self.now key.now value }
@@ -179,7 +178,6 @@ impl Settings {
     /// The entries are looked at in the table's order, which ascends by key.
     ///
     /// # Errors
-    ///
     /// The fault of the first entry that is refused, as by [`Settings::with`].
     pub fn from_table(table: &Table) -> Result<Settings, SettingsFault>
         ensures value { result ≡ from_table_of (table_view table.now) }

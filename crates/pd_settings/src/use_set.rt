@@ -5,17 +5,29 @@ ghost use Rattle.pd_settings.specs.Uses.{no_uses};
 /// Whether each of the settings was consulted so far.
 #[derive(Clone, Copy, PartialEq, Eq)]
 pub struct UseSet {
+    /// `mss`, which a SYN that is answered consults.
     pub mss: bool,
+    /// `sack`, which a SYN that is answered consults.
     pub sack: bool,
+    /// `wscale`, which a SYN that is answered consults.
     pub wscale: bool,
+    /// `sndbuf`, which a `write` of some octets consults.
     pub sndbuf: bool,
+    /// `rcv_wnd`, which a SYN that is answered consults.
     pub rcv_wnd: bool,
+    /// `initial_ssthresh`, which the establishment consults.
     pub initial_ssthresh: bool,
+    /// `initial_window`, which the establishment consults.
     pub initial_window: bool,
+    /// `min_rto_us`, which a SYN that is answered consults.
     pub min_rto_us: bool,
+    /// `max_rto_us`, which a SYN that is answered consults.
     pub max_rto_us: bool,
+    /// `granularity_us`, which the establishment consults.
     pub granularity_us: bool,
+    /// `nagle`, which the establishment consults.
     pub nagle: bool,
+    /// `tolerance_us`, which a packet that is expected consults, unless the header sets a tolerance.
     pub tolerance_us: bool,
 }
 

@@ -11,7 +11,9 @@ const FEW: usize = 8;
 /// The first of some items, which are held once however many blocks they are the first of.
 #[derive(Drop)]
 pub struct Block<T> {
+    /// All items that are held; other blocks may have more of them.
     items: Arc<Vec<T>>,
+    /// How many of them the block has.
     used: usize,
 }
 

@@ -6,6 +6,9 @@ use std::alloc::AllocError;
 /// What a list copies where sharing doesn't pay.
 pub trait Copied: Sized {
     /// An equal value of its own.
+    ///
+    /// # Errors
+    /// `AllocError` where a growth is refused.
     fn copied(&self) -> Result<Self, AllocError>
         ensures { IfOk result (λ copy. copy ≡ self.now) };
 }

@@ -18,8 +18,11 @@ const ROOM: usize = 16;
 /// Items in order: in blocks that other lists may keep too, and behind them fewer than a block, which no other keeps.
 #[derive(Drop)]
 pub struct SharedList<T> {
+    /// The blocks in order.
     blocks: Vec<Block<T>>,
+    /// The items behind the blocks, which no other list keeps.
     rest: Vec<T>,
+    /// How many items there are in all.
     count: usize,
 }
 

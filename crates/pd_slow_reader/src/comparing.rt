@@ -7,7 +7,7 @@ use pd_text::Lines;
 use std::alloc::{AllocError, Global};
 
 /// How many octets of differences are said, roughly.
-const MOST_SAID: usize = 5_000;
+const MAX_SAID: usize = 5_000;
 
 /// The reading that is wanted of a text: the line of the fault or 0, and how many items and events.
 #[derive(Clone, Copy)]
@@ -89,7 +89,7 @@ impl Comparison {
         said: &Reading,
         slow: &Reading,
     ) -> Result<(), AllocError> {
-        if self.said.len() > MOST_SAID {
+        if self.said.len() > MAX_SAID {
             return Ok(());
         }
         self.say_reading("DIFFERS: fault, header and events are", said)?;

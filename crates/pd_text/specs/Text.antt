@@ -7,10 +7,11 @@ use Rattle.std.specs.Str.{bytes_eq}
 abbrev pub is_line : List ℕ → Bool
 is_line octets = list_all (λ octet. not (octet == 10)) octets
 
+-- each of these is a line
 abbrev pub AreLines : List (List ℕ) → Type 0
 AreLines lines = IsTrue (list_all is_line lines)
 
--- how many of their first lines are equal
+-- how many of the first lines of two texts are equal
 abbrev pub front : List (List ℕ) → List (List ℕ) → ℕ
 front lines others = common_prefix_len bytes_eq lines others
 
@@ -22,5 +23,6 @@ octets_of lines = sum_by (λ (line : List ℕ). length line + 1) lines
 abbrev pub FitsText : List (List ℕ) → Type 0
 FitsText lines = (length lines ≤ 4096) × (octets_of lines ≤ 65536)
 
+-- the same as a test
 abbrev pub fits_text : List (List ℕ) → Bool
 fits_text lines = nat_le (length lines) 4096 && nat_le (octets_of lines) 65536

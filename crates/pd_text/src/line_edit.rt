@@ -7,8 +7,11 @@ use std::alloc::AllocError;
 /// An edit: removes `remove` lines beginning at line `from`, counted from 1, and puts `insert` there.
 #[derive(Drop)]
 pub struct LineEdit {
+    /// The line at which it begins, counted from 1: in a text at most one more than it has.
     pub from: usize,
+    /// How many lines it removes.
     pub remove: usize,
+    /// The lines that it puts there.
     pub insert: LineList,
 }
 
@@ -21,6 +24,9 @@ impl LineEdit {
     }
 
     /// An equal edit of its own.
+    ///
+    /// # Errors
+    /// `AllocError` where a growth is refused.
     pub fn copy(&self) -> Result<LineEdit, AllocError>
         ensures { IfOk result (λ edit. edit ≡ self.now) }
     {

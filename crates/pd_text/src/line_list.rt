@@ -8,14 +8,18 @@ use std::marker::Model;
 /// Where a line stands among the octets of its list.
 #[derive(Clone, Copy, PartialEq, Eq)]
 struct Span {
+    /// How many octets of the list lie before the line.
     from: usize,
+    /// The same with the octets of the line.
     to: usize,
 }
 
 /// A list of lines, each its octets without the newline.
 #[derive(Drop)]
 pub struct LineList {
+    /// The octets of all lines, without their newlines.
     octets: Vec<u8>,
+    /// Where each line stands among them, in order.
     spans: Vec<Span>,
 }
 
@@ -44,6 +48,9 @@ impl LineList {
     }
 
     /// Adds a line, which holds no newline.
+    ///
+    /// # Errors
+    /// `AllocError` where a growth is refused; the list is as before then.
     pub fn push(&mut self, line: &[u8]) -> Result<(), AllocError>
         requires { IsTrue (is_line line.now) }
         ensures ok { OnOk result (self.new ≡ self.old ++ line.now ∷ []) }
@@ -53,7 +60,7 @@ impl LineList {
         let from = self.octets.len();
         self.octets.extend_from_slice(line)?;
         let to = self.octets.len();
-        self.spans.push(Span { from, to }).unwrap();
+        self.spans.push_reserved(Span { from, to });
         Ok(())
     }
 
@@ -137,6 +144,9 @@ impl LineList {
     }
 
     /// Adds lines `first` up to `end` of another list, counted from 0.
+    ///
+    /// # Errors
+    /// `AllocError` where a growth is refused; the lines before the refused one were added then.
     pub fn push_lines(
         &mut self,
         list: &LineList,
@@ -153,6 +163,9 @@ impl LineList {
     }
 
     /// Makes room for so many lines with so many octets.
+    ///
+    /// # Errors
+    /// `AllocError` where a growth is refused.
     pub fn reserve(&mut self, lines: usize, octets: usize) -> Result<(), AllocError>
         ensures { self.new ≡ self.old }
     {
@@ -169,6 +182,9 @@ impl LineList {
     }
 
     /// An equal list of its own.
+    ///
+    /// # Errors
+    /// `AllocError` where a growth is refused.
     pub fn copy(&self) -> Result<LineList, AllocError>
         ensures { IfOk result (λ list. list ≡ self.now) }
     {

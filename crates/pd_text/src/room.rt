@@ -22,7 +22,9 @@ pub fn fits(list: &LineList) -> bool
 /// How many lines a text has, and how many octets without the lines' ends.
 #[derive(Clone, Copy)]
 pub struct Size {
+    /// How many lines it has, at most 4,096.
     pub lines: usize,
+    /// How many octets it has, without the lines' ends.
     pub octets: usize,
 }
 

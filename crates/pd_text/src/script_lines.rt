@@ -13,6 +13,7 @@ use std::marker::Model;
 /// The text of a script: at most 4,096 lines and 65,536 octets, no line with a newline in it.
 #[derive(Drop)]
 pub struct Lines {
+    /// The lines, within the limits.
     list: LineList,
 }
 

@@ -10,6 +10,7 @@ use std::marker::Model;
 /// The name of a script or of a setting, or what was given as one: any octets.
 #[derive(Drop)]
 pub struct Name {
+    /// The octets of the name, as given.
     octets: Vec<u8>,
 }
 
@@ -87,6 +88,9 @@ impl Name {
     }
 
     /// An equal name of its own.
+    ///
+    /// # Errors
+    /// `AllocError` where a growth is refused.
     pub fn copy(&self) -> Result<Name, AllocError>
         ensures { IfOk result (λ name. name ≡ self.now) }
     {

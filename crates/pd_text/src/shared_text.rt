@@ -9,6 +9,7 @@ use std::sync::Arc;
 /// A text that is held once, however many owners keep it.
 #[derive(Drop)]
 pub struct Text {
+    /// The lines, which each owner of the text shares.
     lines: Arc<Lines>,
 }
 
@@ -21,6 +22,10 @@ impl Model for Text {
 }
 
 impl Text {
+    /// A text of these lines, with one owner.
+    ///
+    /// # Errors
+    /// `AllocError` where memory for it is refused.
     pub fn new(alloc: Global, lines: Lines) -> Result<Text, AllocError>
         ensures { IfOk result (λ text. text ≡ lines) }
     {
@@ -43,7 +48,10 @@ impl Text {
         self.lines.is_same(&other.lines)
     }
 
-    /// Another owner of the same text. Fails only where the count of owners is full.
+    /// Another owner of the same text.
+    ///
+    /// # Errors
+    /// `AllocError` only where the count of owners is full.
     pub fn share(&self) -> Result<Text, AllocError>
         ensures { IfOk result (λ text. text ≡ self.now) }
     {

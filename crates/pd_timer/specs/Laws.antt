@@ -28,12 +28,12 @@ pub record StaysWithin : Type 0 where
 abbrev pub RunsFrom : ℕ → Timer → Type 0
 RunsFrom now t = IsSomeAnd t.deadline (λ moment. (now ≤ moment) × (moment ≤ now + t.max_rto_us))
 
--- a deadline that is set lies at most the greatest timeout behind that moment (RFC 6298, section 2.5)
+-- where a deadline is set at a moment, it lies at or behind that, by at most the greatest timeout (RFC 6298, section 2.5)
 pub record ExpiresInTime : Type 0 where
   pub start : (now : ℕ) (t : Timer) → t.rto ≤ t.max_rto_us → t.deadline ≡ None → RunsFrom now (started now t)
   pub restart : (now : ℕ) (t : Timer) → t.rto ≤ t.max_rto_us → RunsFrom now (restarted now t)
   pub expiry : (now : ℕ) (t : Timer) → RunsFrom now (backed_off now t)
 
--- a second expiry never comes sooner than the first did (RFC 6298, section 5.5: back off the timer)
+-- an expiry never lowers RTO (RFC 6298, section 5.5: back off the timer)
 abbrev pub BacksOff : Type 0
 BacksOff = (now : ℕ) (t : Timer) → t.rto ≤ t.max_rto_us → t.rto ≤ (backed_off now t).rto

@@ -3,6 +3,7 @@ use Rattle.std.specs.Prelude.{ℕ, ◌+◌, ◌-◌, ◌*◌, ◌/◌, ◌^◌, 
 use Rattle.std.specs.Option.{ForSome}
 use Rattle.pd_timer.specs.declared.estimate.Estimate.{Estimate}
 
+-- the retransmission timer with what was measured, RTO and its bounds (section 2)
 pub record Timer : Type 0 where
   -- SRTT and RTTVAR, once a round trip was measured
   pub estimate : Option Estimate
@@ -92,6 +93,6 @@ stopped t = record t { deadline = None }
 abbrev pub backed_off : ℕ → Timer → Timer
 backed_off now t = restarted now (record t { rto = min (2 * t.rto) t.max_rto_us })
 
--- at establishment, where the timer expired in the handshake, RTO is 3 seconds (section 5.7)
+-- at establishment, where the timer expired in the handshake, RTO is 3 seconds (section 5.7), also where it was more (own)
 abbrev pub reinitialized : Timer → Timer
 reinitialized t = record t { rto = clamped t.min_rto_us t.max_rto_us 3000000 }

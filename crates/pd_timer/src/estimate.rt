@@ -5,7 +5,9 @@ ghost use Rattle.pd_timer.specs.Timer.{IsEstimate, first_estimate, next_estimate
 /// SRTT and RTTVAR, the smoothed round-trip time and its variation, in microseconds (RFC 6298, section 2).
 #[derive(Clone, Copy)]
 pub struct Estimate {
+    /// SRTT, the smoothed round-trip time, in microseconds below 2^62 (RFC 6298, section 2).
     pub srtt: u64,
+    /// RTTVAR, the round-trip time variation, in microseconds below 2^62 (RFC 6298, section 2).
     pub rttvar: u64,
 }
 

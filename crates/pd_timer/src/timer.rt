@@ -17,10 +17,15 @@ const TIMEOUT_AFTER_HANDSHAKE_US: u64 = 3_000_000;
 ///
 /// No call takes memory.
 pub struct Rto {
+    /// SRTT and RTTVAR, once a round trip was measured (RFC 6298, section 2).
     estimate: Option<Estimate>,
+    /// RTO, the retransmission timeout, in microseconds, within the bounds (RFC 6298, section 2).
     rto: u64,
+    /// The least RTO, in microseconds: 1,000 to 60,000,000 (RFC 6298, section 2.4).
     min_rto_us: u64,
+    /// The greatest RTO, in microseconds: 60,000,000 to 3,600,000,000 (RFC 6298, section 2.5).
     max_rto_us: u64,
+    /// The moment of the next expiry, in microseconds since the start of the run, while the timer runs.
     deadline: Option<u64>,
 }
 

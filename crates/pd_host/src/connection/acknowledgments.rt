@@ -65,6 +65,9 @@ fn score_options(board: &mut Board, options: &[SegOption]) -> Result<bool, Alloc
 impl Connection {
     /// The number, the blocks, the timer and the window of a segment that passed all checks are taken, and congestion
     /// control is told: what follows.
+    ///
+    /// # Errors
+    /// `AllocError` where the scoreboard finds no memory for a block, or has found none before.
     pub fn take(&mut self, segment: &Segment, now: u64) -> Result<Then, AllocError>
         requires early { now < 2 ^ 62 }
         requires known { self.old.board.una ≤ segment.now.ack }
@@ -201,6 +204,9 @@ impl Connection {
     }
 
     /// It was sent at a moment.
+    ///
+    /// # Errors
+    /// `AllocError` for new octets where the scoreboard has found no memory before.
     pub fn sent_in_recovery(&mut self, sent: &NextSegment, now: u64) -> Result<(), AllocError>
         requires early { now < 2 ^ 62 }
         requires sendable { IsSendable self.old.board (segment_of sent.now) }
@@ -252,6 +258,9 @@ impl Connection {
     }
 
     /// It was sent at a moment.
+    ///
+    /// # Errors
+    /// `AllocError` where the scoreboard has found no memory before.
     pub fn sent_limited(&mut self, segment: Span, now: u64) -> Result<(), AllocError>
         requires early { now < 2 ^ 62 }
         requires sendable { IsSendable self.old.board segment }

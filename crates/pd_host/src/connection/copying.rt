@@ -7,6 +7,9 @@ use std::alloc::AllocError;
 
 impl Connection {
     /// Its scoreboard once more.
+    ///
+    /// # Errors
+    /// `AllocError` where a growth is refused, or the scoreboard has found no memory before.
     pub fn board_copy(&self) -> Result<Board, AllocError>
         ensures { IfOk result (λ board. board ≡ self.now.board) }
     {

@@ -15,6 +15,10 @@ impl Connection {
     }
 
     /// The timer expires at a moment: what is sent again.
+    ///
+    /// # Errors
+    /// `AllocError` in the handshake where a growth for the SYN/ACK's options is refused, later where the scoreboard has
+    /// found no memory before.
     pub fn expire(&mut self, at: u64, alloc: Global) -> Result<Segment, AllocError>
         requires early { at < 2 ^ 62 }
         ensures packet { IfOk result (λ packet. packet ≡ segment_again self.old self.old.established) }

@@ -9,7 +9,7 @@ use pd_seg::{Flags, SegOption, SegOptions, Segment};
 use std::alloc::{AllocError, Global};
 
 /// The greatest window field.
-pub(super) const WIDEST_FIELD: u32 = 65_535;
+pub(super) const MAX_WINDOW_FIELD: u32 = 65_535;
 
 /// The flags of a segment that has none.
 pub(super) const NO_FLAGS: Flags = Flags {
@@ -51,6 +51,9 @@ pub fn refusal(ack: u32, alloc: Global) -> Segment
 
 impl Connection {
     /// The SYN/ACK.
+    ///
+    /// # Errors
+    /// `AllocError` where a growth for its options is refused.
     pub fn syn_ack(&self, alloc: Global) -> Result<Segment, AllocError>
         ensures { IfOk result (λ segment. segment ≡ syn_ack_of self.now) }
     {
@@ -74,7 +77,7 @@ impl Connection {
             start: 0,
             end: 0,
             ack: 1,
-            win: self.rcv_wnd.min(WIDEST_FIELD) as u16,
+            win: self.rcv_wnd.min(MAX_WINDOW_FIELD) as u16,
             options,
         })
     }
@@ -84,7 +87,7 @@ impl Connection {
         ensures { result ≡ shifted_window self.now }
     {
         let shifted = self.rcv_wnd >> own_count(self.scaling);
-        shifted.min(WIDEST_FIELD) as u16
+        shifted.min(MAX_WINDOW_FIELD) as u16
     }
 
     /// An ACK of what was received.

@@ -5,7 +5,7 @@ ghost use Rattle.pd_host.specs.Packets.{covers_fin, ends_data, data_of};
 ghost use Rattle.pd_host.specs.Sending.{IsQueued, window_edge, usable, unsent, sendable, new_segment, leaves_now, is_held_back, next_new, next_again, next_segment, found_on, past_sacked, sent_on};
 
 use super::Connection;
-use super::packets::{NO_FLAGS, WIDEST_FIELD};
+use super::packets::{MAX_WINDOW_FIELD, NO_FLAGS};
 use crate::established::Established;
 use pd_seg::{Flags, SegOptions, Segment, Span};
 use std::alloc::{AllocError, Global};
@@ -156,6 +156,9 @@ impl Connection {
     }
 
     /// A segment was sent from the sending place at a moment.
+    ///
+    /// # Errors
+    /// `AllocError` where the scoreboard has found no memory before.
     pub fn send_on(&mut self, segment: Span, now: u64) -> Result<(), AllocError>
         requires early { now < 2 ^ 62 }
         requires queued { IsQueued segment self.old }

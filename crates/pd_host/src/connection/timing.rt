@@ -17,23 +17,12 @@ fn timed_after(now: u64, segment: Span, top: u32, timed: Option<Timing>) -> Opti
     ensures { result ≡ timed_after now segment top timed }
 {
     match timed {
-        None => {
-            if top <= segment.start {
-                Some(Timing {
-                    segment,
-                    sent_at: now,
-                })
-            } else {
-                None
-            }
-        }
-        Some(timing) => {
-            if overlaps(timing.segment, segment) {
-                None
-            } else {
-                Some(timing)
-            }
-        }
+        None if top <= segment.start => Some(Timing {
+            segment,
+            sent_at: now,
+        }),
+        Some(timing) if !overlaps(timing.segment, segment) => Some(timing),
+        _ => None,
     }
 }
 

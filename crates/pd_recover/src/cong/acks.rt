@@ -10,7 +10,7 @@ use crate::responses::Then;
 use pd_seg::Span;
 
 /// The greatest window that growth leads to, in octets.
-const MOST_WINDOW: u32 = 0x4000_0000;
+const MAX_WINDOW: u32 = 0x4000_0000;
 
 /// The new segment at `top`, where data is queued and the peer's window takes it.
 pub fn new_segment(smss: u16, una: u32, top: u32, end: u32, rwnd: u32) -> Option<Span>
@@ -215,7 +215,7 @@ impl Cong {
     fn widen(&mut self, octets: u32)
         ensures { self.new ≡ widened octets self.old }
     {
-        self.cwnd = self.cwnd.saturating_add(octets).min(MOST_WINDOW);
+        self.cwnd = self.cwnd.saturating_add(octets).min(MAX_WINDOW);
     }
 
     /// One more duplicate.
