@@ -102,11 +102,11 @@ new_held law es r settings h =
 pub held_more : (settings : Settings) (before after : List Running) → AreHeld settings before → AreHeld settings after → AreHeld settings (before ++ after)
 held_more settings before after = all_append (λ (s : Running). Agree (uses_of s) settings s.host.state.settings) before after
 
-pub held_first : (settings : Settings) (n : ℕ) (snaps : List Running) → AreHeld settings snaps → AreHeld settings (take n snaps)
-held_first settings n snaps = all_take (λ (s : Running). Agree (uses_of s) settings s.host.state.settings) n snaps
+pub held_first : (settings : Settings) (n : ℕ) (checkpoints : List Running) → AreHeld settings checkpoints → AreHeld settings (take n checkpoints)
+held_first settings n checkpoints = all_take (λ (s : Running). Agree (uses_of s) settings s.host.state.settings) n checkpoints
 
-pub held_at : (settings : Settings) (snaps : List Running) (n : ℕ) (s : Running) → AreHeld settings snaps → slice_get snaps n ≡ Some s → Agree (uses_of s) settings s.host.state.settings
-held_at settings snaps n s = all_at (λ (s : Running). Agree (uses_of s) settings s.host.state.settings) snaps n s
+pub held_at : (settings : Settings) (checkpoints : List Running) (n : ℕ) (s : Running) → AreHeld settings checkpoints → slice_get checkpoints n ≡ Some s → Agree (uses_of s) settings s.host.state.settings
+held_at settings checkpoints n s = all_at (λ (s : Running). Agree (uses_of s) settings s.host.state.settings) checkpoints n s
 
 -- a state has consulted all that those before it have
 abbrev AreBefore : Running → List Running → Type 0
@@ -156,20 +156,20 @@ unmapped settings s [] h = tt
 unmapped settings s (r ∷ rs) h = (h.0, unmapped settings s rs h.1)
 
 -- the first states that a run kept, up to one of them
-pub kept_before_last : StepsNote → (text : List (List ℕ)) (settings : Settings) (q : ℕ) (s : Running) (snaps : List Running)
+pub kept_before_last : StepsNote → (text : List (List ℕ)) (settings : Settings) (q : ℕ) (s : Running) (checkpoints : List Running)
     → slice_get (states_of text settings) (4 * q + 3) ≡ Some (rebound_run settings s)
-    → map (rebound_run settings) snaps ≡ take (suc q) (fourths 3 (states_of text settings))
-    → AreBefore s snaps
-kept_before_last law text settings q s snaps found are =
-    unmapped settings s snaps
+    → map (rebound_run settings) checkpoints ≡ take (suc q) (fourths 3 (states_of text settings))
+    → AreBefore s checkpoints
+kept_before_last law text settings q s checkpoints found are =
+    unmapped settings s checkpoints
     (subst (AreBefore s) (sym (are ∙ fourths_take 3 q (4 * q + 3) (states_of text settings) refl))
     (all_fourths (λ (t : Running). Includes (uses_of s) (uses_of t)) 3 (take (suc (4 * q + 3)) (states_of text settings))
     (first_of_run law settings (script_of text) (4 * q + 3) (rebound_run settings s) found)))
 
 -- where other settings agree on what was consulted up to the last of them, what is held in all of them agrees with those too
-pub held_too : (old new : Settings) (s : Running) (snaps : List Running) → AreBefore s snaps → Agree (uses_of s) old new → AreHeld old snaps → AreHeld new snaps
-held_too old new s snaps before agree held =
+pub held_too : (old new : Settings) (s : Running) (checkpoints : List Running) → AreBefore s checkpoints → Agree (uses_of s) old new → AreHeld old checkpoints → AreHeld new checkpoints
+held_too old new s checkpoints before agree held =
     all_both (λ (t : Running). Includes (uses_of s) (uses_of t)) (λ (t : Running). Agree (uses_of t) old t.host.state.settings)
-    (λ (t : Running). Agree (uses_of t) new t.host.state.settings) snaps
+    (λ (t : Running). Agree (uses_of t) new t.host.state.settings) checkpoints
     (λ t includes holds. agree_across (uses_of t) old new t.host.state.settings (agree_on_fewer (uses_of s) (uses_of t) old new includes agree) holds)
     before held

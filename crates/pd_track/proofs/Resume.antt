@@ -102,11 +102,11 @@ resumes_kept : StepsGoOn → (old text : List (List ℕ)) (settings : Settings) 
     → ((script_of old).header ≡ (script_of text).header) × (take (4 * suc q) (script_of old).events ≡ take (4 * suc q) (script_of text).events)
     → slice_get (fourths 3 (states_of old settings)) q ≡ Some s
     → GoesOn text settings (4 * suc q) s (take (suc q) (fourths 3 (states_of old settings)))
-resumes_kept law old text settings r s q begins underway same snap =
+resumes_kept law old text settings r s q begins underway same checkpoint =
     let m : ℕ = 4 * q + 3 in
     let count : 4 * suc q ≡ suc (4 * q + 3) = omega arith in
     let old_begins : BeginsIn old settings r = record {
-      fault = no_fault settings (script_of old) s q snap;
+      fault = no_fault settings (script_of old) s q checkpoint;
       start = ap (λ (h : Heading). start_of h.items settings) same.0 ∙ begins.start;
     } in
     let old_states : states_of old settings ≡ states_from (script_events old) r = states_begun old settings r old_begins in
@@ -115,17 +115,17 @@ resumes_kept law old text settings r s q begins underway same snap =
     let states : take (suc (4 * q + 3)) (states_from (script_events old) r) ≡ take (suc (4 * q + 3)) (states_from (script_events text) r) =
     states_same (suc (4 * q + 3)) (script_events old) (script_events text) r events in
     let there : slice_get (states_from (script_events old) r) (4 * q + 3) ≡ Some s =
-    sym (slice_get-fourths 3 q (states_from (script_events old) r)) ∙ (ap (λ (rs : List Running). slice_get (fourths 3 rs) q) (sym old_states) ∙ snap) in
+    sym (slice_get-fourths 3 q (states_from (script_events old) r)) ∙ (ap (λ (rs : List Running). slice_get (fourths 3 rs) q) (sym old_states) ∙ checkpoint) in
     let here : slice_get (states_from (script_events text) r) (4 * q + 3) ≡ Some s =
     sym (slice_get-take (4 * q + 3) (states_from (script_events text) r))
     ∙ (ap (λ (rs : List Running). slice_get rs (4 * q + 3)) (sym states) ∙ (slice_get-take (4 * q + 3) (states_from (script_events old) r) ∙ there)) in
-    let snaps : take (suc q) (fourths 3 (states_of old settings)) ≡ take (suc q) (fourths 3 (states_from (script_events text) r)) =
+    let checkpoints : take (suc q) (fourths 3 (states_of old settings)) ≡ take (suc q) (fourths 3 (states_from (script_events text) r)) =
     ap (λ (rs : List Running). take (suc q) (fourths 3 rs)) old_states
     ∙ (fourths_take 3 q (4 * q + 3) (states_from (script_events old) r) refl
     ∙ (ap (fourths 3) states ∙ sym (fourths_take 3 q (4 * q + 3) (states_from (script_events text) r) refl))) in
     let whole : GoesOn text settings (suc (4 * q + 3)) s (take (suc q) (fourths 3 (states_from (script_events text) r))) =
     resumes_at law text settings r s q (4 * q + 3) refl begins underway here in
-    subst (λ (rs : List Running). GoesOn text settings (4 * suc q) s rs) (sym snaps)
+    subst (λ (rs : List Running). GoesOn text settings (4 * suc q) s rs) (sym checkpoints)
     (subst (λ (n : ℕ). GoesOn text settings n s (take (suc q) (fourths 3 (states_from (script_events text) r)))) (sym count) whole)
 
 -- a run that begins is underway
@@ -136,21 +136,21 @@ begun_underway law text settings r begins = law (script_of text).header.items se
 pub uses_are : (track : Source) (count : ℕ) (s : Running) → 0 < count
     → slice_get (fourths 3 (states_of track.text track.settings)) (count - 1) ≡ Some (rebound_run track.settings s)
     → uses_of s ≡ uses track (4 * count)
-uses_are track zero s some snap = absurd (omega arith)
-uses_are track (suc q) s some snap =
+uses_are track zero s some checkpoint = absurd (omega arith)
+uses_are track (suc q) s some checkpoint =
     let last : suc q - 1 ≡ q = omega arith in
     let count : 4 * suc q ≡ suc (4 * q + 3) = omega arith in
     let found : slice_get (states_of track.text track.settings) (4 * q + 3) ≡ Some (rebound_run track.settings s) =
     sym (slice_get-fourths 3 q (states_of track.text track.settings))
-    ∙ subst (λ (n : ℕ). slice_get (fourths 3 (states_of track.text track.settings)) n ≡ Some (rebound_run track.settings s)) last snap in
+    ∙ subst (λ (n : ℕ). slice_get (fourths 3 (states_of track.text track.settings)) n ≡ Some (rebound_run track.settings s)) last checkpoint in
     sym (ap (uses track) count ∙ ap uses_in found)
 
 -- the states that a run kept, up to one that serves, are those of the run under the other settings, but for the settings held
 module _ (law : RunsOnlyUse) (track : Source) (settings : Settings) (s : Running) (q : ℕ)
-    (snap : slice_get (fourths 3 (states_of track.text track.settings)) q ≡ Some (rebound_run track.settings s))
+    (checkpoint : slice_get (fourths 3 (states_of track.text track.settings)) q ≡ Some (rebound_run track.settings s))
     (agree : Agree (uses_of s) track.settings settings) where
   there : slice_get (states_of track.text track.settings) (4 * q + 3) ≡ Some (rebound_run track.settings s)
-  there = sym (slice_get-fourths 3 q (states_of track.text track.settings)) ∙ snap
+  there = sym (slice_get-fourths 3 q (states_of track.text track.settings)) ∙ checkpoint
 
   first_states : take (suc q) (fourths 3 (states_of track.text settings)) ≡ map (rebound_run settings) (take (suc q) (fourths 3 (states_of track.text track.settings)))
   first_states =
@@ -164,53 +164,53 @@ module _ (law : RunsOnlyUse) (track : Source) (settings : Settings) (s : Running
       sym (slice_get-take q (fourths 3 (states_of track.text settings)))
       ∙ (ap (λ (rs : List Running). slice_get rs q) first_states
       ∙ (slice_get-map (rebound_run settings) (take (suc q) (fourths 3 (states_of track.text track.settings))) q
-      ∙ ap (option_map (rebound_run settings)) (slice_get-take q (fourths 3 (states_of track.text track.settings)) ∙ snap)))
+      ∙ ap (option_map (rebound_run settings)) (slice_get-take q (fourths 3 (states_of track.text track.settings)) ∙ checkpoint)))
 
 -- from the last state of a track that serves
 pub resumes_after : FirstEventsOfScriptsStay → StartsUnderway → StepsGoOn → StepsNote → RunsOnlyUse
-    → (track : Source) (text : List (List ℕ)) (settings : Settings) (r s : Running) (count events : ℕ) (snaps : List Running)
+    → (track : Source) (text : List (List ℕ)) (settings : Settings) (r s : Running) (count events : ℕ) (checkpoints : List Running)
     → AreLines track.text → AreLines text → 0 < count → BeginsIn text settings r → events ≡ kept track.text text → 4 * count ≤ events
     → Agree (uses track (4 * count)) track.settings settings
     → slice_get (fourths 3 (states_of track.text track.settings)) (count - 1) ≡ Some (rebound_run track.settings s)
-    → map (rebound_run track.settings) snaps ≡ take count (fourths 3 (states_of track.text track.settings)) → AreHeld track.settings snaps
-    → Resumes text settings (4 * count) (rebound_run settings s) snaps
-resumes_after same starts steps notes law track text settings r s zero events snaps old_lines lines some begins kept_is within agree snap snaps_are held = absurd (omega arith)
-resumes_after same starts steps notes law track text settings r s (suc q) events snaps old_lines lines some begins kept_is within agree snap snaps_are held =
+    → map (rebound_run track.settings) checkpoints ≡ take count (fourths 3 (states_of track.text track.settings)) → AreHeld track.settings checkpoints
+    → Resumes text settings (4 * count) (rebound_run settings s) checkpoints
+resumes_after same starts steps notes law track text settings r s zero events checkpoints old_lines lines some begins kept_is within agree checkpoint checkpoints_are held = absurd (omega arith)
+resumes_after same starts steps notes law track text settings r s (suc q) events checkpoints old_lines lines some begins kept_is within agree checkpoint checkpoints_are held =
     let few : 4 * suc q ≤ kept track.text text = omega arith in
     let last : suc q - 1 ≡ q = omega arith in
     let consulted : Agree (uses_of s) track.settings settings =
-    subst (λ (u : UseSet). Agree u track.settings settings) (sym (uses_are track (suc q) s some snap)) agree in
+    subst (λ (u : UseSet). Agree u track.settings settings) (sym (uses_are track (suc q) s some checkpoint)) agree in
     let at : slice_get (fourths 3 (states_of track.text track.settings)) q ≡ Some (rebound_run track.settings s) =
-    subst (λ (n : ℕ). slice_get (fourths 3 (states_of track.text track.settings)) n ≡ Some (rebound_run track.settings s)) last snap in
+    subst (λ (n : ℕ). slice_get (fourths 3 (states_of track.text track.settings)) n ≡ Some (rebound_run track.settings s)) last checkpoint in
     let whole : GoesOn text settings (4 * suc q) (rebound_run settings s) (take (suc q) (fourths 3 (states_of track.text settings))) =
     resumes_kept steps track.text text settings r (rebound_run settings s) q begins (begun_underway starts text settings r begins)
     (same track.text text (4 * suc q) old_lines lines (omega arith) few) (last_state law track settings s q at consulted) in
-    let snaps_here : map (rebound_run settings) snaps ≡ take (suc q) (fourths 3 (states_of track.text settings)) =
-    sym (twice track.settings settings snaps) ∙ (ap (map (rebound_run settings)) snaps_are ∙ sym (first_states law track settings s q at consulted)) in
+    let checkpoints_here : map (rebound_run settings) checkpoints ≡ take (suc q) (fourths 3 (states_of track.text settings)) =
+    sym (twice track.settings settings checkpoints) ∙ (ap (map (rebound_run settings)) checkpoints_are ∙ sym (first_states law track settings s q at consulted)) in
     record {
       fourth = whole.fourth;
       within = whole.within;
       underway = whole.underway;
       verdict = whole.verdict;
       steps = whole.steps;
-      kept = ap (λ (rs : List Running). rs ++ fourths 3 (states_from (drop (4 * suc q) (script_events text)) (rebound_run settings s))) snaps_here ∙ whole.kept;
+      kept = ap (λ (rs : List Running). rs ++ fourths 3 (states_from (drop (4 * suc q) (script_events text)) (rebound_run settings s))) checkpoints_here ∙ whole.kept;
       bound = refl;
       held =
-          held_too track.settings settings s snaps
-          (kept_before_last notes track.text track.settings q s snaps (there law track settings s q at consulted) snaps_are) consulted held;
+          held_too track.settings settings s checkpoints
+          (kept_before_last notes track.text track.settings q s checkpoints (there law track settings s q at consulted) checkpoints_are) consulted held;
     }
 
 -- what is held in a kept state agrees with the track's settings on all that was consulted up to there
-pub held_there : (track : Source) (k : ℕ) (snaps : List Running) (o : Option Running)
-    → map (rebound_run track.settings) snaps ≡ fourths 3 (states_of track.text track.settings) → AreHeld track.settings snaps → o ≡ slice_get snaps k
+pub held_there : (track : Source) (k : ℕ) (checkpoints : List Running) (o : Option Running)
+    → map (rebound_run track.settings) checkpoints ≡ fourths 3 (states_of track.text track.settings) → AreHeld track.settings checkpoints → o ≡ slice_get checkpoints k
     → IfSome o (λ (s : Running). Agree (uses track (4 * (k + 1))) track.settings s.host.state.settings)
-held_there track k snaps None are held is = tt
-held_there track k snaps (Some s) are held is =
+held_there track k checkpoints None are held is = tt
+held_there track k checkpoints (Some s) are held is =
     let some : 0 < k + 1 = omega arith in
     let last : k + 1 - 1 ≡ k = omega arith in
     let found : slice_get (fourths 3 (states_of track.text track.settings)) k ≡ Some (rebound_run track.settings s) =
     ap (λ (rs : List Running). slice_get rs k) (sym are)
-    ∙ (slice_get-map (rebound_run track.settings) snaps k ∙ ap (option_map (rebound_run track.settings)) (sym is)) in
+    ∙ (slice_get-map (rebound_run track.settings) checkpoints k ∙ ap (option_map (rebound_run track.settings)) (sym is)) in
     let consulted : uses_of s ≡ uses track (4 * (k + 1)) =
     uses_are track (k + 1) s some (subst (λ (n : ℕ). slice_get (fourths 3 (states_of track.text track.settings)) n ≡ Some (rebound_run track.settings s)) (sym last) found) in
-    subst (λ (u : UseSet). Agree u track.settings s.host.state.settings) consulted (held_at track.settings snaps k s held (sym is))
+    subst (λ (u : UseSet). Agree u track.settings s.host.state.settings) consulted (held_at track.settings checkpoints k s held (sym is))

@@ -38,8 +38,8 @@ on_ok (Ok x) P p = p
 on_ok (Err x) P p = tt
 
 -- a run from where it was taken up comes to what the whole run does
-pub record Whole (job : Handed) (came : Verdict) (reading : DecidedScript) (snaps : List Running) (taken : ℕ) : Type 0 where
-  pub outcome : IsOutcome job.task came reading snaps
+pub record Whole (job : Handed) (came : Verdict) (reading : DecidedScript) (checkpoints : List Running) (taken : ℕ) : Type 0 where
+  pub outcome : IsOutcome job.task came reading checkpoints
   pub steps : taken ≡ steps job
 
 pub whole : StepsNote → (job : Handed) (reading : DecidedScript) (passed : ℕ) (state : Running) (before after : List Running) (es : List Event) (came : Verdict) (taken : ℕ)

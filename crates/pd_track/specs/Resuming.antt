@@ -21,21 +21,21 @@ pub record BeginsIn (text : List (List ℕ)) (settings : Settings) (state : Runn
   pub fault : (script_of text).fault ≡ None
   pub start : start_of (script_of text).header.items settings ≡ Ok state
 
--- the run that goes on in this state after so many events, with these snaps but for the settings held in them, gives what
--- the whole run gives
-pub record Resumes (text : List (List ℕ)) (settings : Settings) (passed : ℕ) (state : Running) (snaps : List Running) : Type 0 where
+-- the run that goes on in this state after so many events, with these checkpoints but for the settings held in them, gives
+-- what the whole run gives
+pub record Resumes (text : List (List ℕ)) (settings : Settings) (passed : ℕ) (state : Running) (checkpoints : List Running) : Type 0 where
   pub fourth : passed % 4 ≡ 0
   pub within : passed ≤ length (script_events text)
   pub underway : IsUnderway passed state
   pub verdict : verdict_from passed (drop passed (script_events text)) state ≡ verdict_of text settings
   pub steps : passed + stepped_from (drop passed (script_events text)) state ≡ stepped_of text settings
-  pub kept : map (rebound_run settings) snaps ++ fourths 3 (states_from (drop passed (script_events text)) state) ≡ fourths 3 (states_of text settings)
+  pub kept : map (rebound_run settings) checkpoints ++ fourths 3 (states_from (drop passed (script_events text)) state) ≡ fourths 3 (states_of text settings)
   pub bound : state.host.state.settings ≡ settings
-  pub held : AreHeld settings snaps
+  pub held : AreHeld settings checkpoints
 
 -- what the whole run of a task comes to, what is read of its text, and every fourth state but for the settings held in it
-pub record IsOutcome (task : Task) (came : Verdict) (reading : DecidedScript) (snaps : List Running) : Type 0 where
+pub record IsOutcome (task : Task) (came : Verdict) (reading : DecidedScript) (checkpoints : List Running) : Type 0 where
   pub verdict : came ≡ verdict_of task.text task.settings
   pub read : reading ≡ reading_of task.text
-  pub kept : map (rebound_run task.settings) snaps ≡ fourths 3 (states_of task.text task.settings)
-  pub held : AreHeld task.settings snaps
+  pub kept : map (rebound_run task.settings) checkpoints ≡ fourths 3 (states_of task.text task.settings)
+  pub held : AreHeld task.settings checkpoints

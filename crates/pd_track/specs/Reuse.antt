@@ -30,14 +30,14 @@ fourths (suc j) (r ∷ rs) = fourths j rs
 
 -- the settings held in each state agree with these on all that was consulted up to it
 abbrev pub AreHeld : Settings → List Running → Type 0
-AreHeld settings snaps = AllByRecursion (λ (r : Running). Agree (uses_of r) settings r.host.state.settings) snaps
+AreHeld settings checkpoints = AllByRecursion (λ (r : Running). Agree (uses_of r) settings r.host.state.settings) checkpoints
 
 -- what a track keeps: its text as it was read, and the states after 4, 8, 12 .. events of its run, but for the settings held
 -- in them, which agree with its own on all that was consulted up to there
-pub record IsTrack (text : List (List ℕ)) (settings : Settings) (reading : DecidedScript) (snaps : List Running) : Type 0 where
+pub record IsTrack (text : List (List ℕ)) (settings : Settings) (reading : DecidedScript) (checkpoints : List Running) : Type 0 where
   pub read : reading ≡ reading_of text
-  pub kept : map (rebound_run settings) snaps ≡ fourths 3 (states_of text settings)
-  pub held : AreHeld settings snaps
+  pub kept : map (rebound_run settings) checkpoints ≡ fourths 3 (states_of text settings)
+  pub held : AreHeld settings checkpoints
 
 -- the greatest number up to n that passes, or 0
 abbrev pub greatest : (ℕ → Bool) → ℕ → ℕ
@@ -48,11 +48,12 @@ greatest p (suc n) = if p (suc n) then suc n else greatest p n
 abbrev pub kept : List (List ℕ) → List (List ℕ) → ℕ
 kept old new = kept_of (front old new) (reading_of old)
 
--- how many events of its track's text a job keeps: none without a track
+-- how many events of a track's text another text keeps: none without a track
 abbrev pub kept_of_track : Option Source → List (List ℕ) → ℕ
 kept_of_track None text = 0
 kept_of_track (Some track) text = kept track.text text
 
+-- how many events of its track's text a job keeps
 abbrev pub kept_before : Handed → ℕ
 kept_before job = kept_of_track job.track job.task.text
 
@@ -76,10 +77,11 @@ abbrev pub serves : Source → Settings → ℕ → Bool
 serves track settings events =
     events % 4 == 0 && nat_le events (reached track.text track.settings) && agrees (uses track events) track.settings settings
 
--- how many events of a text needn't be run after a track
+-- how many events of a text under settings needn't be run after a track
 abbrev pub from_track : Source → List (List ℕ) → Settings → ℕ
 from_track track text settings = greatest (serves track settings) (kept track.text text)
 
+-- how many events of a text under settings needn't be run: none without a track
 abbrev pub from_of : Option Source → List (List ℕ) → Settings → ℕ
 from_of None text settings = 0
 from_of (Some track) text settings = from_track track text settings

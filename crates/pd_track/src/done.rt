@@ -12,8 +12,11 @@ use std::marker::Model;
 /// What a job came to. `run_job` alone makes one: its verdict is the run of its text under its settings.
 #[derive(Drop)]
 pub struct Done {
+    /// What was run.
     task: Task,
+    /// The verdict of its text under its settings.
     verdict: Verdict,
+    /// What the run left.
     track: Track,
 }
 

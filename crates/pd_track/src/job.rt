@@ -11,8 +11,11 @@ use std::marker::Model;
 /// A script's text to be run under settings, with the job's number, and perhaps what an earlier run left.
 #[derive(Drop)]
 pub struct Job {
+    /// What is to be run.
     task: Task,
+    /// What an earlier run left, if that is kept.
     track: Option<Track>,
+    /// With how many lines the text begins as the track's does; 0 without a track.
     same: usize,
 }
 

@@ -7,21 +7,21 @@
 //! track.
 #![tactic(auto)]
 
+mod checkpoint;
 mod done;
 mod job;
 mod laws;
 mod progress;
 mod resuming;
 mod running;
-mod snap;
 mod task;
 mod track;
 mod trail;
 
+pub use checkpoint::Checkpoint;
 pub use done::{Done, Unfinished};
 pub use job::Job;
 pub use laws::runs_begin_last;
 pub use running::run_job;
-pub use snap::Snap;
 pub use task::Task;
 pub use track::Track;

@@ -5,7 +5,7 @@ ghost use Rattle.pd_run.specs.Laws.{IsUnderway};
 ghost use Rattle.pd_run.specs.Run.{verdict_from, stepped_from, states_from};
 ghost use Rattle.pd_track.specs.Reuse.{fourths};
 
-use crate::snap::Snap;
+use crate::checkpoint::Checkpoint;
 use pd_reparse::Decided;
 use pd_run::{RunState, StepEnd, Stepper, Verdict, runs_are_bounded};
 use pd_settings::Settings;
@@ -15,9 +15,12 @@ use std::alloc::{AllocError, Global};
 /// How far a run has come: its state after so many events, and those after each fourth of them.
 #[derive(Drop)]
 pub struct Progress {
+    /// The state after the events that passed.
     pub state: RunState,
+    /// How many events have passed, at most 4,096.
     pub passed: usize,
-    pub snaps: SharedList<Snap>,
+    /// The states after each fourth of them, in order.
+    pub checkpoints: SharedList<Checkpoint>,
 }
 
 impl Progress {
@@ -25,16 +28,19 @@ impl Progress {
     pub fn new(alloc: Global, state: RunState) -> Progress
         ensures state { result.state ≡ state }
         ensures passed { result.passed ≡ 0 }
-        ensures snaps { result.snaps ≡ [] }
+        ensures checkpoints { result.checkpoints ≡ [] }
     {
         Progress {
             state,
             passed: 0,
-            snaps: SharedList::new(alloc),
+            checkpoints: SharedList::new(alloc),
         }
     }
 
     /// Runs those of the events that are left, up to the first that stops the run.
+    ///
+    /// # Errors
+    /// `AllocError` where the stepper answers it, or memory for a kept state is refused.
     pub fn run<S: Stepper>(
         &mut self,
         events: &SharedList<Decided>,
@@ -49,7 +55,7 @@ impl Progress {
         ensures verdict { IfOk result (λ verdict. verdict ≡ verdict_from self.old.passed (events_behind self.old.passed events.now) self.old.state) }
         ensures steps { OnOk result (S.counted stepper.new ≡ S.counted stepper.old + stepped_from (events_behind self.old.passed events.now) self.old.state) }
         ensures few { OnOk result (S.counted stepper.new ≤ S.counted stepper.old + length events.now) }
-        ensures snaps { OnOk result (self.new.snaps ≡ self.old.snaps ++ fourths 3 (states_from (events_behind self.old.passed events.now) self.old.state)) }
+        ensures checkpoints { OnOk result (self.new.checkpoints ≡ self.old.checkpoints ++ fourths 3 (states_from (events_behind self.old.passed events.now) self.old.state)) }
     {
         runs_are_bounded();
         for i in self.passed..events.len() {
@@ -66,11 +72,11 @@ impl Progress {
         requires { self.old.passed < 4096 }
         ensures state { self.new.state ≡ self.old.state }
         ensures passed { OnOk result (self.new.passed ≡ self.old.passed + 1) }
-        ensures snaps { OnOk result (self.new.snaps ≡ self.old.snaps ++ (if (self.old.passed + 1) % 4 == 0 then self.new.state ∷ [] else [])) }
+        ensures checkpoints { OnOk result (self.new.checkpoints ≡ self.old.checkpoints ++ (if (self.old.passed + 1) % 4 == 0 then self.new.state ∷ [] else [])) }
     {
         self.passed += 1;
         if self.passed % 4 == 0 {
-            self.snaps.push(Snap::new(&self.state)?)?;
+            self.checkpoints.push(Checkpoint::new(&self.state)?)?;
         }
         Ok(())
     }

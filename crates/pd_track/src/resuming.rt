@@ -8,9 +8,9 @@ ghost use Rattle.pd_settings.specs.Uses.{agrees};
 ghost use Rattle.pd_track.specs.Reuse.{AreHeld, from, from_track, serves, uses, greatest, fourths, kept, kept_before};
 ghost use Rattle.pd_track.specs.Resuming.{BeginsIn, Resumes};
 
+use crate::checkpoint::Checkpoint;
 use crate::job::Job;
 use crate::progress::Progress;
-use crate::snap::Snap;
 use crate::track::Track;
 use pd_reparse::{Reread, first_events, read, reread};
 use pd_run::{RunState, runs_are_bounded, runs_only_use};
@@ -20,6 +20,9 @@ use pd_text::Text;
 use std::alloc::{AllocError, Global};
 
 /// Reads a job's text, from the first event on that the track's reading doesn't settle.
+///
+/// # Errors
+/// `AllocError` where a growth is refused.
 pub fn read_job(alloc: Global, job: &Job) -> Result<Reread, AllocError>
     ensures reading { IfOk result (λ r. r.reading ≡ reading_of job.now.task.text) }
     ensures kept { IfOk result (λ r. r.kept ≡ kept_before job.now) }
@@ -51,11 +54,14 @@ fn have_lines(text: &Text)
 }
 
 /// Begins a job's run, which before its first event is in this state, where the track allows.
+///
+/// # Errors
+/// `AllocError` where memory for the states that are taken up is refused; never where none of them serves.
 pub fn begin(alloc: Global, job: &Job, kept: usize, fresh: RunState) -> Result<Progress, AllocError>
     requires kept { kept ≡ kept_before job.now }
     requires fresh { BeginsIn job.now.task.text job.now.task.settings fresh }
     ensures passed { IfOk result (λ p. p.passed ≡ from job.now) }
-    ensures resumes { IfOk result (λ p. Resumes job.now.task.text job.now.task.settings p.passed p.state p.snaps) }
+    ensures resumes { IfOk result (λ p. Resumes job.now.task.text job.now.task.settings p.passed p.state p.checkpoints) }
 {
     match job.track() {
         Some(track) => begin_after(alloc, track, kept, job.text(), &job.settings(), fresh),
@@ -72,7 +78,7 @@ fn begin_fresh(
 ) -> Result<Progress, AllocError>
     requires fresh { BeginsIn _text.now _settings.now fresh }
     ensures passed { IfOk result (λ p. p.passed ≡ 0) }
-    ensures resumes { IfOk result (λ p. Resumes _text.now _settings.now p.passed p.state p.snaps) }
+    ensures resumes { IfOk result (λ p. Resumes _text.now _settings.now p.passed p.state p.checkpoints) }
 {
     runs_are_bounded();
     Ok(Progress::new(alloc, fresh))
@@ -90,7 +96,7 @@ fn begin_after(
     requires events { events ≡ kept track.now.text text.now }
     requires fresh { BeginsIn text.now settings.now fresh }
     ensures passed { IfOk result (λ p. p.passed ≡ from_track track.now text.now settings.now) }
-    ensures resumes { IfOk result (λ p. Resumes text.now settings.now p.passed p.state p.snaps) }
+    ensures resumes { IfOk result (λ p. Resumes text.now settings.now p.passed p.state p.checkpoints) }
 {
     let count = serving(track, events, settings);
     if count == 0 {
@@ -101,13 +107,13 @@ fn begin_after(
     have_lines(track.text());
     have_lines(text);
     runs_only_use();
-    let snaps = first_of(track, count)?;
+    let checkpoints = first_of(track, count)?;
     let mut state = state_at(track, count).copy()?;
     state.rebind(settings);
     Ok(Progress {
         state,
         passed: 4 * count,
-        snaps,
+        checkpoints,
     })
 }
 
@@ -125,7 +131,7 @@ fn serving(track: &Track, kept: usize, settings: &Settings) -> usize
 fn count_of(track: &Track) -> usize
     ensures { result ≡ length (fourths 3 (states_of track.now.text track.now.settings)) }
 {
-    track.snaps().len()
+    track.checkpoints().len()
 }
 
 /// The last of the first states up to which nothing was consulted that differs.
@@ -167,15 +173,15 @@ fn state_at(track: &Track, count: usize) -> &RunState
     requires within { count ≤ length (fourths 3 (states_of track.now.text track.now.settings)) }
     ensures { slice_get (fourths 3 (states_of track.now.text track.now.settings)) (count - 1) ≡ Some (rebound_run track.now.settings result.now) }
 {
-    track.snaps().at(count - 1).state()
+    track.checkpoints().at(count - 1).state()
 }
 
 /// The track's first states, shared.
-fn first_of(track: &Track, count: usize) -> Result<SharedList<Snap>, AllocError>
+fn first_of(track: &Track, count: usize) -> Result<SharedList<Checkpoint>, AllocError>
     requires { count ≤ length (fourths 3 (states_of track.now.text track.now.settings)) }
     ensures states { IfOk result (λ shared. map (rebound_run track.now.settings) shared ≡ take count (fourths 3 (states_of track.now.text track.now.settings))) }
     ensures held { IfOk result (λ shared. AreHeld track.now.settings shared) }
 {
-    let shared = track.snaps().first(count)?;
+    let shared = track.checkpoints().first(count)?;
     Ok(shared)
 }

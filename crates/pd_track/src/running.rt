@@ -4,11 +4,11 @@ ghost use Rattle.pd_reparse.specs.Reading.{reading_of, events_of};
 ghost use Rattle.pd_track.specs.Reuse.{from, steps, kept_before};
 ghost use Rattle.pd_track.specs.Resuming.{Resumes, IsOutcome, script_events};
 
+use crate::checkpoint::Checkpoint;
 use crate::done::{Done, Unfinished};
 use crate::job::Job;
 use crate::progress::Progress;
 use crate::resuming::{begin, read_job};
-use crate::snap::Snap;
 use crate::task::Task;
 use crate::track::Track;
 use pd_reparse::{Reading, Reread, readings};
@@ -19,9 +19,12 @@ use std::alloc::{AllocError, Global};
 /// What a run came to, what was read, and the states on its way.
 #[derive(Drop)]
 struct Outcome {
+    /// The verdict of the text under the settings.
     verdict: Verdict,
+    /// What the text was read as.
     reading: Reading,
-    snaps: SharedList<Snap>,
+    /// The states after each fourth event that passed, in order.
+    checkpoints: SharedList<Checkpoint>,
 }
 
 /// Runs a job with this stepper, which has room for 4,096 steps. The run begins in the last state of the job's track that
@@ -48,21 +51,27 @@ pub fn run_job<S: Stepper>(alloc: Global, job: Job, stepper: &mut S) -> Result<D
 
 /// The result of a task that was run.
 fn finish(alloc: Global, task: Task, outcome: Outcome) -> Result<Done, AllocError>
-    requires { IsOutcome task outcome.verdict outcome.reading outcome.snaps }
+    requires { IsOutcome task outcome.verdict outcome.reading outcome.checkpoints }
     ensures { IfOk result (λ done. done ≡ task) }
 {
     let Outcome {
         verdict,
         reading,
-        snaps,
+        checkpoints,
     } = outcome;
-    let track = Track::new(alloc, task.text.share()?, task.settings, reading, snaps)?;
+    let track = Track::new(
+        alloc,
+        task.text.share()?,
+        task.settings,
+        reading,
+        checkpoints,
+    )?;
     Ok(Done::new(task, verdict, track))
 }
 
 fn run<S: Stepper>(alloc: Global, job: &Job, stepper: &mut S) -> Result<Outcome, AllocError>
     requires room { S.counted stepper.old + 4096 < 2 ^ 64 }
-    ensures outcome { IfOk result (λ o. IsOutcome job.now.task o.verdict o.reading o.snaps) }
+    ensures outcome { IfOk result (λ o. IsOutcome job.now.task o.verdict o.reading o.checkpoints) }
     ensures steps { OnOk result (S.counted stepper.new ≡ S.counted stepper.old + steps job.now) }
     ensures few { OnOk result (S.counted stepper.new ≤ S.counted stepper.old + 4096) }
 {
@@ -72,7 +81,7 @@ fn run<S: Stepper>(alloc: Global, job: &Job, stepper: &mut S) -> Result<Outcome,
         return Ok(Outcome {
             verdict: Verdict::Syntax(line),
             reading,
-            snaps: SharedList::new(alloc),
+            checkpoints: SharedList::new(alloc),
         });
     }
     match RunState::new(alloc, reading.header(), &job.settings()) {
@@ -83,7 +92,7 @@ fn run<S: Stepper>(alloc: Global, job: &Job, stepper: &mut S) -> Result<Outcome,
         Err(verdict) => Ok(Outcome {
             verdict,
             reading,
-            snaps: SharedList::new(alloc),
+            checkpoints: SharedList::new(alloc),
         }),
     }
 }
@@ -99,8 +108,8 @@ fn go_on<S: Stepper>(
     requires room { S.counted stepper.old + 4096 < 2 ^ 64 }
     requires reading { reading ≡ reading_of job.now.task.text }
     requires passed { progress.passed ≡ from job.now }
-    requires resumes { Resumes job.now.task.text job.now.task.settings progress.passed progress.state progress.snaps }
-    ensures outcome { IfOk result (λ o. IsOutcome job.now.task o.verdict o.reading o.snaps) }
+    requires resumes { Resumes job.now.task.text job.now.task.settings progress.passed progress.state progress.checkpoints }
+    ensures outcome { IfOk result (λ o. IsOutcome job.now.task o.verdict o.reading o.checkpoints) }
     ensures steps { OnOk result (S.counted stepper.new ≡ S.counted stepper.old + steps job.now) }
     ensures few { OnOk result (S.counted stepper.new ≤ S.counted stepper.old + 4096) }
 {
@@ -111,6 +120,6 @@ fn go_on<S: Stepper>(
     Ok(Outcome {
         verdict,
         reading,
-        snaps: progress.snaps,
+        checkpoints: progress.checkpoints,
     })
 }

@@ -8,13 +8,18 @@ use std::alloc::AllocError;
 /// What a job is to run: the text of a script under the settings, both as at the job's start.
 #[derive(Drop)]
 pub struct Task {
+    /// The number of the job, in a book from 1 on.
     pub number: u64,
+    /// The name of the script.
     pub name: Name,
+    /// The text to be run.
     pub text: Text,
+    /// The settings to run it under.
     pub settings: Settings,
 }
 
 impl Task {
+    /// Whether both have the same number, name, text and settings.
     pub fn is_same(&self, other: &Task) -> bool
         ensures { IsTrue result ↔ (self.now ≡ other.now) }
     {
@@ -25,6 +30,9 @@ impl Task {
     }
 
     /// An equal task, which shares the text.
+    ///
+    /// # Errors
+    /// `AllocError` where a growth for the name is refused, or the count of the text's owners is full.
     pub fn share(&self) -> Result<Task, AllocError>
         ensures { IfOk result (λ task. task ≡ self.now) }
     {

@@ -6,7 +6,7 @@ ghost use Rattle.pd_run.specs.Run.{states_of};
 ghost use Rattle.pd_settings.specs.Uses.{Agree};
 ghost use Rattle.pd_track.specs.Reuse.{AreHeld, fourths, uses};
 
-use crate::snap::Snap;
+use crate::checkpoint::Checkpoint;
 use crate::trail::Trail;
 use pd_reparse::Reading;
 use pd_settings::Settings;
@@ -20,6 +20,7 @@ use std::sync::Arc;
 /// owners keep them. A text that is no script, or that stops in its header, has no states.
 #[derive(Drop)]
 pub struct Track {
+    /// What the run left, which each owner of the track shares.
     trail: Arc<Trail>,
 }
 
@@ -34,24 +35,31 @@ impl Model for Track {
 impl Track {
     ghost use Rattle.pd_track.specs.Reuse.{IsTrack};
 
+    /// A track of these parts, with one owner.
+    ///
+    /// # Errors
+    /// `AllocError` where a growth is refused.
     pub(crate) fn new(
         alloc: Global,
         text: Text,
         settings: Settings,
         reading: Reading,
-        snaps: SharedList<Snap>,
+        checkpoints: SharedList<Checkpoint>,
     ) -> Result<Track, AllocError>
-        requires { IsTrack text settings reading snaps }
+        requires { IsTrack text settings reading checkpoints }
         ensures { IfOk result (λ track. track ≡ record { text = text; settings = settings }) }
     {
-        let mut snaps = snaps;
-        snaps.seal()?;
+        let mut checkpoints = checkpoints;
+        checkpoints.seal()?;
         Ok(Track {
-            trail: Arc::new(alloc, Trail::new(text, settings, reading, snaps))?,
+            trail: Arc::new(alloc, Trail::new(text, settings, reading, checkpoints))?,
         })
     }
 
-    /// Another owner of the same track. Fails only where the count of owners is full.
+    /// Another owner of the same track.
+    ///
+    /// # Errors
+    /// `AllocError` only where the count of owners is full.
     pub fn share(&self) -> Result<Track, AllocError>
         ensures { IfOk result (λ track. track ≡ self.now) }
     {
@@ -82,19 +90,19 @@ impl Track {
     }
 
     /// The states after 4, 8, 12 .. events that passed, but for the settings held in them.
-    pub(crate) fn snaps(&self) -> &SharedList<Snap>
+    pub(crate) fn checkpoints(&self) -> &SharedList<Checkpoint>
         ensures states { map (rebound_run self.now.settings) result.now ≡ fourths 3 (states_of self.now.text self.now.settings) }
         ensures held { AreHeld self.now.settings result.now }
     {
-        self.trail.snaps()
+        self.trail.checkpoints()
     }
 
     /// The state after 4k + 4 events of the text under the settings, but for the settings held in it, where that many
     /// passed. Those held agree with the track's on all that these events consulted.
-    pub fn snap(&self, k: usize) -> Option<&Snap>
+    pub fn checkpoint(&self, k: usize) -> Option<&Checkpoint>
         ensures state { option_map (rebound_run self.now.settings) (option_copied result) ≡ slice_get (states_of self.now.text self.now.settings) (4 * k + 3) }
         ensures held { IfSome (option_copied result) (λ state. Agree (uses self.now (4 * (k + 1))) self.now.settings state.host.state.settings) }
     {
-        self.snaps().get(k)
+        self.checkpoints().get(k)
     }
 }

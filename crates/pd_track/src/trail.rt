@@ -5,7 +5,7 @@ ghost use Rattle.pd_run.specs.Consulted.{rebound_run};
 ghost use Rattle.pd_run.specs.Run.{states_of};
 ghost use Rattle.pd_track.specs.Reuse.{AreHeld, fourths};
 
-use crate::snap::Snap;
+use crate::checkpoint::Checkpoint;
 use pd_reparse::Reading;
 use pd_settings::Settings;
 use pd_shared::SharedList;
@@ -16,10 +16,14 @@ use std::marker::Model;
 /// A text that was run under settings, what was read of it, and the states after each fourth event that passed.
 #[derive(Drop)]
 pub struct Trail {
+    /// The text that was run.
     text: Text,
+    /// The settings that it was run under.
     settings: Settings,
+    /// What the text was read as.
     reading: Reading,
-    snaps: SharedList<Snap>,
+    /// The states after each fourth event that passed, in order, but for the settings held in them.
+    checkpoints: SharedList<Checkpoint>,
 }
 
 impl Model for Trail {
@@ -29,46 +33,56 @@ impl Model for Trail {
 
     ghost view = { λ t. record { text = t.text; settings = t.settings } };
 
-    ghost invariant = { λ t. IsTrack t.text t.settings t.reading t.snaps };
+    ghost invariant = { λ t. IsTrack t.text t.settings t.reading t.checkpoints };
 }
 
 impl Trail {
     ghost use Rattle.pd_track.specs.Reuse.{IsTrack};
 
-    pub fn new(text: Text, settings: Settings, reading: Reading, snaps: SharedList<Snap>) -> Trail
-        requires { IsTrack text settings reading snaps }
+    /// What a run of this text under these settings left.
+    pub fn new(
+        text: Text,
+        settings: Settings,
+        reading: Reading,
+        checkpoints: SharedList<Checkpoint>,
+    ) -> Trail
+        requires { IsTrack text settings reading checkpoints }
         ensures { result ≡ record { text = text; settings = settings } }
     {
         Trail {
             text,
             settings,
             reading,
-            snaps,
+            checkpoints,
         }
     }
 
+    /// The text that was run.
     pub fn text(&self) -> &Text
         ensures { result.now ≡ self.now.text }
     {
         &self.text
     }
 
+    /// The settings that it was run under.
     pub fn settings(&self) -> &Settings
         ensures { result.now ≡ self.now.settings }
     {
         &self.settings
     }
 
+    /// What the text was read as.
     pub fn reading(&self) -> &Reading
         ensures { result.now ≡ reading_of self.now.text }
     {
         &self.reading
     }
 
-    pub fn snaps(&self) -> &SharedList<Snap>
+    /// The states after each fourth event that passed, in order, but for the settings held in them.
+    pub fn checkpoints(&self) -> &SharedList<Checkpoint>
         ensures states { map (rebound_run self.now.settings) result.now ≡ fourths 3 (states_of self.now.text self.now.settings) }
         ensures held { AreHeld self.now.settings result.now }
     {
-        &self.snaps
+        &self.checkpoints
     }
 }

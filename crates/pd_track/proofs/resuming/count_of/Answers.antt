@@ -5,4 +5,4 @@ use Rattle.pd_run.specs.Consulted.{rebound_run}
 use Rattle.pd_track.proofs.resuming.count_of.Goals as goal
 
 pub returns : goal.returns
-returns c = c.len.ensures ∙ sym (length-map c.snaps.result.now (rebound_run c.args.track.now.settings)) ∙ ap length c.snaps.ensures.states
+returns c = c.len.ensures ∙ sym (length-map c.checkpoints.result.now (rebound_run c.args.track.now.settings)) ∙ ap length c.checkpoints.ensures.states

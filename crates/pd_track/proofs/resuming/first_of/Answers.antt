@@ -9,8 +9,8 @@ use Rattle.pd_track.proofs.resuming.first_of.Goals as goal
 pub returns-clause-states : goal.returns-clause-states
 returns-clause-states c =
     ap (map (rebound_run c.args.track.now.settings)) c.in_ok-shared.ensures
-    ∙ (sym (take-map (rebound_run c.args.track.now.settings) c.args.count c.snaps.result.now) ∙ ap (take c.args.count) c.snaps.ensures.states)
+    ∙ (sym (take-map (rebound_run c.args.track.now.settings) c.args.count c.checkpoints.result.now) ∙ ap (take c.args.count) c.checkpoints.ensures.states)
 
 pub returns-clause-held : goal.returns-clause-held
 returns-clause-held c =
-    subst (AreHeld c.args.track.now.settings) (sym c.in_ok-shared.ensures) (held_first c.args.track.now.settings c.args.count c.snaps.result.now c.snaps.ensures.held)
+    subst (AreHeld c.args.track.now.settings) (sym c.in_ok-shared.ensures) (held_first c.args.track.now.settings c.args.count c.checkpoints.result.now c.checkpoints.ensures.held)

@@ -8,9 +8,9 @@ use Rattle.pd_track.proofs.resuming.state_at.Goals as goal
 
 pub returns : goal.returns
 returns c =
-    let all = ap length c.snaps.ensures.states in
-    let same = length-map c.snaps.result.now (rebound_run c.args.track.now.settings) in
-    let below : c.args.count - 1 < length c.snaps.result.now = omega (arith, all, same, c.requires.some, c.requires.within) in
-    ap (λ rs. slice_get rs (c.args.count - 1)) (sym c.snaps.ensures.states)
-    ∙ (slice_get-map (rebound_run c.args.track.now.settings) c.snaps.result.now (c.args.count - 1)
-    ∙ ap (option_map (rebound_run c.args.track.now.settings)) (found_at (c.args.count - 1) c.snaps.result.now c.at.result.now below c.at.ensures ∙ ap (λ s. Some s) (sym c.state.ensures)))
+    let all = ap length c.checkpoints.ensures.states in
+    let same = length-map c.checkpoints.result.now (rebound_run c.args.track.now.settings) in
+    let below : c.args.count - 1 < length c.checkpoints.result.now = omega (arith, all, same, c.requires.some, c.requires.within) in
+    ap (λ rs. slice_get rs (c.args.count - 1)) (sym c.checkpoints.ensures.states)
+    ∙ (slice_get-map (rebound_run c.args.track.now.settings) c.checkpoints.result.now (c.args.count - 1)
+    ∙ ap (option_map (rebound_run c.args.track.now.settings)) (found_at (c.args.count - 1) c.checkpoints.result.now c.at.result.now below c.at.ensures ∙ ap (λ s. Some s) (sym c.state.ensures)))

@@ -34,12 +34,12 @@ loop-i-preserved g c =
       underway = subst (λ n. IsUnderway n c.pass.new.self.state) (sym passed) underway;
       verdict = sym more.verdict ∙ c.loop-i.invariant.verdict;
       steps = omega (arith, more.steps, c.step.ensures.one_more, c.loop-i.invariant.steps);
-      snaps = kept_more c.loop-i.self.snaps
+      checkpoints = kept_more c.loop-i.self.checkpoints
           (cond ((c.loop-i.self.passed + 1) % 4 == 0) (c.pass.new.self.state ∷ []) [])
-          c.pass.new.self.snaps
+          c.pass.new.self.checkpoints
           (fourths (3 - c.pass.new.self.passed % 4) (states_from (events_of rest) c.pass.new.self.state))
           _
-          c.in_ok-pass-in-Go.ensures.snaps
-          (ap (λ rs. c.loop-i.self.snaps ++ rs) (sym more.states) ∙ c.loop-i.invariant.snaps);
+          c.in_ok-pass-in-Go.ensures.checkpoints
+          (ap (λ rs. c.loop-i.self.checkpoints ++ rs) (sym more.states) ∙ c.loop-i.invariant.checkpoints);
       counted = omega (arith, c.step.ensures.one_more, c.loop-i.invariant.counted);
     }

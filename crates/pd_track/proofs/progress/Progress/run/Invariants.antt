@@ -16,8 +16,8 @@ invariant-loop-i g l =
       underway : IsUnderway l.self.passed l.self.state;
       verdict : verdict_from l.self.passed rest l.self.state ≡ verdict_from l.fn.self.passed all l.fn.self.state;
       steps : counted l.stepper + stepped_from rest l.self.state ≡ counted l.fn.stepper + stepped_from all l.fn.self.state;
-      snaps :
-          l.self.snaps ++ fourths (3 - l.self.passed % 4) (states_from rest l.self.state)
-          ≡ l.fn.self.snaps ++ fourths 3 (states_from all l.fn.self.state);
+      checkpoints :
+          l.self.checkpoints ++ fourths (3 - l.self.passed % 4) (states_from rest l.self.state)
+          ≡ l.fn.self.checkpoints ++ fourths 3 (states_from all l.fn.self.state);
       counted : counted l.stepper + l.fn.self.passed ≡ counted l.fn.stepper + l.i;
     }

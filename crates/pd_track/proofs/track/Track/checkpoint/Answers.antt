@@ -5,14 +5,14 @@ use Rattle.pd_run.specs.Consulted.{rebound_run}
 use Rattle.pd_run.specs.Run.{states_of}
 use Rattle.pd_track.proofs.Fourths.{slice_get-fourths}
 use Rattle.pd_track.proofs.Resume.{held_there}
-use Rattle.pd_track.proofs.track.Track.snap.Goals as goal
+use Rattle.pd_track.proofs.track.Track.checkpoint.Goals as goal
 
 pub returns-clause-state : goal.returns-clause-state
 returns-clause-state c =
     ap (option_map (rebound_run c.args.self.now.settings)) c.get.ensures
-    ∙ (sym (slice_get-map (rebound_run c.args.self.now.settings) c.snaps.result.now c.args.k)
-    ∙ (ap (λ rs. slice_get rs c.args.k) c.snaps.ensures.states ∙ slice_get-fourths 3 c.args.k (states_of c.args.self.now.text c.args.self.now.settings)))
+    ∙ (sym (slice_get-map (rebound_run c.args.self.now.settings) c.checkpoints.result.now c.args.k)
+    ∙ (ap (λ rs. slice_get rs c.args.k) c.checkpoints.ensures.states ∙ slice_get-fourths 3 c.args.k (states_of c.args.self.now.text c.args.self.now.settings)))
 
 pub returns-clause-held : goal.returns-clause-held
 returns-clause-held c =
-    held_there c.args.self.now c.args.k c.snaps.result.now (option_copied c.get.result) c.snaps.ensures.states c.snaps.ensures.held c.get.ensures
+    held_there c.args.self.now c.args.k c.checkpoints.result.now (option_copied c.get.result) c.checkpoints.ensures.states c.checkpoints.ensures.held c.get.ensures

@@ -8,11 +8,12 @@ use std::marker::Model;
 
 /// A state on the way of a run.
 #[derive(Drop)]
-pub struct Snap {
+pub struct Checkpoint {
+    /// The state, whatever settings are held in it.
     state: RunState,
 }
 
-impl Model for Snap {
+impl Model for Checkpoint {
     ghost use Rattle.pd_run.specs.Step.{Running};
 
     ghost Value = { Running };
@@ -20,13 +21,13 @@ impl Model for Snap {
     ghost view = { λ s. s.state };
 }
 
-impl Snap {
+impl Checkpoint {
     /// A copy of a state.
     #[inline(always)]
-    pub(crate) fn new(state: &RunState) -> Result<Snap, AllocError>
-        ensures { IfOk result (λ snap. snap ≡ state.now) }
+    pub(crate) fn new(state: &RunState) -> Result<Checkpoint, AllocError>
+        ensures { IfOk result (λ checkpoint. checkpoint ≡ state.now) }
     {
-        Ok(Snap {
+        Ok(Checkpoint {
             state: state.copy()?,
         })
     }
@@ -39,8 +40,8 @@ impl Snap {
     }
 }
 
-impl Copied for Snap {
-    fn copied(&self) -> Result<Snap, AllocError> {
-        Snap::new(&self.state)
+impl Copied for Checkpoint {
+    fn copied(&self) -> Result<Checkpoint, AllocError> {
+        Checkpoint::new(&self.state)
     }
 }
