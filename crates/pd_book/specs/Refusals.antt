@@ -32,7 +32,8 @@ abbrev pub or_else : Option BookFault → Option BookFault → Option BookFault
 or_else (Some fault) second = Some fault
 or_else None second = second
 
--- why no script of this name is added: it has 1 to 64 letters, digits, `_`, `-` and `.`, doesn't stand, and isn't the 1,025th
+-- why no script of this name is added: it has 1 to 64 letters, digits, `_`, `-` and `.`, doesn't stand, and isn't the
+-- 1,025th
 abbrev pub name_refusal : List Act → List ℕ → Option BookFault
 name_refusal past name =
     if not (is_valid_name name) then Some BadName else (

@@ -54,6 +54,7 @@ is_kept Taken present done shelf = true
 is_kept Stale None done shelf = false
 is_kept Stale (Some text) done shelf = shares_more text (source_of done) (track_of done.name shelf)
 
+-- the tracks after a finish by its ruling: that of the result is put first where it is kept
 abbrev pub shelved : Ruling → Option (List (List ℕ)) → Task → Shelf → Shelf
 shelved ruled present done shelf = if is_kept ruled present done shelf then put_first done.name (source_of done) shelf else shelf
 

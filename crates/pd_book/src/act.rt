@@ -28,6 +28,9 @@ pub enum Act {
 
 impl Act {
     /// An equal act of its own, which shares the text.
+    ///
+    /// # Errors
+    /// `AllocError` where a growth is refused, or the count of a text's owners is full.
     pub fn copy(&self) -> Result<Act, AllocError>
         ensures { IfOk result (λ act. act ≡ self.now) }
     {

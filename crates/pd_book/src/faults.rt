@@ -26,6 +26,7 @@ pub enum BookFault {
     TooManyScripts,
     /// The recorded acts and the outstanding jobs leave no room, of 65,536.
     HistoryFull,
+    /// A growth was refused.
     OutOfMemory,
 }
 
@@ -37,6 +38,7 @@ pub enum FinishFault {
     NoSuchJob,
     /// The outstanding job of this number has another name, text or settings.
     Foreign,
+    /// A growth was refused.
     OutOfMemory,
 }
 

@@ -18,7 +18,7 @@ mod scripts;
 mod shelf;
 
 pub use act::{Act, Ruling};
-pub use book_core::Book;
+pub use book_core::{Book, MAX_ACTS};
 pub use faults::{BookFault, FinishFault};
 pub use laws::{accepting, headline, settling};
 pub use pd_track::{Done, Job, Task, Track, Unfinished, run_job};

@@ -14,20 +14,27 @@ use std::alloc::Global;
 /// A job to hand out, its task to keep and its act to record.
 #[derive(Drop)]
 pub struct Prepared {
+    /// The job to hand out.
     pub job: Job,
+    /// What it runs, to be kept until the job ends.
     pub task: Task,
+    /// The start to record.
     pub act: Act,
 }
 
 /// What a book keeps: the acts, the oldest first, the tasks of the outstanding jobs, and the scripts.
 #[derive(Drop)]
 pub struct Records {
+    /// The accepted calls, the oldest first; they have room for the end of each outstanding job.
     pub acts: Vec<Act>,
+    /// What the outstanding jobs run, in the order of their starts.
     pub tasks: Vec<Task>,
+    /// The scripts that stand, in order of adding.
     pub scripts: Scripts,
 }
 
 impl Records {
+    /// Of a book without acts.
     pub fn new(alloc: Global) -> Records
         ensures acts { result.acts.items ≡ [] }
         ensures tasks { result.tasks.items ≡ [] }
@@ -96,7 +103,7 @@ pub fn record(acts: &mut Vec<Act>, act: Act)
     ensures past { reverse acts.new.items ≡ act ∷ reverse acts.old.items }
     ensures capacity { vec_capacity acts.old ≤ vec_capacity acts.new }
 {
-    acts.push(act).unwrap();
+    acts.push_reserved(act);
 }
 
 /// Keeps a task.
@@ -104,7 +111,7 @@ fn hold(tasks: &mut Vec<Task>, task: Task)
     requires { vec_len tasks.old < vec_capacity tasks.old }
     ensures { tasks.new.items ≡ tasks.old.items ++ task ∷ [] }
 {
-    tasks.push(task).unwrap();
+    tasks.push_reserved(task);
 }
 
 /// The task of this number.

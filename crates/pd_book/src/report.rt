@@ -10,7 +10,9 @@ use std::marker::Model;
 /// text under these settings.
 #[derive(Drop)]
 pub struct Report {
+    /// The settings under which the verdicts hold.
     settings: Settings,
+    /// A row for each script, in order of adding.
     rows: Vec<Row>,
 }
 

@@ -17,11 +17,14 @@ pub enum State {
 /// A script: its present text and how it stands.
 #[derive(Drop)]
 pub struct Script {
+    /// Its present text.
     pub text: Text,
+    /// How it stands since its last change.
     pub state: State,
 }
 
 impl State {
+    /// Whether no job runs it and none has answered it.
     pub fn is_pending(&self) -> bool
         ensures { result ≡ pending_state self.now }
     {
@@ -31,6 +34,7 @@ impl State {
         }
     }
 
+    /// The verdict, once a job has answered the script.
     pub fn verdict(&self) -> Option<Verdict>
         ensures { result ≡ verdict_in self.now }
     {

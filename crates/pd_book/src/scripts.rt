@@ -19,6 +19,7 @@ use std::marker::Model;
 /// The scripts under their names, in order of adding.
 #[derive(Drop)]
 pub struct Scripts {
+    /// Each script under its name, in order of adding.
     by_name: IndexMap<Name, Script>,
 }
 
@@ -32,6 +33,7 @@ impl Model for Scripts {
 }
 
 impl Scripts {
+    /// No scripts.
     pub fn new(alloc: Global) -> Scripts
         ensures { result ≡ [] }
     {
@@ -40,18 +42,21 @@ impl Scripts {
         }
     }
 
+    /// How many stand.
     pub fn len(&self) -> usize
         ensures { result ≡ length self.now }
     {
         self.by_name.len()
     }
 
+    /// Whether a script of this name stands.
     pub fn contains(&self, name: &Name) -> bool
         ensures { result ≡ is_some (lookup (bytes_eq name.now) self.now) }
     {
         self.by_name.contains_key(name)
     }
 
+    /// The text of the script of this name, if one stands.
     pub fn text(&self, name: &Name) -> Option<&Text>
         ensures { option_copied result ≡ option_map (λ s. s.text) (lookup (bytes_eq name.now) self.now) }
     {
@@ -62,6 +67,9 @@ impl Scripts {
     }
 
     /// Adds a script, pending, behind the others.
+    ///
+    /// # Errors
+    /// `AllocError` where a growth is refused; the scripts are as before then.
     pub fn add(&mut self, name: Name, text: Text) -> Result<(), AllocError>
         requires { lookup (bytes_eq name) self.old ≡ None }
         ensures ok { OnOk result (self.new ≡ self.old ++ (name, record { text = text; state = State.Pending }) ∷ []) }
@@ -131,6 +139,9 @@ impl Scripts {
     }
 
     /// A row for each script.
+    ///
+    /// # Errors
+    /// `AllocError` where a growth is refused, or the count of a text's owners is full.
     pub fn rows(&self, alloc: Global) -> Result<Vec<Row>, AllocError>
         ensures { IfOk result (λ rows. rows.items ≡ map kept_row self.now) }
     {

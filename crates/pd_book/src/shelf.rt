@@ -19,8 +19,9 @@ use std::num::NonZeroUsize;
 pub struct Tracks {
     /// None as long as no track was kept.
     cache: Option<LruCache<Name, Track>>,
+    /// How many tracks are kept at most.
     most: NonZeroUsize,
-    /// The track that fell out last, until another does or it is taken.
+    /// The track that was taken out last, until another is or it is handed out.
     spent: Option<Track>,
 }
 
@@ -69,12 +70,14 @@ impl Tracks {
         }
     }
 
-    /// Drops the track under a name.
+    /// Takes out the track under a name.
     pub fn remove(&mut self, name: &Name)
         ensures { self.new ≡ without_track name.now self.old }
     {
         if let Some(cache) = &mut self.cache {
-            let _ = cache.pop(name);
+            if let Some(track) = cache.pop(name) {
+                self.spent = Some(track);
+            }
         }
     }
 
@@ -97,7 +100,7 @@ impl Tracks {
         }
     }
 
-    /// Hands out the track that fell out last, if it is still there.
+    /// Hands out the track that was taken out last, if it is still there.
     pub fn take_spent(&mut self) -> Option<Track>
         ensures { self.new ≡ self.old }
     {
@@ -121,8 +124,8 @@ impl Tracks {
 }
 
 impl Book {
-    /// Hands out the track that a finish dropped last, if it is still there. Freeing one takes far longer than a finish: who
-    /// shares the book takes it along, and drops it where no other waits.
+    /// Hands out the track that a finish or a remove took out last, if it is still there. Freeing one takes far longer than
+    /// either: who shares the book takes it along, and drops it where no other waits.
     pub fn take_spent(&mut self) -> Option<Track>
         ensures { self.new ≡ self.old }
     {
