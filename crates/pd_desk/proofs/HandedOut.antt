@@ -1,5 +1,5 @@
 -- What a start hands out.
-use Rattle.std.proofs.Common.{Option, Some, None, Result, Ok, Err, IfOk, IfSome, OnOk, sym}
+use Rattle.std.proofs.Common.{Option, Some, None, Result, Ok, Err, IfOk, IfSome, sym}
 use Rattle.pd_book.specs.declared.faults.BookFault.{BookFault}
 use Rattle.pd_book.specs.declared.faults.BookFault.TheVariants.{OutOfMemory}
 use Rattle.pd_book.specs.Given.{GivesStart}
@@ -10,7 +10,7 @@ use Rattle.pd_desk.specs.Desk.{IsHandedOut}
 
 -- a start after a legal history hands out a job of that history
 pub handed_out : (old new : Story) (reply : Result (Option Handed) BookFault) → Unless OutOfMemory reply (GivesStart old reply new)
-    → OnOk reply (Legal old.opening old.past) → IfOk reply (λ given. IfSome given (λ (job : Handed). IsHandedOut job.task))
+    → Legal old.opening old.past → IfOk reply (λ given. IfSome given (λ (job : Handed). IsHandedOut job.task))
 handed_out old new (Ok (Some job)) gives legal = (old, legal, sym gives.1)
 handed_out old new (Ok None) gives legal = tt
 handed_out old new (Err fault) gives legal = tt

@@ -21,6 +21,6 @@ IsCurrent report = All (λ (row : Row). IsSome row.verdict) report.rows
 abbrev pub IsHandedOut : Task → Type 0
 IsHandedOut task = (story : Story) × Legal story.opening story.past × (next_job story ≡ Some task)
 
--- P holds of some two stories, one before and one after
+-- P holds of some legal story and one after it
 abbrev pub AfterSome : (Story → Story → Type 0) → Type 0
-AfterSome P = (before after : Story) × P before after
+AfterSome P = (before after : Story) × Legal before.opening before.past × P before after

@@ -4,9 +4,13 @@ ghost use Rattle.std.specs.Prelude.{◌≡◌, ◌+◌, ◌<◌, ◌↔◌, ◌^
 /// For how many workers a desk was opened, how many entered and left, and whether it is shut.
 #[derive(Drop)]
 pub struct Crew {
+    /// For how many workers the desk was opened.
     size: usize,
+    /// How many of them entered.
     entered: usize,
+    /// How many of them left.
     left: usize,
+    /// Whether they leave after their present jobs.
     is_shut: bool,
 }
 
@@ -56,6 +60,7 @@ impl Crew {
         self.left < self.size
     }
 
+    /// Whether all leave after their present jobs.
     pub fn is_shut(&self) -> bool
         ensures { result ≡ self.now.is_shut }
     {

@@ -18,7 +18,9 @@ use std::sync::{Condvar, Mutex, Wait};
 /// A book under one lock. The order in which the lock is taken is the order of the acts.
 #[derive(Drop)]
 pub struct Desk {
+    /// The book and the workers, under the lock.
     pub(crate) room: Mutex<Room>,
+    /// Wakes those that wait for a job or for a verdict.
     pub(crate) moved: Condvar,
 }
 
@@ -91,7 +93,7 @@ impl Desk {
         reply
     }
 
-    /// Takes a script out.
+    /// Takes a script out. Its track is freed outside the lock.
     ///
     /// # Errors
     /// Those of `Held::remove`.
@@ -100,8 +102,12 @@ impl Desk {
         ensures records { OnOk result (seat.new ≡ with_act seat.old (Act.Remove name.now)) }
         ensures refuses { OnErr result (seat.new ≡ seat.old) }
     {
-        let reply = self.room.lock(rt).held.remove(seat, name);
+        let mut room = self.room.lock(rt);
+        let reply = room.held.remove(seat, name);
+        let spent = room.held.take_spent();
+        drop(room);
         self.moved.notify_all();
+        drop(spent);
         reply
     }
 

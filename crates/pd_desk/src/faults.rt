@@ -2,6 +2,7 @@
 ghost use Rattle.std.specs.Prelude.{◌≡◌};
 ghost use Rattle.pd_desk.specs.Faults.{desk_fault_text};
 
+use pd_book::BookFault;
 use pd_seat::ShowFault;
 use std::alloc::AllocError;
 use std::fmt;
@@ -16,6 +17,7 @@ pub enum DeskFault {
     NoWorkers,
     /// As `ShowFault::Differs`.
     Differs,
+    /// A growth was refused.
     OutOfMemory,
 }
 
@@ -25,10 +27,10 @@ impl DeskFault {
         ensures { result.now ≡ desk_fault_text self }
     {
         match self {
-            DeskFault::HistoryFull => "11 HistoryFull",
+            DeskFault::HistoryFull => BookFault::HistoryFull.text(),
             DeskFault::NoWorkers => "12 NoWorkers",
-            DeskFault::Differs => "14 Differs",
-            DeskFault::OutOfMemory => "19 OutOfMemory",
+            DeskFault::Differs => ShowFault::Differs.text(),
+            DeskFault::OutOfMemory => ShowFault::OutOfMemory.text(),
         }
     }
 }

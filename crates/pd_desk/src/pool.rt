@@ -19,10 +19,15 @@ trait Task {
 /// A worker at its seat.
 #[derive(Drop)]
 struct Worker<'a, 'b, R, G> {
+    /// What it waits by.
     rt: &'a R,
+    /// What it allocates by.
     alloc: Global,
+    /// The desk that it works at.
     desk: &'a Desk,
+    /// What stands round each of its jobs.
     gate: &'a G,
+    /// Its seat.
     seat: &'b mut Seat,
 }
 

@@ -9,7 +9,9 @@ use pd_seat::Held;
 /// What callers share, and the workers.
 #[derive(Drop)]
 pub struct Room {
+    /// The book, and who made each of its acts.
     pub held: Held,
+    /// The workers.
     pub crew: Crew,
 }
 

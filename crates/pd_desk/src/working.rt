@@ -7,14 +7,11 @@ ghost use Rattle.pd_desk.specs.Work.{Works, IsWant, EndsJob, AbandonsJob};
 use crate::desk::Desk;
 use crate::faults::DeskFault;
 use crate::gate::Gate;
-use pd_book::{Act, BookFault, Job, Report, headline, run_job};
+use pd_book::{Act, BookFault, Job, MAX_ACTS, Report, headline, run_job};
 use pd_run::Stepper;
 use pd_seat::Seat;
 use std::alloc::Global;
 use std::sync::Wait;
-
-/// More jobs than any history holds.
-const MOST_JOBS: usize = 65_536;
 
 impl Desk {
     /// Waits until nothing is owed, and shows the report of that moment, in which no row is pending.
@@ -69,7 +66,7 @@ impl Desk {
         left
     }
 
-    /// Runs jobs until the desk is shut.
+    /// Runs jobs until the desk is shut, at most as many as a history has acts.
     fn run_jobs<R: Wait, G: Gate, S: Stepper>(
         &self,
         rt: &R,
@@ -82,7 +79,7 @@ impl Desk {
         ensures works { Works seat.old result seat.new }
         ensures entered { result ≢ Err DeskFault.NoWorkers }
     {
-        for _ in 0..MOST_JOBS {
+        for _ in 0..MAX_ACTS {
             let Some(job) = self.next_job(rt, seat)? else {
                 return Ok(());
             };
@@ -132,6 +129,7 @@ impl Desk {
         gate.after(number);
         match ran {
             Ok(done) => {
+                // Where it is refused, somebody else has ended the job, and nothing is left to do.
                 let _ = self.finish(rt, seat, &done);
                 Ok(())
             }

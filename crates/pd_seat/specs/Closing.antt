@@ -6,7 +6,8 @@ use Rattle.pd_seat.specs.declared.closing.CloseFault.{CloseFault}
 use Rattle.pd_seat.specs.declared.closing.CloseFault.TheVariants.{MissingSeat, Differs}
 use Rattle.pd_seat.specs.Seats.{Noted, SeatView, EachOnce, Accounts}
 
--- the book, whose history is legal and has a note for each act; in it each seat's acts stand once, in its order, and no others
+-- the book, whose history is legal and has a note for each act; in it each seat's acts stand once, in its order, and no
+-- others
 pub record Closes (held : Noted) (seats : List SeatView) (book : Contents) : Type 0 where
   pub same : book ≡ held.book
   pub legal : Legal book.story.opening book.story.past
@@ -14,12 +15,13 @@ pub record Closes (held : Noted) (seats : List SeatView) (book : Contents) : Typ
   pub once : EachOnce held.seats seats
   pub accounts : Accounts held seats
 
--- some seats are missing, and all comes back; or the seats' acts aren't those that are noted, and the book alone comes back
+-- some seats are missing, and all comes back; or the seats' acts aren't those that are noted, and the book alone comes
+-- back, with its legal history
 abbrev pub ClosesNot : Noted → List SeatView → CloseFault Noted → Type 0
 ClosesNot held seats (MissingSeat back them) = ¬ EachOnce held.seats seats × (back ≡ held) × (them.items ≡ seats)
-ClosesNot held seats (Differs book) = EachOnce held.seats seats × ¬ Accounts held seats × (book ≡ held.book)
+ClosesNot held seats (Differs book) = EachOnce held.seats seats × ¬ Accounts held seats × (book ≡ held.book) × Legal book.story.opening book.story.past
 
 -- the same of some book that the seats were of, where what comes back holds it
 abbrev pub ClosesNotAt : {H : Type 0} → List SeatView → CloseFault H → Type 0
 ClosesNotAt seats (MissingSeat back them) = (held : Noted) × (¬ EachOnce held.seats seats × (them.items ≡ seats))
-ClosesNotAt seats (Differs book) = (held : Noted) × (EachOnce held.seats seats × (¬ Accounts held seats × (book ≡ held.book)))
+ClosesNotAt seats (Differs book) = (held : Noted) × (EachOnce held.seats seats × (¬ Accounts held seats × ((book ≡ held.book) × Legal book.story.opening book.story.past)))

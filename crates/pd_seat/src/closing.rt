@@ -6,6 +6,7 @@ ghost use Rattle.pd_seat.specs.Closing.{Closes, ClosesNot};
 ghost use Rattle.pd_seat.specs.Faults.{close_fault_text};
 
 use crate::comparing::{is_each_below, is_each_once, is_own_of_each};
+use crate::faults::ShowFault;
 use crate::held::Held;
 use crate::seat::Seat;
 use pd_book::Book;
@@ -26,7 +27,7 @@ impl<H> CloseFault<H> {
     {
         match self {
             CloseFault::MissingSeat(..) => "13 MissingSeat",
-            CloseFault::Differs(_) => "14 Differs",
+            CloseFault::Differs(_) => ShowFault::Differs.text(),
         }
     }
 }

@@ -25,8 +25,11 @@ use std::marker::Model;
 /// seat's number and is then the seat's last. A refused call changes nothing.
 #[derive(Drop)]
 pub struct Held {
+    /// The book.
     pub(crate) book: Book,
+    /// The number of the seat that made each act, the oldest first.
     pub(crate) notes: Vec<usize>,
+    /// How many seats there are.
     pub(crate) seats: usize,
 }
 
@@ -44,6 +47,9 @@ impl Model for Held {
 
 impl Held {
     /// A book without acts, as `Book::new` gives it, which keeps 1 to 1,024 tracks, and seats 0 to the last.
+    ///
+    /// # Errors
+    /// `AllocError` where a growth is refused.
     pub fn new(
         alloc: Global,
         cache: usize,
@@ -74,6 +80,7 @@ impl Held {
     /// `OutOfMemory` for what is noted, else the book's.
     pub fn add(&mut self, seat: &mut Seat, name: Name, lines: Lines) -> Result<(), BookFault>
         ensures gives { Unless BookFault.OutOfMemory result (GivesAdd self.old.book.story name lines result self.new.book.story) }
+        ensures legal { Legal self.old.book.story.opening self.old.book.story.past }
         ensures records { OnOk result (Records self.old seat.old (Act.Add name lines) self.new seat.new) }
         ensures tracks { self.new.book.tracks ≡ self.old.book.tracks }
         ensures refuses { OnErr result ((self.new ≡ self.old) × (seat.new ≡ seat.old)) }
@@ -95,6 +102,7 @@ impl Held {
     /// `OutOfMemory` for what is noted, else the book's.
     pub fn edit(&mut self, seat: &mut Seat, name: &Name, edit: &LineEdit) -> Result<(), BookFault>
         ensures gives { Unless BookFault.OutOfMemory result (GivesEdit self.old.book.story name.now edit.now result self.new.book.story) }
+        ensures legal { Legal self.old.book.story.opening self.old.book.story.past }
         ensures records { OnOk result (Records self.old seat.old (Act.Edit name.now edit.now) self.new seat.new) }
         ensures tracks { self.new.book.tracks ≡ self.old.book.tracks }
         ensures refuses { OnErr result ((self.new ≡ self.old) × (seat.new ≡ seat.old)) }
@@ -115,6 +123,7 @@ impl Held {
     /// `OutOfMemory` for what is noted, else the book's.
     pub fn remove(&mut self, seat: &mut Seat, name: &Name) -> Result<(), BookFault>
         ensures gives { Unless BookFault.OutOfMemory result (GivesRemove self.old.book.story name.now result self.new.book.story) }
+        ensures legal { Legal self.old.book.story.opening self.old.book.story.past }
         ensures records { OnOk result (Records self.old seat.old (Act.Remove name.now) self.new seat.new) }
         ensures tracks { OnOk result (self.new.book.tracks ≡ without_track name.now self.old.book.tracks) }
         ensures refuses { OnErr result ((self.new ≡ self.old) × (seat.new ≡ seat.old)) }
@@ -135,6 +144,7 @@ impl Held {
     /// `OutOfMemory` for what is noted, else the book's.
     pub fn set(&mut self, seat: &mut Seat, key: &[u8], value: Value) -> Result<(), BookFault>
         ensures gives { Unless BookFault.OutOfMemory result (GivesSet self.old.book.story key.now value result self.new.book.story) }
+        ensures legal { Legal self.old.book.story.opening self.old.book.story.past }
         ensures records { OnOk result (IsSomeAnd (key_named key.now) (λ key. Records self.old seat.old (Act.Set key value) self.new seat.new)) }
         ensures tracks { self.new.book.tracks ≡ self.old.book.tracks }
         ensures refuses { OnErr result ((self.new ≡ self.old) × (seat.new ≡ seat.old)) }
@@ -168,10 +178,10 @@ impl Held {
     /// `OutOfMemory` for what is noted, also where no script waits, else the book's.
     pub fn start(&mut self, seat: &mut Seat) -> Result<Option<Job>, BookFault>
         ensures gives { Unless BookFault.OutOfMemory result (GivesStart self.old.book.story result self.new.book.story) }
+        ensures legal { Legal self.old.book.story.opening self.old.book.story.past }
         ensures records { IfOk result (λ given. IfSome given (λ job. Records self.old seat.old (Act.Start job.task.number job.task.name) self.new seat.new)) }
         ensures tracks { IfOk result (λ given. HandsOut given self.old.book.tracks self.new.book.tracks) }
         ensures none { IfOk result (λ given. IfNone given ((self.new ≡ self.old) × (seat.new ≡ seat.old))) }
-        ensures legal { OnOk result (Legal self.old.book.story.opening self.old.book.story.past) }
         ensures refuses { OnErr result ((self.new ≡ self.old) × (seat.new ≡ seat.old)) }
     {
         self.notes.reserve(self.book.outstanding_count() + 2)?;
@@ -196,6 +206,7 @@ impl Held {
     /// `NoSuchJob`, else `OutOfMemory` where another seat started the job, else `Foreign`.
     pub fn finish(&mut self, seat: &mut Seat, done: &Done) -> Result<Ruling, FinishFault>
         ensures gives { Unless FinishFault.OutOfMemory result (GivesFinish self.old.book.story done.now result self.new.book.story) }
+        ensures legal { Legal self.old.book.story.opening self.old.book.story.past }
         ensures records { IfOk result (λ ruling. Records self.old seat.old (Act.Finish done.now.number ruling) self.new seat.new) }
         ensures tracks { IfOk result (λ ruling. Shelves ruling (present self.old.book.story.past done.now.name) done.now self.old.book.tracks self.new.book.tracks) }
         ensures none { (result ≡ Err FinishFault.NoSuchJob) ↔ (job self.old.book.story.opening self.old.book.story.past done.now.number ≡ None) }
@@ -227,6 +238,7 @@ impl Held {
     /// `NoSuchJob`, else `OutOfMemory` where another seat started the job.
     pub fn abandon(&mut self, seat: &mut Seat, number: u64) -> Result<(), FinishFault>
         ensures gives { Unless FinishFault.OutOfMemory result (GivesAbandon self.old.book.story number result self.new.book.story) }
+        ensures legal { Legal self.old.book.story.opening self.old.book.story.past }
         ensures records { OnOk result (Records self.old seat.old (Act.Abandon number) self.new seat.new) }
         ensures tracks { self.new.book.tracks ≡ self.old.book.tracks }
         ensures none { (result ≡ Err FinishFault.NoSuchJob) ↔ (job self.old.book.story.opening self.old.book.story.past number ≡ None) }
@@ -248,7 +260,8 @@ impl Held {
     /// The report as it stands, of a history that agrees with the seat.
     ///
     /// # Errors
-    /// `Differs`, else `OutOfMemory`.
+    /// `Differs` where the seat's acts aren't those noted with its number, or it was shown a longer history; else
+    /// `OutOfMemory`.
     pub fn show(&self, seat: &mut Seat) -> Result<Report, ShowFault>
         ensures report { IfOk result (λ report. report ≡ shown self.now.book.story.opening self.now.book.story.past) }
         ensures shown_from { IfOk result (λ report. IsShownFrom self.now seat.old report seat.new) }

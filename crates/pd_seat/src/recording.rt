@@ -31,6 +31,9 @@ pub fn drop_job(open_jobs: &mut Vec<u64>, number: u64)
 }
 
 /// Makes room for the end of a job, beside the ends of the open ones. An open job has its room, and takes no memory.
+///
+/// # Errors
+/// `AllocError` where the job isn't open and a growth is refused.
 pub fn make_room(own: &mut Vec<Act>, open_jobs: &[u64], number: u64) -> Result<(), AllocError>
     requires { length own.old.items + length open_jobs.now ≤ vec_capacity own.old }
     ensures items { own.new.items ≡ own.old.items }

@@ -10,9 +10,13 @@ use std::marker::Model;
 /// report. The calls of a `Held` alone change it.
 #[derive(Drop)]
 pub struct Seat {
+    /// Its number, from 0.
     pub(crate) number: usize,
+    /// The acts that it made, the oldest first; they have room for the end of each open job.
     pub(crate) own: Vec<Act>,
+    /// The numbers of the jobs that its acts start and don't end.
     pub(crate) open_jobs: Vec<u64>,
+    /// How many acts the longest history had of which it was shown a report.
     pub(crate) longest: usize,
 }
 

@@ -4,10 +4,10 @@ use pd_desk::Gate;
 use std::io::Read;
 use std::{io, thread};
 
-/// Yields so often, by a seed and a moment.
+/// Yields some times by a seed and a moment, mostly a few: on a busy machine each may take a slice of time.
 fn delay(seed: u64, moment: u64) {
     let mut dice = Dice::new(seed.wrapping_add(moment));
-    let most = if dice.below(4) == 0 { 100 } else { 10 };
+    let most = if dice.below(8) == 0 { 60 } else { 6 };
     for _turn in 0..dice.below(most) {
         thread::yield_now();
     }

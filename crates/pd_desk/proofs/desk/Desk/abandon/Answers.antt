@@ -6,4 +6,4 @@ use Rattle.pd_desk.proofs.desk.Desk.abandon.Goals as goal
 
 pub returns-clause-gives : goal.returns-clause-gives
 returns-clause-gives g c =
-    after_some OutOfMemory c.abandon-reply.result (λ before after. GivesAbandon before c.args.number c.abandon-reply.result after) c.deref_mut.result.now.held.book.story c.abandon-reply.new.self.book.story c.abandon-reply.ensures.gives
+    after_some OutOfMemory c.abandon-reply.result (λ before after. GivesAbandon before c.args.number c.abandon-reply.result after) c.deref_mut.result.now.held.book.story c.abandon-reply.new.self.book.story c.abandon-reply.ensures.legal c.abandon-reply.ensures.gives

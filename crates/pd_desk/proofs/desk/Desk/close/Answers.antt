@@ -13,4 +13,4 @@ pub returns-in-Err-Differs-clause-err : goal.returns-in-Err-Differs-clause-err
 returns-in-Err-Differs-clause-err c =
     let held = c.into_inner-held.result.held in
     let back = subst (ClosesNot held c.args.seats.items) c.in-Err-Differs.field-0-is c.in-Err-Differs.ensures.err in
-    (held, (back.0, (back.1, back.2)))
+    (held, (back.0, (back.1, (back.2, back.3))))

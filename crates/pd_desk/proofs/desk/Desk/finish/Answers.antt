@@ -6,4 +6,4 @@ use Rattle.pd_desk.proofs.desk.Desk.finish.Goals as goal
 
 pub returns-clause-gives : goal.returns-clause-gives
 returns-clause-gives g c =
-    after_some OutOfMemory c.finish-reply.result (λ before after. GivesFinish before c.args.done.now c.finish-reply.result after) c.deref_mut.result.now.held.book.story c.finish-reply.new.self.book.story c.finish-reply.ensures.gives
+    after_some OutOfMemory c.finish-reply.result (λ before after. GivesFinish before c.args.done.now c.finish-reply.result after) c.deref_mut.result.now.held.book.story c.finish-reply.new.self.book.story c.finish-reply.ensures.legal c.finish-reply.ensures.gives

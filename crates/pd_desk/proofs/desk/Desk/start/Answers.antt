@@ -11,4 +11,4 @@ returns-clause-given g c =
 
 pub returns-clause-gives : goal.returns-clause-gives
 returns-clause-gives g c =
-    after_some OutOfMemory c.start-reply.result (λ before after. GivesStart before c.start-reply.result after) c.deref_mut.result.now.held.book.story c.start-reply.new.self.book.story c.start-reply.ensures.gives
+    after_some OutOfMemory c.start-reply.result (λ before after. GivesStart before c.start-reply.result after) c.deref_mut.result.now.held.book.story c.start-reply.new.self.book.story c.start-reply.ensures.legal c.start-reply.ensures.gives
