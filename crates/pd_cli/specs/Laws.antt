@@ -3,13 +3,12 @@ use Rattle.std.specs.Prelude.{◌≡◌, ℕ, List, [], ◌∷◌, ◌++◌, Res
 use Rattle.pd_settings.specs.declared.fields.Settings.{Settings}
 use Rattle.pd_book.specs.Acts.{texts, now}
 use Rattle.pd_book.specs.Story.{Story}
-use Rattle.pd_book.specs.Report.{scratch}
 use Rattle.pd_book.specs.Turns.{IsAtRest, IsSettled}
 use Rattle.pd_book.specs.Headline.{RowsAreOfScratch}
 use Rattle.pd_cli.specs.Report.{rendered}
 use Rattle.pd_cli.specs.Commands.{Item, does, stops, commands}
 use Rattle.pd_cli.specs.Output.{report, effect, ahead, outcome, output}
-use Rattle.pd_cli.specs.Beside.{MayPrint}
+use Rattle.pd_cli.specs.Beside.{from_scratch, MayPrint}
 use Rattle.pd_cli.specs.declared.command.Command.{Command}
 use Rattle.pd_cli.specs.declared.command.Command.TheVariants.{Show, Settle}
 use Rattle.pd_cli.specs.declared.faults.ServeFault.{ServeFault}
@@ -54,7 +53,7 @@ abbrev pub SettlesPrintScratch : Type 0
 SettlesPrintScratch =
     (settings : Settings) → (input octets : List ℕ) → (story : Story) → (rest : List Item) → Reaches settings input octets story (does Settle ∷ rest)
     → (printed : List ℕ) → (after : Story) → effect story Settle ≡ Ok (printed, after)
-    → IsSettled story after × (printed ≡ rendered (scratch (texts story.past) (now story.opening story.past)))
+    → IsSettled story after × (printed ≡ rendered (from_scratch story))
 
 -- a show prints the report as it stands, in which each row is pending or the one from scratch
 abbrev pub ShowsPrintPart : Type 0

@@ -21,6 +21,7 @@ abbrev pub in_document : Result Settings SettingsFault → Result Settings Progr
 in_document (Ok settings) = Ok settings
 in_document (Err fault) = Err (of_settings fault)
 
+-- the settings of a parsed document, or its fault: a text that is no TOML has none
 abbrev pub settings_of : Option Members → Result Settings ProgramFault
 settings_of None = Err NotToml
 settings_of (Some entries) = in_document (from_table_of entries)
@@ -62,7 +63,8 @@ Tells false said line = (n : ℕ) × (said ≡ take n line)
 abbrev pub Says : Bool → Option (List ℕ) → Option (List ℕ) → List ℕ → Type 0
 Says told before after line = (said : List ℕ) × Appends before after said × Tells told said line
 
--- a run with so many workers and this settings text came to an end with its status, said what that has to say, and wrote what belongs to it
+-- a run with so many workers and this settings text came to an end with its status, said what that has to say, and wrote
+-- what belongs to it
 abbrev pub Finishes : Exit → ℕ → List ℕ → Option (List ℕ) → Option (List ℕ) → Option (List ℕ) → Option (List ℕ) → Option (List ℕ) → Type 0
 Finishes exit workers text input out_before out_after err_before err_after =
     (end : Result Bool ProgramFault) × (exit.status ≡ status_of end) × Says exit.told err_before err_after (said_of end)

@@ -11,6 +11,9 @@ use pd_text::{LineEdit, Lines, Name};
 use std::alloc::{AllocError, Global};
 
 /// Adds a script, and gives what this prints.
+///
+/// # Errors
+/// `OutOfMemory` where the book or what is printed finds no memory. What else the book refuses is printed.
 pub fn add(
     alloc: Global,
     book: &mut Book,
@@ -27,6 +30,9 @@ pub fn add(
 }
 
 /// Edits a script, and gives what this prints.
+///
+/// # Errors
+/// `OutOfMemory` where the book or what is printed finds no memory. What else the book refuses is printed.
 pub fn edit(
     alloc: Global,
     book: &mut Book,
@@ -43,6 +49,9 @@ pub fn edit(
 }
 
 /// Removes a script, and gives what this prints.
+///
+/// # Errors
+/// `OutOfMemory` where the book or what is printed finds no memory. What else the book refuses is printed.
 pub fn remove(alloc: Global, book: &mut Book, name: &Name) -> Result<Vec<u8>, ServeFault>
     ensures reply { IfOk result (λ octets. effect book.old.story (Command.Remove name.now) ≡ Ok (octets.items, book.new.story)) }
     ensures only { IfErr result (λ fault. fault ≡ ServeFault.OutOfMemory) }
@@ -51,6 +60,9 @@ pub fn remove(alloc: Global, book: &mut Book, name: &Name) -> Result<Vec<u8>, Se
 }
 
 /// Sets a setting, and gives what this prints.
+///
+/// # Errors
+/// `OutOfMemory` where the book or what is printed finds no memory. What else the book refuses is printed.
 pub fn set(alloc: Global, book: &mut Book, key: &Name, value: Value) -> Result<Vec<u8>, ServeFault>
     ensures reply { IfOk result (λ octets. effect book.old.story (Command.Set key.now value) ≡ Ok (octets.items, book.new.story)) }
     ensures only { IfErr result (λ fault. fault ≡ ServeFault.OutOfMemory) }
@@ -71,6 +83,9 @@ fn reply(alloc: Global, answer: Result<(), BookFault>) -> Result<Vec<u8>, ServeF
 }
 
 /// The line of a refusal.
+///
+/// # Errors
+/// `AllocError` where a growth is refused.
 pub fn refusal_line(alloc: Global, fault: BookFault) -> Result<Vec<u8>, AllocError>
     ensures { IfOk result (λ octets. octets.items ≡ refused fault) }
 {

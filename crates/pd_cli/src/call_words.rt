@@ -11,6 +11,9 @@ use std::io::Write;
 use std::{env, io};
 
 /// The words of a call, of which the first is the program's own name.
+///
+/// # Errors
+/// One of the kind `OutOfMemory` where a growth is refused; else why the words can't be read as text.
 pub fn arguments<H: Env + AllocGlobal>(rt: &H) -> io::Result<Vec<String>> {
     let args = env::args(rt)?;
     Ok(args.collect::<Vec<String>>(rt.alloc())?)

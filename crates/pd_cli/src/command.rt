@@ -8,7 +8,7 @@ ghost use Rattle.pd_cli.specs.Taking.{TakesLines, LinesFault, AsksLine, HasReque
 use crate::faults::ServeFault;
 use crate::gathered::Gathered;
 use crate::intake::{Intake, Taken};
-use crate::requests::Request;
+use crate::requests::{MAX_COMMAND, Request};
 use pd_settings::Value;
 use pd_text::{LineEdit, LineList, Lines, MAX_OCTETS, Name};
 use std::alloc::{AllocError, Global};
@@ -72,14 +72,10 @@ fn next_request<R: Read>(
     ensures only { IfErr result IsIo }
 {
     loop {
-        let taken = intake.next_line(alloc, reader, 256)?;
+        let taken = intake.next_line(alloc, reader, MAX_COMMAND)?;
         match line_asks(alloc, intake, taken)? {
-            None => return Ok(None),
-            Some(request) => {
-                if !request.is_nothing() {
-                    return Ok(Some(request));
-                }
-            }
+            Some(request) if request.is_nothing() => {}
+            asked => return Ok(asked),
         }
     }
 }

@@ -20,8 +20,11 @@ use std::sync::Wait;
 /// Where a seat makes its calls.
 #[derive(Clone, Copy)]
 pub struct AtDesk<'a, H> {
+    /// What it waits by.
     pub rt: &'a H,
+    /// What it allocates by.
     pub alloc: Global,
+    /// The desk.
     pub desk: &'a Desk,
 }
 
@@ -47,6 +50,10 @@ impl<'a, H: Wait> AtDesk<'a, H> {
 }
 
 /// Adds a script, and gives what this prints.
+///
+/// # Errors
+/// `Differs` where the own copy doesn't answer as the desk does, a full history of the desk apart; `OutOfMemory` where the
+/// desk, the own copy or what is printed finds no memory.
 pub fn add<H: Wait>(
     at: &AtDesk<'_, H>,
     seat: &mut Seat,
@@ -70,6 +77,10 @@ pub fn add<H: Wait>(
 }
 
 /// Edits a script, and gives what this prints.
+///
+/// # Errors
+/// `Differs` where the own copy doesn't answer as the desk does, a full history of the desk apart; `OutOfMemory` where the
+/// desk, the own copy or what is printed finds no memory.
 pub fn edit<H: Wait>(
     at: &AtDesk<'_, H>,
     seat: &mut Seat,
@@ -90,6 +101,10 @@ pub fn edit<H: Wait>(
 }
 
 /// Removes a script, and gives what this prints.
+///
+/// # Errors
+/// `Differs` where the own copy doesn't answer as the desk does, a full history of the desk apart; `OutOfMemory` where the
+/// desk, the own copy or what is printed finds no memory.
 pub fn remove<H: Wait>(
     at: &AtDesk<'_, H>,
     seat: &mut Seat,
@@ -106,6 +121,10 @@ pub fn remove<H: Wait>(
 }
 
 /// Sets a setting, and gives what this prints.
+///
+/// # Errors
+/// `Differs` where the own copy doesn't answer as the desk does, a full history of the desk apart; `OutOfMemory` where the
+/// desk, the own copy or what is printed finds no memory.
 pub fn set<H: Wait>(
     at: &AtDesk<'_, H>,
     seat: &mut Seat,

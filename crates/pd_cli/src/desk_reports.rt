@@ -1,6 +1,7 @@
 //! The reports that a seat at a desk is shown, as commands print them. Each is compared with the seat's own copy.
-ghost use Rattle.std.specs.Prelude.{◌≡◌, ◌↔◌, All, IsSome, IsTrue, IfOk, IfErr, OnOk};
+ghost use Rattle.std.specs.Prelude.{◌≡◌, ◌↔◌, All, IsTrue, IfOk, IfErr, OnOk};
 ghost use Rattle.pd_book.specs.Report.{IsRunUnder};
+ghost use Rattle.pd_desk.specs.Desk.{IsCurrent};
 ghost use Rattle.pd_cli.specs.Report.{rendered};
 ghost use Rattle.pd_cli.specs.Output.{all_pass};
 ghost use Rattle.pd_cli.specs.Beside.{from_scratch, IsPartOf, MayPrint};
@@ -16,6 +17,10 @@ use pd_seat::Seat;
 use std::sync::Wait;
 
 /// The octets of the report as it stands.
+///
+/// # Errors
+/// Those of `Desk::show`; `Differs` where the settings, the names or the texts of the report aren't those of the own copy;
+/// `OutOfMemory` where a growth is refused.
 pub fn show<H: Wait>(at: &AtDesk<'_, H>, seat: &mut Seat, own: &Book) -> Result<Vec<u8>, ServeFault>
     ensures printed { IfOk result (λ octets. MayPrint own.now.story Command.Show octets.items own.now.story) }
     ensures only { IfErr result (λ fault. FailsBeside fault Command.Show) }
@@ -26,6 +31,10 @@ pub fn show<H: Wait>(at: &AtDesk<'_, H>, seat: &mut Seat, own: &Book) -> Result<
 }
 
 /// Waits until no row is pending, and gives the octets of the report, and whether each of its rows passes.
+///
+/// # Errors
+/// Those of `Desk::settle`; `Differs` where the settings, the names or the texts of the report aren't those of the own copy;
+/// `OutOfMemory` where a growth is refused.
 pub fn settle<H: Wait>(
     at: &AtDesk<'_, H>,
     seat: &mut Seat,
@@ -47,7 +56,7 @@ pub fn settle<H: Wait>(
 /// `Differs` where the settings, the names or the texts do.
 fn compare(own: &Book, report: &Report) -> Result<(), ServeFault>
     ensures part { OnOk result (IsPartOf own.now.story report.now) }
-    ensures whole { OnOk result (All (λ row. IsSome row.verdict) report.now.rows → report.now ≡ from_scratch own.now.story) }
+    ensures whole { OnOk result (IsCurrent report.now → report.now ≡ from_scratch own.now.story) }
     ensures only { (command : Command) → IfErr result (λ fault. FailsBeside fault command) }
 {
     let kept = own.show()?;

@@ -26,6 +26,7 @@ pub enum ServeFault {
     Read,
     /// A write failed, or took no octet.
     Write,
+    /// A growth was refused.
     OutOfMemory,
 }
 

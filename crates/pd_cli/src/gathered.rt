@@ -10,9 +10,11 @@ use std::marker::Model;
 /// The lines so far; none once they are over the limits of a text.
 #[derive(Drop)]
 pub struct Gathered {
+    /// The lines, as long as they are within the limits.
     lines: LineList,
     /// The octets of these lines, each counted with one more for its end.
     octets: usize,
+    /// Whether they are over the limits.
     large: bool,
 }
 
@@ -28,6 +30,7 @@ impl Model for Gathered {
 }
 
 impl Gathered {
+    /// No lines.
     pub fn new(alloc: Global) -> Gathered
         ensures { result ≡ Some [] }
     {
@@ -39,6 +42,9 @@ impl Gathered {
     }
 
     /// Adds a line.
+    ///
+    /// # Errors
+    /// `AllocError` where a growth is refused.
     pub fn add(&mut self, line: &[u8]) -> Result<(), AllocError>
         requires { NoNewline line.now }
         ensures { OnOk result (self.new ≡ option_and_then (λ t. fitted (t ++ line.now ∷ [])) self.old) }

@@ -15,10 +15,10 @@ use std::marker::Model;
 use std::mem::replace;
 
 /// How many octets one read may give at most.
-const BLOCK: usize = 4_096;
+const MAX_READ: usize = 4_096;
 
 /// How many reads one run may make at most.
-const READS: u32 = 1_048_576;
+const MAX_READS: u32 = 1_048_576;
 
 /// A line that was taken off the input, without its newline and a carriage return before that.
 #[derive(Drop)]
@@ -33,8 +33,11 @@ pub enum Taken {
 /// What was read and not yet used, and how many reads are left.
 #[derive(Drop)]
 pub struct Intake {
+    /// What the last read gave, at most 4,096 octets.
     block: Vec<u8>,
+    /// How many octets of it were used.
     used: usize,
+    /// How many reads may still be made.
     reads: u32,
     /// The room of a line that was given back.
     line: Vec<u8>,
@@ -51,13 +54,14 @@ impl Model for Intake {
 }
 
 impl Intake {
+    /// Nothing was read, and 1,048,576 reads are left.
     pub fn new(alloc: Global) -> Intake
         ensures { result ≡ ([], 1048576) }
     {
         Intake {
             block: Vec::new(alloc),
             used: 0,
-            reads: READS,
+            reads: MAX_READS,
             line: Vec::new(alloc),
         }
     }
@@ -65,7 +69,7 @@ impl Intake {
     /// Takes one line. The octets of one that is longer than the limit are dropped as they come.
     ///
     /// # Errors
-    /// `Read` and `OutOfMemory`.
+    /// `Read` where a read fails or 1,048,576 were made; `OutOfMemory` where a growth is refused.
     pub fn next_line<R: Read>(
         &mut self,
         alloc: Global,
@@ -161,7 +165,7 @@ impl Intake {
             return Err(ServeFault::Read);
         }
         self.reads -= 1;
-        let mut block = [0u8; BLOCK];
+        let mut block = [0u8; MAX_READ];
         let n = match reader.read(&mut block) {
             Ok(n) => n,
             Err(_) => return Err(ServeFault::Read),

@@ -15,6 +15,9 @@ pub(crate) trait Listener {
     ghost hears: { Self → Self → Counted → Type 0 };
 
     /// A job of this number on the script of this name was finished, after so many steps.
+    ///
+    /// # Errors
+    /// `AllocError` where a growth for what is told is refused.
     fn finished(&mut self, number: u64, name: &Name, steps: u64) -> Result<(), AllocError>
         ensures heard { OnOk result (hears self.old self.new (record { number = number; name = name.now; steps = steps })) }
         ensures same { OnErr result (self.new ≡ self.old) };
@@ -35,7 +38,9 @@ impl Listener for Silent {
 /// A writer that gets a line for each job.
 #[derive(Drop)]
 pub(crate) struct StepLines<'a, E> {
+    /// What lines are allocated by.
     pub alloc: Global,
+    /// Where the lines are written.
     pub err: &'a mut E,
     /// Whether all lines so far stand on it. After one that couldn't be written no more are.
     pub told: bool,

@@ -8,6 +8,9 @@ use pd_run::{Kind, Verdict};
 use std::alloc::{AllocError, Global};
 
 /// The octets of a report: a line for each script in order of adding, then a line of totals.
+///
+/// # Errors
+/// `AllocError` where a growth is refused.
 pub fn render(alloc: Global, report: &Report) -> Result<Vec<u8>, AllocError>
     ensures { IfOk result (λ octets. octets.items ≡ rendered report.now) }
 {
@@ -113,12 +116,19 @@ impl Class {
 /// How many rows there are, and how many of each class.
 #[derive(Clone, Copy)]
 struct Totals {
+    /// How many rows there are.
     total: usize,
+    /// How many pass.
     pass: usize,
+    /// How many fail.
     fail: usize,
+    /// How many are refused by the grammar.
     syntax: usize,
+    /// How many have something that isn't run.
     unsupported: usize,
+    /// How many are over a limit.
     limit: usize,
+    /// How many are pending.
     pending: usize,
 }
 

@@ -9,7 +9,7 @@ use pd_text::Name;
 use std::alloc::{AllocError, Global};
 
 /// The greatest length of a command's line, in octets.
-const MAX_COMMAND: usize = 256;
+pub(crate) const MAX_COMMAND: usize = 256;
 
 /// What a line asks for. A count is the number of lines that follow.
 #[derive(Drop)]
@@ -29,6 +29,9 @@ pub enum Request {
 
 impl Request {
     /// What a line asks for.
+    ///
+    /// # Errors
+    /// `AllocError` where a growth is refused.
     pub fn of_line(alloc: Global, line: &[u8]) -> Result<Request, AllocError>
         ensures { IfOk result (λ request. request ≡ request_of line.now) }
     {
@@ -112,6 +115,7 @@ impl Request {
         }
     }
 
+    /// Whether the line has no words.
     pub fn is_nothing(&self) -> bool
         ensures { result ≡ is_nothing self.now }
     {

@@ -60,6 +60,9 @@ fn settle<L: Listener>(alloc: Global, book: &mut Book, listener: &mut L) -> Resu
 }
 
 /// The octets of the report as it stands, and whether each of its rows passes.
+///
+/// # Errors
+/// `AllocError` where a growth is refused.
 pub fn show(alloc: Global, book: &Book) -> Result<(Vec<u8>, bool), AllocError>
     ensures octets { IfOk result (λ shown. shown.0.items ≡ rendered (report book.now.story)) }
     ensures passed { IfOk result (λ shown. shown.1 ≡ all_pass (report book.now.story)) }
@@ -70,6 +73,10 @@ pub fn show(alloc: Global, book: &Book) -> Result<(Vec<u8>, bool), AllocError>
 }
 
 /// Settles a book, and gives its report as `show` does; a listener is told of each job.
+///
+/// # Errors
+/// `HistoryFull` where the history has no room for a start; `OutOfMemory` where a start, a job, the listener or the report
+/// finds no memory.
 pub fn settle_and_show<L: Listener>(
     alloc: Global,
     book: &mut Book,

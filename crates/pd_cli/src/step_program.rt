@@ -38,8 +38,8 @@ pub fn run_steps<S: AsStr, R: Read, W: Write, E: Write>(
     }
 }
 
-/// Serves the input with the settings of a TOML text and says a line for each job, and at the end why it doesn't go on. After
-/// what can't be said nothing more is.
+/// Serves the input with the settings of a TOML text and says a line for each job, and at the end why it doesn't go on.
+/// After what can't be said nothing more is.
 fn run_telling<R: Read, W: Write, E: Write>(
     alloc: Global,
     text: &str,

@@ -15,7 +15,8 @@ use std::thread;
 use std::thread::Threads;
 
 /// Opens a desk with these settings, and serves the commands of a reader at a seat of it, beside so many workers in threads
-/// of their own; the book keeps at most `cache` tracks: 1 to 1,024. It answers when all of them have left, also where serving stops at a fault.
+/// of their own; the book keeps at most `cache` tracks: 1 to 1,024. It answers when all of them have left, also where
+/// serving stops at a fault.
 ///
 /// # Errors
 /// Those of `serve_seat`; `OutOfMemory` where the desk can't be opened or no thread can be started.
@@ -89,12 +90,19 @@ trait Task {
 /// Serving at a seat.
 #[derive(Drop)]
 struct Serving<'a, H, R, W> {
+    /// What it waits by.
     rt: &'a H,
+    /// What it allocates by.
     alloc: Global,
+    /// The desk.
     desk: &'a Desk,
+    /// Its seat.
     seat: &'a mut Seat,
+    /// The settings that the desk was opened with.
     settings: &'a Settings,
+    /// Where commands come from.
     reader: &'a mut R,
+    /// Where output goes.
     writer: &'a mut W,
 }
 
