@@ -4,7 +4,8 @@
 #
 #   tools/more_edits.sh [CRATE..]      every crate that has such edits if none is named
 #
-# The last line is 'N refused, M not refused'; status 0 where M is 0.
+# The last line is 'N refused, M not refused'; status 0 where M is 0. One that is refused only because a proof names what
+# it took away says little of the contract, and counts as not refused.
 set -eu
 top=$(cd "$(dirname "$0")/.." && pwd)
 work=$(mktemp -d)
@@ -28,6 +29,6 @@ tried=0
 for crate in "$@"; do
     tried=$((tried + $(ls "crates/$crate/must-fail" | grep -c '\.edit$')))
 done
-refused=$(grep -c ': refused, as it must be' "$work/said" || true)
+refused=$(grep ': refused, as it must be' "$work/said" | grep -vc 'says little of the contract' || true)
 echo "$refused refused, $((tried - refused)) not refused"
 [ "$refused" -eq "$tried" ]
