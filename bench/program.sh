@@ -1,10 +1,11 @@
 # What every bench needs: the built program, a folder for its work, and generated scripts. It is read by the others.
+# PROGRAM names another build.
 set -eu
 top=$(cd "$(dirname "$0")/.." && pwd)
-program=$top/crates/pdregress/out/pdregress
+program=${PROGRAM:-$top/crates/pdregress/out/pdregress}
 work=$(mktemp -d)
 trap 'rm -rf "$work"' EXIT
-[ -x "$program" ] || "$top/pdregress" </dev/null >/dev/null
+[ -n "${PROGRAM:-}" ] || "$top/pdregress" </dev/null >/dev/null
 
 # Scripts that open, bind and then listen on the descriptor again and again, each at times of its own.
 generate() { # how many, and of how many events

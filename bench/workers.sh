@@ -39,11 +39,13 @@ took() { # workers, the input, programs
 
 # The nanoseconds of one settle with so many workers, in so many programs at once, the best of the tries.
 settled() { # workers, programs
+    : >"$work/times"
     for try in $(seq "$tries"); do
         first=$(took "$1" settled "$2")
         all=$(took "$1" changed "$2")
-        echo $(((all - first) / rounds))
-    done | sort -n | head -n 1
+        echo $(((all - first) / rounds)) >>"$work/times"
+    done
+    sort -n "$work/times" | head -n 1
 }
 
 alone=$(settled 0 1)

@@ -1,9 +1,10 @@
 #!/bin/sh
 # Refuses each allocation in turn, one a run, the numbers going up until a run meets no refusal, and prints a line for
 # each call that is tried, with the refusals met:
-#   - the built program, with no input, with an edit and with those of examples/ or the ones named on the command line,
-#     without workers, with one and with two. It says so by status 2 and the fault 19 (beside workers also 12, where they all
-#     left), and what it wrote is a prefix of what it writes with memory; or the refusal made no difference.
+#   - the built program, with no input, with an edit, with those of examples/ or the ones named on the command line, and
+#     with a settings text that is taken and one that is refused, each without workers, with one and with two. It says so
+#     by status 2 and the fault 19 (beside workers also 12, where they all left), and what it wrote is a prefix of what it
+#     writes with memory; or the refusal made no difference.
 #   - the calls below it, table by table of crates/pd_book_trials/memory.txt, and those of a desk and of its workers, of
 #     crates/pd_desk_trials/memory.txt: a call that is refused is made again, and it and all calls behind it are to answer
 #     as with memory, or as a row says of a worker that left. Where what tells the rows found no memory, no call did.
@@ -22,8 +23,8 @@ desk=${DESK:-$top/crates/pd_desk_trials/out/pd_desk_trials}
 work=$(mktemp -d)
 trap 'rm -rf "$work"' EXIT
 cc -O2 -shared -fPIC -o "$work/fail_alloc.so" "$top/tools/fail_alloc.c" -ldl
-[ -x "$program" ] || "$top/pdregress" </dev/null >/dev/null
-for built in "$cases" "$trials" "$desk"; do
+[ -n "${PROGRAM:-}" ] || "$top/pdregress" </dev/null >/dev/null
+for built in "$program" "$cases" "$trials" "$desk"; do
     [ -x "$built" ] || { echo "$built: not built"; exit 2; }
 done
 bad=0
@@ -146,13 +147,13 @@ cd "$top"
     echo '+0 > P. 1:2001(2000) ack 1'
     echo 'settle'
 } >"$work/edit"
-for input in /dev/null "$work/edit" "$@"; do
-    about="the program, $(basename "$input")"
-    try_program "$about" "$program"
-    try_program "$about, --workers 1" "$program" --workers 1
-    try_program "$about, --workers 2" "$program" --workers 2
+for workers in 0 1 2; do
+    for input in /dev/null "$work/edit" "$@"; do
+        try_program "the program, $(basename "$input"), --workers $workers" "$program" --workers "$workers"
+    done
+    input=/dev/null
+    for settings in 'min_rto_us = 200000' 'mss = 10'; do
+        try_program "the program, $settings, --workers $workers" "$program" --workers "$workers" --settings "$settings"
+    done
 done
-input=/dev/null
-try_program "the program, --settings" "$program" --settings 'min_rto_us = 200000'
-try_program "the program, --settings that are refused" "$program" --settings 'mss = 10'
 exit $bad

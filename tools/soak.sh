@@ -10,5 +10,5 @@
 set -eu
 top=$(cd "$(dirname "$0")/.." && pwd)
 program=${PROGRAM:-$top/crates/pdregress/out/pdregress}
-[ -x "$program" ] || "$top/pdregress" </dev/null >/dev/null
+[ -n "${PROGRAM:-}" ] || "$top/pdregress" </dev/null >/dev/null
 exec python3 "$top/tools/soak.py" "$program" "${1:-10}" "${2:-1}"
