@@ -55,7 +55,8 @@ def key(words, folder):
         return crate, "edits" if is_edit else "tests" if "--test" in words else "proof"
     built = re.search(r"/crates/(\w+)$", folder)
     if built:
-        return built[1], "tests" if any(it.endswith("_tests") for it in words) else "proof"
+        tests = any(it.endswith("_tests") for it in words)
+        return built[1], "run" if "try" in words else "tests" if tests else "proof"
     return None
 
 

@@ -23,8 +23,8 @@ trap 'rm -rf "$work"' EXIT
 trap 'exit 2' INT TERM HUP
 [ -z "$(git -C "$top" status --porcelain)" ] || echo "gate_times: what isn't committed isn't tried" >&2
 git clone -q "$top" "$work/clone"
-echo "gate_times: running rt ci on a clean clone (log: $log)" >&2
+echo "gate_times: running ./check on a clean clone (log: $log)" >&2
 cd "$work/clone"
 status=0
-python3 "$top/tools/gate_times.py" "$log" rt ci || status=$?
+python3 "$top/tools/gate_times.py" "$log" ./check || status=$?
 exit "$status"
