@@ -1,0 +1,137 @@
+#!/bin/sh
+# Tests of tools/add_scripts.sh on files that can't be added, and of ./pdregress and ./pdsteps called through links, in a
+# copy whose programs say their names. Prints a line for each, and `N passed, M failed` last.
+set -eu
+top=$(cd "$(dirname "$0")/../.." && pwd)
+work=$(mktemp -d)
+trap 'rm -rf "$work"' EXIT
+passed=0
+failed=0
+
+# Each test hands its command in after the name and what is wanted: what the command writes, after `! ` what it says on
+# standard error, and its status.
+expect() { # NAME WANTED COMMAND..
+    name=$1
+    printf '%s\n' "$2" >"$work/want"
+    shift 2
+    status=0
+    "$@" >"$work/got" 2>"$work/said" || status=$?
+    sed 's/^/! /' "$work/said" >>"$work/got"
+    echo "status $status" >>"$work/got"
+    if diff "$work/want" "$work/got" >"$work/diff"; then
+        echo "ok edge $name"
+        passed=$((passed + 1))
+    else
+        echo "FAILED edge $name:"
+        cat "$work/diff"
+        failed=$((failed + 1))
+    fi
+}
+
+in_folder() ( # FOLDER COMMAND..
+    cd "$1"
+    shift
+    "$@"
+)
+
+add() { # FILE.. in the folder of scripts
+    in_folder "$work/scripts" "$top/tools/add_scripts.sh" "$@"
+}
+
+adds_of() { # FILE.. the commands alone
+    add "$@" | grep '^add'
+}
+
+count_of() { # how many `add`s there are of so many files
+    count=$1
+    set --
+    while [ $# -lt "$count" ]; do
+        set -- "$@" "many_$(($# + 1)).pkt"
+        : >"$work/scripts/many_$#.pkt"
+    done
+    add "$@" | awk '/^add / { adds++; next } { print } END { print adds + 0, "adds" }'
+}
+
+refused() { # why
+    printf 'add_scripts: refused\n! add_scripts: %s\nstatus 2' "$1"
+}
+
+lines() { # how many lines of an octet
+    awk -v count="$1" 'BEGIN { for (i = 0; i < count; i++) print "x" }'
+}
+
+octets() { # how many octets in one line, its end counted
+    awk -v count="$1" 'BEGIN { for (i = 1; i < count; i++) printf "x"; print "" }'
+}
+
+test_adding() {
+    mkdir "$work/scripts" "$work/scripts/folder.pkt"
+    printf 'one\ntwo' >"$work/scripts/good.pkt"
+    : >"$work/scripts/empty.pkt"
+    printf '\r\n' >"$work/scripts/-a=b c.pkt"
+    broken=$(printf 'a\nb.pkt')
+    printf 'one\n' >"$work/scripts/$broken"
+    cp "$work/scripts/good.pkt" "$work/scripts/a_b.pkt"
+    ln -s nowhere "$work/scripts/dangling.pkt"
+    octets 65536 >"$work/scripts/widest.pkt"
+    octets 65537 >"$work/scripts/too_wide.pkt"
+    octets 65536 | sed 's/$/\r/' >"$work/scripts/widest_with_return.pkt"
+    lines 4096 >"$work/scripts/longest.pkt"
+    lines 4097 >"$work/scripts/too_long.pkt"
+
+    expect adds "$(printf 'add good 2\none\ntwo\nadd empty 0\nadd -a_b_c 1\n\r\nstatus 0')" add good.pkt empty.pkt '-a=b c.pkt'
+    expect newline-in-a-name "$(printf 'add a_b 1\none\nstatus 0')" add "$broken"
+    expect no-file "$(refused 'no file is named: tools/add_scripts.sh FILE..')" add
+    expect missing-file "$(refused 'missing.pkt: no file that can be read')" add good.pkt missing.pkt
+    expect glob-without-files "$(refused 'none*.pkt: no file that can be read')" add 'none*.pkt'
+    expect folder "$(refused 'folder.pkt: no file that can be read')" add good.pkt folder.pkt
+    expect dangling-link "$(refused 'dangling.pkt: no file that can be read')" add good.pkt dangling.pkt
+    expect equal-names "$(refused 'a?b.pkt: its name a_b is that of another file')" add a_b.pkt good.pkt "$broken"
+    expect same-file-twice "$(refused './good.pkt: its name good is that of another file')" add good.pkt ./good.pkt
+    expect too-many-lines "$(refused 'too_long.pkt: more than 4,096 lines')" add good.pkt too_long.pkt
+    expect too-many-octets "$(refused 'too_wide.pkt: more than 65,536 octets')" add good.pkt too_wide.pkt
+    expect largest "$(printf 'add longest 4096\nadd widest 1\nadd widest_with_return 1\nstatus 0')" adds_of longest.pkt widest.pkt widest_with_return.pkt
+    expect most "$(printf '1024 adds\nstatus 0')" count_of 1024
+    expect too-many-files "$(printf 'add_scripts: refused\n0 adds\n! add_scripts: many_1025.pkt: more than 1,024 files\nstatus 0')" count_of 1025
+}
+
+# A copy of the two names, whose programs are newer than their sources and say which they are.
+make_tree() {
+    mkdir -p "$work/tree" "$work/bin" "$work/far/tree"
+    cp "$top/pdregress" "$work/tree/pdregress"
+    ln -s pdregress "$work/tree/pdsteps"
+    for program in pdregress pdsteps; do
+        mkdir -p "$work/tree/crates/$program/src" "$work/tree/crates/$program/out"
+        echo 'fn main() {}' >"$work/tree/crates/$program/src/main.rt"
+        printf '#!/bin/sh\necho "%s $*"\n' "$program" >"$work/tree/crates/$program/out/$program"
+        chmod +x "$work/tree/crates/$program/out/$program"
+        echo "$program:" >>"$work/tree/crates.txt"
+    done
+}
+
+test_links() {
+    make_tree
+    ln -s "$work/tree/pdregress" "$work/bin/pdregress"
+    ln -s "$work/tree/pdsteps" "$work/bin/pdsteps"
+    ln -s ../tree/pdsteps "$work/bin/relative"
+    ln -s relative "$work/bin/twice"
+    ln -s ../tree/pdregress "$work/bin/runner"
+    ln -s "$work/bin" "$work/far/away"
+    for folder in /tmp "$work/bin" "$work/far"; do
+        expect "pdregress-by-link-from-${folder##*/}" "$(printf 'pdregress a b\nstatus 0')" in_folder "$folder" env PATH="$work/bin:$PATH" pdregress a b
+        expect "pdsteps-by-link-from-${folder##*/}" "$(printf 'pdsteps a b\nstatus 0')" in_folder "$folder" env PATH="$work/bin:$PATH" pdsteps a b
+    done
+    expect own-names "$(printf 'pdregress \nstatus 0')" in_folder "$work/tree" ./pdregress
+    expect own-link "$(printf 'pdsteps \nstatus 0')" in_folder "$work/tree" ./pdsteps
+    expect relative-link "$(printf 'pdsteps \nstatus 0')" in_folder "$work/bin" ./relative
+    expect link-to-a-link "$(printf 'pdsteps \nstatus 0')" in_folder "$work" bin/twice
+    expect link-of-another-name "$(printf 'pdregress \nstatus 0')" in_folder "$work/far" ../bin/runner
+    expect folder-that-is-a-link "$(printf 'pdsteps \nstatus 0')" in_folder "$work/far" away/relative
+    expect relative-path "$(printf 'pdsteps \nstatus 0')" in_folder "$work" env PATH="far/away:$PATH" pdsteps
+    expect folders-to-search "$(printf 'pdregress \nstatus 0')" in_folder "$work" env CDPATH="$work/far:/" tree/pdregress
+}
+
+test_adding
+test_links
+echo "$passed passed, $failed failed"
+[ "$failed" -eq 0 ]
