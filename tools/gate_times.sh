@@ -36,7 +36,5 @@ if [ -n "$crate" ]; then
     python3 -B "$top/tools/dear_functions.py" "$top" "$work/clone" "$crate" || status=$?
     exit "$status"
 fi
-echo "gate_times: running ./check on a clean clone (log: $log)" >&2
-cd "$work/clone"
-python3 -B "$top/tools/gate_times.py" "$log" ./check || status=$?
+python3 -B "$top/tools/gate_times.py" "$top" "$work" "$log" ./check || status=$?
 exit "$status"
