@@ -20,24 +20,40 @@ const ABOUT_STEPS: &str = "\
 Runs packetdrill scripts against a verified TCP sender, prints their verdicts,
 and tells on standard error how many steps each run took.";
 
-/// What `--help` says last.
-const COMMANDS: &str = "\
-Commands come on standard input, one a line, their words parted by spaces:
-  add NAME COUNT               adds a script: the next COUNT lines are its text
+/// What `--help` of a program says last.
+macro_rules! commands {
+    ($program:literal) => {
+        concat!(
+            "\
+Commands are read from standard input, one a line, words separated by spaces:
+  add NAME COUNT               adds a script; the next COUNT lines are its text
   edit NAME FROM REMOVE COUNT  removes REMOVE lines from line FROM on, and
                                inserts the next COUNT lines there
   remove NAME                  removes a script
-  set KEY VALUE                sets a setting: digits, true, false or a word
+  set KEY VALUE                changes a setting; VALUE is digits, true, false
+                               or a word
   show                         prints the report as it stands
-  settle                       runs what is owed, and prints the report
-The end of input acts as settle. The status is 0 if each script of the last
-report passes, 1 if not, 2 at a fault, which is named on standard error.
+  settle                       runs each pending script, and prints the report
+The end of the input acts as a settle. The exit status is 0 if each script of
+the last report passes, 1 if not, and 2 after a fault, which is named on
+standard error.
 
 Example:
-  printf 'add a 1\\n0 socket(..., SOCK_STREAM, IPPROTO_TCP) = 3\\n' | pdregress --settings 'tolerance_us = 5000'
+  printf 'add a 1\\n0 socket(..., SOCK_STREAM, IPPROTO_TCP) = 3\\n' | ",
+            $program,
+            " --settings 'tolerance_us = 5000'
 prints
   a pass 1
-  total 1 pass 1 fail 0 syntax 0 unsupported 0 limit 0 pending 0";
+  total 1 pass 1 fail 0 syntax 0 unsupported 0 limit 0 pending 0"
+        )
+    };
+}
+
+/// What `--help` says last.
+const COMMANDS: &str = commands!("pdregress");
+
+/// What `--help` of the program that tells steps says last.
+const COMMANDS_STEPS: &str = commands!("pdsteps");
 
 /// Reads the words of the program that runs scripts, of which the first is its own name.
 ///
@@ -96,6 +112,7 @@ fn scripts_command<'a>(alloc: Global) -> Result<Command<'a>, Error>
 {
     Ok(
         Command::new(alloc, "pdregress")
+            .bin_name("pdregress")?
             .arg(settings_option(alloc))?
             .arg(cache_option(alloc))?
             .arg(workers_option(alloc))?
@@ -111,10 +128,11 @@ fn steps_command<'a>(alloc: Global) -> Result<Command<'a>, Error>
 {
     Ok(
         Command::new(alloc, "pdsteps")
+            .bin_name("pdsteps")?
             .arg(settings_option(alloc))?
             .arg(cache_option(alloc))?
             .about(ABOUT_STEPS)
-            .after_help(COMMANDS),
+            .after_help(COMMANDS_STEPS),
     )
 }
 
@@ -137,7 +155,7 @@ fn workers_option<'a>(alloc: Global) -> Arg<'a>
     Arg::new(alloc, "workers")
         .long("workers")
         .value_name("N")
-        .help("Threads that run scripts while commands come, 0 to 64")
+        .help("Threads that run scripts while commands are read, 0 to 64")
         .default_value("0")
         .value_parser(value_parser!(u8).range(..=64))
         .action(ArgAction::Set)
@@ -150,7 +168,7 @@ fn cache_option<'a>(alloc: Global) -> Arg<'a>
     Arg::new(alloc, "cache")
         .long("cache")
         .value_name("N")
-        .help("Scripts of which the last run is kept to shorten the next, 1 to 1024")
+        .help("Scripts whose last run is kept to shorten the next one, 1 to 1024")
         .default_value("64")
         .value_parser(value_parser!(u16).range(1..=1024))
         .action(ArgAction::Set)

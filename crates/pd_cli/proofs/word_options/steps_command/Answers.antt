@@ -6,6 +6,7 @@ use Rattle.pd_cli.proofs.word_options.steps_command.Goals as goal
 
 pub returns-clause-words : goal.returns-clause-words
 returns-clause-words c =
-    let first : app_of c.in_ok-arg.field-0 ≡ with_rule (new_app (codes "pdsteps")) settings_rule = c.in_ok-arg.ensures.shape c.settings_option.ensures.local ∙ ap₂ with_rule c.new.ensures.app c.settings_option.ensures.rule in
+    let named : app_of c.in_ok-bin_name.field-0 ≡ new_app (codes "pdsteps") = ap app_of_fields c.in_ok-bin_name.ensures.0 ∙ c.new.ensures.app in
+    let first : app_of c.in_ok-arg.field-0 ≡ with_rule (new_app (codes "pdsteps")) settings_rule = c.in_ok-arg.ensures.shape c.settings_option.ensures.local ∙ ap₂ with_rule named c.settings_option.ensures.rule in
     let second : app_of c.in_ok-arg-2.field-0 ≡ pdsteps = c.in_ok-arg-2.ensures.shape c.cache_option.ensures.local ∙ ap₂ with_rule first c.cache_option.ensures.rule in
     ap app_of_fields c.after_help.ensures ∙ (ap app_of_fields c.about.ensures ∙ second)
