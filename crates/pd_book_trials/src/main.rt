@@ -3,18 +3,17 @@
 //! last alone, with the word `stories` the first; a status of 2 says that it wasn't tried to the end.
 #![tactic(auto)]
 
-mod book;
+mod ledger;
 mod memory;
 mod parts;
-mod plain;
 mod random;
-mod saying;
-mod seats;
-mod stories;
+mod seated;
+mod story;
 
 use crate::memory::check_memory;
 use crate::random::make_lists;
-use crate::stories::tell;
+use crate::story::Story;
+use pd_stories::tell;
 use std::process::ExitCode;
 use std::rt::Env;
 use std::{env, io};
@@ -31,15 +30,8 @@ enum Asked {
 }
 
 fn main(rt: HostRuntime) -> ExitCode {
-    let tried = match read_word(&rt)
-        .or_else(|_| read_word(&rt))
-        .unwrap_or(Asked::All)
-    {
-        Asked::All => try_all(&rt),
-        Asked::Memory => check_memory(&rt),
-        Asked::Stories => tell(&rt),
-    };
-    match tried {
+    let asked = read_word(&rt).or_else(|_| read_word(&rt));
+    match try_asked(&rt, asked.unwrap_or(Asked::All)) {
         Ok(true) => ExitCode::SUCCESS,
         Ok(false) => ExitCode::FAILURE,
         Err(_) => {
@@ -60,9 +52,15 @@ fn read_word(rt: &(impl Env + AllocGlobal)) -> io::Result<Asked> {
 }
 
 /// Whether all that was tried agrees.
-fn try_all(rt: &(impl Input + Print + AllocGlobal)) -> io::Result<bool> {
-    let is_told = tell(rt)?;
-    let is_replayed = make_lists(rt)?;
-    let is_kept = check_memory(rt)?;
-    Ok(is_told && is_replayed && is_kept)
+fn try_asked(rt: &(impl Input + Print + AllocGlobal), asked: Asked) -> io::Result<bool> {
+    match asked {
+        Asked::Memory => check_memory(rt),
+        Asked::Stories => tell(rt, &mut Story::new(rt.alloc())),
+        Asked::All => {
+            let is_told = tell(rt, &mut Story::new(rt.alloc()))?;
+            let is_replayed = make_lists(rt)?;
+            let is_kept = check_memory(rt)?;
+            Ok(is_told && is_replayed && is_kept)
+        }
+    }
 }
