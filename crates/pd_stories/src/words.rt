@@ -64,7 +64,7 @@ impl<'a> Words<'a> {
         let remove = self.number()? as usize;
         let line = self.rest;
         Ok(match self.word() {
-            "" => edit(alloc, from, remove, None)?,
+            "" if line.is_empty() => edit(alloc, from, remove, None)?,
             "(empty)" => edit(alloc, from, remove, Some(b""))?,
             "(blanks)" => {
                 let blanks = blanks(alloc, self.number()? as usize)?;
