@@ -3,17 +3,18 @@
 //! last alone, with the word `stories` the first; a status of 2 says that it wasn't tried to the end.
 #![tactic(auto)]
 
-mod ledger;
+mod book;
 mod memory;
 mod parts;
+mod plain;
 mod random;
-mod seated;
-mod story;
+mod saying;
+mod seats;
+mod stories;
 
 use crate::memory::check_memory;
 use crate::random::make_lists;
-use crate::story::Story;
-use pd_stories::tell;
+use crate::stories::tell;
 use std::process::ExitCode;
 use std::rt::Env;
 use std::{env, io};
@@ -30,8 +31,15 @@ enum Asked {
 }
 
 fn main(rt: HostRuntime) -> ExitCode {
-    let asked = read_word(&rt).or_else(|_| read_word(&rt));
-    match try_asked(&rt, asked.unwrap_or(Asked::All)) {
+    let tried = match read_word(&rt)
+        .or_else(|_| read_word(&rt))
+        .unwrap_or(Asked::All)
+    {
+        Asked::All => try_all(&rt),
+        Asked::Memory => check_memory(&rt),
+        Asked::Stories => tell(&rt),
+    };
+    match tried {
         Ok(true) => ExitCode::SUCCESS,
         Ok(false) => ExitCode::FAILURE,
         Err(_) => {
@@ -52,15 +60,9 @@ fn read_word(rt: &(impl Env + AllocGlobal)) -> io::Result<Asked> {
 }
 
 /// Whether all that was tried agrees.
-fn try_asked(rt: &(impl Input + Print + AllocGlobal), asked: Asked) -> io::Result<bool> {
-    match asked {
-        Asked::Memory => check_memory(rt),
-        Asked::Stories => tell(rt, &mut Story::new(rt.alloc())),
-        Asked::All => {
-            let is_told = tell(rt, &mut Story::new(rt.alloc()))?;
-            let is_replayed = make_lists(rt)?;
-            let is_kept = check_memory(rt)?;
-            Ok(is_told && is_replayed && is_kept)
-        }
-    }
+fn try_all(rt: &(impl Input + Print + AllocGlobal)) -> io::Result<bool> {
+    let is_told = tell(rt)?;
+    let is_replayed = make_lists(rt)?;
+    let is_kept = check_memory(rt)?;
+    Ok(is_told && is_replayed && is_kept)
 }

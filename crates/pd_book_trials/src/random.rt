@@ -1,16 +1,24 @@
 //! Random lists of calls on a book that keeps one to three tracks: each answer, each report, each history and each job's
 //! verdict and steps are compared with those of a plain replay of what was accepted.
+mod answers;
+mod calls;
 mod choices;
+mod connection;
 mod counts;
+mod deeds;
+mod dice;
+mod histories;
+mod kinds;
+mod making;
 mod replay;
-mod rows;
+mod reports;
 mod tracks;
 mod trial;
-mod walk;
 
 use self::counts::Counts;
+use self::dice::Dice;
 use self::trial::Trial;
-use pd_stories::{Dice, StoryFault, numbered, print};
+use crate::saying::{decimal, print};
 use std::alloc::{AllocError, Global};
 use std::io;
 
@@ -25,19 +33,33 @@ pub fn make_lists(rt: &(impl Print + AllocGlobal)) -> io::Result<bool> {
     let mut counts = Counts::new(alloc);
     let mut differing = 0u64;
     for list in 1..=LISTS {
-        let made = make_list(alloc, &mut dice, &mut counts);
-        if let Some(difference) = made.or(Err(AllocError))? {
-            let list = numbered(alloc, "list ", list, ": ")?;
-            print(rt, &[list.as_str(), difference, " differs\n"])?;
+        if let Some(difference) = make_list(alloc, &mut dice, &mut counts)? {
+            let list = decimal(alloc, list)?;
+            print(
+                rt,
+                &["list ", list.as_str(), ": ", difference, " differs\n"],
+            )?;
             differing = differing.wrapping_add(1);
         }
     }
-    let lists = numbered(alloc, "", LISTS, " lists of ")?;
-    let calls = numbered(alloc, "", CALLS, " calls, ")?;
-    let said = numbered(alloc, "", differing, " differ\n")?;
-    print(rt, &[lists.as_str(), calls.as_str(), said.as_str()])?;
+    print_lists(rt, alloc, differing)?;
     counts.print(rt, alloc)?;
     Ok(differing == 0)
+}
+
+fn print_lists(rt: &impl Print, alloc: Global, differing: u64) -> io::Result<()> {
+    let lists = decimal(alloc, LISTS)?;
+    let calls = decimal(alloc, CALLS)?;
+    let differing = decimal(alloc, differing)?;
+    let pieces = [
+        lists.as_str(),
+        " lists of ",
+        calls.as_str(),
+        " calls, ",
+        differing.as_str(),
+        " differ\n",
+    ];
+    print(rt, &pieces)
 }
 
 /// Makes one list of calls, and tells what differed first.
@@ -45,16 +67,16 @@ fn make_list(
     alloc: Global,
     dice: &mut Dice,
     counts: &mut Counts,
-) -> Result<Option<&'static str>, StoryFault> {
-    let tracks = (dice.below(3) as usize).wrapping_add(1);
+) -> Result<Option<&'static str>, AllocError> {
+    let tracks = dice.size_below(3).wrapping_add(1);
     let mut trial = Trial::new(alloc, tracks);
     for _call in 0..CALLS {
         if let Some(difference) = trial.make(dice, counts)? {
             return Ok(Some(difference));
         }
     }
-    let tracks = &trial.replay.tracks;
-    counts.spared = counts.spared.wrapping_add(tracks.spared);
-    counts.spared_behind = counts.spared_behind.wrapping_add(tracks.spared_behind);
+    let (spared, behind) = trial.spared();
+    counts.spared = counts.spared.wrapping_add(spared);
+    counts.spared_behind = counts.spared_behind.wrapping_add(behind);
     trial.compare_histories()
 }

@@ -1,11 +1,10 @@
 //! Calls of tokens, scripts and runs.
+use crate::plain::{read, run_counted, run_text};
+use crate::saying::{decimal, is_verdict, joined, owned, verdict_said};
+use crate::stories::{StoryFault, Words};
 use pd_lex::{Lexed, Place, TokenKind, next_token};
-use pd_run::{Plain, Stepper, Verdict, run_all, run_with};
-use pd_script::{
-    Action, Call, ErrorName, Event, Function, HeaderItem, HeaderKind, Outcome, Parsed, Time, parse,
-};
+use pd_script::{Action, Call, ErrorName, Event, Function, HeaderItem, HeaderKind, Outcome, Time};
 use pd_settings::Settings;
-use pd_stories::{StoryFault, Words, joined, numbered, owned, verdict_said};
 use pd_text::Lines;
 use std::alloc::{AllocError, Global};
 
@@ -16,42 +15,49 @@ pub fn tokens(alloc: Global, lines: &Lines, mut words: Words<'_>) -> Result<Stri
     let mut place = Place { line, at };
     let mut said = String::new(alloc);
     for _token in 0..100 {
-        match next_token(lines, place) {
-            Lexed::Token(token) => {
-                let line = token.from.line as u64;
-                said.push_str(numbered(alloc, kind_name(token.kind), line, ", ")?.as_str())?;
-                place = token.to;
-            }
-            Lexed::Bad(line) => {
-                said.push_str(numbered(alloc, "Bad(", line as u64, ")")?.as_str())?;
-                return Ok(said);
-            }
-            Lexed::End => {
-                said.push_str("End")?;
-                return Ok(said);
-            }
+        let lexed = next_token(lines, place);
+        said.push_str(token_said(alloc, lexed)?.as_str())?;
+        match lexed {
+            Lexed::Token(token) => place = token.to,
+            _ => break,
         }
     }
     Ok(said)
 }
 
-fn kind_name(kind: TokenKind) -> &'static str {
-    match kind {
-        TokenKind::Int => "Int ",
-        TokenKind::Hex => "Hex ",
-        TokenKind::Word => "Word ",
-        TokenKind::Decimal => "Decimal ",
-        TokenKind::Dots => "Dots ",
-        TokenKind::Opt => "Opt ",
-        TokenKind::Str => "Str ",
-        TokenKind::Cmd => "Cmd ",
-        TokenKind::Code => "Code ",
-        TokenKind::Symbol => "Symbol ",
+fn token_said(alloc: Global, lexed: Lexed) -> Result<String, AllocError> {
+    match lexed {
+        Lexed::Token(token) => lined(alloc, kind_name(token.kind), " ", token.from.line, ", "),
+        Lexed::Bad(line) => lined(alloc, "Bad", "(", line, ")"),
+        Lexed::End => owned(alloc, "End"),
     }
 }
 
-fn read(alloc: Global, lines: &Lines) -> Result<Parsed, AllocError> {
-    parse(alloc, lines)
+fn kind_name(kind: TokenKind) -> &'static str {
+    match kind {
+        TokenKind::Int => "Int",
+        TokenKind::Hex => "Hex",
+        TokenKind::Word => "Word",
+        TokenKind::Decimal => "Decimal",
+        TokenKind::Dots => "Dots",
+        TokenKind::Opt => "Opt",
+        TokenKind::Str => "Str",
+        TokenKind::Cmd => "Cmd",
+        TokenKind::Code => "Code",
+        TokenKind::Symbol => "Symbol",
+    }
+}
+
+/// A number between texts.
+fn lined<'a>(
+    alloc: Global,
+    name: &'a str,
+    before: &'a str,
+    number: usize,
+    behind: &'a str,
+) -> Result<String, AllocError> {
+    let number = decimal(alloc, number as u64)?;
+    joined(alloc, &[name, before, number.as_str(), behind])
 }
 
 /// The items of the text's header.
@@ -66,13 +72,13 @@ pub fn header(alloc: Global, lines: &Lines) -> Result<String, StoryFault> {
 }
 
 fn item_said(alloc: Global, item: &HeaderItem) -> Result<String, AllocError> {
-    let line = item.line as u64;
     match item.kind {
-        HeaderKind::OtherOption => numbered(alloc, "", line, " OtherOption, "),
-        HeaderKind::Command => numbered(alloc, "", line, " Command, "),
+        HeaderKind::OtherOption => lined(alloc, "", "", item.line, " OtherOption, "),
+        HeaderKind::Command => lined(alloc, "", "", item.line, " Command, "),
         HeaderKind::Tolerance(value) => {
-            let value = numbered(alloc, " Tolerance(", value, "), ")?;
-            numbered(alloc, "", line, value.as_str())
+            let line = lined(alloc, "", "", item.line, " Tolerance(")?;
+            let value = decimal(alloc, value)?;
+            joined(alloc, &[line.as_str(), value.as_str(), "), "])
         }
     }
 }
@@ -89,19 +95,33 @@ pub fn events(alloc: Global, lines: &Lines) -> Result<String, StoryFault> {
 }
 
 fn event_said(alloc: Global, event: &Event) -> Result<String, AllocError> {
-    let Action::Call(call) = &event.action else {
-        return numbered(alloc, "", event.line as u64, " no call, ");
-    };
-    let (time, behind) = match event.time {
-        Time::Relative(time) => (time, ") "),
-        _ => (0, "), another time, "),
-    };
-    let line = numbered(alloc, "", event.line as u64, " Relative(")?;
-    let time = numbered(alloc, line.as_str(), time, behind)?;
-    call_said(alloc, time.as_str(), call)
+    let line = decimal(alloc, event.line as u64)?;
+    match &event.action {
+        Action::Call(call) => {
+            let (time, behind) = time_said(event.time);
+            let time = decimal(alloc, time)?;
+            let call = call_said(alloc, call)?;
+            let pieces = [
+                line.as_str(),
+                " Relative(",
+                time.as_str(),
+                behind,
+                call.as_str(),
+            ];
+            joined(alloc, &pieces)
+        }
+        _ => joined(alloc, &[line.as_str(), " no call, "]),
+    }
 }
 
-fn call_said(alloc: Global, time: &str, call: &Call) -> Result<String, AllocError> {
+fn time_said(time: Time) -> (u64, &'static str) {
+    match time {
+        Time::Relative(time) => (time, ") "),
+        _ => (0, "), another time, "),
+    }
+}
+
+fn call_said(alloc: Global, call: &Call) -> Result<String, AllocError> {
     let function = match call.function {
         Function::Unknown => "Unknown of ",
         _ => "another call of ",
@@ -110,15 +130,13 @@ fn call_said(alloc: Global, time: &str, call: &Call) -> Result<String, AllocErro
         Outcome::Negative(1, Some(ErrorName::Einval)) => " = Negative(1, Some(Einval)), ",
         _ => " = another result, ",
     };
-    let arguments = call.arguments.as_slice().len() as u64;
-    let arguments = numbered(alloc, function, arguments, result)?;
-    joined(alloc, &[time, arguments.as_str()])
+    lined(alloc, function, "", call.arguments.as_slice().len(), result)
 }
 
 /// The line at which no script goes on.
 pub fn fault(alloc: Global, lines: &Lines) -> Result<String, StoryFault> {
     match read(alloc, lines)?.fault {
-        Some(line) => Ok(numbered(alloc, "Some(", line as u64, ")")?),
+        Some(line) => Ok(lined(alloc, "Some", "(", line, ")")?),
         None => Ok(owned(alloc, "None")?),
     }
 }
@@ -126,21 +144,13 @@ pub fn fault(alloc: Global, lines: &Lines) -> Result<String, StoryFault> {
 /// The verdict of the text, and how many steps it took.
 pub fn run(alloc: Global, lines: &Lines, settings: &Settings) -> Result<String, StoryFault> {
     let (verdict, steps) = run_counted(alloc, lines, settings)?;
+    let again = run_text(alloc, lines, settings)?;
+    let steps = decimal(alloc, steps)?;
     let said = verdict_said(alloc, verdict)?;
-    let again = verdict_said(alloc, run_all(alloc, lines, settings)?)?;
-    if said.as_str() != again.as_str() {
-        return Ok(owned(alloc, "another without a stepper")?);
+    let pieces = [said.as_str(), ", ", steps.as_str(), " steps"];
+    if is_verdict(verdict, again) {
+        Ok(joined(alloc, &pieces)?)
+    } else {
+        Ok(owned(alloc, "another without a stepper")?)
     }
-    let steps = numbered(alloc, ", ", steps, " steps")?;
-    Ok(joined(alloc, &[said.as_str(), steps.as_str()])?)
-}
-
-fn run_counted(
-    alloc: Global,
-    lines: &Lines,
-    settings: &Settings,
-) -> Result<(Verdict, u64), AllocError> {
-    let mut stepper = Plain::new();
-    let verdict = run_with(alloc, lines, settings, &mut stepper)?;
-    Ok((verdict, stepper.count()))
 }

@@ -1,5 +1,7 @@
 //! How many calls of each kind were answered in each way.
-use pd_stories::{numbered, owned, print};
+use crate::random::answers::Answer;
+use crate::random::calls::Call;
+use crate::saying::{decimal, print};
 use std::alloc::{AllocError, Global};
 use std::io;
 
@@ -12,10 +14,10 @@ pub struct Counts {
     pub spared_behind: usize,
 }
 
-#[derive(Drop)]
+#[derive(Clone, Copy)]
 struct Count {
     kind: &'static str,
-    answer: String,
+    answer: &'static str,
     calls: u64,
 }
 
@@ -28,15 +30,16 @@ impl Counts {
         }
     }
 
-    /// Counts a call of this kind and its answer.
-    pub fn add(&mut self, kind: &'static str, answer: &str) -> Result<(), AllocError> {
+    /// Counts a call and its answer.
+    pub fn add(&mut self, call: &Call, answer: Answer) -> Result<(), AllocError> {
+        let kind = kind_name(call);
+        let answer = answer.name();
         for count in self.counts.iter_mut() {
-            if count.kind == kind && count.answer.as_str() == answer {
+            if count.kind == kind && count.answer == answer {
                 count.calls = count.calls.wrapping_add(1);
                 return Ok(());
             }
         }
-        let answer = owned(*self.counts.allocator(), answer)?;
         self.counts.push(Count {
             kind,
             answer,
@@ -47,15 +50,31 @@ impl Counts {
 
     pub fn print(&self, rt: &impl Print, alloc: Global) -> io::Result<()> {
         for count in self.counts.iter() {
-            let calls = numbered(alloc, " ", count.calls, "\n")?;
+            let calls = decimal(alloc, count.calls)?;
             print(
                 rt,
-                &[count.kind, " ", count.answer.as_str(), calls.as_str()],
+                &[count.kind, " ", count.answer, " ", calls.as_str(), "\n"],
             )?;
         }
-        let spared = numbered(alloc, "events not run again ", self.spared as u64, "\n")?;
-        let behind = self.spared_behind as u64;
-        let behind = numbered(alloc, "of them behind another setting ", behind, "\n")?;
-        print(rt, &[spared.as_str(), behind.as_str()])
+        let spared = decimal(alloc, self.spared as u64)?;
+        let behind = decimal(alloc, self.spared_behind as u64)?;
+        print(rt, &["events not run again ", spared.as_str(), "\n"])?;
+        print(
+            rt,
+            &["of them behind another setting ", behind.as_str(), "\n"],
+        )
+    }
+}
+
+fn kind_name(call: &Call) -> &'static str {
+    match call {
+        Call::Add(..) => "add",
+        Call::Edit(..) => "edit",
+        Call::Remove(_) => "remove",
+        Call::Set(..) => "set",
+        Call::Start => "start",
+        Call::Finish(_) => "finish",
+        Call::Foreign(..) => "finish of a foreign job",
+        Call::Abandon(_) => "abandon",
     }
 }

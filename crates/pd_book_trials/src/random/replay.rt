@@ -1,257 +1,118 @@
-//! A plain replay of a book: what each call is to be answered, and what it leaves.
-use crate::random::choices::Choices;
-use crate::random::tracks::{Run, Tracks};
-use pd_run::Verdict;
-use pd_stories::{joined, numbered, verdict_said};
+//! What the deeds say of a call, and the deed that it becomes.
+use crate::random::answers::Answer;
+use crate::random::calls::{Call, Change, Setting};
+use crate::random::deeds::{Deed, Deeds, JobState};
+use pd_book::{BookFault, FinishFault, Ruling};
 use std::alloc::{AllocError, Global};
 
-/// A script that stands: its number, its text in kinds of lines, and its verdict or whether a job runs for one.
-#[derive(Drop)]
-pub struct Standing {
-    pub script: u8,
-    pub kinds: Vec<u8>,
-    verdict: Option<Verdict>,
-    is_running: bool,
-}
-
-/// A job that was given: whether it is outstanding, and its script unchanged since.
-#[derive(Drop)]
-struct Given {
-    run: Run,
-    is_open: bool,
-    is_current: bool,
-}
-
-#[derive(Drop)]
-pub struct Replay {
-    alloc: Global,
-    pub scripts: Vec<Standing>,
-    given: Vec<Given>,
-    pub choices: Choices,
-    pub tracks: Tracks,
-}
-
-/// An edit: the first line, how many lines go, and the line that comes.
-#[derive(Clone, Copy)]
-pub struct Edit {
-    pub from: usize,
-    pub remove: usize,
-    pub line: Option<u8>,
-}
-
-const NO_SUCH_JOB: &str = "9 NoSuchJob";
-
-impl Replay {
-    pub fn new(alloc: Global, tracks: usize) -> Replay {
-        Replay {
-            alloc,
-            scripts: Vec::new(alloc),
-            given: Vec::new(alloc),
-            choices: Choices::new(),
-            tracks: Tracks::new(alloc, tracks),
-        }
+impl Deeds {
+    /// The answer of a call.
+    pub fn answer(&self, alloc: Global, call: &Call) -> Result<Answer, AllocError> {
+        Ok(match call {
+            Call::Add(script, _) => self.add_answer(alloc, *script)?,
+            Call::Edit(script, change) => self.edit_answer(alloc, *script, *change)?,
+            Call::Remove(script) => self.remove_answer(alloc, *script)?,
+            Call::Set(setting) => set_answer(*setting),
+            Call::Start => self.start_answer(alloc)?,
+            Call::Finish(job) => self.finish_answer(alloc, *job)?,
+            Call::Foreign(job, ..) => self.end_answer(*job, Answer::NotEnded(FinishFault::Foreign)),
+            Call::Abandon(job) => self.end_answer(*job, Answer::Done),
+        })
     }
 
-    fn place(&self, script: u8) -> Option<usize> {
-        let mut place = 0usize;
-        for standing in self.scripts.iter() {
-            if standing.script == script {
-                return Some(place);
+    fn add_answer(&self, alloc: Global, script: u8) -> Result<Answer, AllocError> {
+        Ok(match self.text(alloc, script)? {
+            Some(_) => Answer::Refused(BookFault::NameTaken),
+            None => Answer::Done,
+        })
+    }
+
+    fn edit_answer(&self, alloc: Global, script: u8, change: Change) -> Result<Answer, AllocError> {
+        Ok(match self.text(alloc, script)? {
+            None => Answer::Refused(BookFault::NoSuchScript),
+            Some(text) => {
+                if is_in_range(text.len(), change) {
+                    Answer::Done
+                } else {
+                    Answer::Refused(BookFault::BadRange)
+                }
             }
-            place = place.wrapping_add(1);
-        }
-        None
+        })
     }
 
-    /// What happens to a script, or to all of them, makes its jobs stale.
-    fn outdate(&mut self, script: Option<u8>) {
-        for given in self.given.iter_mut() {
-            if given.run.script == script.unwrap_or(given.run.script) {
-                given.is_current = false;
-            }
-        }
+    fn remove_answer(&self, alloc: Global, script: u8) -> Result<Answer, AllocError> {
+        Ok(match self.text(alloc, script)? {
+            Some(_) => Answer::Done,
+            None => Answer::Refused(BookFault::NoSuchScript),
+        })
     }
 
-    pub fn add(&mut self, script: u8, kinds: Vec<u8>) -> Result<&'static str, AllocError> {
-        if self.place(script).is_some() {
-            return Ok("6 NameTaken");
-        }
-        self.scripts.push(Standing {
-            script,
-            kinds,
-            verdict: None,
-            is_running: false,
-        })?;
-        Ok("ok")
+    fn start_answer(&self, alloc: Global) -> Result<Answer, AllocError> {
+        Ok(match self.next(alloc)? {
+            Some(script) => Answer::Job(self.started().wrapping_add(1), script),
+            None => Answer::NoJob,
+        })
     }
 
-    pub fn edit(&mut self, script: u8, edit: Edit) -> Result<&'static str, AllocError> {
-        let place = self.place(script).unwrap_or(usize::MAX);
-        let Some(standing) = self.scripts.get_mut(place) else {
-            return Ok("7 NoSuchScript");
-        };
-        let behind = edit.from.saturating_add(edit.remove);
-        if edit.from == 0 || behind > standing.kinds.len().saturating_add(1) {
-            return Ok("1 BadRange");
-        }
-        standing.kinds = edited(self.alloc, standing.kinds.as_slice(), edit)?;
-        standing.verdict = None;
-        standing.is_running = false;
-        self.outdate(Some(script));
-        Ok("ok")
-    }
-
-    pub fn remove(&mut self, script: u8) -> &'static str {
-        if self.place(script).is_none() {
-            return "7 NoSuchScript";
-        }
-        self.scripts.retain(|standing| standing.script != script);
-        self.tracks.remove(script);
-        self.outdate(Some(script));
-        "ok"
-    }
-
-    pub fn set(&mut self, place: usize, is_other: bool) {
-        self.choices.set(place, is_other);
-        for standing in self.scripts.iter_mut() {
-            standing.verdict = None;
-            standing.is_running = false;
-        }
-        self.outdate(None);
-    }
-
-    /// How many jobs were given.
-    pub fn jobs(&self) -> u64 {
-        self.given.len() as u64
-    }
-
-    /// The script whose job is started now, if there is one.
-    pub fn start(&mut self) -> Result<Option<&Standing>, AllocError> {
-        for standing in self.scripts.iter_mut() {
-            if standing.verdict.is_none() && !standing.is_running {
-                standing.is_running = true;
-                let run = Run {
-                    script: standing.script,
-                    kinds: standing.kinds.clone()?,
-                    choices: self.choices,
-                };
-                self.given.push(Given {
-                    run,
-                    is_open: true,
-                    is_current: true,
-                })?;
-                return Ok(Some(standing));
+    /// The script that a start picks.
+    fn next(&self, alloc: Global) -> Result<Option<u8>, AllocError> {
+        for (script, _) in self.texts(alloc)? {
+            if !self.has_job(script, JobState::Finished)
+                && !self.has_job(script, JobState::Outstanding)
+            {
+                return Ok(Some(script));
             }
         }
         Ok(None)
     }
 
-    /// The text of the job that was given last, in kinds of lines.
-    pub fn kinds_given(&self) -> &[u8] {
-        match self.given.last() {
-            Some(given) => given.run.kinds.as_slice(),
-            None => &[],
+    fn finish_answer(&self, alloc: Global, job: u64) -> Result<Answer, AllocError> {
+        if job > self.started() {
+            return Ok(Answer::NoResult);
         }
-    }
-
-    /// The verdict and the steps of the job that was given last.
-    pub fn ran(&mut self) -> Result<String, AllocError> {
-        let Some(given) = self.given.last() else {
-            return Ok(String::new(self.alloc));
+        let ruling = if self.is_current(alloc, job)? {
+            Ruling::Taken
+        } else {
+            Ruling::Stale
         };
-        let verdict = verdict_said(self.alloc, given.run.walk(usize::MAX).verdict)?;
-        let steps = self.tracks.steps(&given.run)? as u64;
-        let steps = numbered(self.alloc, ", ", steps, " steps")?;
-        joined(self.alloc, &[verdict.as_str(), steps.as_str()])
+        Ok(self.end_answer(job, Answer::Ruled(ruling)))
     }
 
-    /// This answer, where the job is outstanding.
-    pub fn if_open(&self, job: u64, answer: &'static str) -> &'static str {
-        match self.given.get((job as usize).wrapping_sub(1)) {
-            Some(given) if given.is_open => answer,
-            _ => NO_SUCH_JOB,
+    /// This answer, if the job is outstanding.
+    fn end_answer(&self, job: u64, answer: Answer) -> Answer {
+        if self.job(job).is(JobState::Outstanding) {
+            answer
+        } else {
+            Answer::NotEnded(FinishFault::NoSuchJob)
         }
-    }
-
-    pub fn finish(&mut self, job: u64) -> Result<&'static str, AllocError> {
-        let Some(given) = self.given.get_mut((job as usize).wrapping_sub(1)) else {
-            return Ok("(the story has no such thing)");
-        };
-        if !given.is_open {
-            return Ok(NO_SUCH_JOB);
-        }
-        given.is_open = false;
-        let is_current = given.is_current;
-        let run = given.run.copy()?;
-        let place = self.place(run.script).unwrap_or(usize::MAX);
-        let Some(standing) = self.scripts.get_mut(place) else {
-            return Ok("Stale");
-        };
-        if !is_current {
-            self.tracks.salvage(run, standing.kinds.as_slice())?;
-            return Ok("Stale");
-        }
-        standing.verdict = Some(run.walk(usize::MAX).verdict);
-        self.tracks.keep(run)?;
-        Ok("Taken")
-    }
-
-    pub fn abandon(&mut self, job: u64) -> &'static str {
-        let Some(given) = self.given.get_mut((job as usize).wrapping_sub(1)) else {
-            return NO_SUCH_JOB;
-        };
-        if !given.is_open {
-            return NO_SUCH_JOB;
-        }
-        given.is_open = false;
-        if given.is_current {
-            let script = given.run.script;
-            for standing in self.scripts.iter_mut() {
-                if standing.script == script {
-                    standing.is_running = false;
-                }
-            }
-        }
-        "ok"
-    }
-
-    /// What is to be shown: each script with its verdict, or `pending`, and how many are.
-    pub fn shown(&self) -> Result<String, AllocError> {
-        let mut said = String::new(self.alloc);
-        let mut owed = 0u64;
-        for standing in self.scripts.iter() {
-            let behind = match standing.verdict {
-                Some(verdict) => {
-                    let verdict = verdict_said(self.alloc, verdict)?;
-                    joined(self.alloc, &[" ", verdict.as_str(), ", "])?
-                }
-                None => {
-                    owed = owed.wrapping_add(1);
-                    joined(self.alloc, &[" pending, "])?
-                }
-            };
-            let script = u64::from(standing.script);
-            said.push_str(numbered(self.alloc, "s", script, behind.as_str())?.as_str())?;
-        }
-        said.push_str(numbered(self.alloc, "", owed, " owed")?.as_str())?;
-        Ok(said)
     }
 }
 
-fn edited(alloc: Global, text: &[u8], edit: Edit) -> Result<Vec<u8>, AllocError> {
-    let behind = edit.from.saturating_add(edit.remove);
-    let mut after = Vec::new(alloc);
-    for number in 1..=text.len().saturating_add(1) {
-        if number == edit.from {
-            if let Some(kind) = edit.line {
-                after.push(kind)?;
-            }
-        }
-        if number < edit.from || number >= behind {
-            if let Some(kind) = text.get(number.wrapping_sub(1)) {
-                after.push(*kind)?;
-            }
-        }
+/// Whether an edit lies within a text of so many lines.
+fn is_in_range(lines: usize, change: Change) -> bool {
+    change.from >= 1 && change.from.saturating_add(change.remove) <= lines.saturating_add(1)
+}
+
+fn set_answer(setting: Setting) -> Answer {
+    match setting {
+        Setting::Known(_) => Answer::Done,
+        Setting::Unknown => Answer::Refused(BookFault::UnknownKey),
+        Setting::TooLarge => Answer::Refused(BookFault::BadValue),
     }
-    Ok(after)
+}
+
+/// The deed of a call that was answered so; none where it was refused.
+pub fn deed(call: Call, answer: Answer) -> Option<Deed> {
+    match (call, answer) {
+        (Call::Add(script, text), Answer::Done) => Some(Deed::Add(script, text)),
+        (Call::Edit(script, change), Answer::Done) => Some(Deed::Edit(script, change)),
+        (Call::Remove(script), Answer::Done) => Some(Deed::Remove(script)),
+        (Call::Set(Setting::Known(choice)), Answer::Done) => Some(Deed::Set(choice)),
+        (Call::Start, Answer::Job(job, script)) => Some(Deed::Start(job, script)),
+        (Call::Finish(job), Answer::Ruled(ruling)) => {
+            Some(Deed::Finish(job, matches!(ruling, Ruling::Taken)))
+        }
+        (Call::Abandon(job), Answer::Done) => Some(Deed::Abandon(job)),
+        _ => None,
+    }
 }

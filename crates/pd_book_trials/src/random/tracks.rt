@@ -1,6 +1,6 @@
 //! Which tracks a book is to keep, and how many steps they leave of a job, by the words of the rules.
 use crate::random::choices::{Choices, SETTINGS};
-use crate::random::walk::{Walk, front, kept};
+use crate::random::kinds::{front, kept, run_first, run_whole};
 use std::alloc::{AllocError, Global};
 
 /// What a job is to run: of which script, its text in kinds of lines, and the settings.
@@ -30,24 +30,36 @@ impl Run {
         })
     }
 
-    pub fn walk(&self, most: usize) -> Walk {
-        Walk::new(self.kinds.as_slice(), &self.choices, most)
-    }
-
     /// How many events needn't be run again after another run: the greatest multiple of 4 of those that were kept and those
     /// that passed, up to which that run consulted no setting that differs.
     fn spared(&self, earlier: &Run) -> usize {
         let same = front(earlier.kinds.as_slice(), self.kinds.as_slice());
-        let passed = earlier.walk(usize::MAX).passed;
+        let passed = run_whole(earlier.kinds.as_slice(), &earlier.choices).passed;
         let most = kept(earlier.kinds.as_slice(), same).min(passed);
         for fewer in 0..=most {
             let events = most.wrapping_sub(fewer);
-            let uses = earlier.walk(events).uses;
-            if events % 4 == 0 && self.choices.agree(&earlier.choices, &uses) {
+            if events % 4 == 0 && self.agrees(earlier, events) {
                 return events;
             }
         }
         0
+    }
+
+    /// Whether the settings are those of another run in all that its first events consulted.
+    fn agrees(&self, earlier: &Run, events: usize) -> bool {
+        let walk = run_first(earlier.kinds.as_slice(), &earlier.choices, events);
+        self.choices.agree(&earlier.choices, walk.connection.uses())
+    }
+
+    /// Whether all settings are those of another run.
+    fn is_same(&self, earlier: &Run) -> bool {
+        self.choices.agree(&earlier.choices, &[true; SETTINGS])
+    }
+
+    /// How many steps this run takes behind what is spared.
+    fn steps_after(&self, spared: usize) -> usize {
+        let stepped = run_whole(self.kinds.as_slice(), &self.choices).stepped;
+        stepped.saturating_sub(spared)
     }
 }
 
@@ -72,18 +84,17 @@ impl Tracks {
 
     /// Hands out the track of a run's script, and tells how many steps it leaves of the run.
     pub fn steps(&mut self, run: &Run) -> Result<usize, AllocError> {
-        let stepped = run.walk(usize::MAX).stepped;
         let Some(track) = self.track(run.script) else {
-            return Ok(stepped);
+            return Ok(run.steps_after(0));
         };
         let spared = run.spared(track);
         let used = track.copy()?;
-        if !run.choices.agree(&used.choices, &[true; SETTINGS]) {
+        if !run.is_same(&used) {
             self.spared_behind = self.spared_behind.wrapping_add(spared);
         }
         self.spared = self.spared.wrapping_add(spared);
         self.keep(used)?;
-        Ok(stepped.saturating_sub(spared))
+        Ok(run.steps_after(spared))
     }
 
     /// Keeps the track of a run in place of the one of its script, and drops the one that was used first if there are too

@@ -1,20 +1,35 @@
 //! A book and the replay of what it accepted.
-use crate::ledger::Ledger;
+use crate::plain::{Ledger, Ran, verdict_of};
+use crate::random::answers::Answer;
+use crate::random::calls::{Call, Change, Foreign, Setting, random_call};
 use crate::random::counts::Counts;
-use crate::random::replay::Replay;
-use crate::random::rows::{Row, lines_of, random_row};
-use pd_stories::{Dice, Jobs, Shelf, StoryFault, joined, lines_said, numbered, row_of, rows_said};
-use pd_text::Lines;
-use std::alloc::Global;
+use crate::random::deeds::Deeds;
+use crate::random::dice::Dice;
+use crate::random::histories::is_history;
+use crate::random::kinds::run_whole;
+use crate::random::making::{edit_of, foreign, has_lines, ran, script_name, text_of};
+use crate::random::replay::deed;
+use crate::random::reports::is_report;
+use crate::random::tracks::{Run, Tracks};
+use crate::saying::is_shown;
+use pd_book::{Done, Job, Ruling};
+use pd_settings::Value;
+use std::alloc::{AllocError, Global};
 
-/// A book with its jobs, the replay, and the rows of the calls that were accepted.
+/// A book, the deeds that it accepted, the tracks that it is to keep, and what each job that it gave was to run, with its
+/// result.
 #[derive(Drop)]
 pub struct Trial {
     alloc: Global,
     book: Ledger,
-    jobs: Jobs,
-    pub replay: Replay,
-    accepted: Vec<String>,
+    deeds: Deeds,
+    tracks: Tracks,
+    runs: Vec<Run>,
+    results: Vec<Done>,
+    /// Whether each job that it gave had the text and the settings of the replay.
+    are_jobs_current: bool,
+    /// Whether each job came to the verdict of its text, in the steps that its track left.
+    are_steps_right: bool,
 }
 
 impl Trial {
@@ -23,9 +38,12 @@ impl Trial {
         Trial {
             alloc,
             book: Ledger::new(alloc, tracks),
-            jobs: Jobs::new(alloc),
-            replay: Replay::new(alloc, tracks),
-            accepted: Vec::new(alloc),
+            deeds: Deeds::new(alloc),
+            tracks: Tracks::new(alloc, tracks),
+            runs: Vec::new(alloc),
+            results: Vec::new(alloc),
+            are_jobs_current: true,
+            are_steps_right: true,
         }
     }
 
@@ -34,98 +52,190 @@ impl Trial {
         &mut self,
         dice: &mut Dice,
         counts: &mut Counts,
-    ) -> Result<Option<&'static str>, StoryFault> {
-        let row = random_row(self.alloc, dice, &mut self.replay)?;
-        let answer = self.answer(row.call.as_str())?;
-        let class = class_of(&row, answer.as_str());
-        counts.add(row.kind, class)?;
-        if answer.as_str() != row.wanted.as_str() {
+    ) -> Result<Option<&'static str>, AllocError> {
+        let call = random_call(self.alloc, dice, self.results.len() as u64)?;
+        let wanted = self.deeds.answer(self.alloc, &call)?;
+        let answer = self.answer(&call)?;
+        counts.add(&call, answer)?;
+        if !answer.is(wanted) {
             return Ok(Some("an answer"));
         }
-        if class == "a job" && !self.is_right()? {
-            return Ok(Some("a job, its verdict or the number of its steps"));
-        }
-        if matches!(class, "ok" | "a job" | "Taken" | "Stale") {
-            let accepted = joined(self.alloc, &[row.call.as_str(), " -> ", answer.as_str()])?;
-            self.accepted
-                .push(accepted)
-                .or(Err(StoryFault::OutOfMemory))?;
-        }
-        Ok(if self.is_shown()? {
-            None
-        } else {
-            Some("a report")
-        })
+        self.keep(call, answer)?;
+        self.compare()
     }
 
-    fn answer(&mut self, call: &str) -> Result<String, StoryFault> {
-        match self.jobs.answer(&mut self.book, call) {
-            Err(StoryFault::Said(words)) => Ok(joined(self.alloc, &[words])?),
-            answer => answer,
+    fn keep(&mut self, call: Call, answer: Answer) -> Result<(), AllocError> {
+        match (&call, answer) {
+            (Call::Remove(script), Answer::Done) => self.tracks.remove(*script),
+            (Call::Finish(job), Answer::Ruled(ruling)) => self.shelve(*job, ruling)?,
+            _ => {}
         }
+        if let Some(deed) = deed(call, answer) {
+            self.deeds.list.push(deed)?;
+        }
+        Ok(())
     }
 
-    /// Whether the job that was given last has the text and the settings of the replay, and comes to the verdict of its
-    /// text in the steps that its track leaves.
-    fn is_right(&mut self) -> Result<bool, StoryFault> {
-        let number = self.replay.jobs();
-        let is_current = match self.jobs.job(number) {
-            Some(job) => {
-                let settings = self.replay.choices.settings();
-                let kinds = self.replay.kinds_given();
-                job.settings().is_same(&settings)
-                    && has_lines(self.alloc, job.text().lines(), kinds)?
-            }
-            None => false,
+    /// Keeps the track of a job that was finished, where the rules say so.
+    fn shelve(&mut self, job: u64, ruling: Ruling) -> Result<(), AllocError> {
+        let Some(run) = self.runs.get((job as usize).wrapping_sub(1)) else {
+            return Ok(());
         };
-        let call = numbered(self.alloc, "run ", number, "")?;
-        let wanted = self.replay.ran()?;
-        Ok(self.answer(call.as_str())?.as_str() == wanted.as_str() && is_current)
+        let run = run.copy()?;
+        if let Ruling::Taken = ruling {
+            return self.tracks.keep(run);
+        }
+        match self.deeds.text(self.alloc, run.script)? {
+            Some(present) => self.tracks.salvage(run, present.as_slice()),
+            None => Ok(()),
+        }
     }
 
-    /// Whether the report has the settings, the texts and the verdicts of the replay, and as many are owed.
-    fn is_shown(&mut self) -> Result<bool, StoryFault> {
-        let report = self.book.show().map_err(StoryFault::Said)?;
-        let rows = report.rows();
-        for place in 0..rows.len() {
-            if let (Some(row), Some(standing)) = (rows.get(place), self.replay.scripts.get(place)) {
-                if !has_lines(self.alloc, row.text.lines(), standing.kinds.as_slice())? {
-                    return Ok(false);
-                }
-            }
+    fn compare(&self) -> Result<Option<&'static str>, AllocError> {
+        if !self.are_jobs_current {
+            return Ok(Some("a job"));
         }
-        let owed = self.book.owed().unwrap_or(0) as u64;
-        let said = rows_said(self.alloc, &report)?;
-        let said = numbered(self.alloc, said.as_str(), owed, " owed")?;
-        let is_said = said.as_str() == self.replay.shown()?.as_str();
-        Ok(is_said && report.settings().is_same(&self.replay.choices.settings()))
+        if !self.are_steps_right {
+            return Ok(Some("a verdict or the number of steps"));
+        }
+        let report = self.book.show()?;
+        if is_report(self.alloc, &report, self.book.owed(), &self.deeds)? {
+            Ok(None)
+        } else {
+            Ok(Some("a report"))
+        }
+    }
+
+    /// How many events the tracks spared, and how many of them behind another setting.
+    pub fn spared(&self) -> (usize, usize) {
+        (self.tracks.spared, self.tracks.spared_behind)
     }
 
     /// Tells whether the history differs.
-    pub fn compare_histories(&self) -> Result<Option<&'static str>, StoryFault> {
-        let acts = self.book.acts();
-        for place in 0..acts.len() {
-            if let (Some(act), Some(row)) = (acts.get(place), self.accepted.get(place)) {
-                if !row.starts_with(row_of(self.alloc, act)?.as_str()) {
-                    return Ok(Some("a history"));
-                }
-            }
+    pub fn compare_histories(&self) -> Result<Option<&'static str>, AllocError> {
+        if is_history(self.alloc, self.book.history(), self.deeds.list.as_slice())? {
+            Ok(None)
+        } else {
+            Ok(Some("a history"))
         }
-        let is_whole = acts.len() == self.accepted.len();
-        Ok(if is_whole { None } else { Some("a history") })
     }
-}
 
-/// The answer of a call, without what tells one job from another.
-fn class_of<'a>(row: &Row, answer: &'a str) -> &'a str {
-    match row.kind {
-        "start" if answer != "none" => "a job",
-        "finish" if answer.starts_with("(") => "not made",
-        _ => answer,
+    /// The book's answer of a call.
+    fn answer(&mut self, call: &Call) -> Result<Answer, AllocError> {
+        match call {
+            Call::Add(script, kinds) => self.add(*script, kinds.as_slice()),
+            Call::Edit(script, change) => self.edit(*script, *change),
+            Call::Remove(script) => self.remove(*script),
+            Call::Set(setting) => Ok(self.set(*setting)),
+            Call::Start => self.start(),
+            Call::Finish(job) => Ok(self.finish(*job)),
+            Call::Foreign(job, script, form) => self.finish_foreign(*job, *script, *form),
+            Call::Abandon(job) => Ok(self.abandon(*job)),
+        }
     }
-}
 
-/// Whether a text has lines of these kinds.
-fn has_lines(alloc: Global, lines: &Lines, kinds: &[u8]) -> Result<bool, StoryFault> {
-    Ok(lines_said(alloc, lines)?.as_str() == lines_of(alloc, kinds)?.as_str())
+    fn add(&mut self, script: u8, kinds: &[u8]) -> Result<Answer, AllocError> {
+        let name = script_name(self.alloc, script)?;
+        let text = text_of(self.alloc, kinds)?;
+        Ok(Answer::of_change(self.book.add(name, text)))
+    }
+
+    fn edit(&mut self, script: u8, change: Change) -> Result<Answer, AllocError> {
+        let name = script_name(self.alloc, script)?;
+        let edit = edit_of(self.alloc, change)?;
+        Ok(Answer::of_change(self.book.edit(&name, &edit)))
+    }
+
+    fn remove(&mut self, script: u8) -> Result<Answer, AllocError> {
+        let name = script_name(self.alloc, script)?;
+        Ok(Answer::of_change(self.book.remove(&name)))
+    }
+
+    fn set(&mut self, setting: Setting) -> Answer {
+        Answer::of_change(match setting {
+            Setting::Known(choice) => self.book.set(choice.key(), choice.value()),
+            Setting::Unknown => self.book.set(b"tolerance", Value::Number(1)),
+            Setting::TooLarge => self.book.set(b"tolerance_us", Value::Number(1_000_001)),
+        })
+    }
+
+    fn start(&mut self) -> Result<Answer, AllocError> {
+        match self.book.start() {
+            Ok(Some(job)) => self.take(job),
+            Ok(None) => Ok(Answer::NoJob),
+            Err(fault) => Ok(Answer::Refused(fault)),
+        }
+    }
+
+    /// Runs a job and keeps its result.
+    fn take(&mut self, job: Job) -> Result<Answer, AllocError> {
+        let number = job.number();
+        let script = self.script_of(&job);
+        match self.deeds.text(self.alloc, script)? {
+            Some(kinds) => self.run(job, script, kinds)?,
+            None => self.are_jobs_current = false,
+        }
+        Ok(Answer::Job(number, script))
+    }
+
+    /// Runs a job, which is to be of this script and text.
+    fn run(&mut self, job: Job, script: u8, kinds: Vec<u8>) -> Result<(), AllocError> {
+        if !self.is_current(&job, kinds.as_slice())? {
+            self.are_jobs_current = false;
+        }
+        let choices = self.deeds.choices();
+        let run = Run {
+            script,
+            kinds,
+            choices,
+        };
+        let Ran { done, steps } = ran(self.alloc, job)?;
+        let wanted = run_whole(run.kinds.as_slice(), &run.choices).verdict;
+        let is_right = is_shown(Some(verdict_of(&done)), Some(wanted));
+        if !is_right || steps != self.tracks.steps(&run)? as u64 {
+            self.are_steps_right = false;
+        }
+        self.runs.push(run)?;
+        self.results.push(done)?;
+        Ok(())
+    }
+
+    /// The number that names a job's script.
+    fn script_of(&self, job: &Job) -> u8 {
+        match job.name().as_slice() {
+            [b's', digit] => digit.wrapping_sub(b'0'),
+            _ => 255,
+        }
+    }
+
+    /// Whether a job has a text of lines of these kinds, and the present settings.
+    fn is_current(&self, job: &Job, kinds: &[u8]) -> Result<bool, AllocError> {
+        if !job.settings().is_same(&self.deeds.choices().settings()) {
+            return Ok(false);
+        }
+        has_lines(self.alloc, job.text(), kinds)
+    }
+
+    /// Finishes a job with its result: one that is outstanding, stale or ended.
+    fn finish(&mut self, job: u64) -> Answer {
+        match self.results.get((job as usize).wrapping_sub(1)) {
+            Some(done) => Answer::of_finish(self.book.finish(done)),
+            None => Answer::NoResult,
+        }
+    }
+
+    fn finish_foreign(
+        &mut self,
+        job: u64,
+        script: u8,
+        form: Foreign,
+    ) -> Result<Answer, AllocError> {
+        let settings = self.deeds.choices().settings();
+        let done = foreign(self.alloc, job, script, form, settings)?;
+        Ok(Answer::of_finish(self.book.finish(&done)))
+    }
+
+    fn abandon(&mut self, job: u64) -> Answer {
+        Answer::of_abandon(self.book.abandon(job))
+    }
 }

@@ -7,9 +7,13 @@ use std::alloc::{AllocError, Global};
 
 /// The name of these octets, valid or not.
 pub fn name(alloc: Global, octets: &[u8]) -> Result<Name, AllocError> {
+    Ok(Name::new(owned(alloc, octets)?))
+}
+
+fn owned(alloc: Global, octets: &[u8]) -> Result<Vec<u8>, AllocError> {
     let mut own = Vec::new(alloc);
     own.extend_from_slice(octets)?;
-    Ok(Name::new(own))
+    Ok(own)
 }
 
 fn is_line(octets: &[u8]) -> bool
@@ -18,12 +22,15 @@ fn is_line(octets: &[u8]) -> bool
     octets.iter().all(|octet| *octet != b'\n')
 }
 
-/// Adds a line, which holds no newline.
-fn add_line(list: &mut LineList, octets: &[u8]) -> Result<(), AllocError> {
-    if is_line(octets) {
-        list.push(octets)?;
+/// The list of at most one line, which holds no newline.
+fn line_list(alloc: Global, line: Option<&[u8]>) -> Result<LineList, AllocError> {
+    let mut list = LineList::new(alloc);
+    if let Some(octets) = line {
+        if is_line(octets) {
+            list.push(octets)?;
+        }
     }
-    Ok(())
+    Ok(list)
 }
 
 /// An edit that removes lines and inserts at most one, which holds no newline.
@@ -33,14 +40,10 @@ pub fn edit(
     remove: usize,
     line: Option<&[u8]>,
 ) -> Result<LineEdit, AllocError> {
-    let mut insert = LineList::new(alloc);
-    if let Some(octets) = line {
-        add_line(&mut insert, octets)?;
-    }
     Ok(LineEdit {
         from,
         remove,
-        insert,
+        insert: line_list(alloc, line)?,
     })
 }
 
@@ -48,12 +51,14 @@ pub fn edit(
 ///
 /// # Errors
 /// `TooLarge` where they are over the limits of a text.
-pub fn text_of(alloc: Global, written: &str) -> Result<Lines, TextFault> {
-    let mut list = LineList::new(alloc);
-    if !written.is_empty() {
-        for line in written.split(" | ") {
-            add_line(&mut list, line.as_bytes())?;
-        }
+pub fn text(alloc: Global, written: &str) -> Result<Lines, TextFault> {
+    let mut text = Lines::new(LineList::new(alloc))?;
+    if written.is_empty() {
+        return Ok(text);
     }
-    Lines::new(list)
+    for line in written.split(" | ") {
+        let behind = edit(alloc, text.len() + 1, 0, Some(line.as_bytes()))?;
+        text = text.apply(&behind)?;
+    }
+    Ok(text)
 }

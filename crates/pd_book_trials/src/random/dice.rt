@@ -16,4 +16,12 @@ impl Dice {
         self.state = self.state.wrapping_add(1_442_695_040_888_963_407);
         (self.state >> 33).checked_rem(bound).unwrap_or(0)
     }
+
+    pub fn octet_below(&mut self, bound: u8) -> u8 {
+        u8::try_from(self.below(u64::from(bound))).unwrap_or(0)
+    }
+
+    pub fn size_below(&mut self, bound: usize) -> usize {
+        self.below(bound as u64) as usize
+    }
 }

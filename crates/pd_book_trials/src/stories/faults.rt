@@ -5,8 +5,14 @@ use std::alloc::AllocError;
 /// Why a call of a story can't be made.
 #[derive(Clone, Copy)]
 pub enum StoryFault {
-    /// This is written in the place of the answer.
-    Said(&'static str),
+    NoSuchCall,
+    NotANumber,
+    NoText,
+    Missing,
+    NotToml,
+    NotInLetters,
+    /// The call found no memory and changed nothing.
+    Refused,
     /// What tells the story found no memory.
     OutOfMemory,
 }
@@ -14,17 +20,25 @@ pub enum StoryFault {
 /// The answer of a call that found no memory.
 pub const REFUSED: &str = "19 OutOfMemory";
 
-pub const MISSING: StoryFault = StoryFault::Said("(the story has no such thing)");
-
-pub const NO_SUCH_CALL: StoryFault = StoryFault::Said("(no such call)");
-
-pub const NOT_A_NUMBER: StoryFault = StoryFault::Said("(not a number)");
-
 impl StoryFault {
+    /// What is written in the place of the answer.
+    pub fn words(self) -> &'static str {
+        match self {
+            StoryFault::NoSuchCall => "(no such call)",
+            StoryFault::NotANumber => "(not a number)",
+            StoryFault::NoText => "(over the limits of a text)",
+            StoryFault::Missing => "(the story has no such thing)",
+            StoryFault::NotToml => "(not a table)",
+            StoryFault::NotInLetters => "(not in letters)",
+            StoryFault::Refused => REFUSED,
+            StoryFault::OutOfMemory => "(out of memory)",
+        }
+    }
+
     /// The same of a call that changes nothing: who finds no memory for it may make it again.
     pub fn of_look(self) -> StoryFault {
         match self {
-            StoryFault::OutOfMemory => StoryFault::Said(REFUSED),
+            StoryFault::OutOfMemory => StoryFault::Refused,
             fault => fault,
         }
     }
@@ -40,7 +54,7 @@ impl From<TextFault> for StoryFault {
     fn from(fault: TextFault) -> StoryFault {
         match fault {
             TextFault::OutOfMemory => StoryFault::OutOfMemory,
-            _ => StoryFault::Said("(over the limits of a text)"),
+            _ => StoryFault::NoText,
         }
     }
 }

@@ -1,9 +1,18 @@
 //! The words of a call.
-use crate::faults::{NOT_A_NUMBER, StoryFault};
-use crate::making::edit;
+use crate::stories::faults::StoryFault;
+use crate::stories::making::edit;
 use pd_settings::Value;
 use pd_text::LineEdit;
 use std::alloc::{AllocError, Global};
+
+/// What stands before the first mark and behind it.
+pub fn halves<'a>(text: &'a str, mark: &str) -> Option<(&'a str, &'a str)> {
+    text.split_once(mark)
+}
+
+fn number(word: &str) -> Option<u64> {
+    word.parse::<u64>().ok()
+}
 
 /// The words of a call that aren't read yet, parted by single blanks.
 #[derive(Drop)]
@@ -23,7 +32,7 @@ impl<'a> Words<'a> {
 
     /// The next word; empty where there is none.
     pub fn word(&mut self) -> &'a str {
-        let (word, rest) = self.rest.split_once(" ").unwrap_or((self.rest, ""));
+        let (word, rest) = halves(self.rest, " ").unwrap_or((self.rest, ""));
         self.rest = rest;
         word
     }
@@ -32,7 +41,7 @@ impl<'a> Words<'a> {
     pub fn number(&mut self) -> Result<u64, StoryFault> {
         match number(self.word()) {
             Some(number) => Ok(number),
-            None => Err(NOT_A_NUMBER),
+            None => Err(StoryFault::NotANumber),
         }
     }
 
@@ -57,30 +66,36 @@ impl<'a> Words<'a> {
         }
     }
 
-    /// The other words as an edit: its first line, how many lines go, and the line that comes, if there is one: `(empty)`
-    /// is the empty one, `(blanks) N` one of so many blanks.
+    /// The other words as an edit: its first line, how many lines go, and the line that comes, if there is one.
     pub fn edit(mut self, alloc: Global) -> Result<LineEdit, StoryFault> {
         let from = self.number()? as usize;
         let remove = self.number()? as usize;
-        let line = self.rest;
-        Ok(match self.word() {
-            "" if line.is_empty() => edit(alloc, from, remove, None)?,
-            "(empty)" => edit(alloc, from, remove, Some(b""))?,
-            "(blanks)" => {
-                let blanks = blanks(alloc, self.number()? as usize)?;
-                edit(alloc, from, remove, Some(blanks.as_slice()))?
-            }
-            _ => edit(alloc, from, remove, Some(line.as_bytes()))?,
-        })
+        if self.rest.is_empty() {
+            return Ok(edit(alloc, from, remove, None)?);
+        }
+        let line = self.line(alloc)?;
+        Ok(edit(alloc, from, remove, Some(line.as_slice()))?)
     }
-}
 
-fn number(word: &str) -> Option<u64> {
-    word.parse::<u64>().ok()
+    /// The words that are left as a line: `(empty)` is the empty one, `(blanks) N` one of so many blanks.
+    fn line(mut self, alloc: Global) -> Result<Vec<u8>, StoryFault> {
+        let whole = self.rest;
+        match self.word() {
+            "(empty)" => Ok(Vec::new(alloc)),
+            "(blanks)" => Ok(blanks(alloc, self.number()? as usize)?),
+            _ => Ok(octets(alloc, whole)?),
+        }
+    }
 }
 
 fn blanks(alloc: Global, count: usize) -> Result<Vec<u8>, AllocError> {
     let mut line = Vec::new(alloc);
     line.resize(count, b' ')?;
+    Ok(line)
+}
+
+fn octets(alloc: Global, text: &str) -> Result<Vec<u8>, AllocError> {
+    let mut line = Vec::new(alloc);
+    line.extend_from_slice(text.as_bytes())?;
     Ok(line)
 }

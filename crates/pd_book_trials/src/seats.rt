@@ -1,0 +1,3 @@
+//! Stories of a book that seats share.
+pub mod bench;
+mod closing;
