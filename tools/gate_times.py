@@ -6,6 +6,9 @@ is, made before the command and after it. tools/process_watch.py tells how proce
 """
 from __future__ import annotations
 
+import contextlib
+import ctypes
+import os
 import resource
 import shutil
 import subprocess
@@ -20,6 +23,7 @@ from crate_graph import dependencies
 from process_watch import Span, Watch, Work
 
 PAUSE = 0.5
+PR_SET_CHILD_SUBREAPER = 36
 KINDS = ("proof", "tests", "edits", "run")
 # What the unit is: the proof of this crate as this commit has it, over its library.
 UNIT_COMMIT = "15ec054ec134e308def5bbffe5ceded1395f7cc5"
@@ -61,6 +65,18 @@ def processor_seconds() -> float:
     return used.ru_utime + used.ru_stime
 
 
+def adopt_orphans() -> None:
+    """Makes this process the parent of those whose own parent ends first, so that what they took is counted too."""
+    if ctypes.CDLL(None).prctl(PR_SET_CHILD_SUBREAPER, 1, 0, 0, 0):
+        say("what a process leaves running when it ends isn't counted here")
+
+
+def wait_for_orphans() -> None:
+    with contextlib.suppress(ChildProcessError):
+        while True:
+            os.waitpid(-1, 0)
+
+
 def unpack_unit(top: Path, folder: Path) -> bool:
     """Puts the unit's sources into a folder and proves the library; whether that could be done."""
     packed = subprocess.run(["git", "-C", top, "archive", UNIT_COMMIT], capture_output=True)
@@ -96,6 +112,7 @@ def run_gate(clone: Path, log: Path, command: list[str]) -> tuple[int, Gate]:
         while started.poll() is None:
             watch.look(time.monotonic() - began)
             time.sleep(PAUSE)
+    wait_for_orphans()
     return started.returncode, Gate(watch.charged(), processor_seconds() - used, watch.spans, time.monotonic() - began)
 
 
@@ -197,6 +214,7 @@ def say(text: str) -> None:
 def main(top: Path, work: Path, log: Path, command: list[str]) -> int:
     clone, folder = work / "clone", work / "unit"
     before = after = None
+    adopt_orphans()
     say("measuring the unit, some two minutes before the gate and one after it")
     if unpack_unit(top, folder):
         before = unit_seconds(folder)
