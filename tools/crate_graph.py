@@ -14,7 +14,7 @@ def dependencies(table: str) -> dict[str, list[str]]:
 
 
 def libraries_below(crate: str, uses: dict[str, list[str]]) -> list[str]:
-    """The crates that one stands on, each behind those that it stands on itself.
+    """The crates that one stands on, each after those that it stands on itself.
 
     >>> libraries_below("c", {"a": [], "b": ["a"], "c": ["b"], "d": ["a"]})
     ['a', 'b']

@@ -6,7 +6,7 @@
 #     by status 2 and the fault 19 (beside workers also 12, where they all left), and what it wrote is a prefix of what it
 #     writes with memory; or the refusal made no difference.
 #   - the calls below it, table by table of crates/pd_book_trials/memory.txt, and those of a desk and of its workers, of
-#     crates/pd_desk_trials/memory.txt: a call that is refused is made again, and it and all calls behind it are to answer
+#     crates/pd_desk_trials/memory.txt: a call that is refused is made again, and it and all calls after it are to answer
 #     as with memory, or as a row says of a worker that left. Where what tells the rows found no memory, no call did.
 #   - the programs pd_book_trials, with its word `memory`, and pd_cases on its file memory.cases, which let a first want
 #     of memory pass and make the call again.

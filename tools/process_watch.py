@@ -1,6 +1,6 @@
 """Looks at the processes below one through /proc, and charges each to a crate and a kind of work.
 
-A process is charged to the crate that its words name behind --crate-name, or else whose folder or built program it
+A process is charged to the crate that its words name after --crate-name, or else whose folder or built program it
 works with, and to the kind of work that its words and its folder tell; one that tells nothing is charged as the one
 that started it. Of each process the last look before its end counts, and beside it the children that ended unseen.
 """
