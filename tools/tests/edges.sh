@@ -97,8 +97,9 @@ test_adding() {
 
 # A copy of the two names, whose programs are newer than their sources and say which they are.
 make_tree() {
-    mkdir -p "$work/tree" "$work/bin" "$work/far/tree"
+    mkdir -p "$work/tree/tools" "$work/bin" "$work/far/tree"
     cp "$top/pdregress" "$work/tree/pdregress"
+    cp "$top/tools/built.sh" "$top/tools/crates_below.sh" "$work/tree/tools"
     ln -s pdregress "$work/tree/pdsteps"
     for program in pdregress pdsteps; do
         mkdir -p "$work/tree/crates/$program/src" "$work/tree/crates/$program/out"

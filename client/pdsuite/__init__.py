@@ -1,0 +1,1 @@
+"""The client of pdregress: runs folders of packetdrill scripts by the built programs, and shows what they printed."""

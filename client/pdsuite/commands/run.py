@@ -1,0 +1,98 @@
+"""`pdsuite run`: runs scripts and reports what came of them."""
+
+import time
+from collections.abc import Iterable, Sequence
+from dataclasses import dataclass
+from pathlib import Path
+
+from pdsuite.asked import refused
+from pdsuite.commands.choice import scripts_of
+from pdsuite.files import write
+from pdsuite.octets import shown_path
+from pdsuite.programs import Program, locate
+from pdsuite.report import Report
+from pdsuite.reports.form import Form
+from pdsuite.rows import Outcome, Verdict
+from pdsuite.runs import Script, runs_of
+from pdsuite.screen import Screen, say
+from pdsuite.settings import Settings, settings_text
+from pdsuite.settle import Again, Start, Step, settle_all
+from pdsuite.stop import Stop, Stopped
+from pdsuite.suite import Suite, option_of
+
+PROGRAM = "pdregress"
+
+
+@dataclass(frozen=True)
+class Wish:
+    """What a call asks for: which scripts, and how they are run."""
+
+    paths: Sequence[Path]
+    only: str | None
+    settings: str
+    workers: int
+    fail_fast: bool
+    junit: Path | None
+
+
+def run(wish: Wish, form: Form, screen: Screen) -> int:
+    """Runs the scripts, and answers the exit status."""
+    begin = time.monotonic()
+    with Stop() as stop:
+        suite = Suite(option_of(wish.settings))
+        try:
+            scripts = scripts_of(wish.paths, wish.only, suite, stop)
+            program = locate(PROGRAM)
+            lines = refused(suite.claims(), lambda: Program([program], stop))
+        except Stopped as stopped:
+            return stopped.status
+        if lines:
+            for line in lines:
+                say(line)
+            return 2
+        report = Report(scripts, form, screen)
+        steps = settle_all(runs_of(scripts), _start(program, wish.workers, stop))
+        ended = _take(steps, report, screen, wish.fail_fast)
+        seconds = time.monotonic() - begin
+        totals = report.close(seconds)
+    if wish.junit is not None:
+        _write_junit(wish.junit, report.outcomes, seconds)
+    return totals.status() if ended is None else ended.status
+
+
+def _start(program: Path, workers: int, stop: Stop) -> Start:
+    """What starts the program for a run under these settings."""
+
+    def start(settings: Settings) -> Program:
+        words: list[str | Path] = [program, "--workers", str(workers), "--cache", "1"]
+        text = settings_text(settings)
+        return Program([*words, "--settings", text] if text else words, stop)
+
+    return start
+
+
+def _take(steps: Iterable[Step], report: Report, screen: Screen, fail_fast: bool) -> Stopped | None:
+    """Reports each step, up to the last one or the one where it is to end; the signal that ended it, if one did."""
+    try:
+        for step in steps:
+            if isinstance(step, Again):
+                place = shown_path(step.script.path)
+                screen.note(f"pdsuite: {step.reason}; a new run begins at {place}")
+                continue
+            report.take(step.outcomes)
+            if fail_fast and not all(map(_passes, step.outcomes)):
+                break
+    except Stopped as stopped:
+        return stopped
+    return None
+
+
+def _passes(settled: tuple[Script, Outcome]) -> bool:
+    return settled[1].row.verdict is Verdict.PASS
+
+
+def _write_junit(path: Path, outcomes: Sequence[Outcome], seconds: float) -> None:
+    # Only who asks for this file pays for what writes it.
+    from pdsuite.reports.junit import junit
+
+    write(path, junit(outcomes, seconds))

@@ -1,0 +1,10 @@
+"""What ends a command before its work is done."""
+
+
+class Fault(Exception):
+    """Something without which a command can't go on; its text is one line for people."""
+
+
+def why(error: OSError) -> str:
+    """What the system says of a call that it refused."""
+    return error.strerror or str(error)

@@ -1,0 +1,150 @@
+"""The words of pdsuite, and how it ends."""
+
+import errno
+import io
+import os
+import sys
+from collections.abc import Callable
+from pathlib import Path
+from typing import TypeVar
+
+import click
+
+from pdsuite.commands.list import list_scripts
+from pdsuite.commands.run import Wish, run
+from pdsuite.faults import Fault, why
+from pdsuite.octets import shown
+from pdsuite.reports.as_json import Json
+from pdsuite.reports.form import Form
+from pdsuite.reports.github import Github
+from pdsuite.reports.plain import Plain
+from pdsuite.reports.tap import Tap
+from pdsuite.screen import Screen, say, wants_color
+from pdsuite.stop import Stopped
+from pdsuite.version import version
+
+MOST_WORKERS = 64
+FAULT = 2
+
+Command = TypeVar("Command", bound=Callable[..., int])
+
+
+def _print_version(context: click.Context, option: click.Parameter, on: bool) -> None:
+    if on and not context.resilient_parsing:
+        for line in version():
+            click.echo(line)
+        context.exit()
+
+
+@click.group(context_settings={"help_option_names": ["-h", "--help"]})
+@click.option(
+    "--version",
+    is_flag=True,
+    is_eager=True,
+    expose_value=False,
+    callback=_print_version,
+    help="Show the commit and the programs' SHA-256.",
+)
+def pdsuite() -> None:
+    """Runs folders of packetdrill scripts by the built program pdregress."""
+
+
+def _choice(command: Command) -> Command:
+    """The words that say which scripts are meant, and with which settings."""
+    for option in (
+        click.option("--no-color", is_flag=True, help="No colours on a terminal."),
+        click.option("--settings", default="", metavar="TEXT", help="Settings before all others."),
+        click.option("--only", metavar="PATTERN", help="Only scripts whose path or name fits."),
+        click.argument("paths", nargs=-1, required=True, type=click.Path(path_type=Path)),
+    ):
+        command = option(command)
+    return command
+
+
+@pdsuite.command(name="run")
+@_choice
+@click.option(
+    "--workers",
+    type=click.IntRange(0, MOST_WORKERS),
+    help="How many threads run scripts; one a processor if nothing is said.",
+)
+@click.option("--fail-fast", is_flag=True, help="Stop at the first piece that doesn't pass.")
+@click.option(
+    "--junit",
+    metavar="FILE",
+    type=click.Path(path_type=Path),
+    help="Write JUnit's XML, too.",
+)
+@click.option("--tap", "form", flag_value="tap", help="Print TAP, version 13.")
+@click.option("--json", "form", flag_value="json", help="Print JSON.")
+@click.option("--github", "form", flag_value="github", help="Print annotations.")
+@click.option("-v", "--verbose", is_flag=True, help="A line for each script.")
+def run_command(
+    paths: tuple[Path, ...],
+    only: str | None,
+    settings: str,
+    no_color: bool,
+    workers: int | None,
+    fail_fast: bool,
+    junit: Path | None,
+    form: str | None,
+    verbose: bool,
+) -> int:
+    """Runs all scripts in files and folders, and reports what came of them."""
+    if workers is None:
+        workers = min(len(os.sched_getaffinity(0)), MOST_WORKERS)
+    wish = Wish(paths, only, settings, workers, fail_fast, junit)
+    with Screen(wants_color() and not no_color, progress=form is None) as screen:
+        return run(wish, _form(form, verbose), screen)
+
+
+@pdsuite.command(name="list")
+@_choice
+def list_command(paths: tuple[Path, ...], only: str | None, settings: str, no_color: bool) -> int:
+    """Lists the scripts with their settings, and runs nothing."""
+    with Screen(wants_color() and not no_color, progress=False) as screen:
+        return list_scripts(paths, only, settings, screen)
+
+
+def _form(name: str | None, every: bool) -> Form:
+    match name:
+        case "tap":
+            return Tap()
+        case "json":
+            return Json()
+        case "github":
+            return Github()
+    return Plain(every)
+
+
+def main() -> int:
+    """Does what the words ask for, and answers the exit status."""
+    if sys.stdout is None:
+        say("pdsuite: standard output is closed")
+        return FAULT
+    if isinstance(sys.stdout, io.TextIOWrapper):
+        sys.stdout.reconfigure(encoding="utf-8")
+    try:
+        status = pdsuite.main(prog_name="pdsuite", standalone_mode=False)
+        sys.stdout.flush()
+        return status if isinstance(status, int) else 0
+    except click.ClickException as error:
+        error.show()
+    except click.exceptions.Abort:
+        pass
+    except Stopped as stopped:
+        return stopped.status
+    except Fault as fault:
+        say(f"pdsuite: {fault}")
+    except OSError as error:
+        _leave_output(error)
+    return FAULT
+
+
+def _leave_output(error: OSError) -> None:
+    """Says what went wrong, unless a reader went away, and lets no end of the process try to write once more."""
+    os.dup2(os.open(os.devnull, os.O_WRONLY), sys.stdout.fileno())
+    if error.errno != errno.EPIPE:
+        name = "standard output" if error.filename is None else str(error.filename)
+        path = shown(name.encode("utf-8", "surrogateescape"))
+        say(f"pdsuite: {path}: {why(error)}")

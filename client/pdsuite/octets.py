@@ -1,0 +1,50 @@
+"""How octets are shown: one function for terminals and for every file that is written."""
+
+import os
+import re
+from pathlib import Path
+
+_PLAIN = re.compile(rb"[ -\[\]-~]*")
+_CUT = "..."
+
+
+def shown(octets: bytes, most: int | None = None, also: str = "") -> str:
+    r"""The octets as text that is safe to print.
+
+    Octets that aren't UTF-8 and characters that don't print, control characters among
+    them, stand as `\xHH`, a backslash as `\\`. So do the characters of `also`. A text
+    of more than `most` octets is cut, and ends in `...` within them.
+    """
+    if _PLAIN.fullmatch(octets) and not also:
+        signs = list(octets.decode("ascii")) if most is not None else None
+        text = octets.decode("ascii")
+    else:
+        signs = [_sign(it, also) for it in octets.decode("utf-8", "surrogateescape")]
+        text = "".join(signs)
+    if signs is None or most is None or len(text.encode()) <= most:
+        return text
+    return _cut(signs, most - len(_CUT)) + _CUT
+
+
+def shown_path(path: Path, also: str = "") -> str:
+    """A path as people see it."""
+    return shown(os.fsencode(path), also=also)
+
+
+def _sign(character: str, also: str) -> str:
+    if character == "\\" and character not in also:
+        return "\\\\"
+    if character.isprintable() and character not in also:
+        return character
+    octets = character.encode("utf-8", "surrogateescape")
+    return "".join(f"\\x{octet:02x}" for octet in octets)
+
+
+def _cut(signs: list[str], most: int) -> str:
+    """As many of the first signs as fit into so many octets; a sign is never halved."""
+    size = 0
+    for number, sign in enumerate(signs):
+        size += len(sign.encode())
+        if size > most:
+            return "".join(signs[:number])
+    return "".join(signs)

@@ -1,0 +1,216 @@
+"""The built programs: where they are, and how they are started and asked. No other module starts a process."""
+
+import contextlib
+import fcntl
+import hashlib
+import os
+import select
+import selectors
+import signal
+import subprocess
+from collections.abc import Sequence
+from pathlib import Path
+from types import TracebackType
+
+from pdsuite.faults import Fault, why
+from pdsuite.octets import shown, shown_path
+from pdsuite.stop import Stop
+
+TOP = Path(__file__).resolve().parents[2]
+FOLDER = "PDSUITE_PROGRAMS"
+
+_PIPE = 1 << 20
+_READ = 1 << 18
+_KEPT = 4_096
+_SHOWN = 200
+_GRACE = 1.0
+
+
+class Ended(Exception):
+    """A program ended, or has to be ended; the text says so, in the program's own words where it has any."""
+
+
+def locate(name: str) -> Path:
+    """The built program of this name."""
+    if folder := os.environ.get(FOLDER):
+        path = Path(folder, name).absolute()
+        if not path.is_file() or not os.access(path, os.X_OK):
+            raise Fault(f"{shown_path(path)}: no program ({FOLDER} names the folder)")
+        return path
+    said = subprocess.run(
+        [TOP / "tools/built.sh", name],
+        stdin=subprocess.DEVNULL,
+        capture_output=True,
+    )
+    if said.returncode:
+        raise Fault(shown(said.stderr.strip()))
+    return Path(os.fsdecode(said.stdout.removesuffix(b"\n")))
+
+
+def commit() -> str:
+    """The commit that this client is of, with `-dirty` where files differ from it."""
+    words = ["describe", "--always", "--dirty", "--abbrev=40", "--exclude=*"]
+    try:
+        said = subprocess.run(["git", "-C", TOP, *words], stdin=subprocess.DEVNULL, capture_output=True)
+    except OSError:
+        return "unknown"
+    return shown(said.stdout.strip()) if said.returncode == 0 else "unknown"
+
+
+def digest(path: Path) -> str:
+    """The SHA-256 of a program."""
+    with path.open("rb") as file:
+        return hashlib.file_digest(file, "sha256").hexdigest()
+
+
+class Program:
+    """A started program, in a process group of its own: it is asked, and it ends with the block that uses it."""
+
+    def __init__(self, words: Sequence[str | Path], stop: Stop) -> None:
+        self._stop = stop
+        self._name = shown_path(Path(Path(words[0]).name))
+        try:
+            self._process = subprocess.Popen(
+                words,
+                stdin=subprocess.PIPE,
+                stdout=subprocess.PIPE,
+                stderr=subprocess.PIPE,
+                bufsize=0,
+                process_group=0,
+            )
+        except (OSError, ValueError) as error:
+            reason = why(error) if isinstance(error, OSError) else str(error)
+            raise Ended(f"{shown_path(Path(words[0]))}: {reason}") from error
+        self._in, self._out, self._err = _pipes(self._process)
+        self._unsent = b""
+        # An empty line before what was said lets every line begin after a newline.
+        self._got = bytearray(b"\n")
+        self._said = b""
+        self._selector = selectors.DefaultSelector()
+        for descriptor in (stop.fileno(), self._out, self._err):
+            self._selector.register(descriptor, selectors.EVENT_READ)
+
+    def __enter__(self) -> "Program":
+        return self
+
+    def __exit__(
+        self,
+        kind: type[BaseException] | None,
+        error: BaseException | None,
+        trace: TracebackType | None,
+    ) -> None:
+        self._kill()
+        self._selector.close()
+        for pipe in (self._process.stdin, self._process.stdout, self._process.stderr):
+            if pipe is not None:
+                pipe.close()
+
+    def ask(self, commands: bytes, longest: int) -> bytes:
+        """What the program answers, up to the line `total`. It is read while the commands are written."""
+        self._send(commands)
+        seen = 0
+        while True:
+            start = self._got.find(b"\ntotal ", seen)
+            end = self._got.find(b"\n", start + 1) if start >= 0 else -1
+            if end >= 0:
+                return self._take(end)
+            seen = max(0, start if start >= 0 else len(self._got) - len(b"\ntotal "))
+            if len(self._got) > longest:
+                raise Ended(f"{self._name} answered more than was asked")
+            if not self._is_open(self._out):
+                raise Ended(self._last_words())
+            self._work(None)
+
+    def _take(self, end: int) -> bytes:
+        """What was said up to this newline; that newline stays, before what comes next."""
+        answer = bytes(self._got[1 : end + 1])
+        del self._got[:end]
+        return answer
+
+    def _send(self, commands: bytes) -> None:
+        self._unsent += commands
+        if not self._is_open(self._in):
+            self._selector.register(self._in, selectors.EVENT_WRITE)
+
+    def _work(self, seconds: float | None) -> bool:
+        """Waits until something can be read or written, and does it; whether there was anything in that time."""
+        ready = self._selector.select(seconds)
+        for key, _ in ready:
+            if key.fd == self._in:
+                self._write()
+            elif key.fd == self._out:
+                self._got += self._read(self._out)
+            elif key.fd == self._err:
+                self._said = (self._said + self._read(self._err))[-_KEPT:]
+        self._stop.check()
+        return bool(ready)
+
+    def _write(self) -> None:
+        try:
+            self._unsent = self._unsent[os.write(self._in, self._unsent) :]
+        except BlockingIOError:
+            return
+        except OSError:
+            # Whoever reads no more has ended, or is about to answer.
+            self._unsent = b""
+        if not self._unsent:
+            self._selector.unregister(self._in)
+
+    def _read(self, descriptor: int) -> bytes:
+        try:
+            octets = os.read(descriptor, _READ)
+        except BlockingIOError:
+            return b""
+        except OSError:
+            octets = b""
+        if not octets:
+            self._selector.unregister(descriptor)
+        return octets
+
+    def _is_open(self, descriptor: int) -> bool:
+        return descriptor in self._selector.get_map()
+
+    def _last_words(self) -> str:
+        """Why the program has ended: the last line that it said, else its status."""
+        while self._is_open(self._err) and self._work(_GRACE):
+            pass
+        lines = [line for line in self._said.split(b"\n") if line.strip()]
+        if lines:
+            return shown(lines[-1], _SHOWN)
+        if not self._has_ended():
+            return f"{self._name} closed its output"
+        status = self._kill()
+        if status < 0:
+            return f"{self._name} was ended by {_signal_name(-status)}"
+        return f"{self._name} ended with status {status}"
+
+    def _has_ended(self) -> bool:
+        descriptor = os.pidfd_open(self._process.pid)
+        try:
+            return bool(select.select([descriptor], [], [], _GRACE)[0])
+        finally:
+            os.close(descriptor)
+
+    def _kill(self) -> int:
+        """Ends all of the program's group, and answers its status; until then no other process can have its number."""
+        if self._process.returncode is None:
+            with contextlib.suppress(ProcessLookupError):
+                os.killpg(self._process.pid, signal.SIGKILL)
+        return self._process.wait()
+
+
+def _pipes(process: "subprocess.Popen[bytes]") -> tuple[int, int, int]:
+    pipes = (process.stdin, process.stdout, process.stderr)
+    ends = [pipe.fileno() for pipe in pipes if pipe is not None]
+    for end in ends:
+        os.set_blocking(end, False)
+        with contextlib.suppress(OSError):  # a smaller pipe does, too
+            fcntl.fcntl(end, fcntl.F_SETPIPE_SZ, _PIPE)
+    return ends[0], ends[1], ends[2]
+
+
+def _signal_name(number: int) -> str:
+    try:
+        return signal.Signals(number).name
+    except ValueError:
+        return f"signal {number}"

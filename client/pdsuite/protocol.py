@@ -1,0 +1,82 @@
+"""What is written to the program, and what its answers say. Names are given here and seen nowhere else."""
+
+import re
+from collections.abc import Sequence
+
+from pdsuite.octets import shown
+from pdsuite.rows import Row, Verdict
+from pdsuite.text import Text
+
+SETTLE = b"settle\n"
+SHOW = b"show\n"
+# The longest row, refusal or line of totals, and more.
+LONGEST_LINE = 256
+_SHOWN = 80
+
+_ROW = re.compile(rb"(\S+) (?:(pass|syntax|unsupported|limit) (\d{1,6})|fail (\d{1,6}) ([a-z]+))")
+_TOTAL = re.compile(rb"total (\d+) pass \d+ fail \d+ syntax \d+ unsupported \d+ limit \d+ pending 0")
+
+
+class Unexpected(Exception):
+    """An answer that isn't the one to what was asked; the text says what it has in its place."""
+
+
+def name_of(number: int) -> bytes:
+    """The name of the script with this number in a run: never a word of a command or of a report."""
+    return b"s%d" % number
+
+
+def add(name: bytes, text: Text) -> bytes:
+    """The command that adds a script."""
+    return b"add %s %d\n%s" % (name, text.lines, text.octets)
+
+
+def set_and_show(key: str, word: str) -> bytes:
+    """The commands that set a key in an empty run, and have it answered."""
+    return f"set {key} {word}\n".encode() + SHOW
+
+
+def refusal_in(answer: bytes) -> str | None:
+    """The name of the refusal that an answer begins with: `BadValue` of `refused 4 BadValue`."""
+    first = answer.split(b"\n", 1)[0].split(b" ")
+    return shown(first[2]) if first[0] == b"refused" and len(first) == 3 else None
+
+
+def rows_in(answer: bytes, before: bytes, names: Sequence[bytes], count: int) -> list[Row]:
+    """The rows of these names in an answer, after the ones that came before and before the totals of `count` rows."""
+    if not answer.startswith(before):
+        raise Unexpected(_first_other(answer, before))
+    lines = answer[len(before) :].split(b"\n")
+    rows = [_row(line, name) for line, name in zip(lines, names)]
+    last = lines[len(names)] if len(lines) > len(names) else b""
+    total = _TOTAL.fullmatch(last)
+    if total is None or int(total[1]) != count or lines[len(names) + 1 :] != [b""]:
+        raise Unexpected(_quoted(last))
+    return rows
+
+
+def before_total(answer: bytes) -> bytes:
+    """The rows of an answer, which the next answer of the same run begins with."""
+    return answer[: answer.rindex(b"total ")]
+
+
+def _row(line: bytes, name: bytes) -> Row:
+    found = _ROW.fullmatch(line)
+    if found is None or found[1] != name:
+        raise Unexpected(_quoted(line))
+    if found[5] is not None:
+        return Row(Verdict.FAIL, int(found[4]), found[5].decode())
+    return Row(Verdict(found[2].decode()), int(found[3]))
+
+
+def _first_other(answer: bytes, before: bytes) -> str:
+    for line, wanted in zip(answer.split(b"\n"), before.split(b"\n")):
+        if line != wanted:
+            return _quoted(line)
+    return _quoted(b"")
+
+
+def _quoted(line: bytes) -> str:
+    if line.startswith(b"refused "):
+        return shown(line, _SHOWN)
+    return f'answered "{shown(line, _SHOWN)}", which isn\'t the row that is due'

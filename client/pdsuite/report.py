@@ -1,0 +1,52 @@
+"""A report while it grows: outcomes come run by run, and are shown in the order of paths."""
+
+from collections.abc import Iterable, Sequence
+
+from rich.text import Text
+
+from pdsuite.reports.form import Form
+from pdsuite.rows import Outcome, Row, Totals, Verdict
+from pdsuite.runs import Script
+from pdsuite.screen import Screen
+
+
+class Report:
+    """The outcomes that were shown, and those that wait for earlier ones."""
+
+    def __init__(self, scripts: Sequence[Script], form: Form, screen: Screen) -> None:
+        self.outcomes: list[Outcome] = []
+        self._scripts = scripts
+        self._form = form
+        self._screen = screen
+        self._waiting: dict[int, Outcome] = {}
+        screen.show(form.head(len(scripts)))
+
+    def take(self, outcomes: Iterable[tuple[Script, Outcome]]) -> None:
+        """Shows outcomes, as soon as all before them were shown."""
+        self._waiting.update((script.index, outcome) for script, outcome in outcomes)
+        ready: list[Outcome] = []
+        while (index := len(self.outcomes) + len(ready)) in self._waiting:
+            ready.append(self._waiting.pop(index))
+        self._show(ready)
+        done = len(self.outcomes) + len(self._waiting)
+        self._screen.advance(done, len(self._scripts))
+
+    def close(self, seconds: float) -> Totals:
+        """Shows what still waits, scripts that weren't run among it, and the totals."""
+        self._screen.clear()
+        left = self._scripts[len(self.outcomes) :]
+        self._show([self._waiting.get(it.index, _not_run(it)) for it in left])
+        totals = Totals.of(it.row.verdict for it in self.outcomes)
+        self._screen.show(self._form.foot(totals, seconds))
+        return totals
+
+    def _show(self, outcomes: Sequence[Outcome]) -> None:
+        text = Text()
+        for outcome in outcomes:
+            self.outcomes.append(outcome)
+            text.append_text(self._form.entry(len(self.outcomes), outcome))
+        self._screen.show(text)
+
+
+def _not_run(script: Script) -> Outcome:
+    return Outcome(script.path, script.settings, Row(Verdict.NOT_RUN))

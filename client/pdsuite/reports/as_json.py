@@ -1,0 +1,43 @@
+"""The report as one JSON object."""
+
+import json
+
+from rich.text import Text
+
+from pdsuite.block import block
+from pdsuite.octets import shown_path
+from pdsuite.rows import Outcome, Totals, Verdict
+
+
+class Json:
+    """An object with a list of scripts, a line for each, and their totals."""
+
+    def head(self, count: int) -> Text:
+        return Text('{"scripts": [')
+
+    def entry(self, number: int, outcome: Outcome) -> Text:
+        begin = "\n" if number == 1 else ",\n"
+        return Text(begin + json.dumps(_script(outcome), ensure_ascii=False))
+
+    def foot(self, totals: Totals, seconds: float) -> Text:
+        counts = {it.value: totals.counts[it] for it in Verdict}
+        total = json.dumps({"scripts": totals.scripts, **counts})
+        return Text(f'\n], "total": {total}, "seconds": {seconds:.2f}}}\n')
+
+
+def _script(outcome: Outcome) -> dict[str, object]:
+    row = outcome.row
+    script: dict[str, object] = {
+        "path": shown_path(outcome.path),
+        "verdict": row.verdict.value,
+    }
+    match row.verdict:
+        case Verdict.PASS:
+            script["events"] = row.number
+        case Verdict.ERROR:
+            script["reason"] = row.word
+        case Verdict.FAIL:
+            script.update(line=row.number, kind=row.word)
+        case Verdict.SYNTAX | Verdict.UNSUPPORTED | Verdict.LIMIT:
+            script["line"] = row.number
+    return {**script, "below": block(outcome), "settings": dict(outcome.settings)}

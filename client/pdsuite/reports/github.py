@@ -1,0 +1,35 @@
+"""The report as GitHub's workflow commands, which stand beside the lines of a change."""
+
+from rich.text import Text
+
+from pdsuite.block import block
+from pdsuite.octets import shown_path
+from pdsuite.reports.plain import place
+from pdsuite.rows import Outcome, Totals, Verdict
+
+
+class Github:
+    """An annotation for each script that doesn't pass; then the totals."""
+
+    def head(self, count: int) -> Text:
+        return Text()
+
+    def entry(self, number: int, outcome: Outcome) -> Text:
+        if outcome.row.verdict in (Verdict.PASS, Verdict.NOT_RUN):
+            return Text()
+        where = f"file={_property(shown_path(outcome.path))}"
+        if outcome.row.line is not None:
+            where += f",line={outcome.row.line}"
+        told = [f"{place(outcome)}: {outcome.row}", *(f"  {it}" for it in block(outcome))]
+        return Text(f"::error {where}::{'%0A'.join(map(_data, told))}\n")
+
+    def foot(self, totals: Totals, seconds: float) -> Text:
+        return Text(f"{totals} in {seconds:.2f} s\n")
+
+
+def _data(text: str) -> str:
+    return text.replace("%", "%25")
+
+
+def _property(text: str) -> str:
+    return _data(text).replace(":", "%3A").replace(",", "%2C")

@@ -1,0 +1,39 @@
+"""The report as JUnit's XML, for build servers."""
+
+import os
+from collections.abc import Iterable
+from pathlib import Path
+
+from junitparser import Error, Failure, JUnitXml, TestCase, TestSuite
+
+from pdsuite.block import block
+from pdsuite.octets import shown_path
+from pdsuite.reports.plain import place
+from pdsuite.rows import Outcome, Verdict
+
+
+def junit(outcomes: Iterable[Outcome], seconds: float) -> bytes:
+    """A suite with a case for each script: a `fail` is a failure, all else that doesn't pass an error."""
+    suite = TestSuite("pdsuite")
+    for outcome in outcomes:
+        suite.append(_case(outcome))
+    suite.update_statistics()
+    suite.time = round(seconds, 3)
+    report = JUnitXml("pdsuite")
+    report.append(suite)
+    report.update_statistics()
+    octets: bytes = report.tostring()
+    return octets
+
+
+def _case(outcome: Outcome) -> TestCase:
+    folder = Path(os.path.dirname(outcome.path))
+    case = TestCase(shown_path(outcome.path), classname=shown_path(folder), time=0)
+    verdict = outcome.row.verdict
+    if verdict is not Verdict.PASS:
+        kind = Failure if verdict is Verdict.FAIL else Error
+        result = kind(str(outcome.row), verdict.value)
+        below = (f"  {it}" for it in block(outcome))
+        result.text = "\n".join([f"{place(outcome)}: {outcome.row}", *below])
+        case.result = [result]
+    return case

@@ -1,0 +1,47 @@
+"""The report for people."""
+
+from dataclasses import dataclass
+
+from rich.text import Text
+
+from pdsuite.block import block
+from pdsuite.octets import shown_path
+from pdsuite.rows import Outcome, Totals, Verdict
+
+_STYLES = {
+    Verdict.PASS: "green",
+    Verdict.FAIL: "bold red",
+    Verdict.SYNTAX: "bold magenta",
+    Verdict.UNSUPPORTED: "yellow",
+    Verdict.LIMIT: "yellow",
+    Verdict.ERROR: "bold red",
+    Verdict.NOT_RUN: "dim",
+}
+
+
+@dataclass(frozen=True)
+class Plain:
+    """A line for each script that doesn't pass, with its block, or for every script; then the totals."""
+
+    every: bool
+
+    def head(self, count: int) -> Text:
+        return Text()
+
+    def entry(self, number: int, outcome: Outcome) -> Text:
+        verdict = outcome.row.verdict
+        if verdict in (Verdict.PASS, Verdict.NOT_RUN) and not self.every:
+            return Text()
+        line = Text(f"{place(outcome)}: ").append(str(outcome.row), _STYLES[verdict])
+        below = "".join(f"  {it}\n" for it in block(outcome))
+        return line.append("\n").append(below, "dim")
+
+    def foot(self, totals: Totals, seconds: float) -> Text:
+        style = "green" if totals.status() == 0 else "bold red"
+        return Text(str(totals), style).append(f" in {seconds:.2f} s\n", "default")
+
+
+def place(outcome: Outcome) -> str:
+    """The path, with the line that the row names."""
+    path = shown_path(outcome.path)
+    return path if outcome.row.line is None else f"{path}:{outcome.row.line}"

@@ -1,0 +1,55 @@
+"""Settings as values: how they stand in a settings text, and in a `set` command."""
+
+import re
+from collections.abc import Mapping
+
+# What TOML can hold; the program says which of it a key takes.
+Value = object
+# Keys with their values, in the order of keys.
+Settings = tuple[tuple[str, Value], ...]
+
+_KEY = re.compile(r"[A-Za-z0-9_.-]{1,64}")
+_WORD = re.compile(r"[a-z][a-z0-9_]{0,63}")
+_TRUTH = {"true", "false"}
+_DIGITS = 20
+# A word that is no key, and a value that no key takes.
+_NONE = "?"
+
+
+def settings_of(table: Mapping[str, Value]) -> Settings:
+    """The settings of a table."""
+    return tuple(sorted(table.items()))
+
+
+def set_words(key: str, value: Value) -> tuple[str, str]:
+    """Key and value as words of a `set` command.
+
+    Where no word can hold them, a word stands for them that the program refuses too.
+    """
+    return (key if _KEY.fullmatch(key) else _NONE, _value_word(value))
+
+
+def settings_text(settings: Settings) -> str:
+    """The settings as a TOML text for `--settings`; each of them was accepted."""
+    return "\n".join(f"{key} = {shown_value(value)}" for key, value in settings)
+
+
+def shown_value(value: Value) -> str:
+    """A value as TOML has it, where it is a number, a truth value or a word."""
+    if isinstance(value, bool):
+        return "true" if value else "false"
+    if isinstance(value, str):
+        return f'"{value}"'
+    return str(value)
+
+
+def _value_word(value: Value) -> str:
+    if isinstance(value, bool):
+        return "true" if value else "false"
+    if isinstance(value, int):
+        digits = str(value)
+        return digits if len(digits) <= _DIGITS else _NONE
+    # A word in quotes that is digits or a truth value is neither a number nor one.
+    if isinstance(value, str) and _WORD.fullmatch(value) and value not in _TRUTH:
+        return value
+    return _NONE

@@ -1,0 +1,110 @@
+"""Has scripts settled: run by run, piece by piece, and once more where a program ended on the way."""
+
+from collections import deque
+from collections.abc import Callable, Iterable, Iterator
+from dataclasses import dataclass
+
+from pdsuite.programs import Ended, Program
+from pdsuite.protocol import LONGEST_LINE, SETTLE, Unexpected
+from pdsuite.protocol import add, before_total, name_of, rows_in
+from pdsuite.rows import Outcome, Row, Verdict
+from pdsuite.runs import Piece, Run, Script
+from pdsuite.settings import Settings
+from pdsuite.text import Text, Unfit, read_text
+
+Start = Callable[[Settings], Program]
+
+
+@dataclass(frozen=True)
+class Settled:
+    """A piece that has been settled."""
+
+    outcomes: list[tuple[Script, Outcome]]
+
+
+@dataclass(frozen=True)
+class Again:
+    """A program ended before it had answered for this script; a new one begins there."""
+
+    script: Script
+    reason: str
+
+
+Step = Settled | Again
+
+
+def settle_all(runs: Iterable[Run], start: Start) -> Iterator[Step]:
+    """Has all runs settled, one after another."""
+    for run in runs:
+        yield from settle(run, start)
+
+
+def settle(run: Run, start: Start) -> Iterator[Step]:
+    """Has a run settled.
+
+    Where its program ends, a new one begins with what is left, each script of that piece by itself. A script whose
+    program ends a second time is an error.
+    """
+    left = deque(run.pieces)
+    ended: set[int] = set()
+    while left:
+        try:
+            with start(run.settings) as program:
+                yield from _settle_pieces(program, left)
+        except Ended as end:
+            piece = left.popleft()
+            if len(piece) == 1 and piece[0].index in ended:
+                yield Settled([_unrun(piece[0], str(end))])
+                continue
+            ended.update(script.index for script in piece)
+            left.extendleft((script,) for script in reversed(piece))
+            yield Again(piece[0], str(end))
+
+
+def _settle_pieces(program: Program, left: deque[Piece]) -> Iterator[Settled]:
+    """Has one piece after another settled by this program; each is taken from `left` once it is."""
+    before = b""
+    count = 0
+    while left:
+        loaded = [(script, _load(script)) for script in left[0]]
+        texts = [it for _, it in loaded if isinstance(it, Text)]
+        rows: Iterator[Row] = iter(())
+        if texts:
+            names = [name_of(count + number) for number in range(len(texts))]
+            count += len(texts)
+            commands = b"".join(map(add, names, texts)) + SETTLE
+            answer = program.ask(commands, LONGEST_LINE * (count + 2))
+            rows = iter(_rows(answer, before, names, count))
+            before = before_total(answer)
+        left.popleft()
+        yield Settled([_outcome(script, text, rows) for script, text in loaded])
+
+
+def _rows(answer: bytes, before: bytes, names: list[bytes], count: int) -> list[Row]:
+    try:
+        return rows_in(answer, before, names, count)
+    except Unexpected as unexpected:
+        raise Ended(f"pdregress: {unexpected}") from unexpected
+
+
+def _load(script: Script) -> Text | str:
+    """The script's text, or why it can't be run."""
+    if script.fault:
+        return script.fault
+    try:
+        return read_text(script.path)
+    except Unfit as unfit:
+        return str(unfit)
+
+
+def _outcome(script: Script, text: Text | str, rows: Iterator[Row]) -> tuple[Script, Outcome]:
+    if isinstance(text, str):
+        return _unrun(script, text)
+    row = next(rows)
+    line = None if row.line is None else text.line(row.line)
+    return script, Outcome(script.path, script.settings, row, line)
+
+
+def _unrun(script: Script, reason: str) -> tuple[Script, Outcome]:
+    row = Row(Verdict.ERROR, word=reason)
+    return script, Outcome(script.path, script.settings, row)

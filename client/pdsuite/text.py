@@ -1,0 +1,69 @@
+"""The text of a script: read from its file, and held against the limits of the program."""
+
+import os
+import stat
+from dataclasses import dataclass
+from pathlib import Path
+
+LINES = 4_096
+OCTETS = 65_536
+# A carriage return before the end of a line doesn't count.
+_LONGEST_FILE = OCTETS + LINES
+
+
+class Unfit(Exception):
+    """Why a file can't be a script."""
+
+
+@dataclass(frozen=True, slots=True)
+class Text:
+    """A script's text as it is given to the program: each line has its newline."""
+
+    octets: bytes
+    lines: int
+
+    def line(self, number: int) -> bytes | None:
+        """A line without its end; lines count from 1."""
+        if not 1 <= number <= self.lines:
+            return None
+        return self.octets.split(b"\n", number)[number - 1].removesuffix(b"\r")
+
+
+def text_of(octets: bytes) -> Text:
+    """The text of a file with these octets, where the program takes it."""
+    if octets and not octets.endswith(b"\n"):
+        octets += b"\n"
+    lines = octets.count(b"\n")
+    if lines > LINES:
+        raise Unfit(f"more than {LINES:,} lines")
+    if len(octets) - octets.count(b"\r\n") > OCTETS:
+        raise Unfit(f"more than {OCTETS:,} octets")
+    return Text(octets, lines)
+
+
+def read_text(path: Path) -> Text:
+    """The text of a script's file."""
+    return text_of(read_file(path, _LONGEST_FILE + 1))
+
+
+def read_file(path: Path, most: int) -> bytes:
+    """The first octets of a file, at most so many; only of a regular one, since others can block."""
+    try:
+        descriptor = os.open(path, os.O_RDONLY | os.O_NONBLOCK | os.O_CLOEXEC)
+    except (OSError, ValueError) as error:
+        raise Unfit(getattr(error, "strerror", None) or str(error)) from error
+    try:
+        if not stat.S_ISREG(os.fstat(descriptor).st_mode):
+            raise Unfit("isn't a regular file")
+        return _read_up_to(descriptor, most)
+    except OSError as error:
+        raise Unfit(error.strerror or str(error)) from error
+    finally:
+        os.close(descriptor)
+
+
+def _read_up_to(descriptor: int, most: int) -> bytes:
+    octets = os.read(descriptor, most)
+    while len(octets) < most and (more := os.read(descriptor, most - len(octets))):
+        octets += more
+    return octets

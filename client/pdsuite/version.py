@@ -1,0 +1,16 @@
+"""What `pdsuite --version` says."""
+
+from collections.abc import Iterator
+
+from pdsuite.octets import shown_path
+from pdsuite.programs import commit, digest, locate
+
+PROGRAMS = ("pdregress",)
+
+
+def version() -> Iterator[str]:
+    """The commit of the client, and each program with its SHA-256."""
+    yield f"pdsuite {commit()}"
+    for name in PROGRAMS:
+        path = locate(name)
+        yield f"{name} {digest(path)} {shown_path(path)}"
