@@ -1,6 +1,5 @@
 """The words of pdsuite, and how it ends."""
 
-import errno
 import io
 import os
 import sys
@@ -19,7 +18,7 @@ from pdsuite.reports.form import Form
 from pdsuite.reports.github import Github
 from pdsuite.reports.plain import Plain
 from pdsuite.reports.tap import Tap
-from pdsuite.screen import Screen, say, wants_color
+from pdsuite.screen import Screen, Unwritten, say, wants_color
 from pdsuite.stop import Stopped
 from pdsuite.version import version
 
@@ -126,7 +125,6 @@ def main() -> int:
         sys.stdout.reconfigure(encoding="utf-8")
     try:
         status = pdsuite.main(prog_name="pdsuite", standalone_mode=False)
-        sys.stdout.flush()
         return status if isinstance(status, int) else 0
     except click.ClickException as error:
         error.show()
@@ -136,15 +134,19 @@ def main() -> int:
         return stopped.status
     except Fault as fault:
         say(f"pdsuite: {fault}")
+    except Unwritten as unwritten:
+        _leave_output()
+        if not unwritten.is_reader_gone:
+            say(f"pdsuite: standard output: {unwritten}")
     except OSError as error:
-        _leave_output(error)
+        _leave_output()
+        place = f"{shown(os.fsencode(error.filename))}: " if error.filename else ""
+        say(f"pdsuite: {place}{why(error)}")
     return FAULT
 
 
-def _leave_output(error: OSError) -> None:
-    """Says what went wrong, unless a reader went away, and lets no end of the process try to write once more."""
-    os.dup2(os.open(os.devnull, os.O_WRONLY), sys.stdout.fileno())
-    if error.errno != errno.EPIPE:
-        name = "standard output" if error.filename is None else str(error.filename)
-        path = shown(name.encode("utf-8", "surrogateescape"))
-        say(f"pdsuite: {path}: {why(error)}")
+def _leave_output() -> None:
+    """Lets no end of the process try once more to write what standard output didn't take."""
+    null = os.open(os.devnull, os.O_WRONLY)
+    os.dup2(null, sys.stdout.fileno())
+    os.close(null)

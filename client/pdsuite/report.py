@@ -20,6 +20,7 @@ class Report:
         self._screen = screen
         self._waiting: dict[int, Outcome] = {}
         screen.show(form.head(len(scripts)))
+        screen.advance(0, len(scripts))
 
     def take(self, outcomes: Iterable[tuple[Script, Outcome]]) -> None:
         """Shows outcomes, as soon as all before them were shown."""
@@ -31,20 +32,23 @@ class Report:
         done = len(self.outcomes) + len(self._waiting)
         self._screen.advance(done, len(self._scripts))
 
+    def left(self) -> list[Outcome]:
+        """What wasn't shown: outcomes that still wait, and scripts that weren't run."""
+        return [self._waiting.get(it.index, _not_run(it)) for it in self._scripts[len(self.outcomes) :]]
+
     def close(self, seconds: float) -> Totals:
-        """Shows what still waits, scripts that weren't run among it, and the totals."""
+        """Shows what is left, and the totals."""
         self._screen.clear()
-        left = self._scripts[len(self.outcomes) :]
-        self._show([self._waiting.get(it.index, _not_run(it)) for it in left])
+        self._show(self.left())
         totals = Totals.of(it.row.verdict for it in self.outcomes)
         self._screen.show(self._form.foot(totals, seconds))
         return totals
 
     def _show(self, outcomes: Sequence[Outcome]) -> None:
         text = Text()
-        for outcome in outcomes:
-            self.outcomes.append(outcome)
-            text.append_text(self._form.entry(len(self.outcomes), outcome))
+        for number, outcome in enumerate(outcomes, len(self.outcomes) + 1):
+            text.append_text(self._form.entry(number, outcome))
+        self.outcomes.extend(outcomes)
         self._screen.show(text)
 
 

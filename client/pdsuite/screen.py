@@ -1,5 +1,6 @@
 """Standard output: a terminal with colours and a line of progress, or plain octets."""
 
+import errno
 import os
 import sys
 from types import TracebackType
@@ -7,6 +8,16 @@ from types import TracebackType
 from rich.console import Console
 from rich.progress import BarColumn, MofNCompleteColumn, Progress, TextColumn
 from rich.text import Text
+
+from pdsuite.faults import why
+
+
+class Unwritten(Exception):
+    """Standard output takes no more."""
+
+    def __init__(self, error: OSError) -> None:
+        super().__init__(why(error))
+        self.is_reader_gone = error.errno == errno.EPIPE
 
 
 class Screen:
@@ -38,11 +49,14 @@ class Screen:
         """Writes a part of a report."""
         if not text.plain:
             return
-        if self._is_plain:
-            sys.stdout.write(text.plain)
-            sys.stdout.flush()
-        else:
-            self._console.print(text, end="", soft_wrap=True)
+        try:
+            if self._is_plain:
+                sys.stdout.write(text.plain)
+                sys.stdout.flush()
+            else:
+                self._console.print(text, end="", soft_wrap=True)
+        except OSError as error:
+            raise Unwritten(error) from error
 
     def note(self, line: str) -> None:
         """Says on standard error what no report holds."""
@@ -52,9 +66,9 @@ class Screen:
     def advance(self, done: int, count: int) -> None:
         """Says how many of the scripts are done."""
         if self._progress is not None and self._task is not None:
+            self._progress.update(self._task, completed=done, total=count)
             if not self._progress.live.is_started:
                 self._progress.start()
-            self._progress.update(self._task, completed=done, total=count)
             self._progress.refresh()
 
     def clear(self) -> None:

@@ -1,7 +1,7 @@
 """Has scripts settled: run by run, piece by piece, and once more where a program ended on the way."""
 
 from collections import deque
-from collections.abc import Callable, Iterable, Iterator
+from collections.abc import Callable, Generator, Iterable, Iterator
 from dataclasses import dataclass
 
 from pdsuite.programs import Ended, Program
@@ -33,13 +33,13 @@ class Again:
 Step = Settled | Again
 
 
-def settle_all(runs: Iterable[Run], start: Start) -> Iterator[Step]:
+def settle_all(runs: Iterable[Run], start: Start) -> Generator[Step, None, None]:
     """Has all runs settled, one after another."""
     for run in runs:
         yield from settle(run, start)
 
 
-def settle(run: Run, start: Start) -> Iterator[Step]:
+def settle(run: Run, start: Start) -> Generator[Step, None, None]:
     """Has a run settled.
 
     Where its program ends, a new one begins with what is left, each script of that piece by itself. A script whose

@@ -2,6 +2,7 @@
 
 import time
 from collections.abc import Iterable, Sequence
+from contextlib import closing
 from dataclasses import dataclass
 from pathlib import Path
 
@@ -51,12 +52,15 @@ def run(wish: Wish, form: Form, screen: Screen) -> int:
                 say(line)
             return 2
         report = Report(scripts, form, screen)
-        steps = settle_all(runs_of(scripts), _start(program, wish.workers, stop))
-        ended = _take(steps, report, screen, wish.fail_fast)
-        seconds = time.monotonic() - begin
-        totals = report.close(seconds)
-    if wish.junit is not None:
-        _write_junit(wish.junit, report.outcomes, seconds)
+        start = _start(program, wish.workers, stop)
+        try:
+            with closing(settle_all(runs_of(scripts), start)) as steps:
+                ended = _take(steps, report, screen, wish.fail_fast)
+            totals = report.close(time.monotonic() - begin)
+        finally:
+            # Also where nothing can be shown any more.
+            if wish.junit is not None:
+                _write_junit(wish.junit, report, time.monotonic() - begin)
     return totals.status() if ended is None else ended.status
 
 
@@ -91,8 +95,8 @@ def _passes(settled: tuple[Script, Outcome]) -> bool:
     return settled[1].row.verdict is Verdict.PASS
 
 
-def _write_junit(path: Path, outcomes: Sequence[Outcome], seconds: float) -> None:
+def _write_junit(path: Path, report: Report, seconds: float) -> None:
     # Only who asks for this file pays for what writes it.
     from pdsuite.reports.junit import junit
 
-    write(path, junit(outcomes, seconds))
+    write(path, junit([*report.outcomes, *report.left()], seconds))

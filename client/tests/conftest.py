@@ -1,0 +1,104 @@
+"""What the tests share: calls of ./pdsuite, the built program, and a program that stands in for it."""
+
+import os
+import shutil
+import signal
+import subprocess
+from collections.abc import Callable
+from dataclasses import dataclass
+from pathlib import Path
+
+import pytest
+
+TOP = Path(__file__).resolve().parents[2]
+STAND_IN = Path(__file__).with_name("stand_in.py")
+PASSES = b"0 socket(..., SOCK_STREAM, IPPROTO_TCP) = 3\n"
+FAILS = b"0 socket(..., SOCK_STREAM, IPPROTO_TCP) = 4\n"
+TOTALS = ("pass", "fail", "syntax", "unsupported", "limit", "error", "not run")
+
+
+@dataclass(frozen=True)
+class Called:
+    """What a call of pdsuite came to."""
+
+    status: int
+    out: str
+    err: str
+
+    @property
+    def rows(self) -> list[str]:
+        """What it printed, without the totals and the lines of scripts."""
+        return [line for line in self.out.splitlines() if line[:2] != "  " and not line.startswith("total ")]
+
+    @property
+    def totals(self) -> dict[str, int]:
+        """The counts that aren't 0."""
+        last = self.out.splitlines()[-1]
+        counts = {it: int(last.split(f" {it} ")[1].split()[0]) for it in TOTALS}
+        assert last.startswith(f"total {sum(counts.values())} "), last
+        return {it: count for it, count in counts.items() if count}
+
+
+Call = Callable[..., Called]
+
+
+def _program() -> Path:
+    """The folder of the built program."""
+    if folder := os.environ.get("PDSUITE_PROGRAMS"):
+        return Path(folder).resolve()
+    built = subprocess.run([TOP / "tools/built.sh", "pdregress"], capture_output=True, text=True)
+    if built.returncode:
+        pytest.fail(f"these tests need the built program: {built.stderr.strip()}", pytrace=False)
+    return Path(built.stdout.strip()).parent
+
+
+@pytest.fixture(scope="session")
+def programs() -> Path:
+    """The folder of the built program, or a failure that says which command builds it."""
+    return _program()
+
+
+@pytest.fixture(scope="session")
+def stand_in(tmp_path_factory: pytest.TempPathFactory) -> Path:
+    """A folder whose pdregress does what the texts of scripts say."""
+    folder = tmp_path_factory.mktemp("stand_in")
+    shutil.copy(STAND_IN, folder / "pdregress")
+    return folder
+
+
+@pytest.fixture
+def call(tmp_path: Path) -> Call:
+    """Calls ./pdsuite in the test's folder, by the programs of a folder."""
+
+    def called(folder: Path | None, *words: str | bytes | Path, **more: str) -> Called:
+        environment = {**os.environ, **more}
+        environment.pop("PDSUITE_PROGRAMS", None)
+        if folder is not None:
+            environment["PDSUITE_PROGRAMS"] = str(folder)
+        done = subprocess.run([TOP / "pdsuite", *words], cwd=tmp_path, env=environment, capture_output=True, timeout=60)
+        return Called(done.returncode, done.stdout.decode(), done.stderr.decode())
+
+    return called
+
+
+def write(folder: Path, **texts: bytes) -> None:
+    """Writes scripts `NAME.pkt` into a folder."""
+    folder.mkdir(parents=True, exist_ok=True)
+    for name, text in texts.items():
+        (folder / f"{name}.pkt").write_bytes(text)
+
+
+def is_alive(number: int) -> bool:
+    """Whether a process is there that hasn't ended."""
+    try:
+        os.kill(number, 0)
+        return Path(f"/proc/{number}/stat").read_text().rsplit(") ")[1][0] != "Z"
+    except (ProcessLookupError, FileNotFoundError):
+        return False
+
+
+def ends(process: "subprocess.Popen[bytes]", number: signal.Signals) -> tuple[int, str, str]:
+    """The status and the outputs of a process that is sent a signal."""
+    process.send_signal(number)
+    out, err = process.communicate(timeout=30)
+    return process.returncode, out.decode(), err.decode()

@@ -1,0 +1,94 @@
+#!/usr/bin/python3 -IS
+"""Stands in for pdregress: it passes each script, unless the script's first line says what it is to do in its place."""
+
+import os
+import signal
+import sys
+import time
+from pathlib import Path
+
+names: list[str] = []
+wants: dict[str, list[str]] = {}
+
+
+def say(line: str) -> None:
+    """Prints a line at once."""
+    print(line, flush=True)
+
+
+def end(line: str) -> None:
+    """Ends as the program does at a fault."""
+    print(line, file=sys.stderr, flush=True)
+    sys.exit(2)
+
+
+def act(words: list[str]) -> None:
+    """What is done at a settle, before the report."""
+    match words:
+        case ["crash"]:
+            os.kill(os.getpid(), signal.SIGSEGV)
+        case ["once", mark] if not Path(mark).exists():
+            Path(mark).touch()
+            os.kill(os.getpid(), signal.SIGKILL)
+        case ["exit"]:
+            sys.exit(3)
+        case ["fault", *fault]:
+            end(f"pdregress: {' '.join(fault)}")
+        case ["close"]:
+            os.close(1)
+            time.sleep(60)
+        case ["stall", mark]:
+            Path(mark).write_text(str(os.getpid()))
+            time.sleep(60)
+        case ["flood"]:
+            while True:
+                say("x" * 80)
+        case ["noise"]:
+            sys.stderr.write("y" * 3_000_000 + "\n")
+        case ["refuse", *refusal]:
+            say(f"refused {' '.join(refusal)}")
+
+
+def row(name: str) -> list[str]:
+    """The row of a script, or what stands in its place."""
+    match wants[name]:
+        case ["short"]:
+            return []
+        case ["other"]:
+            return ["s999 pass 1"]
+        case ["twice"]:
+            return [f"{name} pass 1"] * 2
+        case ["pending"]:
+            return [f"{name} pending"]
+        case ["row", *words]:
+            return [f"{name} {' '.join(words)}"]
+    return [f"{name} pass 1"]
+
+
+def report() -> None:
+    """Prints the rows and their totals."""
+    rows = [line for name in names for line in row(name)]
+    total = f"total {len(names)} pass {len(names)} fail 0 syntax 0 unsupported 0 limit 0 pending 0"
+    sys.stdout.write("\n".join([*rows, total]) + "\n")
+    sys.stdout.flush()
+
+
+def main() -> None:
+    """Takes commands to the end of the input."""
+    if Path(sys.argv[0]).with_name("dead").exists():
+        end("pdregress: 19 OutOfMemory")
+    for line in sys.stdin.buffer:
+        words = line.decode().split()
+        if words[0] == "add":
+            text = [sys.stdin.buffer.readline() for _ in range(int(words[2]))]
+            names.append(words[1])
+            wants[words[1]] = text[0].decode("latin-1").split() if text else []
+        elif words[0] == "settle":
+            for name in names:
+                act(wants[name])
+            report()
+        elif words[0] == "show":
+            report()
+
+
+main()

@@ -1,0 +1,180 @@
+"""./pdsuite itself: from any folder, through links, on a terminal, and where something isn't there."""
+
+import os
+import pty
+import re
+import shutil
+import subprocess
+from pathlib import Path
+
+import pytest
+from conftest import PASSES, TOP, Call, write
+
+
+def test_it_runs_under_the_systems_python_whatever_comes_first_on_the_path(
+    stand_in: Path, tmp_path: Path, call: Call
+) -> None:
+    write(tmp_path, a=PASSES)
+    other = tmp_path / "bin"
+    other.mkdir()
+    for name in ("python3", "python", "env"):
+        (other / name).write_text("#!/bin/sh\necho another python >&2\nexit 9\n")
+        (other / name).chmod(0o755)
+    (tmp_path / "rich.py").write_text("raise SystemExit(9)\n")
+    more = {"PATH": f"{other}:{os.environ['PATH']}", "PYTHONPATH": str(tmp_path), "PYTHONHOME": "/nowhere"}
+    called = call(stand_in, "run", ".", **more)
+    assert (called.status, called.err) == (0, "")
+
+
+def test_it_runs_through_links_from_any_folder(stand_in: Path, tmp_path: Path) -> None:
+    write(tmp_path / "suite", a=PASSES)
+    (tmp_path / "bin").mkdir()
+    (tmp_path / "bin/pdsuite").symlink_to(TOP / "pdsuite")
+    (tmp_path / "bin/twice").symlink_to("pdsuite")
+    environment = {
+        **os.environ,
+        "PDSUITE_PROGRAMS": str(stand_in),
+        "PATH": f"{tmp_path}/bin:{os.environ['PATH']}",
+        "CDPATH": "/",
+    }
+    for folder in (tmp_path, Path("/"), tmp_path / "suite"):
+        for name in ("pdsuite", "twice"):
+            done = subprocess.run([name, "run", tmp_path / "suite"], cwd=folder, env=environment, capture_output=True)
+            assert (done.returncode, done.stderr) == (0, b"")
+
+
+def copied(folder: Path) -> Path:
+    """A copy of the client and the tools in a folder of its own."""
+    for name in ("pdsuite", "crates.txt"):
+        shutil.copy(TOP / name, folder / name)
+    shutil.copytree(TOP / "client", folder / "client", ignore=shutil.ignore_patterns("tests", ".mypy_cache"))
+    shutil.copytree(TOP / "tools", folder / "tools")
+    return folder / "pdsuite"
+
+
+def test_a_missing_package_is_named_with_the_line_that_installs_it(tmp_path: Path) -> None:
+    command = copied(tmp_path)
+    packages = "python3-click python3-junitparser python3-rich python3-nowhere"
+    (tmp_path / "client/packages.txt").write_text(packages.replace(" ", "\n") + "\n")
+    done = subprocess.run([command, "run", "."], capture_output=True, text=True)
+    line = f"apt-get install --no-install-recommends {packages}"
+    assert (done.returncode, done.stderr) == (2, f"pdsuite: python3-nowhere isn't installed: {line}\n")
+
+
+@pytest.mark.parametrize("words", [["run", "client"], ["--version"]])
+def test_a_program_that_is_not_built_is_named_with_its_command(words: list[str], tmp_path: Path) -> None:
+    command = copied(tmp_path)
+    write(tmp_path / "client", a=PASSES)
+    environment = {key: value for key, value in os.environ.items() if key != "PDSUITE_PROGRAMS"}
+    done = subprocess.run([command, *words], cwd=tmp_path, env=environment, capture_output=True, text=True)
+    said = "pdregress isn't built, or is older than its sources: run ./pdregress </dev/null"
+    assert (done.returncode, done.stderr) == (2, f"pdsuite: {said}\n")
+    assert not (tmp_path / "crates").exists()
+
+
+def test_a_program_older_than_its_sources_is_not_taken(stand_in: Path, tmp_path: Path) -> None:
+    command = copied(tmp_path)
+    (tmp_path / "crates.txt").write_text("low:\npdregress: low\n")
+    for name in ("low/src", "pdregress/src", "pdregress/out"):
+        (tmp_path / "crates" / name).mkdir(parents=True)
+    source = tmp_path / "crates/low/src/lib.rt"
+    source.touch()
+    program = tmp_path / "crates/pdregress/out/pdregress"
+    shutil.copy(stand_in / "pdregress", program)
+    write(tmp_path / "suite", a=PASSES)
+    environment = {key: value for key, value in os.environ.items() if key != "PDSUITE_PROGRAMS"}
+
+    def status() -> int:
+        return subprocess.run([command, "run", "suite"], cwd=tmp_path, env=environment, capture_output=True).returncode
+
+    os.utime(source, (1, 1))
+    assert status() == 0
+    os.utime(source, (2**32, 2**32))
+    assert status() == 2
+
+
+def test_another_folder_of_programs_has_to_hold_one(tmp_path: Path, call: Call) -> None:
+    write(tmp_path, a=PASSES)
+    called = call(tmp_path / "nowhere", "run", ".")
+    said = f"pdsuite: {tmp_path}/nowhere/pdregress: no program (PDSUITE_PROGRAMS names the folder)\n"
+    assert (called.status, called.err) == (2, said)
+
+
+def test_the_version_names_commit_and_programs(stand_in: Path, call: Call) -> None:
+    called = call(stand_in, "--version")
+    first, second = called.out.splitlines()
+    head = subprocess.run(["git", "-C", TOP, "rev-parse", "HEAD"], capture_output=True, text=True).stdout.strip()
+    digest = subprocess.run(["sha256sum", stand_in / "pdregress"], capture_output=True, text=True).stdout.split()[0]
+    assert called.status == 0
+    assert first in (f"pdsuite {head}", f"pdsuite {head}-dirty", "pdsuite unknown")
+    assert second == f"pdregress {digest} {stand_in}/pdregress"
+
+
+@pytest.mark.parametrize(
+    "words", [[], ["run"], ["list"], ["run", "--workers", "65", "."], ["run", "--no-such", "."], ["fly"]]
+)
+def test_other_words_are_status_2(words: list[str], call: Call) -> None:
+    called = call(None, *words)
+    assert called.status == (0 if not words else 2)
+    assert "Traceback" not in called.err
+
+
+def on_terminal(folder: Path, programs: Path, *words: str, **more: str) -> tuple[int, bytes]:
+    """The status of a call whose standard output is a terminal, and what that shows."""
+    near, far = pty.openpty()
+    environment = {**os.environ, "PDSUITE_PROGRAMS": str(programs), "TERM": "xterm-256color", **more}
+    environment = {key: value for key, value in environment.items() if key != "NO_COLOR" or value}
+    process = subprocess.Popen([TOP / "pdsuite", *words], cwd=folder, env=environment, stdout=far)
+    os.close(far)
+    shown = b""
+    try:
+        while octets := os.read(near, 65_536):
+            shown += octets
+    except OSError:
+        pass  # the other end was closed
+    os.close(near)
+    return process.wait(), shown
+
+
+def test_a_terminal_has_colours_and_a_line_of_progress_that_goes_away(stand_in: Path, tmp_path: Path) -> None:
+    for number in range(130):
+        write(tmp_path, **{f"s{number:03}": b"row fail 1 seq\n" if number == 100 else PASSES})
+    status, shown = on_terminal(tmp_path, stand_in, "run", ".")
+    assert status == 1
+    assert b"\x1b[1;31mfail seq\x1b[0m\r\n" in shown
+    assert b"64/130" in shown and b"128/130" in shown
+    assert b"\x1b[?25l" in shown and shown.rindex(b"\x1b[?25h") > shown.rindex(b"\x1b[?25l")
+    last = shown[shown.rindex(b"\x1b[2K") :]
+    assert b"total 130 pass 129 fail 1 " in last and b"/130" not in last
+
+
+@pytest.mark.parametrize("how", ["option", "environment"])
+def test_colours_can_be_left_out(how: str, stand_in: Path, tmp_path: Path) -> None:
+    write(tmp_path, a=b"row fail 1 seq\n")
+    words = ["--no-color"] if how == "option" else []
+    more = {"NO_COLOR": "1"} if how == "environment" else {}
+    _, shown = on_terminal(tmp_path, stand_in, "run", *words, ".", **more)
+    assert b"a.pkt:1: fail seq\r\n  row fail 1 seq\r\n" in shown
+    assert not re.search(rb"\x1b\[[0-9;]*m", shown)
+
+
+def test_a_long_line_is_not_broken_on_a_terminal(stand_in: Path, tmp_path: Path) -> None:
+    write(tmp_path / "folder" / ("x" * 150), **{"y" * 150: b"row fail 1 seq\n"})
+    _, shown = on_terminal(tmp_path, stand_in, "run", "--no-color", ".")
+    assert f"folder/{'x' * 150}/{'y' * 150}.pkt:1: fail seq\r\n".encode() in shown
+
+
+def test_standard_output_may_be_closed(stand_in: Path, tmp_path: Path) -> None:
+    write(tmp_path, a=PASSES)
+    environment = {**os.environ, "PDSUITE_PROGRAMS": str(stand_in)}
+    command = ["sh", "-c", 'exec "$0" run . >&-', TOP / "pdsuite"]
+    done = subprocess.run(command, cwd=tmp_path, env=environment, capture_output=True, text=True)
+    assert (done.returncode, done.stderr) == (2, "pdsuite: standard output is closed\n")
+
+
+@pytest.mark.parametrize("locale", ["C", "POSIX", "de_DE.ISO-8859-1", "C.UTF-8"])
+def test_names_are_shown_alike_in_every_locale(locale: str, stand_in: Path, tmp_path: Path, call: Call) -> None:
+    write(tmp_path, **{"grün": b"row fail 1 seq\n"})
+    (tmp_path / os.fsdecode(b"\xff.pkt")).write_bytes(b"row fail 1 seq\n")
+    called = call(stand_in, "run", ".", LC_ALL=locale)
+    assert called.rows == ["grün.pkt:1: fail seq", r"\xff.pkt:1: fail seq"]

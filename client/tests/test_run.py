@@ -1,0 +1,179 @@
+"""Real folders, by the built program."""
+
+import os
+import subprocess
+from pathlib import Path
+
+import pytest
+from conftest import FAILS, PASSES, TOP, Call, write
+
+EXAMPLES = TOP / "examples/scripts"
+HARD = [b"a b", b"a\nb", b"\xff\xfe", b"x" * 200, b"$\\frac{$", b"a\x1b[2J", b"# SKIP", b"-v"]
+HARD_SHOWN = ["a b", r"a\x0ab", r"\xff\xfe", "x" * 200, r"$\\frac{$", r"a\x1b[2J", "# SKIP", "-v"]
+
+
+def expected_rows() -> list[str]:
+    """What the report of the examples says, in the words of pdsuite."""
+    rows = []
+    for line in (EXAMPLES / "expected.txt").read_text().splitlines()[:-1]:
+        name, verdict, number, *kind = line.split()
+        if verdict == "pass":
+            rows.append(f"{name}.pkt: pass {number}")
+        else:
+            rows.append(f"{name}.pkt:{number}: {' '.join([verdict, *kind])}")
+    return rows
+
+
+def test_the_examples_have_their_rows(programs: Path, call: Call) -> None:
+    called = call(programs, "run", "-v", EXAMPLES)
+    rows = [it.removeprefix(f"{EXAMPLES}/") for it in called.rows]
+    assert rows == expected_rows()
+    assert (called.status, called.err) == (1, "")
+
+
+def test_only_what_does_not_pass_is_shown_with_its_line(programs: Path, tmp_path: Path, call: Call) -> None:
+    write(tmp_path / "in/er", good=PASSES, bad=PASSES + b"+0 bind(3, ..., ...) = 1\n", worse=b"?")
+    called = call(programs, "run", "in")
+    assert called.out.splitlines()[:-1] == [
+        "in/er/bad.pkt:2: fail result",
+        "  +0 bind(3, ..., ...) = 1",
+        "in/er/worse.pkt:1: syntax",
+        "  ?",
+    ]
+    assert called.totals == {"pass": 1, "fail": 1, "syntax": 1}
+
+
+def test_what_is_printed_is_the_same_with_any_number_of_workers(programs: Path, call: Call) -> None:
+    outs = {call(programs, "run", "--workers", it, "-v", EXAMPLES).out.rsplit(" in ")[0] for it in ("0", "1", "8")}
+    assert len(outs) == 1
+
+
+def test_names_of_any_octets_and_equal_ones_are_told_apart(programs: Path, tmp_path: Path, call: Call) -> None:
+    for folder in (tmp_path / "one", tmp_path / "two"):
+        folder.mkdir()
+        for name in HARD:
+            (folder / os.fsdecode(name + b".pkt")).write_bytes(FAILS)
+    called = call(programs, "run", "one", "two")
+    order = sorted(zip(HARD, HARD_SHOWN), key=lambda it: it[0] + b".pkt")
+    assert called.rows == [f"{top}/{name}.pkt:1: fail result" for top in ("one", "two") for _, name in order]
+    assert called.totals == {"fail": 2 * len(HARD)}
+
+
+def test_files_at_the_limits_and_beyond(programs: Path, tmp_path: Path, call: Call) -> None:
+    comment = b"/*" + b"x" * 65_531 + b"*/"
+    write(tmp_path, empty=b"", widest=comment, widest_with_newline=comment + b"\n", wider=comment + b" \n")
+    write(tmp_path, longest=b"\n" * 4_096, longer=b"\n" * 4_097, returns=PASSES.replace(b"\n", b"\r\n"))
+    called = call(programs, "run", "-v", ".")
+    assert called.rows == [
+        "empty.pkt: pass 0",
+        "longer.pkt: error: more than 4,096 lines",
+        "longest.pkt: pass 0",
+        "returns.pkt: pass 1",
+        "wider.pkt: error: more than 65,536 octets",
+        "widest.pkt: pass 0",
+        "widest_with_newline.pkt: pass 0",
+    ]
+    assert called.status == 2
+
+
+def test_a_long_line_is_cut_and_octets_are_escaped(programs: Path, tmp_path: Path, call: Call) -> None:
+    write(tmp_path, a=b"\x1b]0;x\x07\xff\\" + b"y" * 60_000, b=b"?" + b"z" * 300)
+    lines = call(programs, "run", ".").out.splitlines()
+    assert lines[1] == r"  \x1b]0;x\x07\xff\\" + "y" * 179 + "..."
+    assert lines[3] == "  ?" + "z" * 196 + "..."
+
+
+def test_five_thousand_files(programs: Path, tmp_path: Path, call: Call) -> None:
+    for number in range(5_000):
+        folder = tmp_path / f"f{number // 500}"
+        folder.mkdir(exist_ok=True)
+        (folder / f"s{number}.pkt").write_bytes(b"?" if number == 4_321 else b"")
+    called = call(programs, "run", ".")
+    assert called.rows == ["f8/s4321.pkt:1: syntax"]
+    assert called.totals == {"pass": 4_999, "syntax": 1}
+
+
+def test_settings_change_verdicts_script_by_script(programs: Path, tmp_path: Path, call: Call) -> None:
+    opening = (TOP / "examples/send.txt").read_bytes().split(b"\n", 1)[1]
+    late = opening + b"+0.3 > P. 1:1001(1000) ack 1\n"
+    write(tmp_path / "a", one=late, two=late)
+    write(tmp_path / "b", one=late)
+    (tmp_path / "pdsuite.toml").write_text("root = true\n")
+    (tmp_path / "a/pdsuite.toml").write_text('["two.pkt"]\nmin_rto_us = 200000\n')
+    called = call(programs, "run", "-v", "a", "b")
+    assert called.rows == ["a/one.pkt:10: fail missing", "a/two.pkt: pass 10", "b/one.pkt:10: fail missing"]
+    called = call(programs, "run", "--settings", "min_rto_us = 200_000", "a", "b")
+    assert (called.status, called.totals) == (0, {"pass": 3})
+    assert call(None, "list", "a", "b").out == "a/one.pkt\na/two.pkt: min_rto_us = 200000\nb/one.pkt\n"
+
+
+def test_refused_settings_are_named_before_any_script_runs(programs: Path, tmp_path: Path, call: Call) -> None:
+    write(tmp_path / "a", one=PASSES)
+    text = 'mss = 10\nMSS = 10\n"a b" = 1\nnagle = "true"\nsack = 1\nwscale = [1]\nsndbuf = -1\nrcv_wnd = 1.5\n'
+    (tmp_path / "a/pdsuite.toml").write_text(text + '["gone.pkt"]\ninitial_window = "rfc1"\n[one.pkt]\nmss = 100\n')
+    called = call(programs, "run", "--settings", "tolerance_us = 1000001\nroot = true", "a")
+    assert (called.status, called.out) == (2, "")
+    assert called.err.splitlines() == [
+        "--settings: tolerance_us: BadValue",
+        "--settings: root: UnknownKey",
+        "a/pdsuite.toml: mss: BadValue",
+        "a/pdsuite.toml: MSS: UnknownKey",
+        "a/pdsuite.toml: a b: UnknownKey",
+        "a/pdsuite.toml: nagle: BadValue",
+        "a/pdsuite.toml: sack: BadValue",
+        "a/pdsuite.toml: wscale: BadValue",
+        "a/pdsuite.toml: sndbuf: BadValue",
+        "a/pdsuite.toml: rcv_wnd: BadValue",
+        "a/pdsuite.toml: one: UnknownKey",
+        'a/pdsuite.toml: initial_window: BadValue (["gone.pkt"])',
+    ]
+
+
+def test_fail_fast_leaves_later_pieces_out(programs: Path, tmp_path: Path, call: Call) -> None:
+    for number in range(200):
+        write(tmp_path, **{f"s{number:03}": FAILS if number == 100 else PASSES})
+    called = call(programs, "run", "--fail-fast", ".")
+    assert called.rows == ["s100.pkt:1: fail result"]
+    assert (called.status, called.totals) == (1, {"pass": 127, "fail": 1, "not run": 72})
+
+
+def test_what_cannot_be_read_is_a_row_and_all_else_is_run(programs: Path, tmp_path: Path, call: Call) -> None:
+    write(tmp_path, good=PASSES, bad=FAILS)
+    (tmp_path / "dangling.pkt").symlink_to("nowhere")
+    os.mkfifo(tmp_path / "pipe.pkt")
+    called = call(programs, "run", ".", "nowhere")
+    assert called.rows == [
+        "bad.pkt:1: fail result",
+        "dangling.pkt: error: No such file or directory",
+        "nowhere: error: No such file or directory",
+        "pipe.pkt: error: isn't a regular file",
+    ]
+    assert (called.status, called.totals) == (2, {"pass": 1, "fail": 1, "error": 3})
+
+
+def test_what_may_not_be_read_is_a_row(tmp_path: Path, programs: Path) -> None:
+    if os.getuid() != 0:
+        pytest.skip("needs root, to be another user for a moment")
+    write(tmp_path / "suite/shut", a=PASSES)
+    write(tmp_path / "suite", b=PASSES, c=PASSES)
+    (tmp_path / "suite/b.pkt").chmod(0)
+    (tmp_path / "suite/shut").chmod(0)
+    (tmp_path / "suite").chmod(0o755)
+    command = ["setpriv", "--reuid=65534", "--clear-groups", TOP / "pdsuite", "run", "suite"]
+    tmp_path.chmod(0o755)
+    for folder in tmp_path.parents[:2]:
+        folder.chmod(0o755)
+    environment = {**os.environ, "PDSUITE_PROGRAMS": str(programs)}
+    done = subprocess.run(command, cwd=tmp_path, env=environment, capture_output=True, text=True)
+    lines = done.stdout.splitlines()
+    assert lines[:2] == ["suite/b.pkt: error: Permission denied", "suite/shut: error: Permission denied"]
+    assert (done.returncode, done.stderr) == (2, "")
+
+
+@pytest.mark.parametrize("words", [["run", "."], ["list", "."], ["run", "--only", "nothing", "full"]])
+def test_no_script_is_a_fault(words: list[str], programs: Path, tmp_path: Path, call: Call) -> None:
+    (tmp_path / ".hidden").mkdir()
+    if words[-1] == "full":
+        write(tmp_path / "full", a=PASSES)
+    called = call(programs, *words)
+    assert (called.status, called.out, called.err) == (2, "", "pdsuite: no script found\n")

@@ -1,0 +1,130 @@
+"""How scripts are cut into runs, what is written to the program, and how its answers are read."""
+
+from pathlib import Path
+
+import pytest
+
+from pdsuite.protocol import Unexpected, add, before_total, name_of, refusal_in, rows_in, set_and_show
+from pdsuite.rows import Row, Totals, Verdict
+from pdsuite.runs import Script, cut, runs_of
+from pdsuite.settings import Settings
+from pdsuite.text import text_of
+
+FASTER: Settings = (("mss", 1000),)
+
+
+def scripts(count: int, settings: Settings = (), first: int = 0) -> list[Script]:
+    """So many scripts with these settings."""
+    return [Script(index, Path(f"{index}.pkt"), settings) for index in range(first, first + count)]
+
+
+def test_parts_are_full_but_for_the_last() -> None:
+    assert cut(range(7), 3) == [(0, 1, 2), (3, 4, 5), (6,)]
+    assert cut("", 3) == []
+
+
+@pytest.mark.parametrize(
+    ("count", "sizes"),
+    [(1, [[1]]), (64, [[64]]), (65, [[64, 1]]), (1_024, [[64] * 16]), (1_025, [[64] * 16, [1]])],
+)
+def test_runs_hold_1024_scripts_in_pieces_of_64(count: int, sizes: list[list[int]]) -> None:
+    assert [[len(piece) for piece in run.pieces] for run in runs_of(scripts(count))] == sizes
+
+
+def test_scripts_with_equal_settings_are_one_run() -> None:
+    mixed = [*scripts(2), *scripts(1, FASTER, 2), *scripts(1, (), 3)]
+    runs = runs_of(mixed)
+    assert [run.settings for run in runs] == [(), FASTER]
+    assert [[script.index for script in run.pieces[0]] for run in runs] == [[0, 1, 3], [2]]
+
+
+def test_names_differ_and_are_no_words_of_commands() -> None:
+    names = [name_of(number).decode() for number in range(1_024)]
+    assert len(set(names)) == 1_024
+    assert all(name.isalnum() and name.isascii() and len(name) <= 64 for name in names)
+    assert not {"add", "edit", "remove", "set", "show", "settle", "total", "refused"} & set(names)
+
+
+def test_commands_are_written_as_the_program_reads_them() -> None:
+    assert add(b"s0", text_of(b"a\nb")) == b"add s0 2\na\nb\n"
+    assert add(b"s1", text_of(b"")) == b"add s1 0\n"
+    assert set_and_show("mss", "10") == b"set mss 10\nshow\n"
+
+
+def answer(*rows: str) -> bytes:
+    """An answer with these rows; how many pass isn't looked at."""
+    total = f"total {len(rows)} pass 0 fail 0 syntax 0 unsupported 0 limit 0 pending 0"
+    return "".join(f"{line}\n" for line in [*rows, total]).encode()
+
+
+def test_rows_are_read_with_their_words() -> None:
+    told = answer("s0 pass 9", "s1 fail 9 seq", "s2 syntax 1", "s3 unsupported 2", "s4 limit 3")
+    assert rows_in(told, b"", [name_of(it) for it in range(5)], 5) == [
+        Row(Verdict.PASS, 9),
+        Row(Verdict.FAIL, 9, "seq"),
+        Row(Verdict.SYNTAX, 1),
+        Row(Verdict.UNSUPPORTED, 2),
+        Row(Verdict.LIMIT, 3),
+    ]
+
+
+def test_an_answer_begins_with_the_rows_of_the_one_before() -> None:
+    before = before_total(answer("s0 pass 9"))
+    assert before == b"s0 pass 9\n"
+    assert rows_in(answer("s0 pass 9", "s1 pass 1"), before, [b"s1"], 2) == [Row(Verdict.PASS, 1)]
+    with pytest.raises(Unexpected, match="s0 pass 8"):
+        rows_in(answer("s0 pass 8", "s1 pass 1"), before, [b"s1"], 2)
+
+
+@pytest.mark.parametrize(
+    "told",
+    [
+        answer(),
+        answer("s0 pass 1"),
+        answer("s1 pass 1", "s0 pass 1"),
+        answer("s0 pass 1", "s1 pass 1", "s2 pass 1"),
+        answer("s0 pass 1", "s1 pending"),
+        answer("s0 pass 1", "s1 fail 1"),
+        answer("s0 pass 1", "s1 fail 1 SEQ"),
+        answer("s0 pass 1", "s1 pass -1"),
+        answer("s0 pass 1", "s1 perhaps 1"),
+        answer("s0 pass 1", "s1 pass 1 ").replace(b"total 2", b"total 3"),
+        answer("s0 pass 1", "s1 pass 1").replace(b"total 2", b"total 3"),
+        answer("s0 pass 1", "s1 pass 1").replace(b"pending 0", b"pending 1"),
+        b"refused 11 HistoryFull\n" + answer("s0 pass 1", "s1 pass 1"),
+        answer("s0 pass 1", "s1 pass 1") + b"more\n",
+        b"",
+    ],
+)
+def test_any_other_answer_is_not_taken(told: bytes) -> None:
+    with pytest.raises(Unexpected) as unexpected:
+        rows_in(told, b"", [b"s0", b"s1"], 2)
+    assert str(unexpected.value).isprintable()
+
+
+def test_refusals_are_named_by_their_word() -> None:
+    assert refusal_in(b"refused 4 BadValue\n" + answer()) == "BadValue"
+    assert refusal_in(answer()) is None
+
+
+@pytest.mark.parametrize(
+    ("verdicts", "status"),
+    [
+        ([], 0),
+        ([Verdict.PASS], 0),
+        ([Verdict.PASS, Verdict.FAIL], 1),
+        ([Verdict.SYNTAX], 1),
+        ([Verdict.UNSUPPORTED], 1),
+        ([Verdict.LIMIT], 1),
+        ([Verdict.PASS, Verdict.NOT_RUN], 1),
+        ([Verdict.FAIL, Verdict.ERROR], 2),
+    ],
+)
+def test_the_status_tells_whether_all_passed(verdicts: list[Verdict], status: int) -> None:
+    assert Totals.of(verdicts).status() == status
+
+
+def test_totals_are_printed_in_the_words_of_the_program() -> None:
+    assert str(Totals.of([Verdict.PASS, Verdict.FAIL, Verdict.PASS])) == (
+        "total 3 pass 2 fail 1 syntax 0 unsupported 0 limit 0 error 0 not run 0"
+    )

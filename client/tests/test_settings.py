@@ -1,0 +1,142 @@
+"""Settings as values, and where pdsuite.toml says them."""
+
+from datetime import date
+from pathlib import Path
+
+import pytest
+
+from pdsuite.faults import Fault
+from pdsuite.find import find
+from pdsuite.settings import Settings, Value, set_words, settings_text
+from pdsuite.stop import Stop
+from pdsuite.suite import Suite, layer_of, option_of
+
+VALUES: list[tuple[Value, str]] = [
+    (1000, "1000"),
+    (0, "0"),
+    (-5, "-5"),
+    (True, "true"),
+    (False, "false"),
+    ("rfc6928", "rfc6928"),
+    ("true", "?"),
+    ("1000", "?"),
+    ("", "?"),
+    ("two words", "?"),
+    ("a\nb", "?"),
+    ("x" * 300, "?"),
+    (10**30, "?"),
+    (1.5, "?"),
+    (date(2026, 11, 24), "?"),
+    ([1], "?"),
+    ({"a": 1}, "?"),
+]
+
+
+@pytest.mark.parametrize(("value", "word"), VALUES)
+def test_a_value_is_one_word_or_one_that_no_key_takes(value: Value, word: str) -> None:
+    assert set_words("mss", value) == ("mss", word)
+
+
+@pytest.mark.parametrize("key", ["", "a b", "a\nb", "ü", "x" * 65])
+def test_a_key_that_is_no_word_becomes_one_that_is_no_key(key: str) -> None:
+    assert set_words(key, 1) == ("?", "1")
+
+
+def test_a_settings_text_is_toml() -> None:
+    settings = (("initial_window", "rfc6928"), ("mss", 1000), ("sack", False))
+    assert settings_text(settings) == 'initial_window = "rfc6928"\nmss = 1000\nsack = false'
+    assert settings_text(()) == ""
+
+
+def suite_of(top: Path, paths: list[Path], option: str = "") -> dict[str, Settings]:
+    """The settings of each script."""
+    suite = Suite(option_of(option))
+    with Stop() as stop:
+        found = find(paths, None, stop)
+    return {str(it.path.relative_to(top)): suite.settings(it) for it in found}
+
+
+def make_suite(top: Path) -> None:
+    """Three folders, one in the other, with settings in each."""
+    (top / "a/b").mkdir(parents=True)
+    for name in ("top.pkt", "a/one.pkt", "a/two.pkt", "a/b/one.pkt"):
+        (top / name).touch()
+    (top / "pdsuite.toml").write_text(
+        'root = true\nmss = 100\nsack = true\n["top.pkt"]\nmss = 99\n["one.pkt"]\nmss = 1\n'
+    )
+    (top / "a/pdsuite.toml").write_text('mss = 200\n["two.pkt"]\nmss = 201\nnagle = false\n')
+    (top / "a/b/pdsuite.toml").write_text("nagle = true\n")
+
+
+def test_the_nearest_file_wins_key_by_key_and_a_table_before_its_file(tmp_path: Path) -> None:
+    make_suite(tmp_path)
+    assert suite_of(tmp_path, [tmp_path]) == {
+        "top.pkt": (("mss", 99), ("sack", True)),
+        "a/one.pkt": (("mss", 200), ("sack", True)),
+        "a/two.pkt": (("mss", 201), ("nagle", False), ("sack", True)),
+        "a/b/one.pkt": (("mss", 200), ("nagle", True), ("sack", True)),
+    }
+
+
+def test_settings_do_not_depend_on_the_path_that_was_given(tmp_path: Path) -> None:
+    make_suite(tmp_path)
+    whole = suite_of(tmp_path, [tmp_path])
+    for path in whole:
+        assert suite_of(tmp_path, [tmp_path / path]) == {path: whole[path]}
+    (tmp_path / "link").symlink_to("a/b")
+    assert suite_of(tmp_path, [tmp_path / "link"]) == {"link/one.pkt": whole["a/b/one.pkt"]}
+
+
+def test_the_option_stands_before_all(tmp_path: Path) -> None:
+    make_suite(tmp_path)
+    assert set(suite_of(tmp_path, [tmp_path], "mss = 5\nsack = false").values()) == {
+        (("mss", 5), ("sack", False)),
+        (("mss", 5), ("nagle", False), ("sack", False)),
+        (("mss", 5), ("nagle", True), ("sack", False)),
+    }
+
+
+def test_a_root_ends_the_search(tmp_path: Path) -> None:
+    make_suite(tmp_path)
+    (tmp_path / "a/pdsuite.toml").write_text("root = true\nwscale = 3\n")
+    assert suite_of(tmp_path, [tmp_path / "a"]) == {
+        "a/one.pkt": (("wscale", 3),),
+        "a/two.pkt": (("wscale", 3),),
+        "a/b/one.pkt": (("nagle", True), ("wscale", 3)),
+    }
+
+
+BROKEN = [
+    (b"mss", "a/pdsuite.toml: no TOML: Expected '=' after a key"),
+    (b"mss = 1\nmss = 2", "a/pdsuite.toml: no TOML: Cannot overwrite a value"),
+    (b"\xff = 1", "a/pdsuite.toml: no TOML: 'utf-8' codec"),
+    (b"a = " + b"[" * 100_000, "a/pdsuite.toml: no TOML: "),
+    (b"a = " + b"9" * 5_000, "a/pdsuite.toml: no TOML: "),
+    (b"root = 1", "a/pdsuite.toml: root: BadValue"),
+]
+
+
+@pytest.mark.parametrize(("octets", "reason"), BROKEN, ids=range(len(BROKEN)))
+def test_a_file_that_is_no_toml_is_a_fault_with_its_path(octets: bytes, reason: str) -> None:
+    with pytest.raises(Fault) as fault:
+        layer_of("a/pdsuite.toml", octets)
+    assert str(fault.value).startswith(reason)
+    assert str(fault.value).isprintable()
+
+
+def test_a_file_that_cannot_be_read_is_a_fault(tmp_path: Path) -> None:
+    (tmp_path / "a.pkt").touch()
+    (tmp_path / "pdsuite.toml").mkdir()
+    with pytest.raises(Fault, match="pdsuite.toml: isn't a regular file"):
+        suite_of(tmp_path, [tmp_path])
+
+
+def test_folders_of_any_depth_are_looked_through(tmp_path: Path) -> None:
+    deep = tmp_path.joinpath(*["d"] * 1_500)
+    current = tmp_path
+    for part in deep.relative_to(tmp_path).parts:
+        current = current / part
+        current.mkdir()
+    (deep / "a.pkt").touch()
+    (tmp_path / "pdsuite.toml").write_text("root = true\nmss = 77\n")
+    assert list(suite_of(tmp_path, [tmp_path]).values()) == [(("mss", 77),)]

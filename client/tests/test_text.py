@@ -1,0 +1,80 @@
+"""Which files are texts of scripts."""
+
+import os
+import socket
+from pathlib import Path
+
+import pytest
+
+from pdsuite.text import Text, Unfit, read_text, text_of
+
+
+@pytest.mark.parametrize(
+    ("octets", "text"),
+    [
+        (b"", Text(b"", 0)),
+        (b"\n", Text(b"\n", 1)),
+        (b"a", Text(b"a\n", 1)),
+        (b"a\n", Text(b"a\n", 1)),
+        (b"a\nb", Text(b"a\nb\n", 2)),
+        (b"a\r\nb\r", Text(b"a\r\nb\r\n", 2)),
+    ],
+)
+def test_a_last_line_counts_with_and_without_its_newline(octets: bytes, text: Text) -> None:
+    assert text_of(octets) == text
+
+
+FITS = [b"x\n" * 4_096, b"x\n" * 4_095 + b"x", b"\n" * 4_096]
+FITS += [b"x" * 65_535, b"x" * 65_535 + b"\n", b"x" * 65_535 + b"\r\n", b"x" * 65_535 + b"\r"]
+FITS += [b"x" * 15 + b"\r\n", (b"x" * 15 + b"\r\n") * 4_096]
+
+
+@pytest.mark.parametrize("octets", FITS, ids=range(len(FITS)))
+def test_the_largest_texts_fit(octets: bytes, tmp_path: Path) -> None:
+    (tmp_path / "a.pkt").write_bytes(octets)
+    assert read_text(tmp_path / "a.pkt") == text_of(octets)
+
+
+LARGER = [
+    (b"x\n" * 4_097, "more than 4,096 lines"),
+    (b"x\n" * 4_096 + b"x", "more than 4,096 lines"),
+    (b"x" * 65_536, "more than 65,536 octets"),
+    (b"x" * 65_536 + b"\n", "more than 65,536 octets"),
+    (b"x" * 65_535 + b"\r\r\n", "more than 65,536 octets"),
+    (b"x" * 65_535 + b"\n\n", "more than 65,536 octets"),
+    (b"x" * 10_000_000, "more than 65,536 octets"),
+    ((b"x" * 15 + b"\r\n") * 4_095 + b"x" * 17, "more than 65,536 octets"),
+]
+
+
+@pytest.mark.parametrize(("octets", "reason"), LARGER, ids=range(len(LARGER)))
+def test_larger_texts_do_not(octets: bytes, reason: str, tmp_path: Path) -> None:
+    (tmp_path / "a.pkt").write_bytes(octets)
+    with pytest.raises(Unfit, match=reason):
+        read_text(tmp_path / "a.pkt")
+
+
+def test_only_regular_files_are_read(tmp_path: Path) -> None:
+    os.mkfifo(tmp_path / "pipe.pkt")
+    (tmp_path / "folder.pkt").mkdir()
+    (tmp_path / "round.pkt").symlink_to("round.pkt")
+    (tmp_path / "dangling.pkt").symlink_to("nowhere")
+    with socket.socket(socket.AF_UNIX) as listening:
+        listening.bind(str(tmp_path / "socket.pkt"))
+        reasons = {}
+        for path in sorted(tmp_path.iterdir()):
+            with pytest.raises(Unfit) as unfit:
+                read_text(path)
+            reasons[path.stem] = str(unfit.value)
+    assert reasons == {
+        "dangling": "No such file or directory",
+        "folder": "isn't a regular file",
+        "pipe": "isn't a regular file",
+        "round": "Too many levels of symbolic links",
+        "socket": "No such device or address",
+    }
+
+
+def test_lines_are_found_by_their_number() -> None:
+    text = text_of(b"one\r\n\nthree")
+    assert [text.line(it) for it in range(5)] == [None, b"one", b"", b"three", None]
