@@ -6,10 +6,10 @@ import subprocess
 from pathlib import Path
 
 import pytest
-from conftest import PASSES, TOP, Call, write
 
 from pdsuite import files
 from pdsuite.faults import Fault
+from tests.helpers import PASSES, TOP, Call, write
 
 
 def test_a_file_is_written_beside_and_renamed(tmp_path: Path) -> None:
@@ -66,7 +66,7 @@ def test_a_full_disk_leaves_the_old_file(tmp_path: Path) -> None:
         f"import sys; sys.path.insert(0, {str(TOP / 'client')!r})\n"
         "from pathlib import Path; from pdsuite.files import write; from pdsuite.faults import Fault\n"
         "try:\n    write(Path('out.xml'), b'x' * 100_000)\n"
-        "except Fault as fault:\n    print(fault, Path('out.xml').read_text().strip(), *sorted(map(str, Path().iterdir())))\n"
+        "except Fault as fault:\n    print(fault, Path('out.xml').read_text().strip(), *sorted(Path().iterdir()))\n"
     )
     command = ["unshare", "-rm", "sh", "-c", inside, "sh", str(disk), code]
     done = subprocess.run(command, capture_output=True, text=True)
@@ -103,7 +103,7 @@ def test_a_full_disk_under_standard_output_is_a_line(words: list[str], stand_in:
 def test_what_standard_output_does_not_take_still_stands_in_the_file(stand_in: Path, tmp_path: Path) -> None:
     write(tmp_path, a=PASSES)
     environment = {**os.environ, "PDSUITE_PROGRAMS": str(stand_in)}
-    command = [TOP / "pdsuite", "run", "-v", "--junit", "out.xml", "."]
+    command = [str(TOP / "pdsuite"), "run", "-v", "--junit", "out.xml", "."]
     with open("/dev/full", "wb") as full:
         done = subprocess.run(command, cwd=tmp_path, env=environment, stdout=full, stderr=subprocess.PIPE)
     assert done.returncode == 2

@@ -8,7 +8,8 @@ import subprocess
 from pathlib import Path
 
 import pytest
-from conftest import PASSES, TOP, Call, write
+
+from tests.helpers import PASSES, TOP, Call, write
 
 
 def test_it_runs_under_the_systems_python_whatever_comes_first_on_the_path(
@@ -167,7 +168,7 @@ def test_a_long_line_is_not_broken_on_a_terminal(stand_in: Path, tmp_path: Path)
 def test_standard_output_may_be_closed(stand_in: Path, tmp_path: Path) -> None:
     write(tmp_path, a=PASSES)
     environment = {**os.environ, "PDSUITE_PROGRAMS": str(stand_in)}
-    command = ["sh", "-c", 'exec "$0" run . >&-', TOP / "pdsuite"]
+    command = ["sh", "-c", 'exec "$0" run . >&-', str(TOP / "pdsuite")]
     done = subprocess.run(command, cwd=tmp_path, env=environment, capture_output=True, text=True)
     assert (done.returncode, done.stderr) == (2, "pdsuite: standard output is closed\n")
 

@@ -6,11 +6,12 @@ import subprocess
 from pathlib import Path
 from xml.etree import ElementTree
 
-from conftest import TOP, Call, write
 from junitparser import Error, Failure, JUnitXml, Skipped
 
+from tests.helpers import TOP, Call, write
+
 EXAMPLES = TOP / "examples/scripts"
-# Prints of each line that Perl's parser of TAP takes for a test: whether it passed, its number, its name, its directive.
+# Of each line that Perl's parser takes for a test: whether it passed, its number, its name and its directive.
 PARSE_TAP = """
 use TAP::Parser;
 my $parser = TAP::Parser->new({ source => $ARGV[0] });
@@ -48,7 +49,7 @@ def make_names(folder: Path) -> list[str]:
 def parse_tap(folder: Path, text: str) -> tuple[list[list[str]], str]:
     """The tests that Perl reads, and the version, the plan and the number of errors."""
     (folder / "out.tap").write_text(text)
-    command = ["perl", "-e", PARSE_TAP, folder / "out.tap"]
+    command = ["perl", "-e", PARSE_TAP, str(folder / "out.tap")]
     *tests, last = subprocess.run(command, capture_output=True, text=True, check=True).stdout.splitlines()
     return [it.split("\t") for it in tests], last
 

@@ -5,7 +5,8 @@ import subprocess
 from pathlib import Path
 
 import pytest
-from conftest import FAILS, PASSES, TOP, Call, write
+
+from tests.helpers import FAILS, PASSES, TOP, Call, write
 
 EXAMPLES = TOP / "examples/scripts"
 HARD = [b"a b", b"a\nb", b"\xff\xfe", b"x" * 200, b"$\\frac{$", b"a\x1b[2J", b"# SKIP", b"-v"]
@@ -159,7 +160,7 @@ def test_what_may_not_be_read_is_a_row(tmp_path: Path, programs: Path) -> None:
     (tmp_path / "suite/b.pkt").chmod(0)
     (tmp_path / "suite/shut").chmod(0)
     (tmp_path / "suite").chmod(0o755)
-    command = ["setpriv", "--reuid=65534", "--clear-groups", TOP / "pdsuite", "run", "suite"]
+    command = ["setpriv", "--reuid=65534", "--clear-groups", str(TOP / "pdsuite"), "run", "suite"]
     tmp_path.chmod(0o755)
     for folder in tmp_path.parents[:2]:
         folder.chmod(0o755)

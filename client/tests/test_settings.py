@@ -1,5 +1,6 @@
 """Settings as values, and where pdsuite.toml says them."""
 
+import subprocess
 from datetime import date
 from pathlib import Path
 
@@ -139,4 +140,8 @@ def test_folders_of_any_depth_are_looked_through(tmp_path: Path) -> None:
         current.mkdir()
     (deep / "a.pkt").touch()
     (tmp_path / "pdsuite.toml").write_text("root = true\nmss = 77\n")
-    assert list(suite_of(tmp_path, [tmp_path]).values()) == [(("mss", 77),)]
+    try:
+        assert list(suite_of(tmp_path, [tmp_path]).values()) == [(("mss", 77),)]
+    finally:
+        # Python's own way to remove a folder ends at a thousand levels.
+        subprocess.run(["rm", "-rf", tmp_path / "d"], check=True)

@@ -7,7 +7,8 @@ import time
 from pathlib import Path
 
 import pytest
-from conftest import PASSES, TOP, Call, ends, is_alive, write
+
+from tests.helpers import PASSES, TOP, Call, ends, is_alive, write
 
 REASONS = {
     b"crash": "pdregress was ended by SIGSEGV",
@@ -27,7 +28,7 @@ REASONS = {
 }
 
 
-@pytest.mark.parametrize("text", REASONS, ids=lambda text: text.decode())
+@pytest.mark.parametrize("text", REASONS, ids=[text.decode() for text in REASONS])
 def test_a_script_whose_program_ends_twice_is_an_error_and_the_others_are_run(
     text: bytes, tmp_path: Path, stand_in: Path, call: Call
 ) -> None:

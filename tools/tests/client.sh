@@ -1,0 +1,77 @@
+#!/bin/sh
+# Tests of the client, by the Python of the system: that its Debian packages are there, its layout (black), its names and
+# style (flake8), its types (mypy) and what it does (pytest). Where a package is missing it says which, and installs it
+# where apt-get is there and this is root. Prints a line for each but the tests of pytest, and `N passed, M failed` last.
+#
+#   tools/tests/client.sh [--no-install]
+set -eu
+top=$(CDPATH='' cd -P -- "$(dirname -- "$0")/../.." && pwd -P)
+python=/usr/bin/python3
+work=$(mktemp -d)
+trap 'rm -rf "$work"' EXIT
+passed=0
+failed=0
+
+finish() {
+    echo "$passed passed, $failed failed"
+    [ "$failed" -eq 0 ]
+    exit
+}
+
+missing() {
+    for package in $(cat "$top"/client/packages*.txt); do
+        dpkg-query -W -f '${db:Status-Status}' "$package" 2>/dev/null | grep -qx installed || printf ' %s' "$package"
+    done
+}
+
+install() {
+    echo "missing packages:$lost"
+    if [ "${1:-}" = --no-install ] || [ "$(id -u)" -ne 0 ] || ! command -v apt-get >/dev/null; then
+        return
+    fi
+    export DEBIAN_FRONTEND=noninteractive
+    # shellcheck disable=SC2086
+    { apt-get update && apt-get install -y --no-install-recommends $lost; } >"$work/apt" 2>&1 || tail -n 5 "$work/apt"
+    lost=$(missing)
+}
+
+# A tool of the client's, in its folder, where its settings are.
+check() { # NAME COMMAND..
+    name=$1
+    shift
+    if (cd "$top/client" && "$python" -I -m "$@") >"$work/said" 2>&1; then
+        echo "ok client $name"
+        passed=$((passed + 1))
+    else
+        echo "FAILED client $name:"
+        cat "$work/said"
+        failed=$((failed + 1))
+    fi
+}
+
+count_of() { # a word of the last line of pytest
+    tail -n 1 "$work/tests" | sed -n "s/\(.* \)\{0,1\}\([0-9][0-9]*\) $1.*/\2/p"
+}
+
+tests() {
+    (cd "$top/client" && "$python" -I -m pytest -q --tb=short --color=no --durations=3 2>&1 || true) | tee "$work/tests"
+    good=$(count_of passed)
+    bad=$(count_of failed)
+    errors=$(count_of error)
+    [ -n "$good$bad$errors" ] || { echo "the tests came to no end" && bad=1; }
+    passed=$((passed + ${good:-0}))
+    failed=$((failed + ${bad:-0} + ${errors:-0}))
+}
+
+lost=$(missing)
+[ -z "$lost" ] || install "$@"
+if [ -n "$lost" ]; then
+    echo "FAILED client packages: apt-get install --no-install-recommends$lost"
+    failed=1
+    finish
+fi
+check layout black -q --check --config pyproject.toml . ../pdsuite
+check style flake8 . ../pdsuite
+check types mypy --config-file pyproject.toml pdsuite tests
+tests
+finish
