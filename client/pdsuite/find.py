@@ -16,7 +16,7 @@ SUFFIX = ".pkt"
 class Found:
     """A script's file, or something that can't be looked at."""
 
-    path: Path  # as people see it
+    path: str  # as people see it; no Path, since there may be a hundred thousand
     folder: str  # where the file really lies, without links
     name: str
     fault: str = ""  # why it can't be looked at
@@ -34,7 +34,7 @@ def find(paths: Iterable[Path], only: str | None, stop: Stop) -> list[Found]:
 
 def _is_meant(found: Found, only: str) -> bool:
     """Whether the pattern fits the path, or the last name in it."""
-    return fnmatchcase(str(found.path), only) or fnmatchcase(found.path.name, only)
+    return fnmatchcase(found.path, only) or fnmatchcase(os.path.basename(found.path), only)
 
 
 def _all(paths: Iterable[Path], stop: Stop) -> Iterator[Found]:
@@ -43,46 +43,42 @@ def _all(paths: Iterable[Path], stop: Stop) -> Iterator[Found]:
             is_folder = path.is_dir()
             path.stat()
         except (OSError, ValueError) as error:
-            yield _lost(path, error)
+            yield _lost(str(path), error)
             continue
         if is_folder:
             yield from _in_folder(path, stop)
         else:
-            yield _file(path)
+            yield _file(str(path))
 
 
 def _in_folder(top: Path, stop: Stop) -> Iterator[Found]:
     """The scripts in a folder and below it; links to folders and hidden names are left out."""
-    folders = [(top, os.path.realpath(top))]
+    before = "" if str(top) == os.curdir else os.path.join(top, "")
+    folders = [(before, os.path.realpath(top))]
     while folders:
         stop.check()
-        folder, real = folders.pop()
+        before, real = folders.pop()
         try:
-            with os.scandir(folder) as entries:
+            with os.scandir(before or os.curdir) as entries:
                 for entry in entries:
-                    if entry.name.startswith("."):
+                    name = entry.name
+                    if name.startswith("."):
                         continue
                     if entry.is_dir(follow_symlinks=False):
-                        folders.append((folder / entry.name, f"{real}/{entry.name}"))
-                    elif entry.name.endswith(SUFFIX):
-                        yield from _entry(folder, real, entry)
+                        folders.append((f"{before}{name}/", os.path.join(real, name)))
+                    elif name.endswith(SUFFIX) and not entry.is_symlink():
+                        yield Found(before + name, real, name)
+                    elif name.endswith(SUFFIX) and not os.path.isdir(entry.path):
+                        yield _file(before + name)
         except OSError as error:
-            yield _lost(folder, error)
+            yield _lost(before.rstrip("/") or before, error)
 
 
-def _entry(folder: Path, real: str, entry: os.DirEntry[str]) -> Iterator[Found]:
-    path = folder / entry.name
-    if not entry.is_symlink():
-        yield Found(path, real, entry.name)
-    elif not path.is_dir():
-        yield _file(path)
-
-
-def _file(path: Path) -> Found:
+def _file(path: str) -> Found:
     folder, name = os.path.split(os.path.realpath(path))
     return Found(path, folder, name)
 
 
-def _lost(path: Path, error: OSError | ValueError) -> Found:
+def _lost(path: str, error: OSError | ValueError) -> Found:
     reason = why(error) if isinstance(error, OSError) else str(error)
     return Found(path, os.path.abspath(path), "", reason)

@@ -26,7 +26,7 @@ def shown(octets: bytes, most: int | None = None, also: str = "") -> str:
     return _cut(signs, most - len(_CUT)) + _CUT
 
 
-def shown_path(path: Path, also: str = "") -> str:
+def shown_path(path: str | Path, also: str = "") -> str:
     """A path as people see it."""
     return shown(os.fsencode(path), also=also)
 

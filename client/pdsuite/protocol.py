@@ -17,6 +17,10 @@ _ROW = re.compile(rb"(\S+) (?:(pass|syntax|unsupported|limit) (\d{1,6})|fail (\d
 _TOTAL = re.compile(rb"total (\d+) pass \d+ fail \d+ syntax \d+ unsupported \d+ limit \d+ pending 0")
 
 
+_WORDS = (Verdict.PASS, Verdict.SYNTAX, Verdict.UNSUPPORTED, Verdict.LIMIT)
+_VERDICTS = {it.value.encode(): it for it in _WORDS}
+
+
 class Unexpected(Exception):
     """An answer that isn't the one to what was asked; the text says what it has in its place."""
 
@@ -66,7 +70,7 @@ def _row(line: bytes, name: bytes) -> Row:
         raise Unexpected(_quoted(line))
     if found[5] is not None:
         return Row(Verdict.FAIL, int(found[4]), found[5].decode())
-    return Row(Verdict(found[2].decode()), int(found[3]))
+    return Row(_VERDICTS[found[2]], int(found[3]))
 
 
 def _first_other(answer: bytes, before: bytes) -> str:

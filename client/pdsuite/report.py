@@ -47,7 +47,8 @@ class Report:
     def _show(self, outcomes: Sequence[Outcome]) -> None:
         text = Text()
         for number, outcome in enumerate(outcomes, len(self.outcomes) + 1):
-            text.append_text(self._form.entry(number, outcome))
+            if (entry := self._form.entry(number, outcome)) is not None:
+                text.append_text(entry)
         self.outcomes.extend(outcomes)
         self._screen.show(text)
 

@@ -1,9 +1,9 @@
 """What came of scripts: verdicts, rows and their totals."""
 
+from collections import Counter
 from collections.abc import Iterable
 from dataclasses import dataclass
 from enum import Enum
-from pathlib import Path
 
 from pdsuite.settings import Settings
 
@@ -53,7 +53,7 @@ _WITH_LINE = (Verdict.FAIL, Verdict.SYNTAX, Verdict.UNSUPPORTED, Verdict.LIMIT)
 class Outcome:
     """A script's path and settings, its row, and the line of its text that the row names."""
 
-    path: Path
+    path: str
     settings: Settings
     row: Row
     text: bytes | None = None
@@ -67,10 +67,7 @@ class Totals:
 
     @classmethod
     def of(cls, verdicts: Iterable[Verdict]) -> "Totals":
-        counts = dict.fromkeys(Verdict, 0)
-        for verdict in verdicts:
-            counts[verdict] += 1
-        return cls(counts)
+        return cls({**dict.fromkeys(Verdict, 0), **Counter(verdicts)})
 
     @property
     def scripts(self) -> int:

@@ -3,7 +3,6 @@
 from collections.abc import Iterable, Sequence
 from dataclasses import dataclass
 from itertools import islice
-from pathlib import Path
 from typing import TypeVar
 
 from pdsuite.settings import Settings
@@ -19,7 +18,7 @@ class Script:
     """A script to run: its place in the order of paths, its file, its settings, and why it can't be run."""
 
     index: int
-    path: Path
+    path: str
     settings: Settings
     fault: str = ""
 

@@ -51,16 +51,17 @@ class Suite:
     def __init__(self, option: Layer) -> None:
         self._option = option
         self._layers: dict[str, Layer | None] = {}
-        self._common: dict[str, Settings] = {}
+        self._known: dict[str, tuple[Settings, Mapping[str, Table]]] = {}
 
     def settings(self, script: Found) -> Settings:
         """The settings of a script."""
-        layer = self._layer(script.folder)
-        if layer is not None and script.name in layer.tables:
-            return self._merged(script.folder, layer.tables[script.name])
-        if script.folder not in self._common:
-            self._common[script.folder] = self._merged(script.folder, {})
-        return self._common[script.folder]
+        if script.folder not in self._known:
+            layer = self._layer(script.folder)
+            tables = {} if layer is None else layer.tables
+            self._known[script.folder] = self._merged(script.folder, {}), tables
+        common, tables = self._known[script.folder]
+        own = tables.get(script.name)
+        return common if own is None else self._merged(script.folder, own)
 
     def claims(self) -> Iterator[Claim]:
         """What `--settings` and the files that were read say, whichever scripts it is about."""

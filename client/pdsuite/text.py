@@ -41,21 +41,25 @@ def text_of(octets: bytes) -> Text:
     return Text(octets, lines)
 
 
-def read_text(path: Path) -> Text:
+def read_text(path: str) -> Text:
     """The text of a script's file."""
     return text_of(read_file(path, _LONGEST_FILE + 1))
 
 
-def read_file(path: Path, most: int) -> bytes:
+def read_file(path: str | Path, most: int) -> bytes:
     """The first octets of a file, at most so many; only of a regular one, since others can block."""
     try:
         descriptor = os.open(path, os.O_RDONLY | os.O_NONBLOCK | os.O_CLOEXEC)
     except (OSError, ValueError) as error:
         raise Unfit(getattr(error, "strerror", None) or str(error)) from error
     try:
-        if not stat.S_ISREG(os.fstat(descriptor).st_mode):
+        found = os.fstat(descriptor)
+        if not stat.S_ISREG(found.st_mode):
             raise Unfit("isn't a regular file")
-        return _read_up_to(descriptor, most)
+        octets = os.read(descriptor, most)
+        if len(octets) == found.st_size:
+            return octets
+        return octets + _read_up_to(descriptor, most - len(octets))
     except OSError as error:
         raise Unfit(error.strerror or str(error)) from error
     finally:
@@ -63,7 +67,7 @@ def read_file(path: Path, most: int) -> bytes:
 
 
 def _read_up_to(descriptor: int, most: int) -> bytes:
-    octets = os.read(descriptor, most)
+    octets = b""
     while len(octets) < most and (more := os.read(descriptor, most - len(octets))):
         octets += more
     return octets

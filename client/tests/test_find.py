@@ -13,7 +13,7 @@ def found(top: Path, *paths: str, only: str | None = None) -> list[tuple[str, st
     """What is found, with its fault, by paths from a folder."""
     with pytest.MonkeyPatch.context() as patch, Stop() as stop:
         patch.chdir(top)
-        return [(str(it.path), it.fault) for it in find(map(Path, paths), only, stop)]
+        return [(it.path, it.fault) for it in find(map(Path, paths), only, stop)]
 
 
 def names(top: Path, *paths: str, only: str | None = None) -> list[str]:

@@ -1,6 +1,5 @@
 """How scripts are cut into runs, what is written to the program, and how its answers are read."""
 
-from pathlib import Path
 
 import pytest
 
@@ -15,7 +14,7 @@ FASTER: Settings = (("mss", 1000),)
 
 def scripts(count: int, settings: Settings = (), first: int = 0) -> list[Script]:
     """So many scripts with these settings."""
-    return [Script(index, Path(f"{index}.pkt"), settings) for index in range(first, first + count)]
+    return [Script(index, f"{index}.pkt", settings) for index in range(first, first + count)]
 
 
 def test_parts_are_full_but_for_the_last() -> None:

@@ -1,5 +1,6 @@
 """Settings as values, and where pdsuite.toml says them."""
 
+import os
 import subprocess
 from datetime import date
 from pathlib import Path
@@ -54,7 +55,7 @@ def suite_of(top: Path, paths: list[Path], option: str = "") -> dict[str, Settin
     suite = Suite(option_of(option))
     with Stop() as stop:
         found = find(paths, None, stop)
-    return {str(it.path.relative_to(top)): suite.settings(it) for it in found}
+    return {os.path.relpath(it.path, top): suite.settings(it) for it in found}
 
 
 def make_suite(top: Path) -> None:

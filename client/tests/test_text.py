@@ -32,7 +32,7 @@ FITS += [b"x" * 15 + b"\r\n", (b"x" * 15 + b"\r\n") * 4_096]
 @pytest.mark.parametrize("octets", FITS, ids=range(len(FITS)))
 def test_the_largest_texts_fit(octets: bytes, tmp_path: Path) -> None:
     (tmp_path / "a.pkt").write_bytes(octets)
-    assert read_text(tmp_path / "a.pkt") == text_of(octets)
+    assert read_text(str(tmp_path / "a.pkt")) == text_of(octets)
 
 
 LARGER = [
@@ -51,7 +51,7 @@ LARGER = [
 def test_larger_texts_do_not(octets: bytes, reason: str, tmp_path: Path) -> None:
     (tmp_path / "a.pkt").write_bytes(octets)
     with pytest.raises(Unfit, match=reason):
-        read_text(tmp_path / "a.pkt")
+        read_text(str(tmp_path / "a.pkt"))
 
 
 def test_only_regular_files_are_read(tmp_path: Path) -> None:
@@ -64,7 +64,7 @@ def test_only_regular_files_are_read(tmp_path: Path) -> None:
         reasons = {}
         for path in sorted(tmp_path.iterdir()):
             with pytest.raises(Unfit) as unfit:
-                read_text(path)
+                read_text(str(path))
             reasons[path.stem] = str(unfit.value)
     assert reasons == {
         "dangling": "No such file or directory",

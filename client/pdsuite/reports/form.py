@@ -13,8 +13,8 @@ class Form(Protocol):
     def head(self, count: int) -> Text:
         """What stands before so many scripts."""
 
-    def entry(self, number: int, outcome: Outcome) -> Text:
-        """What stands for a script; the first has the number 1."""
+    def entry(self, number: int, outcome: Outcome) -> Text | None:
+        """What stands for a script, if anything does; the first has the number 1."""
 
     def foot(self, totals: Totals, seconds: float) -> Text:
         """What stands at the end."""

@@ -14,9 +14,9 @@ class Github:
     def head(self, count: int) -> Text:
         return Text()
 
-    def entry(self, number: int, outcome: Outcome) -> Text:
+    def entry(self, number: int, outcome: Outcome) -> Text | None:
         if outcome.row.verdict in (Verdict.PASS, Verdict.NOT_RUN):
-            return Text()
+            return None
         where = f"file={_property(shown_path(outcome.path))}"
         if outcome.row.line is not None:
             where += f",line={outcome.row.line}"

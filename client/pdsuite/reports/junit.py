@@ -2,7 +2,6 @@
 
 import os
 from collections.abc import Iterable
-from pathlib import Path
 
 from junitparser import Error, Failure, JUnitXml, TestCase, TestSuite
 
@@ -27,8 +26,8 @@ def junit(outcomes: Iterable[Outcome], seconds: float) -> bytes:
 
 
 def _case(outcome: Outcome) -> TestCase:
-    folder = Path(os.path.dirname(outcome.path))
-    case = TestCase(shown_path(outcome.path), classname=shown_path(folder), time=0)
+    folder = shown_path(os.path.dirname(outcome.path))
+    case = TestCase(shown_path(outcome.path), classname=folder, time=0)
     verdict = outcome.row.verdict
     if verdict is not Verdict.PASS:
         kind = Failure if verdict is Verdict.FAIL else Error

@@ -28,10 +28,10 @@ class Plain:
     def head(self, count: int) -> Text:
         return Text()
 
-    def entry(self, number: int, outcome: Outcome) -> Text:
+    def entry(self, number: int, outcome: Outcome) -> Text | None:
         verdict = outcome.row.verdict
-        if verdict in (Verdict.PASS, Verdict.NOT_RUN) and not self.every:
-            return Text()
+        if not self.every and (verdict is Verdict.PASS or verdict is Verdict.NOT_RUN):
+            return None
         line = Text(f"{place(outcome)}: ").append(str(outcome.row), _STYLES[verdict])
         below = "".join(f"  {it}\n" for it in block(outcome))
         return line.append("\n").append(below, "dim")
