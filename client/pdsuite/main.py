@@ -1,5 +1,6 @@
 """The words of pdsuite, and how it ends."""
 
+import gc
 import io
 import os
 import sys
@@ -121,6 +122,8 @@ def main() -> int:
     if sys.stdout is None:
         say("pdsuite: standard output is closed")
         return FAULT
+    # Scripts and outcomes make no cycles, and the more there are, the longer it takes to look for some.
+    gc.disable()
     if isinstance(sys.stdout, io.TextIOWrapper):
         sys.stdout.reconfigure(encoding="utf-8")
     try:

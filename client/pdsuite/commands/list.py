@@ -18,8 +18,7 @@ def list_scripts(paths: Sequence[Path], only: str | None, settings: str, screen:
     """Lists the scripts, and answers the exit status."""
     with Stop() as stop:
         scripts = scripts_of(paths, only, Suite(option_of(settings)), stop)
-        for script in scripts:
-            screen.show(Text(f"{_line(script)}\n"))
+        screen.show(Text("".join(f"{_line(script)}\n" for script in scripts)))
     return 2 if any(script.fault for script in scripts) else 0
 
 

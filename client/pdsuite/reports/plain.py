@@ -38,7 +38,7 @@ class Plain:
 
     def foot(self, totals: Totals, seconds: float) -> Text:
         style = "green" if totals.status() == 0 else "bold red"
-        return Text(str(totals), style).append(f" in {seconds:.2f} s\n", "default")
+        return Text().append(str(totals), style).append(f" in {seconds:.2f} s\n")
 
 
 def place(outcome: Outcome) -> str:

@@ -1,0 +1,54 @@
+#!/bin/sh
+# Measures `pdsuite run` over a folder of generated scripts, on 1, 2 and 4 processors, with a worker each: its time, the
+# processor time of the client alone, and that of a loop that only reads these files.
+#
+#   bench/suite.sh [SCRIPTS [EVENTS]]      100,000 scripts of 20 events if nothing is said
+. "$(dirname "$0")/program.sh"
+scripts=${1:-100000}
+events=${2:-20}
+[ -z "${PROGRAM:-}" ] || PDSUITE_PROGRAMS=$(dirname "$PROGRAM")
+export PDSUITE_PROGRAMS="${PDSUITE_PROGRAMS:-}"
+
+# A file for each script, 1,000 to a folder.
+generate "$scripts" "$events" | awk -v top="$work/suite" '
+    /^add / {
+        if (file) close(file)
+        if (count % 1000 == 0) system("mkdir -p " (folder = top "/" int(count / 1000)))
+        file = folder "/" $2 ".pkt"
+        count++
+        next
+    }
+    { print > file }'
+
+# The client runs in this process, so that its processor time is told from that of the programs.
+cat >"$work/measure.py" <<'END'
+import os
+import sys
+import time
+
+client, processors, suite = sys.argv[1:]
+paths = [os.path.join(folder, name) for folder, _, names in os.walk(suite) for name in names]
+
+
+def read_all() -> float:
+    begin = time.process_time()
+    for path in paths:
+        with open(path, "rb") as file:
+            file.read()
+    return time.process_time() - begin
+
+
+os.sched_setaffinity(0, sorted(os.sched_getaffinity(0))[: int(processors)])
+reading = min(read_all() for _ in range(3))
+begin = time.process_time()
+sys.path.insert(0, client)
+sys.argv = ["pdsuite", "run", suite]
+from pdsuite.main import main
+
+main()
+own = time.process_time() - begin
+print(f"{processors} processors: the client {own:.2f} s, reading alone {reading:.2f} s: {own / reading:.2f} times")
+END
+for processors in 1 2 4; do
+    /usr/bin/python3 -I "$work/measure.py" "$top/client" "$processors" "$work/suite"
+done
