@@ -29,8 +29,18 @@ ROWS = {
     "e limit": b"row limit 1\n",
     "f error": b"crash\n",
 }
-NAMES = [b"# SKIP", b"# TODO x", b"a # SKIP b", b"a\\# SKIP", b"a\nok 7", b"\xff", b'<&"]]>', b"a\x1b[2J"]
-SHOWN = ["# SKIP", "# TODO x", "a # SKIP b", r"a\\# SKIP", r"a\x0aok 7", r"\xff", '<&"]]>', r"a\x1b[2J"]
+NAMES = [
+    b"# SKIP",
+    b"# TODO x",
+    b"a # SKIP b",
+    b"a\\# SKIP",
+    b"a\nok 7",
+    b"\xff",
+    b'<&"]]>',
+    b"a\x1b[2J",
+    "grün".encode(),
+]
+SHOWN = ["# SKIP", "# TODO x", "a # SKIP b", r"a\\# SKIP", r"a\x0aok 7", r"\xff", '<&"]]>', r"a\x1b[2J", "grün"]
 
 
 def make_rows(folder: Path) -> None:
@@ -89,6 +99,7 @@ def test_junit_tells_failures_from_errors_and_skips_nothing(stand_in: Path, tmp_
     make_rows(tmp_path)
     assert call(stand_in, "run", "--junit", "out.xml", ".").totals["error"] == 1
     (suite,) = JUnitXml.fromfile(str(tmp_path / "out.xml"))
+    assert suite.time > 0
     assert (suite.tests, suite.failures, suite.errors, suite.skipped) == (6, 1, 4, 0)
     results = {case.name: case.result for case in suite}
     assert list(results) == [f"{name}.pkt" for name in ROWS]

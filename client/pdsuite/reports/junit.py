@@ -2,6 +2,7 @@
 
 import os
 from collections.abc import Iterable
+from io import BytesIO
 
 from junitparser import Error, Failure, JUnitXml, TestCase, TestSuite
 
@@ -16,13 +17,13 @@ def junit(outcomes: Iterable[Outcome], seconds: float) -> bytes:
     suite = TestSuite("pdsuite")
     for outcome in outcomes:
         suite.append(_case(outcome))
-    suite.update_statistics()
-    suite.time = round(seconds, 3)
     report = JUnitXml("pdsuite")
     report.append(suite)
     report.update_statistics()
-    octets: bytes = report.tostring()
-    return octets
+    suite.time = report.time = round(seconds, 3)
+    octets = BytesIO()
+    report.write(octets)
+    return octets.getvalue()
 
 
 def _case(outcome: Outcome) -> TestCase:
