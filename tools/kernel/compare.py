@@ -1,0 +1,68 @@
+"""A packet of the kernel against the one that a script expects, field by field."""
+
+from __future__ import annotations
+
+from collections.abc import Set
+from dataclasses import dataclass
+
+from kernel.script import Packet
+from kernel.wire import Seen
+
+FIELDS = ("time", "flags", "push", "seq", "ack", "win", "options")
+LEAST_TOLERANCE = 0.010
+
+
+@dataclass(frozen=True)
+class Span:
+    """The moments at which a packet may leave, with the tolerance; None for any."""
+
+    first: float
+    last: float
+
+    def holds(self, at: float) -> bool:
+        return self.first <= at <= self.last
+
+
+@dataclass(frozen=True)
+class Difference:
+    """Where a run differs from its script."""
+
+    line: int
+    field: str
+    words: str
+
+
+def tolerance_of(awaited: float) -> float:
+    """How far a time may be off: an eighth of what is awaited, but at least 10 ms.
+
+    >>> [tolerance_of(it) for it in (0.0, 1.0)]
+    [0.01, 0.125]
+    """
+    return max(LEAST_TOLERANCE, awaited / 8)
+
+
+def is_told(expected: Packet, seen: Seen) -> bool:
+    """Whether a packet is the expected one, so that the run can go on where other fields differ."""
+    kinds = frozenset("SFR")
+    same_numbers = (expected.start, expected.length) == (seen.start, seen.length)
+    return same_numbers and expected.flags & kinds == seen.flags & kinds
+
+
+def differing(expected: Packet, seen: Seen, span: Span | None, ignored: Set[str]) -> list[str]:
+    """The fields in which a packet differs, in the order in which the program compares; `push` stands for the flag P.
+
+    >>> seen = Seen(0.0, frozenset("P."), 1, 1000, 1, 502, ())
+    >>> differing(Packet(False, frozenset("."), 1, 1000, 1, 257), seen, None, {"win"})
+    ['push']
+    """
+    other = expected.flags ^ seen.flags
+    found = {
+        "time": span is not None and not span.holds(seen.at),
+        "flags": bool(other - {"P"}),
+        "push": "P" in other,
+        "seq": (expected.start, expected.length) != (seen.start, seen.length),
+        "ack": expected.ack not in (None, seen.ack),
+        "win": expected.window not in (None, seen.window),
+        "options": expected.options not in (None, seen.options),
+    }
+    return [it for it in FIELDS if found[it] and it not in ignored]

@@ -1,0 +1,165 @@
+"""The words of the command, and the runs of its scripts side by side."""
+
+from __future__ import annotations
+
+import argparse
+import os
+import sys
+import tomllib
+from collections.abc import Iterator, Sequence, Set
+from dataclasses import dataclass
+from multiprocessing import get_context
+from multiprocessing.pool import Pool
+from pathlib import Path
+
+from kernel.compare import FIELDS
+from kernel.device import NoDevice
+from kernel.report import row_of, total_of
+from kernel.run import Outcome, run_script
+from kernel.script import Event, Refused, read_script
+from kernel.settings import Tuning, settings_of, tuning_of
+
+DESCRIPTION = """Runs packetdrill scripts against the TCP of this machine's kernel, each several times, and says how
+often each passes and at which line and field it fails otherwise. It needs root, a tun device and network namespaces.
+A packet's time may be off by an eighth of the time awaited, and by 10 ms at least."""
+SECOND_TRIES = 3
+
+
+@dataclass(frozen=True)
+class Choice:
+    """What the words of the command ask for."""
+
+    files: tuple[Path, ...]
+    runs: int
+    jobs: int
+    ignored: frozenset[str]
+    switches: dict[str, str]
+    settings: str
+    verbose: bool
+
+
+@dataclass(frozen=True)
+class Job:
+    """One script, ready to be run."""
+
+    path: Path
+    events: tuple[Event, ...]
+    tuning: Tuning
+    ignored: Set[str]
+
+
+def fields_in(text: str) -> frozenset[str]:
+    """The fields of a list like `win,options,push`."""
+    names = frozenset(text.split(","))
+    if names - set(FIELDS):
+        raise argparse.ArgumentTypeError(f"fields are {', '.join(FIELDS)}")
+    return names
+
+
+def switch_in(text: str) -> tuple[str, str]:
+    """A sysctl and its value, of `NAME=VALUE`."""
+    name, sign, value = text.partition("=")
+    if not sign:
+        raise argparse.ArgumentTypeError("wanted NAME=VALUE")
+    return name, value
+
+
+def choice_of(words: Sequence[str]) -> Choice:
+    parser = argparse.ArgumentParser(prog="kernel.py", description=DESCRIPTION)
+    add = parser.add_argument
+    add("files", nargs="+", type=Path, metavar="FILE", help="a script, or a folder with *.pkt below it")
+    add("--runs", type=int, default=10, help="how often each script is run (10)")
+    add("--jobs", type=int, default=10, help="how many runs go on side by side (10)")
+    add("--ignore", type=fields_in, default=frozenset(), help=f"fields left uncompared, of {', '.join(FIELDS)}")
+    add("--sysctl", type=switch_in, action="append", default=[], metavar="NAME=VALUE", help="a switch of the kernel")
+    add("--settings", default="", help="settings as TOML, before those of pdsuite.toml")
+    add("-v", "--verbose", action="store_true", help="tell what the first run of each script saw")
+    got = parser.parse_args(words)
+    files = tuple(sorted_files(got.files))
+    return Choice(files, got.runs, got.jobs, got.ignore, dict(got.sysctl), got.settings, got.verbose)
+
+
+def sorted_files(paths: Sequence[Path]) -> Iterator[Path]:
+    for path in paths:
+        yield from sorted(path.rglob("*.pkt")) if path.is_dir() else [path]
+
+
+def job_of(path: Path, choice: Choice) -> Job:
+    """Reads a script and its settings."""
+    text = path.read_text(encoding="latin-1")
+    events = read_script(text)
+    settings = settings_of(path, text, choice.settings)
+    return Job(path, events, tuning_of(events, settings, choice.switches), choice.ignored)
+
+
+def runners(jobs: int) -> Pool:
+    """Processes for runs: a new one for each, since a namespace is a process's own."""
+    return get_context("fork").Pool(jobs, maxtasksperchild=1)
+
+
+def run_once(job: Job) -> Outcome | Refused | NoDevice:
+    """A run in a process of its own; a fault comes back as a value."""
+    try:
+        return run_script(job.events, job.tuning, job.ignored)
+    except (Refused, NoDevice) as fault:
+        return fault
+
+
+def settled(pool: Pool, job: Job, runs: int) -> list[Outcome]:
+    """The runs of a script; those in which the tool was late are made again, a few times."""
+    done: list[Outcome] = []
+    for turn in range(1 + SECOND_TRIES):
+        wanted = runs - len(done)
+        found = []
+        for result in pool.map(run_once, [job] * wanted, chunksize=1):
+            if not isinstance(result, Outcome):
+                raise result
+            found.append(result)
+        done += [it for it in found if not it.is_disturbed or turn == SECOND_TRIES]
+        if len(done) == runs:
+            break
+    return done
+
+
+def tell(job: Job, outcomes: Sequence[Outcome], choice: Choice) -> None:
+    """Prints the lines about one script."""
+    for line in row_of(str(job.path), outcomes):
+        print(line)
+    if choice.verbose:
+        for line in outcomes[0].seen:
+            print(f"    {line}")
+    sys.stdout.flush()
+
+
+def run_all(choice: Choice, pool: Pool) -> int:
+    """Runs the scripts one after the other, and prints the settings wherever they change."""
+    results: list[list[Outcome]] = []
+    refused, told = 0, ""
+    for path in choice.files:
+        try:
+            job = job_of(path, choice)
+            outcomes = settled(pool, job, choice.runs)
+        except Refused as fault:
+            print(f"{path}: not run, {fault}")
+            refused += 1
+            continue
+        if str(job.tuning) != told:
+            told = str(job.tuning)
+            print(f"with {told}")
+        tell(job, outcomes, choice)
+        results.append(outcomes)
+    print(total_of(results, refused))
+    return 0 if all(not it.differences for them in results for it in them) else 1
+
+
+def main(words: Sequence[str]) -> int:
+    """The status is 0 where each run passes, 1 where one fails, and 2 where nothing can be run."""
+    choice = choice_of(words)
+    ignored = ",".join(sorted(choice.ignored)) or "nothing"
+    print(f"kernel {os.uname().release}, {choice.runs} runs each, ignoring {ignored}")
+    try:
+        with runners(choice.jobs) as pool:
+            return run_all(choice, pool)
+    except (NoDevice, OSError, tomllib.TOMLDecodeError) as fault:
+        print(f"kernel.py: {fault}", file=sys.stderr)
+        return 2

@@ -1,0 +1,51 @@
+"""What many runs of one script come to, and how it is printed."""
+
+from __future__ import annotations
+
+from collections.abc import Iterator, Sequence
+from dataclasses import dataclass
+
+from kernel.run import Outcome
+
+
+@dataclass(frozen=True)
+class Place:
+    """A line and a field by which runs differed, how many did, and the words of the first."""
+
+    line: int
+    field: str
+    runs: int
+    words: str
+
+
+def places_of(outcomes: Sequence[Outcome]) -> list[Place]:
+    """Where runs differed, in the order of lines as the first run that did came to them."""
+    words: dict[tuple[int, str], list[str]] = {}
+    for outcome in outcomes:
+        for it in outcome.differences:
+            words.setdefault((it.line, it.field), []).append(it.words)
+    places = [Place(line, name, len(them), them[0]) for (line, name), them in words.items()]
+    return sorted(places, key=lambda it: it.line)
+
+
+def passes(outcomes: Sequence[Outcome]) -> int:
+    """How many runs pass."""
+    return sum(not it.differences for it in outcomes)
+
+
+def row_of(name: str, outcomes: Sequence[Outcome]) -> Iterator[str]:
+    """The lines about one script: how often it passed, and where it differs."""
+    disturbed = sum(it.is_disturbed for it in outcomes)
+    note = f" ({disturbed} runs on a busy machine)" if disturbed else ""
+    yield f"{name}: {passes(outcomes)} of {len(outcomes)} pass{note}"
+    for place in places_of(outcomes):
+        where = f"  line {place.line} {place.field}"
+        yield f"{where}: {place.runs} of {len(outcomes)}, {place.words}"
+
+
+def total_of(results: Sequence[Sequence[Outcome]], refused: int) -> str:
+    """The last line: how many scripts pass in all of their runs, in some and in none."""
+    all_pass = sum(passes(it) == len(it) for it in results)
+    none = sum(passes(it) == 0 for it in results)
+    some = len(results) - all_pass - none
+    return f"scripts {len(results) + refused}: pass {all_pass}, not each time {some}, fail {none}, not run {refused}"

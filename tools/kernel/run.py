@@ -1,0 +1,105 @@
+"""One run of a script against the kernel: what is done at which moment, and where the kernel does otherwise."""
+
+from __future__ import annotations
+
+from collections.abc import Set
+from contextlib import closing
+from dataclasses import dataclass, field
+
+from kernel.calls import Sockets
+from kernel.compare import Difference, Span, differing, is_told, tolerance_of
+from kernel.device import Device, open_device
+from kernel.script import Base, Call, Event, Packet, Refused
+from kernel.settings import Tuning
+from kernel.wire import Seen
+
+LONGEST_WAIT = 65.0
+LATE = 0.005
+
+
+@dataclass(frozen=True)
+class Outcome:
+    """What a run came to: where it differed, what was seen, and how late the tool itself was at worst."""
+
+    differences: tuple[Difference, ...] = ()
+    seen: tuple[str, ...] = ()
+    late: float = 0.0
+
+    @property
+    def is_disturbed(self) -> bool:
+        """Whether the machine was too busy for the script's times."""
+        return self.late > LATE
+
+
+@dataclass
+class Run:
+    """A run under way. Relative times count from `base`: when the event before really happened."""
+
+    device: Device
+    sockets: Sockets
+    ignored: Set[str]
+    base: float = 0.0
+    ended: bool = False
+    differences: list[Difference] = field(default_factory=list)
+    seen: list[str] = field(default_factory=list)
+
+    def step(self, event: Event) -> None:
+        """Does what an event says, or awaits what it expects."""
+        origin = self.base if event.when.base is Base.EVENT else 0.0
+        first, last = origin + event.when.first, origin + event.when.last
+        if isinstance(event.action, Packet) and not event.action.inbound:
+            self.expect(event, event.action, first, last)
+            return
+        self.device.wait(first)
+        self.base = self.device.now()
+        if isinstance(event.action, Call):
+            self.call(event.line, event.action)
+        else:
+            self.device.inject(event.action)
+
+    def call(self, line: int, call: Call) -> None:
+        try:
+            answer = self.sockets.answer(call)
+        except Refused as fault:
+            raise Refused(line, str(fault)) from fault
+        self.seen.append(f"{self.device.now():.6f} line {line}: {call.name} = {answer}")
+        if not answer.agrees(call):
+            self.differ(line, "result", str(answer))
+            self.ended = answer.result != call.result
+
+    def expect(self, event: Event, packet: Packet, first: float, last: float) -> None:
+        """Takes the next packet of the kernel and compares it."""
+        is_any = event.when.base is Base.NONE
+        slack = tolerance_of(last - self.base)
+        limit = self.base + LONGEST_WAIT if is_any else last + slack
+        seen = self.device.take(limit)
+        if seen is None:
+            self.miss(event.line, last - self.base)
+            return
+        self.seen.append(f"{seen.at:.6f} line {event.line}: {seen}")
+        span = None if is_any else Span(first - slack, last + slack)
+        for name in differing(packet, seen, span, self.ignored):
+            self.differ(event.line, name, f"at {seen.at:.3f}: {seen}")
+        self.ended = not is_told(packet, seen)
+        self.base = seen.at
+
+    def miss(self, line: int, awaited: float) -> None:
+        """Notes that no packet came in time, and which one came later."""
+        seen: Seen | None = self.device.take(self.device.now() + max(1.0, 2 * awaited))
+        words = f"at {seen.at:.3f}: {seen}" if seen else "nothing came"
+        self.differ(line, "missing", words)
+        self.ended = True
+
+    def differ(self, line: int, name: str, words: str) -> None:
+        self.differences.append(Difference(line, name, words))
+
+
+def run_script(events: tuple[Event, ...], tuning: Tuning, ignored: Set[str]) -> Outcome:
+    """Runs a script once, in a namespace of this process's own."""
+    run = Run(open_device(tuning), Sockets(tuning.nodelay), ignored)
+    with closing(run.device), closing(run.sockets):
+        for event in events:
+            if run.ended:
+                break
+            run.step(event)
+    return Outcome(tuple(run.differences), tuple(run.seen), run.device.late)

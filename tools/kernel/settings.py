@@ -1,0 +1,148 @@
+"""The settings of a script, by its `pdsuite.toml`, and what of this machine's kernel stands for each."""
+
+from __future__ import annotations
+
+import tomllib
+from collections.abc import Iterator, Mapping
+from dataclasses import dataclass, fields, replace
+from pathlib import Path
+from typing import Any
+
+from kernel.script import Event, Packet
+
+NO_MSS = 536
+
+
+@dataclass(frozen=True)
+class Settings:
+    """The settings of docs/SETTINGS.md for which the kernel has something, with their defaults."""
+
+    mss: int = 1460
+    sack: bool = True
+    wscale: int = 7
+    sndbuf: int = 262144
+    rcv_wnd: int = 65535
+    initial_window: str = "rfc5681"
+    min_rto_us: int = 1_000_000
+    max_rto_us: int = 60_000_000
+    nagle: bool = True
+
+
+@dataclass(frozen=True)
+class Tuning:
+    """How the namespace of a run is set up, and what the tool sets at the connection."""
+
+    sysctls: tuple[tuple[str, str], ...]
+    route: tuple[str, ...]
+    mtu: int
+    nodelay: bool
+
+    def __str__(self) -> str:
+        switches = [f"{name}={value}" for name, value in self.sysctls]
+        parts = [*switches, " ".join(("route", *self.route)), f"mtu {self.mtu}"]
+        return ", ".join(parts + ["TCP_NODELAY"] * self.nodelay)
+
+
+def with_table(settings: Settings, table: Mapping[str, Any]) -> Settings:
+    """The settings that a table leads to; keys that the kernel has nothing for are left out.
+
+    >>> with_table(Settings(), {"mss": 1000, "tolerance_us": 0}).mss
+    1000
+    """
+    names = {it.name for it in fields(Settings)}
+    return replace(settings, **{key: value for key, value in table.items() if key in names})
+
+
+def settings_of(path: Path, text: str, words: str = "") -> Settings:
+    """The settings of a script: `words` first, then its own comments, then each `pdsuite.toml`, the nearest first."""
+    settings = Settings()
+    for table in reversed(list(tables_of(path.resolve()))):
+        settings = with_table(settings, table)
+    return with_table(with_table(settings, comments_of(text)), tomllib.loads(words))
+
+
+def comments_of(text: str) -> dict[str, Any]:
+    """The settings that a script asks for in comments `// set KEY VALUE`, before its first event.
+
+    >>> comments_of("// Why.\\n// set sack false\\n// set initial_window rfc6928\\n0 close(3) = 0\\n// set mss 9\\n")
+    {'sack': False, 'initial_window': 'rfc6928'}
+    """
+    found: dict[str, Any] = {}
+    for line in text.splitlines():
+        if not line.startswith("//"):
+            break
+        words = line[2:].split()
+        if len(words) == 3 and words[0] == "set":
+            value = words[2]
+            found[words[1]] = (
+                value == "true" if value in ("true", "false") else int(value) if value.isdigit() else value
+            )
+    return found
+
+
+def tables_of(path: Path) -> Iterator[dict[str, Any]]:
+    """The tables that hold for a script, the nearest first, up to a file with `root = true`."""
+    for folder in path.parents:
+        file = folder / "pdsuite.toml"
+        if not file.is_file():
+            continue
+        whole = tomllib.loads(file.read_text())
+        if folder == path.parent and isinstance(whole.get(path.name), dict):
+            yield whole[path.name]
+        yield {key: value for key, value in whole.items() if not isinstance(value, dict)}
+        if whole.get("root") is True:
+            return
+
+
+def segment_size(events: tuple[Event, ...], settings: Settings) -> int:
+    """The longest segment of a connection: the lesser of both sides' MSS."""
+    for event in events:
+        if isinstance(event.action, Packet) and "S" in event.action.flags and event.action.inbound:
+            told = [it.values[0] for it in event.action.options or () if it.name == "mss"]
+            return min(settings.mss, told[0] if told else NO_MSS)
+    return settings.mss
+
+
+def initial_segments(size: int, initial_window: str) -> int:
+    """How many segments the first congestion window holds.
+
+    >>> [initial_segments(it, "rfc5681") for it in (1000, 1460, 4000)]
+    [4, 3, 2]
+    >>> [initial_segments(it, "rfc6928") for it in (1000, 1460, 4000)]
+    [10, 10, 3]
+    """
+    if initial_window == "rfc6928":
+        return min(10, max(2, 14600 // size))
+    return 4 if size <= 1095 else 3 if size <= 2190 else 2
+
+
+def sysctl_file(name: str) -> Path:
+    """Where the kernel shows a switch.
+
+    >>> str(sysctl_file("net.ipv4.tcp_sack"))
+    '/proc/sys/net/ipv4/tcp_sack'
+    """
+    return Path("/proc/sys", *name.split("."))
+
+
+def tuning_of(events: tuple[Event, ...], settings: Settings, switches: Mapping[str, str]) -> Tuning:
+    """The namespace for a script under settings, with further sysctls before all; what the kernel lacks is left out."""
+    size = segment_size(events, settings)
+    sysctls = {
+        "net.ipv4.tcp_congestion_control": "reno",
+        "net.ipv4.tcp_timestamps": "0",
+        "net.ipv4.tcp_sack": str(int(settings.sack)),
+        "net.ipv4.tcp_rmem": f"4096 {2 * settings.rcv_wnd} {2 ** (15 + settings.wscale)}",
+        "net.ipv4.tcp_wmem": f"4096 {2 * settings.sndbuf} {max(4194304, 2 * settings.sndbuf)}",
+        "net.ipv4.tcp_rto_max_ms": str(min(120_000, settings.max_rto_us // 1000)),
+    }
+    route = [
+        *("initcwnd", str(initial_segments(size, settings.initial_window))),
+        *("rto_min", f"{settings.min_rto_us // 1000}ms"),
+        *("advmss", str(settings.mss)),
+    ]
+    if settings.wscale < 7:
+        route += ["window", str(min(65535 << settings.wscale, 2 ** (15 + settings.wscale)))]
+    sysctls = {name: value for name, value in sysctls.items() if sysctl_file(name).exists()}
+    sysctls.update(switches)
+    return Tuning(tuple(sysctls.items()), tuple(route), settings.mss + 40, not settings.nagle)
