@@ -32,6 +32,12 @@ def test_the_examples_have_their_rows(programs: Path, call: Call) -> None:
     assert (called.status, called.err) == (1, "")
 
 
+@pytest.mark.parametrize("name", ["suite", "linux"])
+def test_each_script_of_these_examples_passes(programs: Path, call: Call, name: str) -> None:
+    called = call(programs, "run", TOP / "examples" / name)
+    assert (called.rows, called.status) == ([], 0)
+
+
 def test_only_what_does_not_pass_is_shown_with_its_line(programs: Path, tmp_path: Path, call: Call) -> None:
     write(tmp_path / "in/er", good=PASSES, bad=PASSES + b"+0 bind(3, ..., ...) = 1\n", worse=b"?")
     called = call(programs, "run", "in")
