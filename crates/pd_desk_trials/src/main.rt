@@ -1,6 +1,6 @@
 //! Tries a desk: tells the stories of the input, serves beside two workers that overlap, and on random schedules, and
-//! compares what is written with what is written without threads. With a word, as `stories`, it does the first alone; a
-//! status of 2 says that it wasn't tried to the end.
+//! compares what is written with what is written without threads. With a word, `stories`, `overlap` or `schedules`, it
+//! does that alone; a status of 2 says that it wasn't tried to the end.
 #![tactic(auto)]
 
 mod overlap;
@@ -10,6 +10,8 @@ mod schedules;
 mod serving;
 mod stories;
 mod texts;
+mod turns;
+mod watched;
 
 use crate::overlap::try_overlap;
 use crate::schedules::try_schedules;
@@ -24,8 +26,13 @@ use std::{env, io};
 const NOT_TRIED: u8 = 2;
 
 fn main(rt: HostRuntime) -> ExitCode {
-    let is_short = has_word(&rt).or_else(|_| has_word(&rt)).unwrap_or(false);
-    let tried = if is_short { tell(&rt) } else { try_all(&rt) };
+    let part = part_of(&rt).or_else(|_| part_of(&rt)).unwrap_or(Part::All);
+    let tried = match part {
+        Part::All => try_all(&rt),
+        Part::Stories => tell(&rt),
+        Part::Overlap => try_overlap(&rt),
+        Part::Schedules => try_schedules(&rt),
+    };
     match tried {
         Ok(true) => ExitCode::SUCCESS,
         Ok(false) => ExitCode::FAILURE,
@@ -36,10 +43,25 @@ fn main(rt: HostRuntime) -> ExitCode {
     }
 }
 
-/// Whether a word stands behind the program's name.
-fn has_word(rt: &(impl Env + AllocGlobal)) -> io::Result<bool> {
+/// What is tried.
+enum Part {
+    All,
+    Stories,
+    Overlap,
+    Schedules,
+}
+
+/// What the program's word asks for.
+fn part_of(rt: &(impl Env + AllocGlobal)) -> io::Result<Part> {
     let words = env::args(rt)?.collect::<Vec<String>>(rt.alloc())?;
-    Ok(words.len() > 1)
+    Ok(match words.get(1) {
+        None => Part::All,
+        Some(word) => match word.as_str() {
+            "overlap" => Part::Overlap,
+            "schedules" => Part::Schedules,
+            _ => Part::Stories,
+        },
+    })
 }
 
 /// Whether all that was tried agrees.

@@ -1,0 +1,160 @@
+//! Calls beside threads that wait.
+use crate::running::Beside;
+use crate::saying::{joined, owned};
+use crate::stories::among::run_among;
+use crate::stories::faults::StoryFault;
+use crate::stories::table::Table;
+use crate::stories::waiters::{Progress, Waited, Waiter, Way};
+use crate::stories::words::Words;
+use crate::turns::await_count;
+use pd_desk::Desk;
+use pd_settings::Value;
+use std::sync::Wait;
+use std::sync::atomic::Ordering;
+use std::thread::Threads;
+
+/// Calls to be made beside threads that wait.
+#[derive(Drop)]
+struct Calls<'a, R> {
+    rt: &'a R,
+    desk: &'a Desk,
+    table: &'a mut Table,
+    calls: &'a str,
+    progress: &'a Progress,
+    settlers: u64,
+    workers: u64,
+}
+
+impl<'a, R: Threads + Wait + Sync> Beside for Calls<'a, R> {
+    type Output = Result<String, StoryFault>;
+
+    /// Makes the calls, and when all that settle have ended shuts the desk. Those that aren't woken within the turns are
+    /// set free.
+    fn run(self) -> Result<String, StoryFault> {
+        let Calls {
+            rt,
+            desk,
+            table,
+            calls,
+            progress,
+            settlers,
+            workers,
+        } = self;
+        let said = table.act_all(rt, desk, calls);
+        if !await_count(&progress.settled, settlers) {
+            progress.was_late.store(true, Ordering::SeqCst);
+            table.free(rt, desk);
+        }
+        desk.shut(rt);
+        if !await_count(&progress.left, workers) {
+            progress.was_late.store(true, Ordering::SeqCst);
+            table.free(rt, desk);
+        }
+        said
+    }
+}
+
+impl Table {
+    /// Makes calls, parted by `; `, while at each seat that is away, the first number first, a thread does what its letter
+    /// says. The answers of the calls and of these seats; `late` stands before them where a thread wasn't woken.
+    pub fn answer_beside<R: Threads + Wait + Sync>(
+        &mut self,
+        rt: &R,
+        desk: &Desk,
+        mut words: Words<'_>,
+    ) -> Result<String, StoryFault> {
+        let letters = words.word();
+        let progress = Progress::new();
+        let mut waiters = Vec::new(self.alloc);
+        let mut settlers = 0u64;
+        let mut workers = 0u64;
+        for letter in letters.bytes() {
+            let (Some(way), Some(seat)) = (Way::of(letter), self.away.pop()) else {
+                return Err(StoryFault::Missing);
+            };
+            progress.count_in(way);
+            if way.settles() {
+                settlers = settlers.wrapping_add(1);
+            } else {
+                workers = workers.wrapping_add(1);
+            }
+            let waiter = Waiter {
+                rt,
+                alloc: self.alloc,
+                desk,
+                progress: &progress,
+                seat,
+                way,
+            };
+            waiters.push(waiter).or(Err(StoryFault::OutOfMemory))?;
+        }
+        let alloc = self.alloc;
+        let calls = Calls {
+            rt,
+            desk,
+            table: self,
+            calls: words.rest(),
+            progress: &progress,
+            settlers,
+            workers,
+        };
+        let Some(among) = run_among(rt, alloc, &progress, waiters, calls) else {
+            return Err(StoryFault::OutOfMemory);
+        };
+        let late = progress.was_late.load(Ordering::SeqCst);
+        let said = self.take_back(among.waited, among.said?)?;
+        Ok(joined(alloc, &[if late { "late; " } else { "" }, said.as_str()])?)
+    }
+
+    /// Takes seats back, and tells what was said beside them and there.
+    fn take_back(&mut self, waited: Vec<Waited>, said: String) -> Result<String, StoryFault> {
+        let mut text = said;
+        let mut refused = None;
+        for one in &waited {
+            match &one.said {
+                Ok(said) => {
+                    text.push_str("; ")?;
+                    text.push_str(said.as_str())?;
+                }
+                Err(fault) => refused = Some(*fault),
+            }
+        }
+        for one in waited.into_iter().rev() {
+            self.away.push(one.seat).or(Err(StoryFault::OutOfMemory))?;
+        }
+        match refused {
+            None => Ok(text),
+            Some(fault) => Err(fault),
+        }
+    }
+
+    /// Makes calls that are parted by `; `, and gives their answers so.
+    fn act_all<R: Threads + Wait + Sync>(
+        &mut self,
+        rt: &R,
+        desk: &Desk,
+        calls: &str,
+    ) -> Result<String, StoryFault> {
+        let mut text = owned(self.alloc, "")?;
+        for call in calls.split("; ") {
+            if !text.is_empty() {
+                text.push_str("; ")?;
+            }
+            text.push_str(self.act(rt, desk, call)?.as_str())?;
+        }
+        Ok(text)
+    }
+
+    /// Takes out all scripts and makes an act, which wakes whoever waits for a verdict or for the desk to be shut.
+    fn free<R: Wait>(&mut self, rt: &R, desk: &Desk) {
+        let Some(seat) = self.seats.get_mut(0) else {
+            return;
+        };
+        if let Ok(report) = desk.show(rt, seat) {
+            for row in report.rows() {
+                let _ = desk.remove(rt, seat, &row.name);
+            }
+        }
+        let _ = desk.set(rt, seat, b"nagle", Value::Truth(true));
+    }
+}
