@@ -17,7 +17,7 @@ later s m s' older newer e f =
     f ∙ (ap (λ (t : SeatView). with_acts t newer) e
     ∙ ap (λ (l : List Act). record { number = s.number; own = l; longest = s.longest }) (sym (append_assoc newer older s.own)))
 
--- one job more, which was finished, or whose finish was refused
+-- one job more, which was finished, or not ended
 pub worked_more : (s m b s' : SeatView) (number : ℕ) (name : List ℕ) → Worked s m → b ≡ with_act m (Start number name) → EndsJob number b s' → Worked s s'
 worked_more s m b s' number name w e (inl (ruling, f)) = record {
   acts = Finish number ruling ∷ Start number name ∷ w.acts;
@@ -30,7 +30,7 @@ worked_more s m b s' number name w e (inr f) = record {
   now = later s m s' w.acts (Start number name ∷ []) w.now (f ∙ e);
 }
 
--- one job more, which was given up, or whose abandonment was refused
+-- one job more, which was given up, or not ended
 pub left_more : (s m b s' : SeatView) (number : ℕ) (name : List ℕ) → Worked s m → b ≡ with_act m (Start number name) → AbandonsJob number b s' → Left s s'
 left_more s m b s' number name w e (inl f) = record {
   acts = Abandon number ∷ Start number name ∷ w.acts;

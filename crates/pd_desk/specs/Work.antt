@@ -11,7 +11,7 @@ use Rattle.pd_desk.specs.declared.faults.DeskFault.TheVariants.{NoWorkers, Diffe
 abbrev pub with_acts : SeatView → List Act → SeatView
 with_acts seat acts = record { number = seat.number; own = acts ++ seat.own; longest = seat.longest }
 
--- job by job, the newest first: a start and its finish, or a start alone where the finish was refused
+-- job by job, the newest first: a start and its finish, or a start alone where the job was not ended
 pub data AreJobs : List Act → Type 0 where
   none : AreJobs []
   finished : (number : ℕ) (name : List ℕ) (ruling : Ruling) (older : List Act) → AreJobs older → AreJobs (Finish number ruling ∷ Start number name ∷ older)
@@ -47,10 +47,10 @@ Works seat (Err Differs) seat' = ⊥
 abbrev pub IsWant : DeskFault → Type 0
 IsWant fault = (fault ≡ HistoryFull) ⊎ (fault ≡ OutOfMemory)
 
--- the job was finished, or that was refused
+-- the job was finished, or not ended
 abbrev pub EndsJob : ℕ → SeatView → SeatView → Type 0
 EndsJob number seat seat' = ((ruling : Ruling) × (seat' ≡ with_act seat (Finish number ruling))) ⊎ (seat' ≡ seat)
 
--- the job was abandoned, or that was refused
+-- the job was abandoned, or not ended
 abbrev pub AbandonsJob : ℕ → SeatView → SeatView → Type 0
 AbandonsJob number seat seat' = (seat' ≡ with_act seat (Abandon number)) ⊎ (seat' ≡ seat)

@@ -225,7 +225,8 @@ impl Held {
         Ok(ruling)
     }
 
-    /// Hands out a track that is kept no longer, as `Book::take_spent` does.
+    /// Hands out a track that is kept no longer, as `Book::take_spent` does. No clause tells which it is, or whether there is
+    /// one: the value of a `Held` has the tracks that are kept, and not those that are to be freed.
     pub fn take_spent(&mut self) -> Option<Track>
         ensures { self.new ≡ self.old }
     {
