@@ -1,9 +1,12 @@
 //! Tries a desk: tells the stories of the input, serves beside two workers that overlap, and on random schedules, and
-//! compares what is written with what is written without threads. With a word, `stories`, `overlap` or `schedules`, it
-//! does that alone; a status of 2 says that it wasn't tried to the end.
+//! compares what is written with what is written without threads; and makes calls in all orders in which threads may hand
+//! the turn on. With a word, `stories`, `overlap`, `schedules` or `orders`, it does that alone; a status of 2 says that it
+//! wasn't tried to the end.
 #![tactic(auto)]
 
+mod orders;
 mod overlap;
+mod replay;
 mod running;
 mod saying;
 mod schedules;
@@ -13,6 +16,7 @@ mod texts;
 mod turns;
 mod watched;
 
+use crate::orders::try_orders;
 use crate::overlap::try_overlap;
 use crate::schedules::try_schedules;
 use crate::stories::tell;
@@ -32,6 +36,7 @@ fn main(rt: HostRuntime) -> ExitCode {
         Part::Stories => tell(&rt),
         Part::Overlap => try_overlap(&rt),
         Part::Schedules => try_schedules(&rt),
+        Part::Orders => try_orders(&rt),
     };
     match tried {
         Ok(true) => ExitCode::SUCCESS,
@@ -44,11 +49,13 @@ fn main(rt: HostRuntime) -> ExitCode {
 }
 
 /// What is tried.
+#[derive(Clone, Copy)]
 enum Part {
     All,
     Stories,
     Overlap,
     Schedules,
+    Orders,
 }
 
 /// What the program's word asks for.
@@ -59,6 +66,7 @@ fn part_of(rt: &(impl Env + AllocGlobal)) -> io::Result<Part> {
         Some(word) => match word.as_str() {
             "overlap" => Part::Overlap,
             "schedules" => Part::Schedules,
+            "orders" => Part::Orders,
             _ => Part::Stories,
         },
     })
@@ -69,5 +77,6 @@ fn try_all(rt: &(impl Input + Print + AllocGlobal + Threads + Wait + Sync)) -> i
     let is_told = tell(rt)?;
     let is_overlapped = try_overlap(rt)?;
     let is_scheduled = try_schedules(rt)?;
-    Ok(is_told && is_overlapped && is_scheduled)
+    let is_ordered = try_orders(rt)?;
+    Ok(is_told && is_overlapped && is_scheduled && is_ordered)
 }

@@ -47,6 +47,44 @@ pub fn run_beside<
     })
 }
 
+/// What threads came to, and what was said beside them.
+#[derive(Drop)]
+pub struct Among<O, A> {
+    pub played: Vec<O>,
+    pub said: A,
+}
+
+/// Runs each task in a thread of its own, and does this beside them. None where no thread can be made.
+pub fn run_among<
+    'x,
+    R: Threads + Wait + Sync,
+    T: Beside<Output = O> + Send + Drop,
+    O: Send + Drop,
+    B: Beside<Output = A> + Drop,
+    A: Drop,
+>(rt: &'x R, alloc: Global, tasks: Vec<T>, beside: B) -> Option<Among<O, A>> {
+    let count = tasks.len();
+    thread::scope(thread::scope_env(), rt, |scope| -> Option<Among<O, A>> {
+        let Ok(mut handles) = Vec::with_capacity(alloc, count) else {
+            return None;
+        };
+        let Ok(mut played) = Vec::with_capacity(alloc, count) else {
+            return None;
+        };
+        for task in tasks {
+            let Ok(handle) = scope.spawn(move || task.run()) else {
+                return None;
+            };
+            let _ = handles.push(handle);
+        }
+        let said = beside.run();
+        for handle in handles {
+            let _ = played.push(handle.join(rt));
+        }
+        Some(Among { played, said })
+    })
+}
+
 fn work_at_all<R: Threads + Wait + Sync, G: Gate + Sync>(
     desk: &Desk,
     rt: &R,

@@ -1,16 +1,15 @@
 //! Stories of a desk: rows of calls with the answers that are wanted, parted by ` or ` where there may be several, the
 //! first of which is given where no call found want of memory. A line that begins `# ` or `== ` is a title.
-mod among;
 mod beside;
 mod calls;
 mod counts;
-mod faults;
+pub mod faults;
 mod gates;
 mod jobs;
 mod settling;
 mod short_stepper;
 mod story;
-mod table;
+pub mod table;
 mod waiters;
 mod words;
 

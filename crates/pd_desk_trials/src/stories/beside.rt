@@ -1,7 +1,6 @@
 //! Calls beside threads that wait.
-use crate::running::Beside;
+use crate::running::{Among, Beside, run_among};
 use crate::saying::{joined, owned};
-use crate::stories::among::run_among;
 use crate::stories::faults::StoryFault;
 use crate::stories::table::Table;
 use crate::stories::waiters::{Progress, Waited, Waiter, Way};
@@ -15,17 +14,17 @@ use std::thread::Threads;
 
 /// Calls to be made beside threads that wait.
 #[derive(Drop)]
-struct Calls<'a, R> {
+struct Calls<'a, 'b, R> {
     rt: &'a R,
     desk: &'a Desk,
-    table: &'a mut Table,
-    calls: &'a str,
     progress: &'a Progress,
+    table: &'b mut Table,
+    calls: &'b str,
     settlers: u64,
     workers: u64,
 }
 
-impl<'a, R: Threads + Wait + Sync> Beside for Calls<'a, R> {
+impl<'a, 'b, R: Threads + Wait + Sync> Beside for Calls<'a, 'b, R> {
     type Output = Result<String, StoryFault>;
 
     /// Makes the calls, and when all that settle have ended shuts the desk. Those that aren't woken within the turns are
@@ -34,12 +33,13 @@ impl<'a, R: Threads + Wait + Sync> Beside for Calls<'a, R> {
         let Calls {
             rt,
             desk,
+            progress,
             table,
             calls,
-            progress,
             settlers,
             workers,
         } = self;
+        progress.begin_behind(settlers.wrapping_add(workers));
         let said = table.act_all(rt, desk, calls);
         if !await_count(&progress.settled, settlers) {
             progress.was_late.store(true, Ordering::SeqCst);
@@ -65,45 +65,12 @@ impl Table {
     ) -> Result<String, StoryFault> {
         let letters = words.word();
         let progress = Progress::new();
-        let mut waiters = Vec::new(self.alloc);
-        let mut settlers = 0u64;
-        let mut workers = 0u64;
-        for letter in letters.bytes() {
-            let (Some(way), Some(seat)) = (Way::of(letter), self.away.pop()) else {
-                return Err(StoryFault::Missing);
-            };
-            progress.count_in(way);
-            if way.settles() {
-                settlers = settlers.wrapping_add(1);
-            } else {
-                workers = workers.wrapping_add(1);
-            }
-            let waiter = Waiter {
-                rt,
-                alloc: self.alloc,
-                desk,
-                progress: &progress,
-                seat,
-                way,
-            };
-            waiters.push(waiter).or(Err(StoryFault::OutOfMemory))?;
+        let among = call_among(rt, desk, &progress, &mut *self, words.rest(), letters)?;
+        let said = self.take_back(among.played, among.said?)?;
+        if progress.was_late.load(Ordering::SeqCst) {
+            return Ok(joined(self.alloc, &["late; ", said.as_str()])?);
         }
-        let alloc = self.alloc;
-        let calls = Calls {
-            rt,
-            desk,
-            table: self,
-            calls: words.rest(),
-            progress: &progress,
-            settlers,
-            workers,
-        };
-        let Some(among) = run_among(rt, alloc, &progress, waiters, calls) else {
-            return Err(StoryFault::OutOfMemory);
-        };
-        let late = progress.was_late.load(Ordering::SeqCst);
-        let said = self.take_back(among.waited, among.said?)?;
-        Ok(joined(alloc, &[if late { "late; " } else { "" }, said.as_str()])?)
+        Ok(said)
     }
 
     /// Takes seats back, and tells what was said beside them and there.
@@ -157,4 +124,45 @@ impl Table {
         }
         let _ = desk.set(rt, seat, b"nagle", Value::Truth(true));
     }
+}
+
+/// Makes calls at a table, while at each of the seats that are away a thread does what its letter says.
+fn call_among<'x, 'y, R: Threads + Wait + Sync>(
+    rt: &'x R,
+    desk: &'x Desk,
+    progress: &'x Progress,
+    table: &'y mut Table,
+    calls: &'y str,
+    letters: &str,
+) -> Result<Among<Waited, Result<String, StoryFault>>, StoryFault> {
+    let alloc = table.alloc;
+    let mut waiters = Vec::new(alloc);
+    let mut settlers = 0u64;
+    for letter in letters.bytes() {
+        let (Some(way), Some(seat)) = (Way::of(letter), table.away.pop()) else {
+            return Err(StoryFault::Missing);
+        };
+        progress.count_in(way);
+        settlers = settlers.wrapping_add(u64::from(way.settles()));
+        let waiter = Waiter {
+            rt,
+            alloc,
+            desk,
+            progress,
+            seat,
+            way,
+            before: waiters.len() as u64,
+        };
+        waiters.push(waiter).or(Err(StoryFault::OutOfMemory))?;
+    }
+    let calls = Calls {
+        rt,
+        desk,
+        progress,
+        table,
+        calls,
+        settlers,
+        workers: (waiters.len() as u64).wrapping_sub(settlers),
+    };
+    run_among(rt, alloc, waiters, calls).ok_or(StoryFault::OutOfMemory)
 }

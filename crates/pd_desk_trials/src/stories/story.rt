@@ -1,7 +1,7 @@
 //! A desk and those at it, as a story tells of them.
 use crate::saying::{decimal, joined, owned, recorded};
 use crate::stories::faults::StoryFault;
-use crate::stories::table::{Table, Written};
+use crate::stories::table::Table;
 use crate::stories::words::Words;
 use crate::texts::text;
 use pd_desk::Desk;
@@ -47,17 +47,13 @@ impl Story {
         }
     }
 
-    /// Keeps a text under a name.
+    /// Keeps a text under a word.
     fn write(&mut self, mut words: Words<'_>) -> Result<String, StoryFault> {
-        let word = owned(self.alloc, words.word())?;
-        let lines = owned(self.alloc, words.rest())?;
-        let count = text(self.alloc, lines.as_str())?.len();
+        let word = words.word();
+        let lines = words.rest();
+        let count = text(self.alloc, lines)?.len();
         let count = decimal(self.alloc, count as u64)?;
-        let written = Written { word, lines };
-        self.table
-            .texts
-            .push(written)
-            .or(Err(StoryFault::OutOfMemory))?;
+        self.table.write(word, lines)?;
         Ok(joined(self.alloc, &[count.as_str(), " lines"])?)
     }
 

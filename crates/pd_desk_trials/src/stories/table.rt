@@ -1,5 +1,5 @@
 //! Those at a desk, as a story tells of them.
-use crate::saying::{decimal, owned};
+use crate::saying::{decimal, joined, owned};
 use crate::stories::faults::StoryFault;
 use crate::stories::words::Words;
 use pd_book::Done;
@@ -44,6 +44,39 @@ impl Table {
             texts: Vec::new(alloc),
             results: Vec::new(alloc),
         }
+    }
+
+    /// One with this seat, and a text under a word.
+    pub fn at_seat(
+        alloc: Global,
+        seat: Seat,
+        word: &str,
+        lines: &str,
+    ) -> Result<Table, StoryFault> {
+        let mut table = Table::new(alloc);
+        table.write(word, lines)?;
+        table.seats.push(seat).or(Err(StoryFault::OutOfMemory))?;
+        Ok(table)
+    }
+
+    /// Keeps a text under a word.
+    pub fn write(&mut self, word: &str, lines: &str) -> Result<(), StoryFault> {
+        let written = Written {
+            word: owned(self.alloc, word)?,
+            lines: owned(self.alloc, lines)?,
+        };
+        self.texts.push(written).or(Err(StoryFault::OutOfMemory))
+    }
+
+    /// Makes a call of the first seat that is here.
+    pub fn act_first<R: Threads + Wait + Sync>(
+        &mut self,
+        rt: &R,
+        desk: &Desk,
+        call: &str,
+    ) -> Result<String, StoryFault> {
+        let row = joined(self.alloc, &["seat 0 ", call])?;
+        self.act(rt, desk, row.as_str())
     }
 
     /// Makes a call at a desk, and gives its answer in words.

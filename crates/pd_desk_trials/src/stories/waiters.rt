@@ -1,9 +1,12 @@
 //! Threads that wait at a desk, or change it, each at a seat of its own.
+ghost use Rattle.std.specs.Prelude.{◌+◌, ◌<◌, ◌^◌};
+
+use crate::running::Beside;
 use crate::saying::{decimal, owned, shown};
 use crate::stories::faults::StoryFault;
 use crate::stories::jobs::left_said;
 use crate::texts::{edit, name, text};
-use crate::turns::await_count;
+use crate::turns::{await_count, give_turns};
 use crate::watched::{Watch, Watched};
 use pd_desk::{Desk, DeskFault, OpenGate};
 use pd_run::{Plain, Stepper};
@@ -55,7 +58,7 @@ impl Way {
 /// How far threads are.
 #[derive(Drop)]
 pub struct Progress {
-    pub begun: AtomicU64,
+    begun: AtomicU64,
     pub settled: AtomicU64,
     pub left: AtomicU64,
     pub was_late: AtomicBool,
@@ -73,6 +76,13 @@ impl Progress {
             met: AtomicU64::new(0),
             changing: AtomicU64::new(0),
         }
+    }
+
+    /// Waits until so many have begun, gives them turns to fall asleep, and begins.
+    pub fn begin_behind(&self, before: u64) {
+        let _ = await_count(&self.begun, before);
+        give_turns();
+        self.begun.fetch_add(1, Ordering::SeqCst);
     }
 
     /// Counts a thread that is to do its part.
@@ -119,6 +129,8 @@ pub struct Waiter<'a, R> {
     pub progress: &'a Progress,
     pub seat: Seat,
     pub way: Way,
+    /// How many wait before it.
+    pub before: u64,
 }
 
 /// Its seat, and what was answered there.
@@ -128,9 +140,11 @@ pub struct Waited {
     pub said: Result<String, StoryFault>,
 }
 
-impl<'a, R: Wait> Waiter<'a, R> {
-    /// Does its part.
-    pub fn run(self) -> Waited {
+impl<'a, R: Wait> Beside for Waiter<'a, R> {
+    type Output = Waited;
+
+    /// Does its part, once those before it had turns to fall asleep.
+    fn run(self) -> Waited {
         let Waiter {
             rt,
             alloc,
@@ -138,9 +152,10 @@ impl<'a, R: Wait> Waiter<'a, R> {
             progress,
             seat,
             way,
+            before,
         } = self;
         let mut seat = seat;
-        progress.begun.fetch_add(1, Ordering::SeqCst);
+        progress.begin_behind(before);
         let said = match way {
             Way::Settle => settle(rt, alloc, desk, &mut seat),
             Way::SettleLast => settle_last(rt, alloc, desk, &mut seat),
@@ -155,13 +170,15 @@ impl<'a, R: Wait> Waiter<'a, R> {
 }
 
 /// Works with an open gate, with a stepper that has taken no step.
-fn work<R: Wait>(
+fn work<R: Wait, S: Stepper>(
     rt: &R,
     alloc: Global,
     desk: &Desk,
     seat: &mut Seat,
-    stepper: &mut impl Stepper,
-) -> Result<String, StoryFault> {
+    stepper: &mut S,
+) -> Result<String, StoryFault>
+    requires room { S.counted stepper.old + 2 ^ 28 < 2 ^ 64 }
+{
     let left = desk.work(rt, alloc, seat, stepper, &OpenGate);
     Ok(left_said(alloc, left)?)
 }
