@@ -143,7 +143,7 @@ fn play<'x, 'y, R: Threads + Wait + Sync>(
     };
     let mut seats = Vec::new(alloc);
     for played in among.played {
-        let Some(seat) = played else {
+        let Some(seat) = played.seat else {
             return Ok(None);
         };
         seats.push(seat).or(Err(StoryFault::OutOfMemory))?;

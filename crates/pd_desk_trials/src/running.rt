@@ -1,4 +1,5 @@
 //! Workers that run beside whoever asks.
+use crate::stories::faults::StoryFault;
 use pd_desk::{Desk, DeskFault, Gate};
 use pd_seat::Seat;
 use std::alloc::Global;
@@ -47,24 +48,34 @@ pub fn run_beside<
     })
 }
 
-/// What threads came to, and what was said beside them.
+/// Work for a thread at a seat.
+pub trait Task {
+    fn run(self) -> Played;
+}
+
+/// The seat, if it comes back, and what was said there.
 #[derive(Drop)]
-pub struct Among<O, A> {
-    pub played: Vec<O>,
+pub struct Played {
+    pub seat: Option<Seat>,
+    pub said: Result<String, StoryFault>,
+}
+
+/// What was said at seats and beside them.
+#[derive(Drop)]
+pub struct Among<A> {
+    pub played: Vec<Played>,
     pub said: A,
 }
 
 /// Runs each task in a thread of its own, and does this beside them. None where no thread can be made.
-pub fn run_among<
-    'x,
-    R: Threads + Wait + Sync,
-    T: Beside<Output = O> + Send + Drop,
-    O: Send + Drop,
-    B: Beside<Output = A> + Drop,
-    A: Drop,
->(rt: &'x R, alloc: Global, tasks: Vec<T>, beside: B) -> Option<Among<O, A>> {
+pub fn run_among<R: Threads + Wait, T: Task + Send + Drop, B: Beside<Output = A> + Drop, A: Drop>(
+    rt: &R,
+    alloc: Global,
+    tasks: Vec<T>,
+    beside: B,
+) -> Option<Among<A>> {
     let count = tasks.len();
-    thread::scope(thread::scope_env(), rt, |scope| -> Option<Among<O, A>> {
+    thread::scope(thread::scope_env(), rt, |scope| -> Option<Among<A>> {
         let Ok(mut handles) = Vec::with_capacity(alloc, count) else {
             return None;
         };

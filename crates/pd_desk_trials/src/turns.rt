@@ -2,8 +2,8 @@
 use std::sync::atomic::{AtomicBool, AtomicU64, Ordering};
 use std::thread;
 
-/// How often a thread looks for what it waits for, and yields: a second or more.
-pub const TURNS: u64 = 3_000_000;
+/// How often a thread looks for what it waits for, and yields: some seconds.
+pub const TURNS: u64 = 10_000_000;
 
 /// How many turns the others are given to fall asleep.
 const SLEEP: u64 = 2_000;

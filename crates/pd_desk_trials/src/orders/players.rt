@@ -1,7 +1,8 @@
 //! Players: callers that make calls of a list, and workers, who hand the turn on before each call and round each job.
 use crate::orders::stage::{Spot, Stage};
 use crate::orders::{CALLERS, LINES};
-use crate::running::Beside;
+use crate::running::{Played, Task};
+use crate::stories::faults::StoryFault;
 use crate::stories::table::Table;
 use crate::watched::{Watch, Watched};
 use pd_desk::{Desk, Gate};
@@ -22,11 +23,9 @@ pub struct Player<'a, R> {
     pub calls: &'static str,
 }
 
-impl<'a, R: Threads + Wait + Sync> Beside for Player<'a, R> {
-    type Output = Option<Seat>;
-
+impl<'a, R: Threads + Wait + Sync> Task for Player<'a, R> {
     /// Plays to the end, and gives the seat back.
-    fn run(self) -> Option<Seat> {
+    fn run(self) -> Played {
         let rt = self.rt;
         let stage = self.stage;
         let me = self.me;
@@ -36,7 +35,10 @@ impl<'a, R: Threads + Wait + Sync> Beside for Player<'a, R> {
             self.work()
         };
         stage.put(rt, me, Spot::Gone);
-        seat
+        Played {
+            seat,
+            said: Err(StoryFault::Missing),
+        }
     }
 }
 

@@ -1,9 +1,9 @@
 //! Calls beside threads that wait.
-use crate::running::{Among, Beside, run_among};
+use crate::running::{Among, Beside, Played, run_among};
 use crate::saying::{joined, owned};
 use crate::stories::faults::StoryFault;
 use crate::stories::table::Table;
-use crate::stories::waiters::{Progress, Waited, Waiter, Way};
+use crate::stories::waiters::{Progress, Waiter, Way};
 use crate::stories::words::Words;
 use crate::turns::await_count;
 use pd_desk::Desk;
@@ -74,7 +74,7 @@ impl Table {
     }
 
     /// Takes seats back, and tells what was said beside them and there.
-    fn take_back(&mut self, waited: Vec<Waited>, said: String) -> Result<String, StoryFault> {
+    fn take_back(&mut self, waited: Vec<Played>, said: String) -> Result<String, StoryFault> {
         let mut text = said;
         let mut refused = None;
         for one in &waited {
@@ -87,7 +87,9 @@ impl Table {
             }
         }
         for one in waited.into_iter().rev() {
-            self.away.push(one.seat).or(Err(StoryFault::OutOfMemory))?;
+            if let Some(seat) = one.seat {
+                self.away.push(seat).or(Err(StoryFault::OutOfMemory))?;
+            }
         }
         match refused {
             None => Ok(text),
@@ -134,7 +136,7 @@ fn call_among<'x, 'y, R: Threads + Wait + Sync>(
     table: &'y mut Table,
     calls: &'y str,
     letters: &str,
-) -> Result<Among<Waited, Result<String, StoryFault>>, StoryFault> {
+) -> Result<Among<Result<String, StoryFault>>, StoryFault> {
     let alloc = table.alloc;
     let mut waiters = Vec::new(alloc);
     let mut settlers = 0u64;

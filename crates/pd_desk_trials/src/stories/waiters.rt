@@ -1,7 +1,7 @@
 //! Threads that wait at a desk, or change it, each at a seat of its own.
 ghost use Rattle.std.specs.Prelude.{◌+◌, ◌<◌, ◌^◌};
 
-use crate::running::Beside;
+use crate::running::{Played, Task};
 use crate::saying::{decimal, owned, shown};
 use crate::stories::faults::StoryFault;
 use crate::stories::jobs::left_said;
@@ -133,18 +133,9 @@ pub struct Waiter<'a, R> {
     pub before: u64,
 }
 
-/// Its seat, and what was answered there.
-#[derive(Drop)]
-pub struct Waited {
-    pub seat: Seat,
-    pub said: Result<String, StoryFault>,
-}
-
-impl<'a, R: Wait> Beside for Waiter<'a, R> {
-    type Output = Waited;
-
+impl<'a, R: Wait> Task for Waiter<'a, R> {
     /// Does its part, once those before it had turns to fall asleep.
-    fn run(self) -> Waited {
+    fn run(self) -> Played {
         let Waiter {
             rt,
             alloc,
@@ -165,7 +156,10 @@ impl<'a, R: Wait> Beside for Waiter<'a, R> {
             Way::Meet => work(rt, alloc, desk, &mut seat, &mut Watched::new(progress)),
         };
         progress.note_end(way);
-        Waited { seat, said }
+        Played {
+            seat: Some(seat),
+            said,
+        }
     }
 }
 
