@@ -68,12 +68,13 @@ pub struct Among<A> {
 }
 
 /// Runs each task in a thread of its own, and does this beside them. None where no thread can be made.
-pub fn run_among<R: Threads + Wait, T: Task + Send + Drop, B: Beside<Output = A> + Drop, A: Drop>(
-    rt: &R,
-    alloc: Global,
-    tasks: Vec<T>,
-    beside: B,
-) -> Option<Among<A>> {
+pub fn run_among<
+    'x,
+    R: Threads + Wait + Sync,
+    T: Task + Send + Drop,
+    B: Beside<Output = A> + Drop,
+    A: Drop,
+>(rt: &'x R, alloc: Global, tasks: Vec<T>, beside: B) -> Option<Among<A>> {
     let count = tasks.len();
     thread::scope(thread::scope_env(), rt, |scope| -> Option<Among<A>> {
         let Ok(mut handles) = Vec::with_capacity(alloc, count) else {

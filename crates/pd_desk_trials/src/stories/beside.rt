@@ -87,7 +87,8 @@ impl Table {
             }
         }
         for one in waited.into_iter().rev() {
-            if let Some(seat) = one.seat {
+            let Played { seat, said: _ } = one;
+            if let Some(seat) = seat {
                 self.away.push(seat).or(Err(StoryFault::OutOfMemory))?;
             }
         }
