@@ -12,7 +12,7 @@ use self::hand::Hand;
 use self::players::Player;
 use self::stage::Stage;
 use crate::replay::made_again;
-use crate::running::run_among;
+use crate::running::{Played, run_among};
 use crate::saying::{decimal, print, shown};
 use crate::serving::CACHE;
 use crate::stories::faults::StoryFault;
@@ -134,7 +134,21 @@ fn play<'x, 'y, R: Threads + Wait + Sync>(
         };
         players.push(player).or(Err(StoryFault::OutOfMemory))?;
     }
-    let director = Director::new(rt, alloc, desk, stage, seat, choices, calls, others)?;
+    let left = Vec::from_array(alloc, [calls, others]).or(Err(StoryFault::OutOfMemory))?;
+    let open = Vec::from_array(alloc, [None, None]).or(Err(StoryFault::OutOfMemory))?;
+    let director = Director {
+        rt,
+        alloc,
+        desk,
+        stage,
+        seat,
+        choices,
+        hand: Hand::open(alloc)?,
+        left,
+        made: Vec::new(alloc),
+        open,
+        busy: 0,
+    };
     let Some(among) = run_among(rt, alloc, players, director) else {
         return Err(StoryFault::OutOfMemory);
     };
@@ -143,7 +157,8 @@ fn play<'x, 'y, R: Threads + Wait + Sync>(
     };
     let mut seats = Vec::new(alloc);
     for played in among.played {
-        let Some(seat) = played.seat else {
+        let Played { seat, said: _ } = played;
+        let Some(seat) = seat else {
             return Ok(None);
         };
         seats.push(seat).or(Err(StoryFault::OutOfMemory))?;

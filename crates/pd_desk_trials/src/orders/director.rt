@@ -20,22 +20,22 @@ const MOVES: usize = 200;
 /// Gives the turns of players at a desk, and makes the same calls by hand.
 #[derive(Drop)]
 pub struct Director<'a, 'b, R> {
-    rt: &'a R,
-    alloc: Global,
-    desk: &'a Desk,
-    stage: &'a Stage,
+    pub rt: &'a R,
+    pub alloc: Global,
+    pub desk: &'a Desk,
+    pub stage: &'a Stage,
     /// A seat that looks on.
-    seat: &'b mut Seat,
-    choices: &'b mut Choices,
-    hand: Hand,
+    pub seat: &'b mut Seat,
+    pub choices: &'b mut Choices,
+    pub hand: Hand,
     /// The calls that each caller has left.
-    left: Vec<&'static str>,
+    pub left: Vec<&'static str>,
     /// The calls that were made, in the order of the turns.
-    made: Vec<&'static str>,
+    pub made: Vec<&'static str>,
     /// Of each caller the call whose answer it hasn't told.
-    open: Vec<Option<Open>>,
+    pub open: Vec<Option<Open>>,
     /// How many workers have a job.
-    busy: usize,
+    pub busy: usize,
 }
 
 /// A call that was made: what was answered by hand, how many calls were made before it, and whether it settles.
@@ -66,39 +66,6 @@ impl<'a, 'b, R: Threads + Wait + Sync> Beside for Director<'a, 'b, R> {
 }
 
 impl<'a, 'b, R: Threads + Wait + Sync> Director<'a, 'b, R> {
-    /// Of callers with these calls, parted by `; `.
-    pub fn new(
-        rt: &'a R,
-        alloc: Global,
-        desk: &'a Desk,
-        stage: &'a Stage,
-        seat: &'b mut Seat,
-        choices: &'b mut Choices,
-        calls: &'static str,
-        others: &'static str,
-    ) -> Result<Director<'a, 'b, R>, StoryFault> {
-        let mut left = Vec::with_capacity(alloc, CALLERS)?;
-        left.push(calls).or(Err(StoryFault::OutOfMemory))?;
-        left.push(others).or(Err(StoryFault::OutOfMemory))?;
-        let mut open = Vec::with_capacity(alloc, CALLERS)?;
-        for _caller in 0..CALLERS {
-            open.push(None).or(Err(StoryFault::OutOfMemory))?;
-        }
-        Ok(Director {
-            rt,
-            alloc,
-            desk,
-            stage,
-            seat,
-            choices,
-            hand: Hand::open(alloc)?,
-            left,
-            made: Vec::new(alloc),
-            open,
-            busy: 0,
-        })
-    }
-
     /// Gives the turns; whether all answers are right.
     fn direct(&mut self) -> Result<bool, StoryFault> {
         for _move in 0..MOVES {
