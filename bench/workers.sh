@@ -5,7 +5,9 @@
 # script's track is gone before its turn comes, so each is read and run whole. Of several tries the best counts, since times
 # are noisy. A processor alone is often faster than four that are busy: so it also tells what 1 worker takes while three more
 # such programs run, and how 4 compare with that. Where valgrind is there, it also tells the instructions without workers and
-# with 1, which don't vary with the load, on a tenth of the scripts.
+# with 1, which don't vary with the load, on a tenth of the scripts. Then it tells what acts cost beside a worker: the
+# memory that 1,000 scripts of nine lines take whose last line is edited 20 times each; and the instructions of 60,000 sets and
+# 2,000 reports without a script, so that no job runs and each report is compared with all acts.
 #
 #   bench/workers.sh [SCRIPTS [EVENTS [TRIES]]]      1,000 scripts of 2,000 events, 5 tries if nothing is said
 . "$(dirname "$0")/program.sh"
@@ -48,6 +50,35 @@ settled() { # workers, programs
     sort -n "$work/times" | head -n 1
 }
 
+# So many sets, and then so many reports.
+shown() { # sets, reports
+    awk -v sets="$1" -v reports="$2" 'BEGIN {
+        for (s = 1; s <= sets; s++) print "set nagle true"
+        for (r = 1; r <= reports; r++) print "show"
+    }'
+}
+
+# Scripts of so many lines, whose last line is edited so often, one script after the other.
+edited() { # how many, of how many lines, how often
+    generate "$1" "$2"
+    awk -v scripts="$1" -v line="$2" -v rounds="$3" 'BEGIN {
+        for (r = 1; r <= rounds; r++)
+            for (s = 1; s <= scripts; s++) {
+                print "edit script" s, line, 1, 1
+                printf "+0.%03d listen(3, %d) = 0\n", (s * 7 + r * 13) % 1000, r
+            }
+    }'
+}
+
+# The most KiB that the program holds at once for an input, in the worst of the tries: how many jobs run varies.
+resident() { # the input, and the words
+    input=$1
+    shift
+    for try in $(seq "$tries"); do
+        /usr/bin/time -f %M "$program" "$@" <"$input" 2>&1 >/dev/null | tail -n 1
+    done | sort -n | tail -n 1
+}
+
 alone=$(settled 0 1)
 tail -n 1 "$work/output.changed.0"
 one=$(settled 1 1)
@@ -59,8 +90,19 @@ awk -v alone="$alone" -v one="$one" -v four="$four" -v busy="$busy" 'BEGIN {
     printf "1 beside three more programs %.3f s, 4 settle %.2f times as fast as that\n", busy / 1e9, busy / four
 }'
 
+if [ -x /usr/bin/time ]; then
+    edited 1000 9 20 >"$work/edited"
+    alone=$(resident "$work/edited" --workers 0)
+    one=$(resident "$work/edited" --workers 1)
+    awk -v alone="$alone" -v one="$one" 'BEGIN {
+        printf "edited scripts: %d KiB resident without workers, %d KiB with 1, %.2f times as much\n", alone, one, one / alone
+    }'
+fi
+
 command -v valgrind >/dev/null || exit 0
 generate $(((scripts + 9) / 10)) "$events" >"$work/input"
 alone=$(instructions "$work/input" --workers 0)
 one=$(instructions "$work/input" --workers 1)
 awk -v alone="$alone" -v one="$one" 'BEGIN { printf "instructions with 1 worker: %.3f times those without\n", one / alone }'
+shown 60000 2000 >"$work/input"
+echo "60,000 sets and 2,000 reports beside 1 worker: $(instructions "$work/input" --workers 1) instructions"
