@@ -2,6 +2,7 @@
 ghost use Rattle.std.specs.Prelude.{◌≡◌, ◌↔◌, ◌<◌, ◌==◌, IsTrue, All, count_by, length, reverse};
 ghost use Rattle.pd_seat.specs.Seats.{made_by, EachOnce};
 
+use crate::same_act::is_same;
 use crate::seat::Seat;
 use pd_book::Act;
 
@@ -10,24 +11,27 @@ fn is_made_by(number: usize, notes: &[usize], acts: &[Act], own: &[Act]) -> bool
     requires { length notes.now ≡ length acts.now }
     ensures { IsTrue result ↔ (made_by number notes.now acts.now ≡ own.now) }
 {
+    if notes.len() != acts.len() {
+        return false;
+    }
     let mut notes = notes;
     let mut acts = acts;
     let mut rest = own;
-    while let (Some((note, more_notes)), Some((act, more_acts))) = (
-        notes.split_first(),
-        acts.split_first(),
-    ) {
+    while let Some((note, more_notes)) = notes.split_first() {
+        let Some((act, more_acts)) = acts.split_first() else {
+            return false;
+        };
+        notes = more_notes;
+        acts = more_acts;
         if *note == number {
             let Some((first, others)) = rest.split_first() else {
                 return false;
             };
-            if !first.is_same(act) {
+            rest = others;
+            if !is_same(first, act) {
                 return false;
             }
-            rest = others;
         }
-        notes = more_notes;
-        acts = more_acts;
     }
     rest.is_empty()
 }

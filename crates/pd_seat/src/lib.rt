@@ -10,6 +10,7 @@ mod comparing;
 mod faults;
 mod held;
 mod recording;
+mod same_act;
 mod seat;
 
 pub use closing::CloseFault;
