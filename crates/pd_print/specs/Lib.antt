@@ -1,0 +1,7 @@
+-- The definitions that the contracts cite.
+pub mod Numbers
+pub mod Options
+pub mod Packets
+pub mod Sent
+pub mod Answers
+pub mod WayBack

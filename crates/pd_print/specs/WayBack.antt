@@ -1,0 +1,89 @@
+-- What it says that the grammar reads just one thing from octets, and of what times and packets that can be said.
+use Rattle.std.specs.Prelude.{◌≡◌, ◌≢◌, ℕ, ◌+◌, ◌-◌, ◌<◌, ◌≤◌, false, List, drop, length, IfSome, None}
+use Rattle.std.specs.List.{AllByRecursion}
+use Rattle.pd_text.specs.Text.{AreLines}
+use Rattle.pd_lex.specs.declared.token.Place.{Place}
+use Rattle.pd_lex.specs.Places.{IsPlace, line_at}
+use Rattle.pd_lex.specs.Lexing.{items}
+use Rattle.pd_script.specs.Spelling.{Spelling}
+use Rattle.pd_script.specs.declared.timing.Time.{Time}
+use Rattle.pd_script.specs.declared.timing.Time.TheVariants as times
+use Rattle.pd_script.specs.declared.packets.Block.{Block}
+use Rattle.pd_script.specs.declared.packets.PacketOption.{PacketOption}
+use Rattle.pd_script.specs.declared.packets.PacketOption.TheVariants as options
+use Rattle.pd_script.specs.declared.packets.Options.{Options}
+use Rattle.pd_script.specs.declared.packets.Options.TheVariants as lists
+use Rattle.pd_script.specs.declared.packets.Packet.{Packet}
+use Rattle.pd_script.specs.declared.script_events.Action.{Action}
+use Rattle.pd_script.specs.declared.script_events.Event.{Event}
+use Rattle.pd_print.specs.declared.packet_texts.Direction.{Direction}
+use Rattle.pd_print.specs.declared.packet_texts.Direction.TheVariants.{Inbound, Outbound}
+
+-- ---- the way back
+
+-- the first place of the next line
+abbrev pub line_after : Place → Place
+line_after p = record { line = p.line + 1; at = 0 }
+
+-- wherever the octets are the rest of a line of a text, the grammar reads this value from there on, and goes on with the next line;
+-- a value may have the number of the line
+abbrev pub IsReadAs : {A : Type 0} → Spelling A → (ℕ → A) → List ℕ → Type 0
+IsReadAs spelling value octets =
+    (lines : List (List ℕ)) (p : Place)
+    → AreLines lines → IsPlace lines p → p.line ≤ length lines → drop p.at (line_at lines p.line) ≡ octets
+    → spelling (value p.line) (items lines p) (items lines (line_after p))
+
+-- an event in a line, with no blocking call
+abbrev pub event_of : Time → Action → ℕ → Event
+event_of time action line = record { line = line; time = time; until = None; action = action }
+
+-- ---- what the language can write
+
+-- a moment below 4,294,967,296 s
+abbrev pub IsShort : ℕ → Type 0
+IsShort moment = moment < 4294967296000000
+
+-- a time with such moments; a range doesn't end before it begins
+abbrev pub FitsTime : Time → Type 0
+FitsTime times.Any = Unit {0}
+FitsTime (times.Absolute moment) = IsShort moment
+FitsTime (times.Relative moment) = IsShort moment
+FitsTime (times.AbsoluteRange first last) = (first ≤ last) × IsShort last
+FitsTime (times.RelativeRange first last) = (first ≤ last) × IsShort last
+
+-- a number of 32 bits
+abbrev pub IsSmall : ℕ → Type 0
+IsSmall n = n ≤ 4294967295
+
+-- a SACK block of such numbers
+abbrev pub FitsBlock : Block → Type 0
+FitsBlock b = IsSmall b.left × IsSmall b.right
+
+-- an option of such numbers; a SACK option has a block
+abbrev pub FitsOption : PacketOption → Type 0
+FitsOption (options.Mss n) = IsSmall n
+FitsOption (options.Wscale n) = IsSmall n
+FitsOption (options.Timestamp v e) = IsSmall v × IsSmall e
+FitsOption (options.Sack blocks) = (0 < length blocks) × AllByRecursion FitsBlock blocks
+FitsOption _ = Unit {0}
+
+-- options of a packet
+abbrev pub FitsOptions : Options → Type 0
+FitsOptions (lists.Listed os) = AllByRecursion FitsOption os
+FitsOptions _ = Unit {0}
+
+-- a packet that arrives has a window, and options that are written out
+abbrev pub FitsDirection : Direction → Packet → Type 0
+FitsDirection Inbound p = (p.win ≢ None) × (p.options ≢ lists.Any)
+FitsDirection Outbound p = Unit {0}
+
+-- a packet with flags that have letters, octets in order, the length that they have and numbers of 32 bits
+pub record FitsPacket (direction : Direction) (p : Packet) : Type 0 where
+  pub flags : p.flags.other ≡ false
+  pub order : p.start ≤ p.end
+  pub small : IsSmall p.end
+  pub len : p.length ≡ p.end - p.start
+  pub ack : IfSome p.ack IsSmall
+  pub win : IfSome p.win IsSmall
+  pub options : FitsOptions p.options
+  pub way : FitsDirection direction p

@@ -1,0 +1,14 @@
+//! Packets, answers and moments as octets of the script language.
+#![tactic(auto)]
+
+mod answers;
+mod digits;
+mod moments;
+mod option_texts;
+mod packet_texts;
+mod sent_packets;
+
+pub use answers::write_answer;
+pub use moments::{write_moment, write_time};
+pub use packet_texts::{Direction, write_event};
+pub use sent_packets::{sent_packet, write_sent};

@@ -1,0 +1,128 @@
+//! Events in which a packet arrives or leaves.
+ghost use Rattle.std.specs.Prelude.{◌≡◌, ◌++◌, IfOk, OnOk, None};
+ghost use Rattle.std.specs.Fmt.{decimal};
+ghost use Rattle.pd_script.specs.Grammar.{IsEvent};
+ghost use Rattle.pd_print.specs.Packets.{arrow, letter, point_text, flags_text, octets_text, fields_text, numbered, packet_text, event_text, action_of};
+ghost use Rattle.pd_print.specs.WayBack.{IsReadAs, FitsTime, FitsPacket, event_of};
+
+use crate::digits::put_number;
+use crate::moments::put_time;
+use crate::option_texts::put_options;
+use pd_script::{Flags, Packet, Time};
+use std::alloc::{AllocError, Global};
+
+/// Which way a packet goes.
+#[derive(Clone, Copy, PartialEq, Eq)]
+pub enum Direction {
+    /// `<`: it arrives.
+    Inbound,
+    /// `>`: it leaves.
+    Outbound,
+}
+
+/// The event of a script in which a packet arrives or leaves at a time, with all that is written of it.
+///
+/// # Errors
+/// `AllocError` where a growth is refused.
+pub fn write_event(
+    alloc: Global,
+    time: Time,
+    direction: Direction,
+    packet: &Packet,
+) -> Result<Vec<u8>, AllocError>
+    ensures octets { IfOk result (λ text. text.items ≡ event_text time direction packet.now) }
+
+    // At the end of a line just this event is read.
+    ensures back { IfOk result (λ text. FitsTime time → FitsPacket direction packet.now → IsReadAs IsEvent (event_of time (action_of direction packet.now)) text.items) }
+{
+    let mut out = Vec::new(alloc);
+    put_time(alloc, &mut out, time)?;
+    put_arrow(&mut out, direction)?;
+    put_packet(alloc, &mut out, packet)?;
+    Ok(out)
+}
+
+/// Adds the arrow of a direction between blanks.
+fn put_arrow(out: &mut Vec<u8>, direction: Direction) -> Result<(), AllocError>
+    ensures { OnOk result (out.new.items ≡ out.old.items ++ arrow direction) }
+{
+    match direction {
+        Direction::Inbound => out.extend_from_slice(b" < "),
+        Direction::Outbound => out.extend_from_slice(b" > "),
+    }
+}
+
+/// Adds a packet.
+fn put_packet(alloc: Global, out: &mut Vec<u8>, packet: &Packet) -> Result<(), AllocError>
+    ensures { OnOk result (out.new.items ≡ out.old.items ++ packet_text packet.now) }
+{
+    put_flags(out, packet.flags)?;
+    put_octets(alloc, out, packet)?;
+    put_fields(alloc, out, packet)?;
+    put_options(alloc, out, &packet.options)
+}
+
+/// Adds the letters of flags in the order F, S, R and P, and the point of ACK; `-` where none is set.
+fn put_flags(out: &mut Vec<u8>, flags: Flags) -> Result<(), AllocError>
+    ensures { OnOk result (out.new.items ≡ out.old.items ++ flags_text flags) }
+{
+    put_letter(out, flags.fin, b'F')?;
+    put_letter(out, flags.syn, b'S')?;
+    put_letter(out, flags.rst, b'R')?;
+    put_letter(out, flags.psh, b'P')?;
+    put_point(out, flags)
+}
+
+/// Adds the octet if it is wanted.
+fn put_letter(out: &mut Vec<u8>, wanted: bool, octet: u8) -> Result<(), AllocError>
+    ensures { OnOk result (out.new.items ≡ out.old.items ++ letter wanted octet) }
+{
+    if wanted {
+        out.push(octet)?;
+    }
+    Ok(())
+}
+
+/// Adds the point of ACK, or `-` where no flag is set.
+fn put_point(out: &mut Vec<u8>, flags: Flags) -> Result<(), AllocError>
+    ensures { OnOk result (out.new.items ≡ out.old.items ++ point_text flags) }
+{
+    if flags.ack {
+        out.extend_from_slice(b".")
+    } else if flags.fin || flags.syn || flags.rst || flags.psh {
+        Ok(())
+    } else {
+        out.extend_from_slice(b"-")
+    }
+}
+
+/// Adds the start, the end and the length.
+fn put_octets(alloc: Global, out: &mut Vec<u8>, packet: &Packet) -> Result<(), AllocError>
+    ensures { OnOk result (out.new.items ≡ out.old.items ++ octets_text packet.now) }
+{
+    put_field(alloc, out, b" ", packet.start)?;
+    put_field(alloc, out, b":", packet.end)?;
+    put_field(alloc, out, b"(", packet.length)?;
+    out.extend_from_slice(b")")
+}
+
+/// Adds the acknowledgment number and the window where they are written.
+fn put_fields(alloc: Global, out: &mut Vec<u8>, packet: &Packet) -> Result<(), AllocError>
+    ensures { OnOk result (out.new.items ≡ out.old.items ++ fields_text packet.now) }
+{
+    if let Some(ack) = packet.ack {
+        put_field(alloc, out, b" ack ", ack)?;
+    }
+    if let Some(win) = packet.win {
+        put_field(alloc, out, b" win ", win)?;
+    }
+    Ok(())
+}
+
+/// Adds a word and a number.
+fn put_field(alloc: Global, out: &mut Vec<u8>, word: &[u8], n: u32) -> Result<(), AllocError>
+    ensures { OnOk result (out.new.items ≡ out.old.items ++ (word.now ++ decimal n)) }
+{
+    out.extend_from_slice(word)?;
+    put_number(alloc, out, u64::from(n))
+}

@@ -1,0 +1,106 @@
+//! Segments that were sent, as packets of a script.
+ghost use Rattle.std.specs.Prelude.{◌≡◌, ◌≤◌, map, IfOk, All};
+ghost use Rattle.pd_match.specs.Agreement.{block_of, option_of};
+ghost use Rattle.pd_script.specs.Grammar.{IsEvent};
+ghost use Rattle.pd_print.specs.Packets.{event_text, action_of};
+ghost use Rattle.pd_print.specs.Sent.{packet_of, options_of, written_flags};
+ghost use Rattle.pd_print.specs.WayBack.{IsReadAs, FitsTime, FitsPacket, event_of};
+
+use crate::packet_texts::{Direction, write_event};
+use pd_script::{Block, Blocks, Flags, OptionList, Options, Packet, PacketOption, Time};
+use pd_seg::{SegOption, SegOptions, Segment, Span};
+use std::alloc::{AllocError, Global};
+
+/// The packet of a script that is a segment in every field: all of them written, the options in their order.
+///
+/// # Errors
+/// `AllocError` where a growth is refused.
+pub fn sent_packet(alloc: Global, segment: &Segment) -> Result<Packet, AllocError>
+    ensures { IfOk result (λ packet. packet ≡ packet_of segment.now) }
+{
+    Ok(Packet {
+        flags: written_flags(&segment.flags),
+        start: segment.start,
+        end: segment.end,
+        length: segment.len(),
+        ack: Some(segment.ack),
+        win: Some(u32::from(segment.win)),
+        options: written_options(alloc, &segment.options)?,
+    })
+}
+
+/// The event of a script in which a segment leaves at a time, with every field written.
+///
+/// # Errors
+/// `AllocError` where a growth is refused.
+pub fn write_sent(alloc: Global, time: Time, segment: &Segment) -> Result<Vec<u8>, AllocError>
+    ensures octets { IfOk result (λ text. text.items ≡ event_text time Direction.Outbound (packet_of segment.now)) }
+
+    // At the end of a line just this event is read.
+    ensures back { IfOk result (λ text. FitsTime time → FitsPacket Direction.Outbound (packet_of segment.now) → IsReadAs IsEvent (event_of time (action_of Direction.Outbound (packet_of segment.now))) text.items) }
+{
+    let packet = sent_packet(alloc, segment)?;
+    write_event(alloc, time, Direction::Outbound, &packet)
+}
+
+fn written_flags(flags: &pd_seg::Flags) -> Flags
+    ensures { result ≡ written_flags flags.now }
+{
+    Flags {
+        syn: flags.syn,
+        fin: flags.fin,
+        rst: flags.rst,
+        psh: flags.psh,
+        ack: flags.ack,
+        other: false,
+    }
+}
+
+fn written_options(alloc: Global, options: &SegOptions) -> Result<Options, AllocError>
+    ensures { IfOk result (λ written. written ≡ options_of options.now) }
+{
+    if options.as_slice().is_empty() {
+        Ok(Options::Absent)
+    } else {
+        Ok(Options::Listed(written_list(alloc, options.as_slice())?))
+    }
+}
+
+fn written_list(alloc: Global, options: &[SegOption]) -> Result<OptionList, AllocError>
+    ensures { IfOk result (λ list. list ≡ map option_of options.now) }
+{
+    let mut list = OptionList::new(alloc);
+    for option in options {
+        list.push(written_option(alloc, option)?)?;
+    }
+    Ok(list)
+}
+
+fn written_option(alloc: Global, option: &SegOption) -> Result<PacketOption, AllocError>
+    ensures { IfOk result (λ written. written ≡ option_of option.now) }
+{
+    Ok(match option {
+        SegOption::Mss(mss) => PacketOption::Mss(u64::from(*mss)),
+        SegOption::Wscale(shift) => PacketOption::Wscale(u64::from(*shift)),
+        SegOption::SackOk => PacketOption::SackOk,
+        SegOption::Nop => PacketOption::Nop,
+        SegOption::Eol => PacketOption::Eol,
+        SegOption::Timestamp(value, echo) => {
+            PacketOption::Timestamp(u64::from(*value), u64::from(*echo))
+        }
+        SegOption::Sack(spans) => PacketOption::Sack(written_blocks(alloc, spans.as_slice())?),
+    })
+}
+
+fn written_blocks(alloc: Global, spans: &[Span]) -> Result<Blocks, AllocError>
+    ensures { IfOk result (λ blocks. blocks ≡ map block_of spans.now) }
+{
+    let mut blocks = Blocks::new(alloc);
+    for span in spans {
+        blocks.push(Block {
+            left: u64::from(span.start),
+            right: u64::from(span.end),
+        })?;
+    }
+    Ok(blocks)
+}

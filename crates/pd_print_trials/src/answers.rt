@@ -1,0 +1,25 @@
+//! Answers whose octets were worked out by hand.
+use pd_print::write_answer;
+use pd_seg::{Answer, Errno};
+use std::io;
+
+const ANSWERS: [Answer; 8] = [
+    Answer::Number(0),
+    Answer::Number(3),
+    Answer::Number(1_000),
+    Answer::Number(4_294_967_295),
+    Answer::Error(Errno::Ebadf),
+    Answer::Error(Errno::Einval),
+    Answer::Error(Errno::Eagain),
+    Answer::Error(Errno::Epipe),
+];
+
+/// Prints each answer.
+pub fn print_answers(rt: &(impl Print + AllocGlobal)) -> io::Result<()> {
+    for answer in ANSWERS {
+        let text = write_answer(rt.alloc(), answer)?;
+        let shown = String::from_utf8_lossy(rt.alloc(), text.as_slice())?;
+        println!(rt; "{shown}")?;
+    }
+    Ok(())
+}
