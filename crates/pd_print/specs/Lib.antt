@@ -5,3 +5,4 @@ pub mod Packets
 pub mod Sent
 pub mod Answers
 pub mod WayBack
+pub mod Laws

@@ -1,5 +1,5 @@
 -- The packet of a script that a sent segment is.
-use Rattle.std.specs.Prelude.{ℕ, ◌-◌, false, List, [], ◌∷◌, map, Some}
+use Rattle.std.specs.Prelude.{◌-◌, false, List, [], ◌∷◌, map, Some}
 use Rattle.pd_script.specs.declared.packets.Flags as script
 use Rattle.pd_script.specs.declared.packets.Options.{Options}
 use Rattle.pd_script.specs.declared.packets.Options.TheVariants.{Absent, Listed}

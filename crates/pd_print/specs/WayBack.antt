@@ -16,6 +16,8 @@ use Rattle.pd_script.specs.declared.packets.Options.TheVariants as lists
 use Rattle.pd_script.specs.declared.packets.Packet.{Packet}
 use Rattle.pd_script.specs.declared.script_events.Action.{Action}
 use Rattle.pd_script.specs.declared.script_events.Event.{Event}
+use Rattle.pd_seg.specs.declared.answers.Answer.{Answer}
+use Rattle.pd_seg.specs.declared.answers.Answer.TheVariants.{Number, Error}
 use Rattle.pd_print.specs.declared.packet_texts.Direction.{Direction}
 use Rattle.pd_print.specs.declared.packet_texts.Direction.TheVariants.{Inbound, Outbound}
 
@@ -87,3 +89,8 @@ pub record FitsPacket (direction : Direction) (p : Packet) : Type 0 where
   pub win : IfSome p.win IsSmall
   pub options : FitsOptions p.options
   pub way : FitsDirection direction p
+
+-- an answer that is a number has 32 bits, as each one of the code has
+abbrev pub FitsAnswer : Answer → Type 0
+FitsAnswer (Number n) = IsSmall n
+FitsAnswer (Error e) = Unit {0}

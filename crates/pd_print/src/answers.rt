@@ -3,7 +3,7 @@ ghost use Rattle.std.specs.Prelude.{◌≡◌, ◌++◌, IfOk, OnOk};
 ghost use Rattle.pd_script.specs.Grammar.{IsOutcome};
 ghost use Rattle.pd_script.specs.Values.{error_name};
 ghost use Rattle.pd_print.specs.Answers.{answer_text, outcome_of, name_of};
-ghost use Rattle.pd_print.specs.WayBack.{IsReadAs};
+ghost use Rattle.pd_print.specs.WayBack.{IsReadAs, FitsAnswer};
 
 use crate::digits::put_number;
 use pd_seg::{Answer, Errno};
@@ -26,7 +26,8 @@ pub fn write_answer(alloc: Global, answer: Answer) -> Result<Vec<u8>, AllocError
 
 /// Adds an answer.
 fn put_answer(alloc: Global, out: &mut Vec<u8>, answer: Answer) -> Result<(), AllocError>
-    ensures { OnOk result (out.new.items ≡ out.old.items ++ answer_text answer) }
+    ensures text { OnOk result (out.new.items ≡ out.old.items ++ answer_text answer) }
+    ensures small { FitsAnswer answer }
 {
     match answer {
         Answer::Number(number) => put_number(alloc, out, u64::from(number)),

@@ -26,6 +26,7 @@ pub fn put_digits(out: &mut Vec<u8>, places: u32, number: u64) -> Result<(), All
 }
 
 /// Adds the same without the zeros at the end.
+#[tactic(auto, using(crate::proofs::DigitLemmas::shortening))]
 pub fn put_shortest(out: &mut Vec<u8>, places: u32, number: u64) -> Result<(), AllocError>
     ensures { OnOk result (out.new.items ≡ out.old.items ++ shortest_digits places number) }
 {
