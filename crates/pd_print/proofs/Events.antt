@@ -1,7 +1,11 @@
 -- Packets, events and answers that were written are read back.
 use Rattle.std.proofs.Common.{◌≡◌, ℕ, ◌+◌, ◌-◌, ◌≤◌, Bool, true, false, List, [], ◌∷◌, ◌++◌, length, drop, Option, Some, None, refl, sym, ap, subst, ◌∙◌, arith, append_assoc, inl, inr}
 use Rattle.std.specs.Prelude.{codes, ◌≢◌}
-use Rattle.std.specs.List.{list_all}
+use Rattle.std.specs.List.{list_all, AllByRecursion}
+use Rattle.std.specs.Prelude.{map, Result, Ok, Err, IfOk}
+use Rattle.pd_match.specs.Agreement.{option_of}
+use Rattle.pd_seg.specs.declared.option_list.SegOption.{SegOption}
+use Rattle.pd_print.specs.Sent.{options_of}
 use Rattle.std.specs.Fmt.{decimal}
 use Rattle.std.proofs.lemmas.Fmt.{decimal_digit}
 use Rattle.pd_text.specs.Text.{is_line}
@@ -37,7 +41,7 @@ use Rattle.pd_print.specs.Numbers.{time_text}
 use Rattle.pd_print.specs.Options.{options_text}
 use Rattle.pd_print.specs.Packets.{flags_text, numbered, packet_text, arrow, event_text, action_of}
 use Rattle.pd_print.specs.Answers.{name_of, answer_text, outcome_of}
-use Rattle.pd_print.specs.WayBack.{line_after, IsReadAs, event_of, FitsTime, FitsDirection, FitsPacket, FitsAnswer}
+use Rattle.pd_print.specs.WayBack.{line_after, IsReadAs, event_of, FitsTime, FitsDirection, HasBlock, HaveBlocks, FitsPacket, FitsAnswer}
 use Rattle.pd_print.proofs.Lexemes.{ends_word, ends_number, number_ends_word, symbol_front, minus_front, newline_front}
 use Rattle.pd_print.proofs.Leaves.{ReadTo, over_space, spaced, one_read, symbol_read, int_read, word_passed}
 use Rattle.pd_print.proofs.Times.{time_read}
@@ -99,7 +103,7 @@ module _ (lines : List (List ℕ)) (plain : list_all is_line lines ≡ true) whe
       let seq = spaced lines plain (ℕ × ℕ × ℕ) IsOctets (x.start, x.end, x.end - x.start) flags.to octets fields gap (octets_read lines plain x.start x.end gap.to fields fits.order fits.small gap.left) in
       let ack = ack_read lines plain x.ack seq.to (numbered (codes " win ") x.win ++ tail) fits.ack (win_end x.win tail tail_ends) seq.left in
       let win = win_read lines plain (arrives d) x.win ack.to tail (has_win d x fits.way) fits.win tail_ends ack.left in
-      let options = options_read lines plain (arrives d) x.options win.to rest (has_options d x fits.way) fits.options win.left in
+      let options = options_read lines plain (arrives d) x.options win.to rest (has_options d x fits.way) fits.numbers fits.blocks win.left in
       record {
         to = options.to;
         line = options.line ∙ (win.line ∙ (ack.line ∙ (seq.line ∙ flags.line)));
@@ -208,3 +212,23 @@ pub answer_back : (answer : Answer) → FitsAnswer answer → IsReadAs IsOutcome
 answer_back answer small lines p plain place le is =
     let more = joined (drop p.line lines) in
     line_read lines plain Outcome IsOutcome (outcome_of answer) p more (answer_read lines plain answer p (10 ∷ more) small refl (line_left lines plain p (answer_text answer) place le is))
+
+-- ---- segments
+
+-- what holds of each of some, holds with one more
+pub all_push : {A : Type 0} (P : A → Type 0) (xs : List A) (x : A) → AllByRecursion P xs → P x → AllByRecursion P (xs ++ x ∷ [])
+all_push P [] x h one = (one, tt)
+all_push P (y ∷ ys) x h one = (h.0, all_push P ys x h.1 one)
+
+each_block : (os : List SegOption) → AllByRecursion (λ o. HasBlock (option_of o)) os → AllByRecursion HasBlock (map option_of os)
+each_block [] h = tt
+each_block (o ∷ os) h = (h.0, each_block os h.1)
+
+pub have_blocks : (os : List SegOption) → AllByRecursion (λ o. HasBlock (option_of o)) os → HaveBlocks (options_of os)
+have_blocks [] h = tt
+have_blocks (o ∷ os) h = each_block (o ∷ os) h
+
+-- what follows from a fact of the value, follows where there is one
+pub if_ok : {T E : Type 0} (P Q : T → Type 0) (r : Result T E) → IfOk r P → ((t : T) → P t → Q t) → IfOk r Q
+if_ok P Q (Ok t) h f = f t h
+if_ok P Q (Err e) h f = tt

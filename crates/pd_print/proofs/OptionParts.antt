@@ -23,9 +23,17 @@ use Rattle.pd_script.specs.Values.{option_named}
 use Rattle.pd_script.specs.Spelling.{IsInt, Repeats}
 use Rattle.pd_script.specs.PacketGrammar.{IsNamed, IsOptionName, IsBlock, AreBlocks, IsOptionRest, IsOption, IsNextOption, AreOptions, IsList, IsInsideOptions, IsOptions}
 use Rattle.pd_print.specs.Options.{block_text, option_text, next_option_text, list_text, options_text}
-use Rattle.pd_print.specs.WayBack.{IsSmall, FitsBlock, FitsOption, FitsOptions}
+use Rattle.pd_print.specs.WayBack.{IsSmall, FitsBlock, IsSmallOption, AreSmallOptions, HasBlock, HaveBlocks}
 use Rattle.pd_print.proofs.Lexemes.{ends_word, ends_number, number_ends_word, symbol_front, dots_front}
 use Rattle.pd_print.proofs.Leaves.{ReadTo, passed, over_space, spaced, one_read, symbol_read, int_read, word_passed, named_read}
+
+-- an option that can be written
+abbrev pub FitsOption : PacketOption → Type 0
+FitsOption o = IsSmallOption o × HasBlock o
+
+both : (os : List PacketOption) → AllByRecursion IsSmallOption os → AllByRecursion HasBlock os → AllByRecursion FitsOption os
+both [] small blocks = tt
+both (o ∷ os) small blocks = ((small.0, blocks.0), both os small.1 blocks.1)
 
 -- what follows ends a number
 blocks_end : (bs : List Block) (rest : List ℕ) → ends_number rest ≡ true → ends_number (flat_map block_text bs ++ rest) ≡ true
@@ -99,11 +107,11 @@ module _ (lines : List (List ℕ)) (plain : list_all is_line lines ≡ true) whe
   unfolding IsOption IsOptionRest option_named
   option_read (options.Mss n) p rest fits ends h =
       let name = name_read (codes "mss") names.Mss p (32 ∷ (decimal n ++ rest)) refl refl refl refl h in
-      let number = int_behind n name.to rest fits ends name.left in
+      let number = int_behind n name.to rest fits.0 ends name.left in
       record { to = number.to; line = number.line ∙ name.line; left = number.left; spelled = (names.Mss, items lines name.to, name.spelled, (n, items lines number.to, number.spelled, (refl, refl))) }
   option_read (options.Wscale n) p rest fits ends h =
       let name = name_read (codes "wscale") names.Wscale p (32 ∷ (decimal n ++ rest)) refl refl refl refl h in
-      let number = int_behind n name.to rest fits ends name.left in
+      let number = int_behind n name.to rest fits.0 ends name.left in
       record { to = number.to; line = number.line ∙ name.line; left = number.left; spelled = (names.Wscale, items lines name.to, name.spelled, (n, items lines number.to, number.spelled, (refl, refl))) }
   option_read options.SackOk p rest fits ends h =
       let name = name_read (codes "sackOK") names.SackOk p rest refl refl refl (number_ends_word rest ends) h in
@@ -119,9 +127,9 @@ module _ (lines : List (List ℕ)) (plain : list_all is_line lines ≡ true) whe
       let all : IsLeftAt lines p (codes "TS val " ++ (decimal v ++ echo)) = subst (IsLeftAt lines p) (ap (λ (s : List ℕ). codes "TS val " ++ s) (append_assoc (decimal v) (codes " ecr " ++ decimal e) rest)) h in
       let name = name_read (codes "TS") names.Timestamp p (codes " val " ++ (decimal v ++ echo)) refl refl refl refl all in
       let val = word_behind (codes "val") name.to (32 ∷ (decimal v ++ echo)) refl refl refl refl name.left in
-      let value = int_behind v val.to echo fits.0 refl val.left in
+      let value = int_behind v val.to echo fits.0.0 refl val.left in
       let ecr = word_behind (codes "ecr") value.to (32 ∷ (decimal e ++ rest)) refl refl refl refl value.left in
-      let number = int_behind e ecr.to rest fits.1 ends ecr.left in
+      let number = int_behind e ecr.to rest fits.0.1 ends ecr.left in
       record {
         to = number.to;
         line = number.line ∙ (ecr.line ∙ (value.line ∙ (val.line ∙ name.line)));
@@ -131,7 +139,7 @@ module _ (lines : List (List ℕ)) (plain : list_all is_line lines ≡ true) whe
   option_read (options.Sack bs) p rest fits ends h =
       let after = flat_map block_text bs ++ rest in
       let name = name_read (codes "sack") names.Sack p after refl refl refl (number_ends_word after (blocks_end bs rest ends)) h in
-      let blocks = some_blocks_read bs name.to rest fits.0 fits.1 ends name.left in
+      let blocks = some_blocks_read bs name.to rest fits.1 fits.0 ends name.left in
       record { to = blocks.to; line = blocks.line ∙ name.line; left = blocks.left; spelled = (names.Sack, items lines name.to, name.spelled, (bs, items lines blocks.to, blocks.spelled, (refl, refl))) }
 
   others_read : (os : List PacketOption) (p : Place) (rest : List ℕ) → AllByRecursion FitsOption os → ends_number rest ≡ true → IsLeftAt lines p (flat_map next_option_text os ++ rest) → ReadTo lines (List PacketOption) (Repeats IsNextOption) os p rest
@@ -168,11 +176,11 @@ module _ (lines : List (List ℕ)) (plain : list_all is_line lines ≡ true) whe
   inside true v ts rest h = h
   inside false v ts rest h = inr h
 
-  pub options_read : (inbound : Bool) (o : Options) (p : Place) (rest : List ℕ) → (inbound ≡ true → o ≢ lists.Any) → FitsOptions o → IsLeftAt lines p (options_text o ++ rest) → ReadTo lines Options (IsOptions inbound) o p rest
+  pub options_read : (inbound : Bool) (o : Options) (p : Place) (rest : List ℕ) → (inbound ≡ true → o ≢ lists.Any) → AreSmallOptions o → HaveBlocks o → IsLeftAt lines p (options_text o ++ rest) → ReadTo lines Options (IsOptions inbound) o p rest
   unfolding IsOptions
-  options_read inbound lists.Absent p rest written fits h = record { to = p; line = refl; left = h; spelled = inr (refl, refl) }
-  options_read true lists.Any p rest written fits h = absurd (written refl refl)
-  options_read false lists.Any p rest written fits h =
+  options_read inbound lists.Absent p rest written small blocks h = record { to = p; line = refl; left = h; spelled = inr (refl, refl) }
+  options_read true lists.Any p rest written small blocks h = absurd (written refl refl)
+  options_read false lists.Any p rest written small blocks h =
       let gap = over_space lines plain p (codes "<...>" ++ rest) h in
       let opening = symbol_read lines plain 60 gap.to (codes "...>" ++ rest) gap.left refl refl (symbol_front 60 (codes "...>" ++ rest) refl) in
       let dots = one_read lines plain ⊤ is_dots (λ t. tt) tt opening.to (lexeme (record { kind = Dots; text = codes "..."; from = opening.to })) (62 ∷ rest) (passed lines plain opening.to Dots (codes "...") (62 ∷ rest) opening.left refl (dots_front (62 ∷ rest))) refl refl in
@@ -184,11 +192,11 @@ module _ (lines : List (List ℕ)) (plain : list_all is_line lines ≡ true) whe
         spelled = inl (gap.to.line, items lines opening.to, opening.spelled, inl (tt, items lines dots.to, dots.spelled, (dots.to.line, items lines closing.to, closing.spelled, (refl, refl))));
       } in
       spaced lines plain Options (IsOptions false) lists.Any p (codes "<...>" ++ rest) rest gap all
-  options_read inbound (lists.Listed os) p rest written fits h =
+  options_read inbound (lists.Listed os) p rest written small blocks h =
       let left : IsLeftAt lines p (32 ∷ 60 ∷ (list_text os ++ (62 ∷ rest))) = subst (IsLeftAt lines p) (ap (λ (s : List ℕ). 32 ∷ 60 ∷ s) (append_assoc (list_text os) (62 ∷ []) rest)) h in
       let gap = over_space lines plain p (60 ∷ (list_text os ++ (62 ∷ rest))) left in
       let opening = symbol_read lines plain 60 gap.to (list_text os ++ (62 ∷ rest)) gap.left refl refl (symbol_front 60 (list_text os ++ (62 ∷ rest)) refl) in
-      let list = list_read os opening.to rest fits opening.left in
+      let list = list_read os opening.to rest (both os small blocks) opening.left in
       let all : ReadTo lines Options (IsOptions inbound) (lists.Listed os) gap.to rest = record {
         to = list.to;
         line = list.line ∙ opening.line;

@@ -18,6 +18,8 @@ use Rattle.pd_script.specs.declared.script_events.Action.{Action}
 use Rattle.pd_script.specs.declared.script_events.Event.{Event}
 use Rattle.pd_seg.specs.declared.answers.Answer.{Answer}
 use Rattle.pd_seg.specs.declared.answers.Answer.TheVariants.{Number, Error}
+use Rattle.pd_seg.specs.declared.segments.Segment.{Segment}
+use Rattle.pd_match.specs.Agreement.{option_of}
 use Rattle.pd_print.specs.declared.packet_texts.Direction.{Direction}
 use Rattle.pd_print.specs.declared.packet_texts.Direction.TheVariants.{Inbound, Outbound}
 
@@ -61,18 +63,28 @@ IsSmall n = n ≤ 4294967295
 abbrev pub FitsBlock : Block → Type 0
 FitsBlock b = IsSmall b.left × IsSmall b.right
 
--- an option of such numbers; a SACK option has a block
-abbrev pub FitsOption : PacketOption → Type 0
-FitsOption (options.Mss n) = IsSmall n
-FitsOption (options.Wscale n) = IsSmall n
-FitsOption (options.Timestamp v e) = IsSmall v × IsSmall e
-FitsOption (options.Sack blocks) = (0 < length blocks) × AllByRecursion FitsBlock blocks
-FitsOption _ = Unit {0}
+-- an option of such numbers
+abbrev pub IsSmallOption : PacketOption → Type 0
+IsSmallOption (options.Mss n) = IsSmall n
+IsSmallOption (options.Wscale n) = IsSmall n
+IsSmallOption (options.Timestamp v e) = IsSmall v × IsSmall e
+IsSmallOption (options.Sack blocks) = AllByRecursion FitsBlock blocks
+IsSmallOption _ = Unit {0}
 
--- options of a packet
-abbrev pub FitsOptions : Options → Type 0
-FitsOptions (lists.Listed os) = AllByRecursion FitsOption os
-FitsOptions _ = Unit {0}
+-- options of such numbers
+abbrev pub AreSmallOptions : Options → Type 0
+AreSmallOptions (lists.Listed os) = AllByRecursion IsSmallOption os
+AreSmallOptions _ = Unit {0}
+
+-- a SACK option has a block
+abbrev pub HasBlock : PacketOption → Type 0
+HasBlock (options.Sack blocks) = 0 < length blocks
+HasBlock _ = Unit {0}
+
+-- so has each SACK option of a packet
+abbrev pub HaveBlocks : Options → Type 0
+HaveBlocks (lists.Listed os) = AllByRecursion HasBlock os
+HaveBlocks _ = Unit {0}
 
 -- a packet that arrives has a window, and options that are written out
 abbrev pub FitsDirection : Direction → Packet → Type 0
@@ -87,10 +99,15 @@ pub record FitsPacket (direction : Direction) (p : Packet) : Type 0 where
   pub len : p.length ≡ p.end - p.start
   pub ack : IfSome p.ack IsSmall
   pub win : IfSome p.win IsSmall
-  pub options : FitsOptions p.options
+  pub numbers : AreSmallOptions p.options
+  pub blocks : HaveBlocks p.options
   pub way : FitsDirection direction p
 
 -- an answer that is a number has 32 bits, as each one of the code has
 abbrev pub FitsAnswer : Answer → Type 0
 FitsAnswer (Number n) = IsSmall n
 FitsAnswer (Error e) = Unit {0}
+
+-- a segment with octets in order, in which each SACK option has a block
+abbrev pub FitsSegment : Segment → Type 0
+FitsSegment s = (s.start ≤ s.end) × AllByRecursion (λ o. HasBlock (option_of o)) s.options

@@ -1,10 +1,11 @@
 //! Segments that were sent, as packets of a script.
 ghost use Rattle.std.specs.Prelude.{◌≡◌, ◌≤◌, map, IfOk, All};
+ghost use Rattle.std.specs.List.{AllByRecursion};
 ghost use Rattle.pd_match.specs.Agreement.{block_of, option_of};
 ghost use Rattle.pd_script.specs.Grammar.{IsEvent};
 ghost use Rattle.pd_print.specs.Packets.{event_text, action_of};
 ghost use Rattle.pd_print.specs.Sent.{packet_of, options_of, written_flags};
-ghost use Rattle.pd_print.specs.WayBack.{IsReadAs, FitsTime, FitsPacket, event_of};
+ghost use Rattle.pd_print.specs.WayBack.{IsReadAs, FitsTime, IsSmall, FitsBlock, IsSmallOption, AreSmallOptions, FitsPacket, FitsSegment, event_of};
 
 use crate::packet_texts::{Direction, write_event};
 use pd_script::{Block, Blocks, Flags, OptionList, Options, Packet, PacketOption, Time};
@@ -16,14 +17,17 @@ use std::alloc::{AllocError, Global};
 /// # Errors
 /// `AllocError` where a growth is refused.
 pub fn sent_packet(alloc: Global, segment: &Segment) -> Result<Packet, AllocError>
-    ensures { IfOk result (λ packet. packet ≡ packet_of segment.now) }
+    ensures packet { IfOk result (λ packet. packet ≡ packet_of segment.now) }
+
+    // A script can write it, where its end is no less than its start and each SACK option has a block.
+    ensures fits { IfOk result (λ packet. FitsSegment segment.now → FitsPacket Direction.Outbound packet) }
 {
     Ok(Packet {
         flags: written_flags(&segment.flags),
         start: segment.start,
-        end: segment.end,
+        end: writable(segment.end),
         length: segment.len(),
-        ack: Some(segment.ack),
+        ack: Some(writable(segment.ack)),
         win: Some(u32::from(segment.win)),
         options: written_options(alloc, &segment.options)?,
     })
@@ -37,10 +41,18 @@ pub fn write_sent(alloc: Global, time: Time, segment: &Segment) -> Result<Vec<u8
     ensures octets { IfOk result (λ text. text.items ≡ event_text time Direction.Outbound (packet_of segment.now)) }
 
     // At the end of a line just this event is read.
-    ensures back { IfOk result (λ text. FitsTime time → FitsPacket Direction.Outbound (packet_of segment.now) → IsReadAs IsEvent (event_of time (action_of Direction.Outbound (packet_of segment.now))) text.items) }
+    ensures back { IfOk result (λ text. FitsTime time → FitsSegment segment.now → IsReadAs IsEvent (event_of time (action_of Direction.Outbound (packet_of segment.now))) text.items) }
 {
     let packet = sent_packet(alloc, segment)?;
     write_event(alloc, time, Direction::Outbound, &packet)
+}
+
+/// The number, which has 32 bits, so that a script can write it.
+fn writable(number: u32) -> u32
+    ensures same { result ≡ number }
+    ensures small { IsSmall result }
+{
+    number
 }
 
 fn written_flags(flags: &pd_seg::Flags) -> Flags
@@ -57,7 +69,8 @@ fn written_flags(flags: &pd_seg::Flags) -> Flags
 }
 
 fn written_options(alloc: Global, options: &SegOptions) -> Result<Options, AllocError>
-    ensures { IfOk result (λ written. written ≡ options_of options.now) }
+    ensures options { IfOk result (λ written. written ≡ options_of options.now) }
+    ensures small { IfOk result (λ written. AreSmallOptions written) }
 {
     if options.as_slice().is_empty() {
         Ok(Options::Absent)
@@ -67,7 +80,8 @@ fn written_options(alloc: Global, options: &SegOptions) -> Result<Options, Alloc
 }
 
 fn written_list(alloc: Global, options: &[SegOption]) -> Result<OptionList, AllocError>
-    ensures { IfOk result (λ list. list ≡ map option_of options.now) }
+    ensures list { IfOk result (λ list. list ≡ map option_of options.now) }
+    ensures small { IfOk result (λ list. AllByRecursion IsSmallOption list) }
 {
     let mut list = OptionList::new(alloc);
     for option in options {
@@ -77,7 +91,8 @@ fn written_list(alloc: Global, options: &[SegOption]) -> Result<OptionList, Allo
 }
 
 fn written_option(alloc: Global, option: &SegOption) -> Result<PacketOption, AllocError>
-    ensures { IfOk result (λ written. written ≡ option_of option.now) }
+    ensures option { IfOk result (λ written. written ≡ option_of option.now) }
+    ensures small { IfOk result (λ written. IsSmallOption written) }
 {
     Ok(match option {
         SegOption::Mss(mss) => PacketOption::Mss(u64::from(*mss)),
@@ -93,14 +108,22 @@ fn written_option(alloc: Global, option: &SegOption) -> Result<PacketOption, All
 }
 
 fn written_blocks(alloc: Global, spans: &[Span]) -> Result<Blocks, AllocError>
-    ensures { IfOk result (λ blocks. blocks ≡ map block_of spans.now) }
+    ensures blocks { IfOk result (λ blocks. blocks ≡ map block_of spans.now) }
+    ensures small { IfOk result (λ blocks. AllByRecursion FitsBlock blocks) }
 {
     let mut blocks = Blocks::new(alloc);
     for span in spans {
-        blocks.push(Block {
-            left: u64::from(span.start),
-            right: u64::from(span.end),
-        })?;
+        blocks.push(written_block(*span))?;
     }
     Ok(blocks)
+}
+
+fn written_block(span: Span) -> Block
+    ensures block { result ≡ block_of span }
+    ensures small { FitsBlock result }
+{
+    Block {
+        left: u64::from(span.start),
+        right: u64::from(span.end),
+    }
 }
