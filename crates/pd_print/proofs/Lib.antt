@@ -6,5 +6,6 @@ pub mod Leaves
 pub mod Times
 pub mod PacketParts
 pub mod OptionParts
+pub mod Inside
 pub mod Events
 pub mod LawLemmas

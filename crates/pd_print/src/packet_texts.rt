@@ -1,6 +1,7 @@
 //! Events in which a packet arrives or leaves.
-ghost use Rattle.std.specs.Prelude.{◌≡◌, ◌++◌, IfOk, OnOk, None};
+ghost use Rattle.std.specs.Prelude.{◌≡◌, ◌++◌, IfOk, OnOk, IsTrue};
 ghost use Rattle.std.specs.Fmt.{decimal};
+ghost use Rattle.pd_text.specs.Text.{is_line};
 ghost use Rattle.pd_script.specs.Grammar.{IsEvent};
 ghost use Rattle.pd_print.specs.Packets.{arrow, letter, point_text, flags_text, octets_text, fields_text, numbered, packet_text, event_text, action_of};
 ghost use Rattle.pd_print.specs.WayBack.{IsReadAs, FitsTime, FitsPacket, event_of};
@@ -31,6 +32,9 @@ pub fn write_event(
     packet: &Packet,
 ) -> Result<Vec<u8>, AllocError>
     ensures octets { IfOk result (λ text. text.items ≡ event_text time direction packet.now) }
+
+    // It has no newline.
+    ensures line { IfOk result (λ text. FitsTime time → FitsPacket direction packet.now → IsTrue (is_line text.items)) }
 
     // At the end of a line just this event is read.
     ensures back { IfOk result (λ text. FitsTime time → FitsPacket direction packet.now → IsReadAs IsEvent (event_of time (action_of direction packet.now)) text.items) }

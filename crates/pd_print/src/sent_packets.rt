@@ -1,7 +1,8 @@
 //! Segments that were sent, as packets of a script.
-ghost use Rattle.std.specs.Prelude.{◌≡◌, ◌≤◌, map, IfOk, All};
+ghost use Rattle.std.specs.Prelude.{◌≡◌, ◌≤◌, map, IfOk, IsTrue};
 ghost use Rattle.std.specs.List.{AllByRecursion};
 ghost use Rattle.pd_match.specs.Agreement.{block_of, option_of};
+ghost use Rattle.pd_text.specs.Text.{is_line};
 ghost use Rattle.pd_script.specs.Grammar.{IsEvent};
 ghost use Rattle.pd_print.specs.Packets.{event_text, action_of};
 ghost use Rattle.pd_print.specs.Sent.{packet_of, options_of, written_flags};
@@ -39,6 +40,9 @@ pub fn sent_packet(alloc: Global, segment: &Segment) -> Result<Packet, AllocErro
 /// `AllocError` where a growth is refused.
 pub fn write_sent(alloc: Global, time: Time, segment: &Segment) -> Result<Vec<u8>, AllocError>
     ensures octets { IfOk result (λ text. text.items ≡ event_text time Direction.Outbound (packet_of segment.now)) }
+
+    // It has no newline.
+    ensures line { IfOk result (λ text. FitsTime time → FitsSegment segment.now → IsTrue (is_line text.items)) }
 
     // At the end of a line just this event is read.
     ensures back { IfOk result (λ text. FitsTime time → FitsSegment segment.now → IsReadAs IsEvent (event_of time (action_of Direction.Outbound (packet_of segment.now))) text.items) }

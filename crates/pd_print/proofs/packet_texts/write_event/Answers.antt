@@ -1,8 +1,10 @@
 -- What was written is read back.
-use Rattle.std.proofs.Common.{rules, ◌≡◌, List, ℕ, sym, subst}
+use Rattle.std.proofs.Common.{rules, ◌≡◌, List, ℕ, sym, ap, ◌∙◌, subst}
 use Rattle.pd_script.specs.Grammar.{IsEvent}
 use Rattle.pd_print.specs.Packets.{event_text, action_of}
 use Rattle.pd_print.specs.WayBack.{IsReadAs, event_of}
+use Rattle.pd_text.specs.Text.{is_line}
+use Rattle.pd_print.proofs.Inside.{event_inside}
 use Rattle.pd_print.proofs.Events.{event_back}
 use Rattle.pd_print.proofs.packet_texts.write_event.Goals as goal
 
@@ -10,3 +12,8 @@ pub returns-clause-back : goal.returns-clause-back
 returns-clause-back c =
     let text : c.put_packet.new.out.items ≡ event_text c.args.time c.args.direction c.args.packet.now = search rules in
     λ short fits. subst (λ (s : List ℕ). IsReadAs IsEvent (event_of c.args.time (action_of c.args.direction c.args.packet.now)) s) (sym text) (event_back c.args.time c.args.direction c.args.packet.now short fits)
+
+pub returns-clause-line : goal.returns-clause-line
+returns-clause-line c =
+    let text : c.put_packet.new.out.items ≡ event_text c.args.time c.args.direction c.args.packet.now = search rules in
+    λ short fits. ap is_line text ∙ event_inside c.args.time c.args.direction c.args.packet.now short fits
