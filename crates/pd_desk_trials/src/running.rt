@@ -68,30 +68,32 @@ pub struct Among<A> {
 }
 
 /// Runs each task in a thread of its own, and does this beside them. None where no thread can be made.
-pub fn run_among<
-    'x,
-    R: Threads + Wait + Sync,
-    T: Task + Send + Drop,
-    B: Beside<Output = A> + Drop,
-    A: Drop,
->(rt: &'x R, alloc: Global, tasks: Vec<T>, beside: B) -> Option<Among<A>> {
+pub fn run_among<R: Threads + Wait, T: Task + Send + Drop, B: Beside<Output = A> + Drop, A: Drop>(
+    rt: &R,
+    alloc: Global,
+    tasks: Vec<T>,
+    beside: B,
+) -> Option<Among<A>> {
     let count = tasks.len();
     thread::scope(thread::scope_env(), rt, |scope| -> Option<Among<A>> {
         let Ok(mut handles) = Vec::with_capacity(alloc, count) else {
             return None;
         };
+        for task in tasks {
+            let started = scope.spawn(move || task.run());
+            if started.is_err() {
+                return None;
+            }
+            let _ = handles.push(started.ok());
+        }
+        let said = beside.run();
         let Ok(mut played) = Vec::with_capacity(alloc, count) else {
             return None;
         };
-        for task in tasks {
-            let Ok(handle) = scope.spawn(move || task.run()) else {
-                return None;
-            };
-            let _ = handles.push(handle);
-        }
-        let said = beside.run();
         for handle in handles {
-            let _ = played.push(handle.join(rt));
+            if let Some(handle) = handle {
+                let _ = played.push(handle.join(rt));
+            }
         }
         Some(Among { played, said })
     })
