@@ -1,14 +1,16 @@
 //! Two workers that overlap: one is held at job 1 until the other has begun job 2, and an edit comes once job 1 has begun.
 use crate::saying::print;
 use crate::serving::{Served, served_beside};
-use crate::turns::await_flag;
 use pd_desk::Gate;
 use std::alloc::Global;
-use std::io;
 use std::io::Read;
 use std::sync::Wait;
 use std::sync::atomic::{AtomicBool, Ordering};
 use std::thread::Threads;
+use std::{io, thread};
+
+/// How often a thread looks for what it waits for, and yields: some seconds.
+const TURNS: u64 = 10_000_000;
 
 /// What comes before job 1 is begun.
 const ADD: &[u8] = b"add a 9
@@ -60,6 +62,17 @@ fn served_held<R: Threads + Wait + Sync>(rt: &R, alloc: Global, gate: &HeldGate)
         gate,
     };
     served_beside(rt, alloc, &mut reader, 2, gate)
+}
+
+/// Waits until this is so; whether it is within the turns.
+fn await_flag(flag: &AtomicBool) -> bool {
+    for _turn in 0..TURNS {
+        if flag.load(Ordering::SeqCst) {
+            return true;
+        }
+        thread::yield_now();
+    }
+    false
 }
 
 /// Holds job 1 until job 2 has begun.

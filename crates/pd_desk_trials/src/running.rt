@@ -1,5 +1,4 @@
 //! Workers that run beside whoever asks.
-use crate::stories::faults::StoryFault;
 use pd_desk::{Desk, DeskFault, Gate};
 use pd_seat::Seat;
 use std::alloc::Global;
@@ -45,57 +44,6 @@ pub fn run_beside<
         desk.shut(rt);
         let (seats, left) = workers.join(rt);
         Some(Pooled { seats, left, said })
-    })
-}
-
-/// Work for a thread at a seat.
-pub trait Task {
-    fn run(self) -> Played;
-}
-
-/// The seat, if it comes back, and what was said there.
-#[derive(Drop)]
-pub struct Played {
-    pub seat: Option<Seat>,
-    pub said: Result<String, StoryFault>,
-}
-
-/// What was said at seats and beside them.
-#[derive(Drop)]
-pub struct Among<A> {
-    pub played: Vec<Played>,
-    pub said: A,
-}
-
-/// Runs each task in a thread of its own, and does this beside them. None where no thread can be made.
-pub fn run_among<R: Threads + Wait, T: Task + Send + Drop, B: Beside<Output = A> + Drop, A: Drop>(
-    rt: &R,
-    alloc: Global,
-    tasks: Vec<T>,
-    beside: B,
-) -> Option<Among<A>> {
-    let count = tasks.len();
-    thread::scope(thread::scope_env(), rt, |scope| -> Option<Among<A>> {
-        let Ok(mut handles) = Vec::with_capacity(alloc, count) else {
-            return None;
-        };
-        for task in tasks {
-            let started = scope.spawn(move || task.run());
-            if started.is_err() {
-                return None;
-            }
-            let _ = handles.push(started.ok());
-        }
-        let said = beside.run();
-        let Ok(mut played) = Vec::with_capacity(alloc, count) else {
-            return None;
-        };
-        for handle in handles {
-            if let Some(handle) = handle {
-                let _ = played.push(handle.join(rt));
-            }
-        }
-        Some(Among { played, said })
     })
 }
 

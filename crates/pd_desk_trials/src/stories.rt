@@ -1,16 +1,13 @@
 //! Stories of a desk: rows of calls with the answers that are wanted, parted by ` or ` where there may be several, the
 //! first of which is given where no call found want of memory. A line that begins `# ` or `== ` is a title.
-mod beside;
 mod calls;
 mod counts;
-pub mod faults;
-mod gates;
+mod faults;
 mod jobs;
 mod settling;
 mod short_stepper;
+mod shutting_gate;
 mod story;
-pub mod table;
-mod waiters;
 mod words;
 
 use self::counts::Counts;

@@ -1,28 +1,26 @@
 //! The calls of a seat.
 use crate::saying::{owned, recorded, shown};
 use crate::stories::faults::StoryFault;
-use crate::stories::table::{Table, Written};
+use crate::stories::story::{Story, Written};
 use crate::stories::words::Words;
 use crate::texts::{edit, name, text};
 use pd_book::BookFault;
 use pd_desk::Desk;
 use pd_seat::Seat;
-use pd_settings::Value;
 use pd_text::{LineEdit, Lines};
 use std::alloc::{AllocError, Global};
 use std::sync::Wait;
 
-impl Table {
+impl Story {
     /// Makes the call of a seat.
     pub fn answer_of_seat<R: Wait>(
         &mut self,
         rt: &R,
-        desk: &Desk,
         mut words: Words<'_>,
     ) -> Result<String, StoryFault> {
         let index = words.number()?;
         let word = words.word();
-        let Some(seat) = self.seats.get_mut(index) else {
+        let (Some(desk), Some(seat)) = (&self.desk, self.seats.get_mut(index)) else {
             return Err(StoryFault::Missing);
         };
         match word {
@@ -40,11 +38,10 @@ impl Table {
                 let key = words.word().as_bytes();
                 Ok(changed(self.alloc, desk.set(rt, seat, key, words.value()))?)
             }
-            "fill" => fill(rt, self.alloc, desk, seat, words.number()?),
             "acts" => Ok(recorded(self.alloc, seat.acts())?),
             "show" => show(rt, self.alloc, desk, seat),
             "settle" => settle(rt, self.alloc, desk, seat),
-            _ => self.answer_of_jobs(rt, desk, index, word, words),
+            _ => self.answer_of_jobs(rt, index, word, words),
         }
     }
 }
@@ -85,23 +82,6 @@ fn changed(alloc: Global, answer: Result<(), BookFault>) -> Result<String, Alloc
         Ok(()) => owned(alloc, "ok"),
         Err(fault) => owned(alloc, fault.text()),
     }
-}
-
-/// Makes so many acts that change nothing: `ok`, or the first refusal.
-fn fill<R: Wait>(
-    rt: &R,
-    alloc: Global,
-    desk: &Desk,
-    seat: &mut Seat,
-    count: usize,
-) -> Result<String, StoryFault> {
-    for _act in 0..count {
-        let answer = desk.set(rt, seat, b"nagle", Value::Truth(true));
-        if answer.is_err() {
-            return Ok(changed(alloc, answer)?);
-        }
-    }
-    Ok(owned(alloc, "ok")?)
 }
 
 fn show<R: Wait>(

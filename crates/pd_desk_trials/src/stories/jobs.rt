@@ -1,40 +1,35 @@
 //! Jobs of a story: started, ended and worked off by hand.
-use crate::saying::{decimal, joined, owned, started};
+use crate::saying::{owned, started};
 use crate::stories::faults::StoryFault;
-use crate::stories::gates::{AbandoningGate, NotingGate, ShuttingGate, StepNotes};
 use crate::stories::short_stepper::ShortStepper;
-use crate::stories::table::{Ran, Table};
+use crate::stories::shutting_gate::ShuttingGate;
+use crate::stories::story::{Ran, Story};
 use crate::stories::words::Words;
-use crate::watched::Watched;
 use pd_book::{FinishFault, Job, Ruling, run_job};
-use pd_desk::{Desk, DeskFault, OpenGate};
-use pd_run::{Plain, Stepper};
-use pd_seat::Seat;
-use std::alloc::{AllocError, Global};
-use std::sync::atomic::Ordering;
-use std::sync::{Mutex, Wait};
+use pd_desk::OpenGate;
+use pd_run::Plain;
+use std::sync::Wait;
 
-impl Table {
+impl Story {
     /// Starts, finishes or abandons a job of a seat, or works at the seat.
     pub fn answer_of_jobs<R: Wait>(
         &mut self,
         rt: &R,
-        desk: &Desk,
         index: usize,
         word: &str,
         mut words: Words<'_>,
     ) -> Result<String, StoryFault> {
         match word {
-            "start" => self.start(rt, desk, index),
-            "finish" => self.finish(rt, desk, index, words.number()?),
-            "abandon" => self.abandon(rt, desk, index, words.number()?),
-            "work" => self.work(rt, desk, index, words.word()),
+            "start" => self.start(rt, index),
+            "finish" => self.finish(rt, index, words.number()?),
+            "abandon" => self.abandon(rt, index, words.number()?),
+            "work" => self.work(rt, index, words.word()),
             _ => Err(StoryFault::NoSuchCall),
         }
     }
 
-    fn start<R: Wait>(&mut self, rt: &R, desk: &Desk, index: usize) -> Result<String, StoryFault> {
-        let Some(seat) = self.seats.get_mut(index) else {
+    fn start<R: Wait>(&mut self, rt: &R, index: usize) -> Result<String, StoryFault> {
+        let (Some(desk), Some(seat)) = (&self.desk, self.seats.get_mut(index)) else {
             return Err(StoryFault::Missing);
         };
         match desk.start(rt, seat) {
@@ -50,12 +45,10 @@ impl Table {
     /// Runs a job that this seat started, and keeps its result.
     fn keep(&mut self, job: Job, seat: usize) -> Result<String, StoryFault> {
         let said = started(self.alloc, &job)?;
-        let mut stepper = Plain::new();
-        let Ok(done) = run_job(self.alloc, job, &mut stepper) else {
+        let Ok(done) = run_job(self.alloc, job, &mut Plain::new()) else {
             return Err(StoryFault::OutOfMemory);
         };
-        let steps = stepper.count();
-        match self.results.push(Ran { done, seat, steps }) {
+        match self.results.push(Ran { done, seat }) {
             Ok(()) => Ok(said),
             Err(_) => Err(StoryFault::OutOfMemory),
         }
@@ -65,11 +58,10 @@ impl Table {
     fn finish<R: Wait>(
         &mut self,
         rt: &R,
-        desk: &Desk,
         index: usize,
         number: usize,
     ) -> Result<String, StoryFault> {
-        let Some(seat) = self.seats.get_mut(index) else {
+        let (Some(desk), Some(seat)) = (&self.desk, self.seats.get_mut(index)) else {
             return Err(StoryFault::Missing);
         };
         let Some(ran) = self.results.get(number.wrapping_sub(1)) else {
@@ -86,11 +78,10 @@ impl Table {
     fn abandon<R: Wait>(
         &mut self,
         rt: &R,
-        desk: &Desk,
         index: usize,
         number: usize,
     ) -> Result<String, StoryFault> {
-        let Some(seat) = self.seats.get_mut(index) else {
+        let (Some(desk), Some(seat)) = (&self.desk, self.seats.get_mut(index)) else {
             return Err(StoryFault::Missing);
         };
         let is_own = match self.results.get(number.wrapping_sub(1)) {
@@ -104,21 +95,13 @@ impl Table {
         Ok(owned(self.alloc, said)?)
     }
 
-    /// Works at a seat in this thread: with a stepper that finds no memory, up to the first job, so that its steps are
-    /// noted, so that another seat gives up job 1 and there is one job more, or until the desk is shut.
-    fn work<R: Wait>(
-        &mut self,
-        rt: &R,
-        desk: &Desk,
-        index: usize,
-        how: &str,
-    ) -> Result<String, StoryFault> {
-        let Some(seat) = self.seats.get_mut(index) else {
+    /// Works at a seat in this thread, with a stepper that finds no memory, up to the first job, or until the desk is shut.
+    fn work<R: Wait>(&mut self, rt: &R, index: usize, how: &str) -> Result<String, StoryFault> {
+        let (Some(desk), Some(seat)) = (&self.desk, self.seats.get_mut(index)) else {
             return Err(StoryFault::Missing);
         };
         let alloc = self.alloc;
         let left = match how {
-            "noted" => return work_noted(rt, alloc, desk, seat),
             "short" => {
                 let mut stepper = ShortStepper::new(alloc);
                 desk.work(rt, alloc, seat, &mut stepper, &OpenGate)
@@ -127,71 +110,14 @@ impl Table {
                 let gate = ShuttingGate { rt, desk };
                 desk.work(rt, alloc, seat, &mut Plain::new(), &gate)
             }
-            "robbed" => work_robbed(rt, alloc, desk, seat, &mut self.away)?,
             _ => desk.work(rt, alloc, seat, &mut Plain::new(), &OpenGate),
         };
-        Ok(left_said(alloc, left)?)
+        let said = match left {
+            Ok(()) => "left",
+            Err(fault) => fault.text(),
+        };
+        Ok(owned(alloc, said)?)
     }
-}
-
-/// How a worker left.
-pub fn left_said(alloc: Global, left: Result<(), DeskFault>) -> Result<String, AllocError> {
-    match left {
-        Ok(()) => owned(alloc, "left"),
-        Err(fault) => owned(alloc, fault.text()),
-    }
-}
-
-/// Works up to the first job, and tells how many steps were taken before it and after it.
-fn work_noted<R: Wait>(
-    rt: &R,
-    alloc: Global,
-    desk: &Desk,
-    seat: &mut Seat,
-) -> Result<String, StoryFault> {
-    let notes = StepNotes::new();
-    let gate = NotingGate {
-        rt,
-        desk,
-        notes: &notes,
-    };
-    let left = desk.work(rt, alloc, seat, &mut Watched::new(&notes), &gate);
-    let left = left_said(alloc, left)?;
-    let before = decimal(alloc, notes.before.load(Ordering::SeqCst))?;
-    let after = decimal(alloc, notes.after.load(Ordering::SeqCst))?;
-    Ok(joined(
-        alloc,
-        &[
-            left.as_str(),
-            ", steps ",
-            before.as_str(),
-            " to ",
-            after.as_str(),
-        ],
-    )?)
-}
-
-/// Works while the last seat that left gives up job 1, up to the next job.
-fn work_robbed<R: Wait>(
-    rt: &R,
-    alloc: Global,
-    desk: &Desk,
-    seat: &mut Seat,
-    away: &mut Vec<Seat>,
-) -> Result<Result<(), DeskFault>, StoryFault> {
-    let Some(robber) = away.pop() else {
-        return Err(StoryFault::Missing);
-    };
-    let gate = AbandoningGate {
-        rt,
-        desk,
-        seat: Mutex::new(robber),
-    };
-    let left = desk.work(rt, alloc, seat, &mut Plain::new(), &gate);
-    let AbandoningGate { seat: robber, .. } = gate;
-    away.push(robber.into_inner())
-        .or(Err(StoryFault::OutOfMemory))?;
-    Ok(left)
 }
 
 /// Why a job isn't ended, which is never want of memory at the seat that started it.
