@@ -26,6 +26,7 @@ pub mod FirstRuling
 pub mod Goes
 pub mod Growth
 pub mod Harmless
+pub mod Holding
 pub mod InWindow
 pub mod Karn
 pub mod Kept

@@ -20,3 +20,5 @@ pub mod SendingLaws
 pub mod Invariants
 pub mod Outcome
 pub mod Bare
+pub mod Figures
+pub mod Holds

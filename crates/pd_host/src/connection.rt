@@ -13,6 +13,7 @@ mod acknowledgments;
 mod checks;
 mod copying;
 mod expiring;
+mod observing;
 mod packets;
 mod sending;
 mod states;

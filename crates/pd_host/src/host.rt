@@ -6,14 +6,18 @@ ghost use Rattle.pd_host.specs.Calls.{called};
 ghost use Rattle.pd_host.specs.ConnStates.{conn_state};
 ghost use Rattle.pd_host.specs.Outcome.{Goes, Answers};
 ghost use Rattle.pd_host.specs.Expiries.{advanced, deadline_of};
+ghost use Rattle.pd_host.specs.Figures.{figures_in};
+ghost use Rattle.pd_host.specs.Holds.{hold_in};
 ghost use Rattle.pd_host.specs.InputLaws.{rebound_host};
 ghost use Rattle.pd_host.specs.Sender.{IsShort, fresh, without_oldest, exhausted, end_of};
 ghost use Rattle.pd_host.specs.declared.halts.Ending.TheVariants.{OutOfMemory};
 
 use crate::conn_states::ConnState;
 use crate::endpoint::Endpoint;
+use crate::figures::Figures;
 use crate::halts::{Ending, Halt};
 use crate::held::Held;
+use crate::holds::Hold;
 use crate::outbox::Outbox;
 use crate::requests::Request;
 use crate::sender_state::State;
@@ -127,6 +131,29 @@ impl Host {
         ensures { result ≡ conn_state self.now.state }
     {
         self.state.conn_state()
+    }
+
+    /// The numbers of the connection, once a SYN has begun it.
+    pub fn figures(&self) -> Option<Figures>
+        ensures { result ≡ figures_in self.now.state }
+    {
+        match &self.state.endpoint.connection {
+            None => None,
+            Some(connection) => Some(connection.figures()),
+        }
+    }
+
+    /// Why the sender sends nothing by itself at present.
+    ///
+    /// # Errors
+    /// `AllocError` where a growth is refused, or the host has found no memory before.
+    pub fn hold(&self) -> Result<Hold, AllocError>
+        ensures { IfOk result (λ hold. hold ≡ hold_in self.now.state) }
+    {
+        match &self.state.endpoint.connection {
+            None => Ok(Hold::NotEstablished),
+            Some(connection) => connection.hold(),
+        }
     }
 
     /// The packets that were put out and not yet taken.

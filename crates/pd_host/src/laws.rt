@@ -1,6 +1,7 @@
 //! Laws of the rules: functions without code, whose contracts are the laws.
 ghost use Rattle.pd_host.specs.Growth.{ExpiriesQueueNothing, ArrivalsQueueOurSyn, CallsQueueWhatTheyAsk};
 ghost use Rattle.pd_host.specs.Figure.{FollowsFigure};
+ghost use Rattle.pd_host.specs.Holds.{OpenHoldsSend};
 ghost use Rattle.pd_host.specs.Laws.{StartsUpToDate, AdvancesKeepUp, ArrivalsKeepUp, CallsKeepUp, TakingKeepsUp};
 ghost use Rattle.pd_host.specs.Invariants.{StartsLawful, AdvancesStayLawful, ArrivalsStayLawful, CallsStayLawful, TakingStaysLawful, BoardsAreScoreboards, CallsStayInRange, EndsForGood};
 ghost use Rattle.pd_host.specs.InputLaws.{OutsideIsHarmless, OnlyAnExactRstResets, PutsOutBehind, OnlyUsesMatter, RebindingKeepsUp, CallsPutOutBehind, CallsOnlyUse, AdvancesPutOutBehind, AdvancesUseNone, ArrivalsNote, CallsNote, AdvancesNote};
@@ -75,6 +76,11 @@ pub fn states_are_lawful()
     timers_are_lawful();
     recovery_is_lawful();
 }
+
+/// Where nothing holds a segment back ordinary sending finds one, and only there.
+pub fn holds_are_lawful()
+    ensures { OpenHoldsSend }
+{}
 
 /// How much an input queues at most.
 pub fn growth_is_lawful()

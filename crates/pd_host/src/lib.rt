@@ -10,8 +10,10 @@ mod descriptors;
 mod endpoint;
 mod established;
 mod expiries;
+mod figures;
 mod halts;
 mod held;
+mod holds;
 mod host;
 mod laws;
 mod listeners;
@@ -28,11 +30,13 @@ mod timings;
 mod uses;
 
 pub use conn_states::ConnState;
+pub use figures::{Figures, Recovery, Windows};
 pub use halts::{Ending, Halt};
 pub use held::Held;
+pub use holds::Hold;
 pub use host::Host;
 pub use laws::{
-    advances_are_lawful, arrivals_are_lawful, calls_are_lawful, growth_is_lawful,
+    advances_are_lawful, arrivals_are_lawful, calls_are_lawful, growth_is_lawful, holds_are_lawful,
     moments_are_lawful, sending_is_lawful, states_are_lawful,
 };
 pub use outbox::Outbox;

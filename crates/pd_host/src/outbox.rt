@@ -1,5 +1,5 @@
 //! The packets that were put out and not yet taken.
-ghost use Rattle.std.specs.Prelude.{◌≡◌, ◌==◌, [], nat_le, length, slice_get, drop, IfOk};
+ghost use Rattle.std.specs.Prelude.{◌≡◌, ◌==◌, [], nat_le, length, option_copied, slice_get, drop, IfOk};
 ghost use Rattle.pd_host.specs.Outcome.{Gives};
 ghost use Rattle.pd_host.specs.Sender.{with_packet};
 
@@ -75,6 +75,13 @@ impl Outbox {
             Ok(()) => Ok(()),
             Err(_) => Err(Ending::OutOfMemory),
         }
+    }
+
+    /// The packet at a place, the oldest at 0.
+    pub fn get(&self, place: usize) -> Option<&Sent>
+        ensures { option_copied result ≡ slice_get self.now place }
+    {
+        self.packets.get(place)
     }
 
     /// Takes the oldest packet out, if there is one.

@@ -127,6 +127,21 @@ impl Cong {
         self.cwnd
     }
 
+    /// The slow start threshold, in octets.
+    pub fn ssthresh(&self) -> u32
+        ensures { result ≡ self.now.ssthresh }
+    {
+        self.ssthresh
+    }
+
+    /// DupAcks: how many duplicates came since the last ACK of new octets or expiry; 4 stands for more too (RFC 6675,
+    /// section 5).
+    pub fn dup_acks(&self) -> u32
+        ensures { result ≡ self.now.dup_acks }
+    {
+        self.dup_acks
+    }
+
     /// Whether loss recovery goes on.
     pub fn is_recovering(&self) -> bool
         ensures { result ≡ self.now.recovering }

@@ -5,8 +5,10 @@ pub mod HeaderItems
 pub mod Onwards
 pub mod Passed
 pub mod Queued
+pub mod Reasons
 pub mod States
 pub mod Steps
+pub mod StopsFound
 pub mod Timed
 pub mod Underway
 pub mod WithinLimits

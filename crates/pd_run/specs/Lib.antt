@@ -10,3 +10,5 @@ pub mod Step
 pub mod Run
 pub mod Laws
 pub mod Consulted
+pub mod Why
+pub mod Stops

@@ -1,6 +1,8 @@
 //! Laws of runs: functions whose contracts are the laws; they call those that they rest on.
 ghost use Rattle.pd_run.specs.Consulted.{InputsOnlyUse, StepsNote, StepsOnlyUse, RunsOnlyUse, RunsGoOnUnder};
 ghost use Rattle.pd_run.specs.Laws.{SenderIsLawful, PassedPacketsAgree, PassedCallsAnswer, ToleranceStays, StartsUnderway, StepsGoOn, RebindingGoesOn, StartsHeld, StepsStayHeld};
+ghost use Rattle.pd_run.specs.Stops.{VerdictsHaveReasons};
+ghost use Rattle.pd_run.specs.Why.{ReasonsGiveVerdicts, DifferencesAreFirst};
 
 use pd_host::{
     advances_are_lawful, arrivals_are_lawful, calls_are_lawful, growth_is_lawful,
@@ -38,6 +40,15 @@ pub fn runs_are_bounded()
 {
     sender_is_lawful();
     inputs_only_use();
+}
+
+/// A run that stops has a reason for it, with the verdict of that reason: looking into a stop and running to it tell the same.
+pub fn verdicts_have_reasons()
+    ensures reasons { ReasonsGiveVerdicts }
+    ensures verdicts { VerdictsHaveReasons }
+    ensures packets { DifferencesAreFirst }
+{
+    comparisons_are_lawful();
 }
 
 /// What runs rest on: that the sender consults no settings but those that it notes.

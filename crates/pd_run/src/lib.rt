@@ -9,13 +9,17 @@ mod run_state;
 mod running;
 mod shapes;
 mod stepping;
+mod stops;
 mod times;
 mod verdicts;
+mod whys;
 
-pub use laws::{runs_are_bounded, runs_only_use, steps_are_lawful};
+pub use laws::{runs_are_bounded, runs_only_use, steps_are_lawful, verdicts_have_reasons};
 pub use pd_host::ConnState;
 pub use pd_match::Kind;
 pub use run_state::RunState;
 pub use running::{run_all, run_with};
 pub use stepping::{Plain, StepEnd, Stepper};
+pub use stops::{Stopped, find_stop};
 pub use verdicts::Verdict;
+pub use whys::Why;

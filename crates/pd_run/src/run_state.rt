@@ -11,6 +11,8 @@ ghost use Rattle.pd_run.specs.Run.{start_of};
 ghost use Rattle.pd_run.specs.Consulted.{uses_of, rebound_run};
 ghost use Rattle.pd_run.specs.Step.{tolerance_of, noted, acts_at, arrives, on_arrival, answers, on_answer, on_expiry, awaited, taken, leaves, Tells, Steps};
 
+mod telling;
+
 use crate::acting::{answer, arrive};
 use crate::laws::sender_is_lawful;
 use crate::limits::is_over_limit;
@@ -182,8 +184,29 @@ impl RunState {
         }
     }
 
-    /// The tolerance, in microseconds.
-    fn tolerance(&self) -> u64
+    /// The run's sender.
+    pub fn host(&self) -> &Host
+        ensures { result.now ≡ self.now.host }
+    {
+        &self.host
+    }
+
+    /// The present moment, in microseconds since the start of the run.
+    pub fn clock(&self) -> u64
+        ensures { result ≡ self.now.clock }
+    {
+        self.clock
+    }
+
+    /// The moment from which relative times are counted, in microseconds since the start of the run.
+    pub fn base(&self) -> u64
+        ensures { result ≡ self.now.base }
+    {
+        self.base
+    }
+
+    /// The tolerance, in microseconds: the header's, else the setting's.
+    pub fn tolerance(&self) -> u64
         ensures { result ≡ tolerance_of self.now }
     {
         self.written.unwrap_or(self.host.settings().tolerance_us)

@@ -2,6 +2,7 @@
 ghost use Rattle.std.specs.Prelude.{◌≡◌, ◌<◌, ◌^◌, IfSome, IfOk};
 ghost use Rattle.pd_host.specs.ControlBlock.{data_end};
 ghost use Rattle.pd_host.specs.Packets.{covers_fin, ends_data, data_of};
+ghost use Rattle.pd_host.specs.Holds.{is_enough};
 ghost use Rattle.pd_host.specs.Sending.{IsQueued, window_edge, usable, unsent, sendable, new_segment, leaves_now, is_held_back, next_new, next_again, next_segment, found_on, past_sacked, sent_on};
 
 use super::Connection;
@@ -100,7 +101,8 @@ impl Connection {
             && !self.covers_fin(self.new_segment(established))
     }
 
-    fn leaves_now(&self, established: &Established) -> bool
+    /// Whether a segment of new octets leaves.
+    pub fn leaves_now(&self, established: &Established) -> bool
         ensures { result ≡ leaves_now self.now established.now }
     {
         let octets = self.sendable(established);
@@ -108,6 +110,16 @@ impl Connection {
         let is_all = self.unsent() <= self.usable(established);
         let is_half_window = u64::from(octets) * 2 >= u64::from(self.widest);
         is_full || ((is_all || is_half_window) && !self.is_held_back(established))
+    }
+
+    /// Whether what could leave is a segment worth sending, Nagle's algorithm apart.
+    pub fn is_enough(&self, established: &Established) -> bool
+        ensures { result ≡ is_enough self.now established.now }
+    {
+        let octets = self.sendable(established);
+        octets >= u32::from(self.board.smss())
+            || self.unsent() <= self.usable(established)
+            || u64::from(octets) * 2 >= u64::from(self.widest)
     }
 
     fn next_new(&self, established: &Established) -> Option<Span>

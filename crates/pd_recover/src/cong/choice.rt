@@ -74,7 +74,8 @@ impl Cong {
         None
     }
 
-    fn has_room(&self, board: &Board, pipe: u32) -> bool
+    /// Whether cwnd - pipe holds a full segment (RFC 6675, section 5, step C). The pipe is in octets.
+    pub fn has_room(&self, board: &Board, pipe: u32) -> bool
         ensures value { result ≡ has_room pipe board.now self.now }
         ensures fits { OnTrue result (pipe + board.now.smss ≤ self.now.cwnd) }
     {

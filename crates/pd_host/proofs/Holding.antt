@@ -1,0 +1,72 @@
+-- Where no reason holds a segment back, ordinary sending finds one.
+use Rattle.std.proofs.Common.{◌≡◌, ℕ, ◌+◌, ◌-◌, ◌≤◌, nat_lt, nat_le, min, not, Bool, true, false, ◌&&◌, ◌||◌, if◌then◌else◌, Some, None, is_some, refl, sym, ap, ◌∙◌, arith}
+use Rattle.std.proofs.lemmas.Bool.Decides.{nat_tests}
+use Rattle.pd_seg.specs.declared.sack_blocks.Span.{Span}
+use Rattle.pd_board.specs.Choice.{run_at}
+use Rattle.pd_host.specs.ControlBlock.{ControlBlock}
+use Rattle.pd_host.specs.Holds.{is_enough, hold_of_new, is_open, OpenHoldsSend}
+use Rattle.pd_host.specs.Sending.{window_edge, sendable, new_segment, is_full, is_all, is_half_window, is_held_back, leaves_now, next_new, next_again}
+use Rattle.pd_host.specs.declared.established.Established.{Established}
+use Rattle.pd_host.specs.declared.holds.Hold.TheVariants.{AllSent, PeerWindow, CongestionWindow, PartOfSegment, Nagle, Open}
+use Rattle.pd_host.proofs.Runs.{run_within}
+
+-- the reasons by their tests
+opens : (sent peer window again enough leaves : Bool)
+    → is_open (if sent then AllSent else (if peer then PeerWindow else (if window then CongestionWindow else (if again then Open else (if not enough then PartOfSegment else (if leaves then Open else Nagle))))))
+    ≡ (not sent && (not peer && (not window && (again || (enough && leaves)))))
+opens true peer window again enough leaves = refl
+opens false true window again enough leaves = refl
+opens false false true again enough leaves = refl
+opens false false false true enough leaves = refl
+opens false false false false false leaves = refl
+opens false false false false true true = refl
+opens false false false false true false = refl
+
+found_where : {A : Type 0} (b : Bool) (x : A) → is_some (if b then Some x else None) ≡ b
+found_where true x = refl
+found_where false x = refl
+
+-- octets that were sent before
+all_within : (una rwnd cwnd next top end last : ℕ) (rest : Bool) → nat_lt next top ≡ true → top ≤ end → 1 ≤ last
+    → (not (nat_le end next) && (not (nat_le (una + rwnd) (last - 1)) && (not (nat_le (una + cwnd) (last - 1)) && (true || rest)))) ≡ nat_le last (una + min cwnd rwnd)
+all_within una rwnd cwnd next top end last rest before queued some = grind (arith, nat_tests)
+
+-- new octets
+some_within : (una rwnd cwnd next end : ℕ)
+    → (not (nat_le end next) && (not (nat_le (una + rwnd) next) && not (nat_le (una + cwnd) next))) ≡ nat_lt 0 (min (end - next) (una + min cwnd rwnd - next))
+some_within una rwnd cwnd next end = grind (arith, nat_tests)
+
+-- what leaves is enough
+joined : (sent peer window enough all held : Bool)
+    → (sent && (peer && (window && (false || ((enough || all) && (enough || (all && not held)))))))
+    ≡ ((sent && (peer && window)) && (enough || (all && not held)))
+joined false peer window enough all held = refl
+joined true false window enough all held = refl
+joined true true false enough all held = refl
+joined true true true true all held = refl
+joined true true true false true true = refl
+joined true true true false true false = refl
+joined true true true false false held = refl
+
+abbrev Claim : ControlBlock → Established → Bool → Type 0
+Claim c e again =
+    let wanted : ℕ = if again then (run_at c.board.next c.board).end - 1 else c.board.next in
+    is_open (if nat_le c.board.end c.board.next then AllSent else (if nat_le (c.board.una + e.rwnd) wanted then PeerWindow else (if nat_le (c.board.una + e.congestion.cwnd) wanted then CongestionWindow else (if again then Open else hold_of_new c e))))
+    ≡ is_some (if again then next_again c e else next_new c e)
+
+by : (c : ControlBlock) (e : Established) → 1 ≤ c.board.next → c.board.next ≤ c.board.top → c.board.top ≤ c.board.end
+    → (again : Bool) → nat_lt c.board.next c.board.top ≡ again → Claim c e again
+by c e some sent queued true before =
+    let segment : Span = run_at c.board.next c.board in
+    let within = run_within c.board.next c.board sent in
+    opens (nat_le c.board.end c.board.next) (nat_le (c.board.una + e.rwnd) (segment.end - 1)) (nat_le (c.board.una + e.congestion.cwnd) (segment.end - 1)) true (is_enough c e) (leaves_now c e)
+    ∙ (all_within c.board.una e.rwnd e.congestion.cwnd c.board.next c.board.top c.board.end segment.end (is_enough c e && leaves_now c e) before queued (omega (arith, some, within.0))
+    ∙ sym (found_where (nat_le segment.end (window_edge c e)) segment))
+by c e some sent queued false before =
+    opens (nat_le c.board.end c.board.next) (nat_le (c.board.una + e.rwnd) c.board.next) (nat_le (c.board.una + e.congestion.cwnd) c.board.next) false (is_enough c e) (leaves_now c e)
+    ∙ (joined (not (nat_le c.board.end c.board.next)) (not (nat_le (c.board.una + e.rwnd) c.board.next)) (not (nat_le (c.board.una + e.congestion.cwnd) c.board.next)) (is_full c e) (is_all c e || is_half_window c e) (is_held_back c e)
+    ∙ (ap (λ b. b && leaves_now c e) (some_within c.board.una e.rwnd e.congestion.cwnd c.board.next c.board.end)
+    ∙ sym (found_where (nat_lt 0 (sendable c e) && leaves_now c e) (new_segment c e))))
+
+pub open_holds_send : OpenHoldsSend
+open_holds_send c e some sent queued = by c e some sent queued (nat_lt c.board.next c.board.top) refl

@@ -1,0 +1,50 @@
+-- The numbers of a connection, as those who observe it see them.
+use Rattle.std.specs.Prelude.{Bool, true, false, Option, option_map}
+use Rattle.pd_board.specs.Loss.{pipe}
+use Rattle.pd_recover.specs.Congestion.{Congestion}
+use Rattle.pd_host.specs.ControlBlock.{ControlBlock}
+use Rattle.pd_host.specs.declared.established.Established.{Established}
+use Rattle.pd_host.specs.declared.figures.Figures.{Figures}
+use Rattle.pd_host.specs.declared.figures.Recovery.{Recovery}
+use Rattle.pd_host.specs.declared.figures.Recovery.TheVariants.{Idle, WithSack, WithoutSack}
+use Rattle.pd_host.specs.declared.figures.Windows.{Windows}
+use Rattle.pd_host.specs.declared.sender_state.State.{State}
+
+-- the recovery that goes on: with SACK that of RFC 6675, by its pipe, else that of RFC 5681, section 3.2
+abbrev pub recovery_of : ControlBlock → Congestion → Recovery
+recovery_of c w = by w.recovering c.sack
+  where
+    by : Bool → Bool → Recovery
+    by false _ = Idle
+    by true true = WithSack (pipe w.high_rxt c.board)
+    by true false = WithoutSack
+
+-- the windows, from the end of the handshake on
+abbrev pub windows_of : ControlBlock → Option Windows
+windows_of c = option_map {T = Established} windows c.established
+  where
+    windows : Established → Windows
+    windows e = record {
+      cwnd = e.congestion.cwnd;
+      ssthresh = e.congestion.ssthresh;
+      rwnd = e.rwnd;
+      dup_acks = e.congestion.dup_acks;
+      recovery = recovery_of c e.congestion;
+    }
+
+-- the numbers of a connection (RFC 9293, section 3.3.1; RFC 6298, section 2)
+abbrev pub figures_of : ControlBlock → Figures
+figures_of c = record {
+  smss = c.board.smss;
+  una = c.board.una;
+  next = c.board.next;
+  top = c.board.top;
+  end = c.board.end;
+  rto_us = c.timer.rto;
+  windows = windows_of c;
+  reset = c.reset;
+}
+
+-- the same of the sender, once a SYN has begun a connection
+abbrev pub figures_in : State → Option Figures
+figures_in s = option_map {T = ControlBlock} figures_of s.endpoint.connection

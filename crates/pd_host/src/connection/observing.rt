@@ -1,0 +1,154 @@
+//! What those who observe a connection see: its numbers, and why it sends nothing by itself.
+ghost use Rattle.std.specs.Prelude.{◌≡◌, ◌+◌, nat_le, IfOk};
+ghost use Rattle.pd_host.specs.Figures.{recovery_of, windows_of, figures_of};
+ghost use Rattle.pd_host.specs.Holds.{wanted, is_enough, hold_of_new, hold_at, hold_in_recovery, hold_since, hold_of};
+ghost use Rattle.pd_host.specs.Sending.{past_sacked};
+
+use super::Connection;
+use crate::established::Established;
+use crate::figures::{Figures, Recovery, Windows};
+use crate::holds::Hold;
+use std::alloc::AllocError;
+
+impl Connection {
+    /// Its numbers.
+    pub fn figures(&self) -> Figures
+        ensures { result ≡ figures_of self.now }
+    {
+        Figures {
+            smss: self.board.smss(),
+            una: self.board.una(),
+            next: self.board.next(),
+            top: self.board.top(),
+            end: self.board.end(),
+            rto_us: self.timer.rto(),
+            windows: self.windows(),
+            reset: self.reset,
+        }
+    }
+
+    fn windows(&self) -> Option<Windows>
+        ensures { result ≡ windows_of self.now }
+    {
+        match &self.established {
+            None => None,
+            Some(established) => Some(Windows {
+                cwnd: established.congestion.cwnd(),
+                ssthresh: established.congestion.ssthresh(),
+                rwnd: established.rwnd,
+                dup_acks: established.congestion.dup_acks(),
+                recovery: self.recovery(established),
+            }),
+        }
+    }
+
+    fn recovery(&self, established: &Established) -> Recovery
+        ensures { result ≡ recovery_of self.now established.now.congestion }
+    {
+        if !established.congestion.is_recovering() {
+            Recovery::Idle
+        } else if self.sack {
+            Recovery::WithSack(self.board.pipe(established.congestion.high_rxt()))
+        } else {
+            Recovery::WithoutSack
+        }
+    }
+
+    /// Why it sends nothing by itself, once its sending place has moved past SACKed octets.
+    ///
+    /// # Errors
+    /// `AllocError` where a growth is refused, or the scoreboard has found no memory before.
+    pub fn hold(&self) -> Result<Hold, AllocError>
+        ensures { IfOk result (λ hold. hold ≡ hold_of (past_sacked self.now)) }
+    {
+        let mut ready = self.with_board(self.board_copy()?);
+        ready.skip_sacked();
+        Ok(ready.hold_from_here())
+    }
+
+    /// Why it sends nothing by itself from the sending place on.
+    fn hold_from_here(&self) -> Hold
+        ensures { result ≡ hold_of self.now }
+    {
+        if self.reset {
+            return Hold::Reset;
+        }
+        match &self.established {
+            None => Hold::NotEstablished,
+            Some(established) => self.hold_since(established),
+        }
+    }
+
+    fn hold_since(&self, established: &Established) -> Hold
+        ensures { result ≡ hold_since self.now established.now }
+    {
+        if self.board.una() == self.board.end() {
+            Hold::Acknowledged
+        } else if self.sack && established.congestion.is_recovering() {
+            self.hold_in_recovery(established)
+        } else {
+            self.hold_at(established)
+        }
+    }
+
+    fn hold_in_recovery(&self, established: &Established) -> Hold
+        ensures { result ≡ hold_in_recovery self.now established.now }
+    {
+        let congestion = &established.congestion;
+        let pipe = self.board.pipe(congestion.high_rxt());
+        if !congestion.has_room(&self.board, pipe) {
+            return Hold::PipeFull;
+        }
+        match congestion.next_send(&self.board, established.rwnd) {
+            None => Hold::NothingNext,
+            Some(_) => Hold::Recovering,
+        }
+    }
+
+    fn hold_at(&self, established: &Established) -> Hold
+        ensures { result ≡ hold_at self.now established.now }
+    {
+        let wanted = self.wanted();
+        if self.board.end() <= self.board.next() {
+            Hold::AllSent
+        } else if self.is_beyond(established.rwnd, wanted) {
+            Hold::PeerWindow
+        } else if self.is_beyond(established.congestion.cwnd(), wanted) {
+            Hold::CongestionWindow
+        } else if self.board.next() < self.board.top() {
+            Hold::Open
+        } else {
+            self.hold_of_new(established)
+        }
+    }
+
+    /// Whether an octet lies beyond a window of so many octets.
+    fn is_beyond(&self, window: u32, octet: u32) -> bool
+        ensures { result ≡ nat_le (self.now.board.una + window) octet }
+    {
+        u64::from(self.board.una()) + u64::from(window) <= u64::from(octet)
+    }
+
+    /// The last octet that has to lie within the windows for the next segment to leave.
+    fn wanted(&self) -> u32
+        ensures { result ≡ wanted self.now }
+    {
+        if self.board.next() < self.board.top() {
+            self.board.run_at(self.board.next()).end.saturating_sub(1)
+        } else {
+            self.board.next()
+        }
+    }
+
+    fn hold_of_new(&self, established: &Established) -> Hold
+        ensures { result ≡ hold_of_new self.now established.now }
+    {
+        if !self.is_enough(established) {
+            Hold::PartOfSegment
+        } else if self.leaves_now(established) {
+            Hold::Open
+        } else {
+            Hold::Nagle
+        }
+    }
+}

@@ -1,0 +1,102 @@
+-- A run that stops at a line is found to stop there, by a reason with its verdict.
+use Rattle.std.proofs.Common.{◌≡◌, ℕ, ◌+◌, ◌==◌, Bool, true, false, if◌then◌else◌, List, [], ◌∷◌, Option, Some, None, option_map, Result, Ok, Err, refl, sym, ap, subst, ◌∙◌}
+use Rattle.pd_host.specs.declared.halts.Halt.TheVariants as halt
+use Rattle.pd_script.specs.declared.script_events.Event.{Event}
+use Rattle.pd_run.specs.Run.{verdict_from}
+use Rattle.pd_run.specs.Step.{Running, on_step, step}
+use Rattle.pd_run.specs.Stops.{reason_on, stop_by, stop_from, line_of, VerdictsHaveReasons}
+use Rattle.pd_run.specs.Why.{why, verdict_at, verdict_by_step, ReasonsGiveVerdicts}
+use Rattle.pd_run.specs.declared.stops.Stopped.{Stopped}
+use Rattle.pd_run.specs.declared.verdicts.Verdict.{Verdict}
+use Rattle.pd_run.specs.declared.whys.Why.{Why}
+use Rattle.pd_run.specs.declared.whys.Why.TheVariants.{OverLimit, NotRun, Backwards, Halted, Missing, Differs, Answered}
+use Rattle.std.proofs.lemmas.Bool.Decides.{Decides-eqb}
+
+-- what is found, and its verdict
+abbrev Found : ℕ → Option Stopped → Verdict → Type 0
+Found line found v = (stop : Stopped) × (found ≡ Some stop) × (verdict_at line stop.why ≡ v)
+
+-- the verdict of a reason at a line has that line
+lined : (line : ℕ) (reason : Why) → line_of (verdict_at line reason) ≡ Some line
+lined line OverLimit = refl
+lined line NotRun = refl
+lined line Backwards = refl
+lined line (Halted halt.Unsupported) = refl
+lined line (Halted halt.Limit) = refl
+lined line Missing = refl
+lined line (Differs k sent r) = refl
+lined line (Answered answer r) = refl
+
+-- an event with no reason, or on another line, is passed over
+none_on : (b : Bool) (reason : Option Why) → reason ≡ None → (if b then reason else None) ≡ None
+none_on true reason h = h
+none_on false reason h = refl
+
+passed_over : (line n : ℕ) (r : Running) (reason : Option Why) (rest : Option Stopped) (v : Verdict)
+    → reason ≡ None → Found line rest v → Found line (stop_by n r reason rest) v
+passed_over line n r None rest v h found = found
+passed_over line n r (Some w) rest v h found = absurd cc
+
+no_reason : (line : ℕ) (reason : Option Why) → option_map (verdict_at line) reason ≡ None → reason ≡ None
+no_reason line None h = refl
+no_reason line (Some w) h = absurd cc
+
+-- the event that stops the run on its line
+stopping : (line n : ℕ) (r : Running) (reason : Option Why) (rest : Option Stopped) (v : Verdict)
+    → option_map (verdict_at line) reason ≡ Some v → Found line (stop_by n r reason rest) v
+stopping line n r None rest v h = absurd cc
+stopping line n r (Some w) rest v h = (record { passed = n; before = r; why = w }, refl, some_is h)
+  where
+    some_is : {a b : Verdict} → Some a ≡ Some b → a ≡ b
+    some_is h = cc
+
+same_line : (line at : ℕ) (reason : Option Why) (v : Verdict) → option_map (verdict_at at) reason ≡ Some v → line_of v ≡ Some line → at ≡ line
+same_line line at None v h l = absurd cc
+same_line line at (Some w) v h l = let own : line_of (verdict_at at w) ≡ Some at = lined at w in cc
+
+-- an event that goes on leaves the stop to those after it
+pub stop_after : (line n : ℕ) (es rest : List Event) (r s : Running) (e : Event)
+    → es ≡ e ∷ rest → reason_on line r e ≡ None → step r e ≡ Ok s → stop_from line n es r ≡ stop_from line (n + 1) rest s
+stop_after line n es rest r s e split none h =
+    ap (λ (l : List Event). stop_from line n l r) split
+    ∙ (ap (λ (o : Option Why). stop_by n r o (on_step (stop_from line (n + 1) rest) (λ v. None) (step r e))) none
+    ∙ ap (λ (o : Result Running Verdict). on_step (stop_from line (n + 1) rest) (λ v. None) o) h)
+
+-- the claim of an event, by what its step came to
+abbrev Claim : ℕ → ℕ → Running → Event → List Event → Result Running Verdict → Type 0
+Claim line n r e es came =
+    Found line (stop_by n r (reason_on line r e) (on_step (stop_from line (n + 1) es) (λ v. None) came))
+    (on_step (verdict_from (n + 1) es) (λ v. v) came)
+
+-- a run that goes on
+onwards : ReasonsGiveVerdicts → (line n : ℕ) (r s : Running) (e : Event) (es : List Event)
+    → step r e ≡ Ok s → Found line (stop_from line (n + 1) es s) (verdict_from (n + 1) es s) → Claim line n r e es (step r e)
+onwards law line n r s e es is later =
+    subst (Claim line n r e es) (sym is)
+    (passed_over line n r (reason_on line r e) (stop_from line (n + 1) es s) (verdict_from (n + 1) es s)
+    (none_on (e.line == line) (why r e) (no_reason e.line (why r e) (law r e ∙ ap verdict_by_step is))) later)
+
+-- a run that stops here
+here : ReasonsGiveVerdicts → (line n : ℕ) (r : Running) (v : Verdict) (e : Event) (es : List Event)
+    → step r e ≡ Err v → line_of v ≡ Some line → Claim line n r e es (step r e)
+here law line n r v e es is lined_so =
+    let reason : option_map (verdict_at e.line) (why r e) ≡ Some v = law r e ∙ ap verdict_by_step is in
+    let own : e.line ≡ line = same_line line e.line (why r e) v reason lined_so in
+    let test : (e.line == line) ≡ true = (Decides-eqb e.line line).1 own in
+    let told : option_map (verdict_at line) (why r e) ≡ Some v = subst (λ l. option_map (verdict_at l) (why r e) ≡ Some v) own reason in
+    subst (Claim line n r e es) (sym is)
+    (subst (λ b. Found line (stop_by n r (if b then why r e else None) None) v) (sym test) (stopping line n r (why r e) None v told))
+
+-- either way
+either : ReasonsGiveVerdicts → (line n : ℕ) (r : Running) (e : Event) (es : List Event) (came : Result Running Verdict)
+    → step r e ≡ came
+    → ((s : Running) → line_of (verdict_from (n + 1) es s) ≡ Some line → Found line (stop_from line (n + 1) es s) (verdict_from (n + 1) es s))
+    → line_of (on_step (verdict_from (n + 1) es) (λ v. v) came) ≡ Some line
+    → Claim line n r e es (step r e)
+either law line n r e es (Ok s) is later h = onwards law line n r s e es is (later s h)
+either law line n r e es (Err v) is later h = here law line n r v e es is h
+
+pub verdicts_have_reasons : ReasonsGiveVerdicts → VerdictsHaveReasons
+verdicts_have_reasons law n line [] r h = absurd cc
+verdicts_have_reasons law n line (e ∷ es) r h =
+    either law line n r e es (step r e) refl (λ s g. verdicts_have_reasons law (n + 1) line es s g) h
