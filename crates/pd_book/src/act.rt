@@ -1,8 +1,10 @@
 //! Acts: what a book records.
 ghost use Rattle.std.specs.Prelude.{◌≡◌, ◌↔◌, IfOk, IsTrue};
 
+use crate::shared_edit::SharedEdit;
+use crate::shared_name::SharedName;
 use pd_settings::{Key, Value};
-use pd_text::{LineEdit, Name, Text};
+use pd_text::Text;
 use std::alloc::AllocError;
 
 /// What a finish of a job came to.
@@ -17,29 +19,29 @@ pub enum Ruling {
 /// An accepted call that changed a book. Jobs are named by their numbers, from 1.
 #[derive(Drop)]
 pub enum Act {
-    Add(Name, Text),
-    Edit(Name, LineEdit),
-    Remove(Name),
+    Add(SharedName, Text),
+    Edit(SharedName, SharedEdit),
+    Remove(SharedName),
     Set(Key, Value),
-    Start(u64, Name),
+    Start(u64, SharedName),
     Finish(u64, Ruling),
     Abandon(u64),
 }
 
 impl Act {
-    /// An equal act of its own, which shares the text.
+    /// An equal act of its own, which shares the name, the text and the edit.
     ///
     /// # Errors
-    /// `AllocError` where a growth is refused, or the count of a text's owners is full.
+    /// `AllocError` only where a count of owners is full.
     pub fn copy(&self) -> Result<Act, AllocError>
         ensures { IfOk result (λ act. act ≡ self.now) }
     {
         Ok(match self {
-            Act::Add(name, text) => Act::Add(name.copy()?, text.share()?),
-            Act::Edit(name, edit) => Act::Edit(name.copy()?, edit.copy()?),
-            Act::Remove(name) => Act::Remove(name.copy()?),
+            Act::Add(name, text) => Act::Add(name.share()?, text.share()?),
+            Act::Edit(name, edit) => Act::Edit(name.share()?, edit.share()?),
+            Act::Remove(name) => Act::Remove(name.share()?),
             Act::Set(key, value) => Act::Set(*key, *value),
-            Act::Start(number, name) => Act::Start(*number, name.copy()?),
+            Act::Start(number, name) => Act::Start(*number, name.share()?),
             Act::Finish(number, ruling) => Act::Finish(*number, *ruling),
             Act::Abandon(number) => Act::Abandon(*number),
         })

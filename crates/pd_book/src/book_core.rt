@@ -18,6 +18,8 @@ use crate::act::Act;
 use crate::faults::BookFault;
 use crate::recording::{Records, record};
 use crate::report::Report;
+use crate::shared_edit::SharedEdit;
+use crate::shared_name::SharedName;
 use crate::shelf::Tracks;
 use pd_settings::{Key, Settings, Value};
 use pd_text::{LineEdit, Lines, Name, Text, TextFault};
@@ -168,7 +170,8 @@ impl Book {
         };
         let _first = text.lines().line(1);
         self.records.acts.reserve(self.records.tasks.len() + 1)?;
-        let act = Act::Add(name.copy()?, text.share()?);
+        let kept = SharedName::copy_of(*self.records.acts.allocator(), &name)?;
+        let act = Act::Add(kept, text.share()?);
         self.records.scripts.add(name, text)?;
         record(&mut self.records.acts, act);
         Ok(())
@@ -240,18 +243,62 @@ impl Book {
         ensures same { OnErr result (self.new ≡ self.old) }
         ensures tracks { self.new.tracks ≡ self.old.tracks }
     {
+        let lines = self.rewritten(name, edit)?;
+        let alloc = *self.records.acts.allocator();
+        let name = SharedName::copy_of(alloc, name)?;
+        let edit = SharedEdit::copy_of(alloc, edit)?;
+        self.rewrite(name, edit, lines)
+    }
+
+    /// Edits the text of a script, where others keep the name and the edit too.
+    ///
+    /// # Errors
+    /// As for `edit`.
+    pub fn edit_shared(&mut self, name: SharedName, edit: SharedEdit) -> Result<(), BookFault>
+        ensures gives { GivesEdit self.old.story name edit result self.new.story }
+        ensures ok { OnOk result (self.new.story ≡ told self.old.story (Act.Edit name edit)) }
+        ensures allowed { OnOk result (edit_refusal self.old.story name edit ≡ None) }
+        ensures err { IfErr result (λ e. e ≡ fault_of (edit_refusal self.old.story name edit)) }
+        ensures same { OnErr result (self.new ≡ self.old) }
+        ensures tracks { self.new.tracks ≡ self.old.tracks }
+    {
+        let lines = self.rewritten(name.name(), edit.edit())?;
+        self.rewrite(name, edit, lines)
+    }
+
+    /// The text of a script after an edit for which there is room.
+    fn rewritten(&self, name: &Name, edit: &LineEdit) -> Result<Lines, BookFault>
+        ensures ok { IfOk result (λ lines. lines ≡ edited (text_of self.now.story.past name.now) edit.now) }
+        ensures allowed { OnOk result (text_refusal (present self.now.story.past name.now) edit.now ≡ None) }
+        ensures room { OnOk result (full 1 self.now.story ≡ None) }
+        ensures err { IfErr result (λ e. e ≡ fault_of (edit_refusal self.now.story name.now edit.now)) }
+        ensures lines { AreLines edit.now.insert }
+    {
         let edited = self.edited(name, edit)?;
         if let Some(fault) = self.full(1) {
             return Err(fault);
         }
-        let Some(lines) = edited else {
-            return Err(BookFault::OutOfMemory);
-        };
+        match edited {
+            Some(lines) => Ok(lines),
+            None => Err(BookFault::OutOfMemory),
+        }
+    }
+
+    /// Keeps what an edit leaves that isn't refused.
+    fn rewrite(&mut self, name: SharedName, edit: SharedEdit, lines: Lines) -> Result<(), BookFault>
+        requires allowed { text_refusal (present self.old.story.past name) edit ≡ None }
+        requires room { full 1 self.old.story ≡ None }
+        requires text { lines ≡ edited (text_of self.old.story.past name) edit }
+        requires inserted { AreLines edit.insert }
+        ensures ok { OnOk result (self.new.story ≡ told self.old.story (Act.Edit name edit)) }
+        ensures err { IfErr result (λ e. e ≡ BookFault.OutOfMemory) }
+        ensures same { OnErr result (self.new ≡ self.old) }
+        ensures tracks { self.new.tracks ≡ self.old.tracks }
+    {
         self.records.acts.reserve(self.records.tasks.len() + 1)?;
         let text = Text::new(*self.records.acts.allocator(), lines)?;
-        let act = Act::Edit(name.copy()?, edit.copy()?);
-        self.records.scripts.rewrite(name, text);
-        record(&mut self.records.acts, act);
+        self.records.scripts.rewrite(name.name(), text);
+        record(&mut self.records.acts, Act::Edit(name, edit));
         Ok(())
     }
 
@@ -274,7 +321,7 @@ impl Book {
             return Err(fault);
         }
         self.records.acts.reserve(self.records.tasks.len() + 1)?;
-        let act = Act::Remove(name.copy()?);
+        let act = Act::Remove(SharedName::copy_of(*self.records.acts.allocator(), name)?);
         self.records.scripts.remove(name);
         self.tracks.remove(name);
         record(&mut self.records.acts, act);

@@ -15,6 +15,8 @@ mod report;
 mod row;
 mod script;
 mod scripts;
+mod shared_edit;
+mod shared_name;
 mod shelf;
 
 pub use act::{Act, Ruling};
@@ -24,3 +26,5 @@ pub use laws::{accepting, headline, settling};
 pub use pd_track::{Done, Job, Task, Track, Unfinished, run_job};
 pub use report::Report;
 pub use row::Row;
+pub use shared_edit::SharedEdit;
+pub use shared_name::SharedName;

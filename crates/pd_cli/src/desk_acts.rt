@@ -1,6 +1,7 @@
 //! The acts of a seat at a desk as commands, and what they print. Each reply is compared with the seat's own copy: a book
 //! in which the accepted acts alone were made, so that no job is started in it.
 ghost use Rattle.std.specs.Prelude.{◌≡◌, ◌∷◌, ℕ, List, [], IfOk, IfErr, IsOk, OnOk, unwrap_or};
+ghost use Rattle.pd_text.specs.declared.line_edit.LineEdit.{LineEdit};
 ghost use Rattle.pd_book.specs.declared.act.Act.{Act};
 ghost use Rattle.pd_seat.specs.Seats.{with_act};
 ghost use Rattle.pd_cli.specs.Beside.{MayPrint};
@@ -9,7 +10,7 @@ ghost use Rattle.pd_cli.specs.BesideSteps.{Declines, FailsBeside};
 use crate::acts::refusal_line;
 use crate::command::Command;
 use crate::faults::ServeFault;
-use pd_book::{Act, Book, BookFault};
+use pd_book::{Act, Book, BookFault, SharedEdit, SharedName};
 use pd_desk::Desk;
 use pd_seat::Seat;
 use pd_settings::Value;
@@ -36,7 +37,9 @@ impl<'a, H: Wait> AtDesk<'a, H> {
         self.desk.add(self.rt, seat, name, text)
     }
 
-    fn edit(&self, seat: &mut Seat, name: &Name, edit: &LineEdit) -> Result<(), BookFault> {
+    fn edit(&self, seat: &mut Seat, name: &Name, edit: &LineEdit) -> Result<(), BookFault>
+        ensures { OnOk result (seat.new ≡ with_act seat.old (Act.Edit name.now edit.now)) }
+    {
         self.desk.edit(self.rt, seat, name, edit)
     }
 
@@ -95,7 +98,10 @@ pub fn edit<H: Wait>(
         return Ok(refusal_line(at.alloc, BookFault::TooLarge)?);
     };
     match at.edit(seat, name, &edit) {
-        Ok(()) => accepted(at.alloc, own.edit(name, &edit)),
+        Ok(()) => {
+            let (name, edit) = last_edit(seat)?;
+            accepted(at.alloc, own.edit_shared(name, edit))
+        }
         Err(fault) => declined(at.alloc, fault, own.text_refusal(name, &edit)),
     }
 }
@@ -149,6 +155,17 @@ fn added_text(seat: &Seat) -> Result<Text, ServeFault>
 {
     match seat.acts().last() {
         Some(Act::Add(_, text)) => Ok(text.share()?),
+        _ => Err(ServeFault::Differs),
+    }
+}
+
+/// The name and the edit of the seat's last act, an edit.
+fn last_edit(seat: &Seat) -> Result<(SharedName, SharedEdit), ServeFault>
+    ensures edit { (name : List ℕ) → (edit : LineEdit) → (older : List Act) → seat.now.own ≡ Act.Edit name edit ∷ older → IfOk result (λ own. (own.0 ≡ name) × (own.1 ≡ edit)) }
+    ensures only { (command : Command) → IfErr result (λ fault. FailsBeside fault command) }
+{
+    match seat.acts().last() {
+        Some(Act::Edit(name, edit)) => Ok((name.share()?, edit.share()?)),
         _ => Err(ServeFault::Differs),
     }
 }

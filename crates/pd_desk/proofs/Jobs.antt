@@ -3,7 +3,7 @@ use Rattle.std.proofs.Common.{◌≡◌, inl, inr, ℕ, Err, Option, Some, None,
 use Rattle.pd_book.specs.declared.act.Act.{Act}
 use Rattle.pd_book.specs.declared.act.Act.TheVariants.{Start, Finish, Abandon}
 use Rattle.pd_seat.specs.Seats.{SeatView, with_act}
-use Rattle.pd_desk.specs.Work.{with_acts, none, finished, refused, begun, abandoned, Worked, Left, Works, IsWant, EndsJob, AbandonsJob}
+use Rattle.pd_desk.specs.Work.{with_acts, none, finished, not_ended, begun, abandoned, Worked, Left, Works, IsWant, EndsJob, AbandonsJob}
 use Rattle.pd_desk.specs.declared.faults.DeskFault.{DeskFault}
 use Rattle.pd_desk.specs.declared.faults.DeskFault.TheVariants.{OutOfMemory}
 
@@ -26,7 +26,7 @@ worked_more s m b s' number name w e (inl (ruling, f)) = record {
 }
 worked_more s m b s' number name w e (inr f) = record {
   acts = Start number name ∷ w.acts;
-  jobs = refused number name w.acts w.jobs;
+  jobs = not_ended number name w.acts w.jobs;
   now = later s m s' w.acts (Start number name ∷ []) w.now (f ∙ e);
 }
 
@@ -39,7 +39,7 @@ left_more s m b s' number name w e (inl f) = record {
 }
 left_more s m b s' number name w e (inr f) = record {
   acts = Start number name ∷ w.acts;
-  jobs = begun (Start number name ∷ w.acts) (refused number name w.acts w.jobs);
+  jobs = begun (Start number name ∷ w.acts) (not_ended number name w.acts w.jobs);
   now = later s m s' w.acts (Start number name ∷ []) w.now (f ∙ e);
 }
 

@@ -15,7 +15,7 @@ with_acts seat acts = record { number = seat.number; own = acts ++ seat.own; lon
 pub data AreJobs : List Act → Type 0 where
   none : AreJobs []
   finished : (number : ℕ) (name : List ℕ) (ruling : Ruling) (older : List Act) → AreJobs older → AreJobs (Finish number ruling ∷ Start number name ∷ older)
-  refused : (number : ℕ) (name : List ℕ) (older : List Act) → AreJobs older → AreJobs (Start number name ∷ older)
+  not_ended : (number : ℕ) (name : List ℕ) (older : List Act) → AreJobs older → AreJobs (Start number name ∷ older)
 
 -- the same, but that the newest job may have been given up
 pub data AreJobsUpTo : List Act → Type 0 where

@@ -21,7 +21,9 @@ abbrev pub ClosesNot : Noted → List SeatView → CloseFault Noted → Type 0
 ClosesNot held seats (MissingSeat back them) = ¬ EachOnce held.seats seats × (back ≡ held) × (them.items ≡ seats)
 ClosesNot held seats (Differs book) = EachOnce held.seats seats × ¬ Accounts held seats × (book ≡ held.book) × Legal book.story.opening book.story.past
 
--- the same of some book that the seats were of, where what comes back holds it
+-- what is left of this where the book isn't known that the seats were of: of a `MissingSeat` only that the seats come back;
+-- of a `Differs` that the seats' numbers are 0 to the last, each once, and that the book's history is legal, and nothing of
+-- notes
 abbrev pub ClosesNotAt : {H : Type 0} → List SeatView → CloseFault H → Type 0
 ClosesNotAt seats (MissingSeat back them) = (held : Noted) × (¬ EachOnce held.seats seats × (them.items ≡ seats))
 ClosesNotAt seats (Differs book) = (held : Noted) × (EachOnce held.seats seats × (¬ Accounts held seats × ((book ≡ held.book) × Legal book.story.opening book.story.past)))

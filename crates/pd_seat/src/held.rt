@@ -13,7 +13,9 @@ use crate::comparing::is_own;
 use crate::faults::ShowFault;
 use crate::recording::{drop_job, make_room, note, record};
 use crate::seat::Seat;
-use pd_book::{Act, Book, BookFault, Done, FinishFault, Job, Report, Ruling};
+use pd_book::{
+    Act, Book, BookFault, Done, FinishFault, Job, Report, Ruling, SharedEdit, SharedName,
+};
 use pd_settings::{Key, Settings, Value};
 use pd_text::{LineEdit, Lines, Name, Text};
 use pd_track::Track;
@@ -88,7 +90,8 @@ impl Held {
         self.notes.reserve(self.book.outstanding_count() + 1)?;
         seat.own.reserve(seat.open_jobs.len() + 1)?;
         let text = Text::new(*self.notes.allocator(), lines)?;
-        let act = Act::Add(name.copy()?, text.share()?);
+        let kept = SharedName::copy_of(*self.notes.allocator(), &name)?;
+        let act = Act::Add(kept, text.share()?);
         self.book.add_shared(name, text)?;
         let _acts = self.book.history();
         note(&mut self.notes, seat.number);
@@ -109,8 +112,10 @@ impl Held {
     {
         self.notes.reserve(self.book.outstanding_count() + 1)?;
         seat.own.reserve(seat.open_jobs.len() + 1)?;
-        let act = Act::Edit(name.copy()?, edit.copy()?);
-        self.book.edit(name, edit)?;
+        let name = SharedName::copy_of(*self.notes.allocator(), name)?;
+        let edit = SharedEdit::copy_of(*self.notes.allocator(), edit)?;
+        let act = Act::Edit(name.share()?, edit.share()?);
+        self.book.edit_shared(name, edit)?;
         let _acts = self.book.history();
         note(&mut self.notes, seat.number);
         record(&mut seat.own, act);
@@ -130,7 +135,7 @@ impl Held {
     {
         self.notes.reserve(self.book.outstanding_count() + 1)?;
         seat.own.reserve(seat.open_jobs.len() + 1)?;
-        let act = Act::Remove(name.copy()?);
+        let act = Act::Remove(SharedName::copy_of(*self.notes.allocator(), name)?);
         self.book.remove(name)?;
         let _acts = self.book.history();
         note(&mut self.notes, seat.number);
@@ -168,7 +173,8 @@ impl Held {
         let Some(name) = self.book.next_name() else {
             return Ok(None);
         };
-        Ok(Some(Act::Start(self.book.next_number(), name.copy()?)))
+        let name = SharedName::copy_of(*self.notes.allocator(), name)?;
+        Ok(Some(Act::Start(self.book.next_number(), name)))
     }
 
     /// Hands out the job of the first script that waits, with room for its end; `None`, which records nothing, where none

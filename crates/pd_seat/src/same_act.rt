@@ -4,20 +4,28 @@ ghost use Rattle.std.specs.Prelude.{◌≡◌, ◌↔◌, IsTrue};
 use pd_book::Act;
 use pd_settings::{Key, Value};
 
-/// Whether both are the same act. A set, of which there may be many in a row, is compared in place.
+/// Whether both are the same act. Sets to a truth value, of which there may be many in a row, are compared in place.
 #[inline(always)]
 pub fn is_same(one: &Act, other: &Act) -> bool
     ensures { IsTrue result ↔ (one.now ≡ other.now) }
 {
+    is_same_truth(one, other) || is_same_kind(one, other)
+}
+
+/// Whether both set one setting to one truth value.
+#[inline(always)]
+fn is_same_truth(one: &Act, other: &Act) -> bool
+    ensures { IsTrue result → one.now ≡ other.now }
+{
     match (one, other) {
-        (Act::Set(key, value), Act::Set(field, chosen)) => {
-            is_same_key(*key, *field) && is_same_value(value, chosen)
+        (Act::Set(key, Value::Truth(truth)), Act::Set(field, Value::Truth(chosen))) => {
+            is_same_key(*key, *field) && truth == chosen
         }
-        _ => is_same_kind(one, other),
+        _ => false,
     }
 }
 
-/// The same, kind by kind.
+/// Whether both are the same act, whatever they do.
 #[inline(never)]
 fn is_same_kind(one: &Act, other: &Act) -> bool
     ensures { IsTrue result ↔ (one.now ≡ other.now) }
@@ -29,25 +37,6 @@ fn is_same_kind(one: &Act, other: &Act) -> bool
 #[inline(always)]
 fn is_same_key(one: Key, other: Key) -> bool
     ensures { IsTrue result ↔ (one ≡ other) }
-{
-    one == other
-}
-
-/// Whether both are the same value. A truth value is compared in place.
-#[inline(always)]
-fn is_same_value(one: &Value, other: &Value) -> bool
-    ensures { IsTrue result ↔ (one.now ≡ other.now) }
-{
-    match (one, other) {
-        (Value::Truth(truth), Value::Truth(chosen)) => truth == chosen,
-        _ => is_same_kind_of_value(one, other),
-    }
-}
-
-/// The same, kind by kind.
-#[inline(never)]
-fn is_same_kind_of_value(one: &Value, other: &Value) -> bool
-    ensures { IsTrue result ↔ (one.now ≡ other.now) }
 {
     one == other
 }

@@ -13,6 +13,7 @@ use super::Book;
 use crate::act::{Act, Ruling};
 use crate::faults::{BookFault, FinishFault};
 use crate::recording::{Prepared, task_of};
+use crate::shared_name::SharedName;
 use pd_text::{Name, Text};
 use pd_track::{Done, Job, Task};
 
@@ -65,7 +66,8 @@ impl Book {
             text: text.share()?,
             settings: self.settings,
         };
-        let act = Act::Start(task.number, name.copy()?);
+        let kept = SharedName::copy_of(*self.records.acts.allocator(), name)?;
+        let act = Act::Start(task.number, kept);
         let track = match self.tracks.track(name) {
             Some(track) => Some(track.share()?),
             None => None,

@@ -21,14 +21,14 @@ pub fn is_history(alloc: Global, acts: &[Act], deeds: &[Deed]) -> Result<bool, A
 fn is_act(alloc: Global, act: &Act, deed: &Deed) -> Result<bool, AllocError> {
     match (act, deed) {
         (Act::Add(name, text), Deed::Add(script, kinds)) => {
-            Ok(is_name(alloc, name, *script)? && has_lines(alloc, text, kinds.as_slice())?)
+            Ok(is_name(alloc, name.name(), *script)? && has_lines(alloc, text, kinds.as_slice())?)
         }
         (Act::Edit(name, edit), Deed::Edit(script, change)) => {
-            Ok(is_name(alloc, name, *script)? && is_edit(edit, *change))
+            Ok(is_name(alloc, name.name(), *script)? && is_edit(edit.edit(), *change))
         }
-        (Act::Remove(name), Deed::Remove(script)) => is_name(alloc, name, *script),
+        (Act::Remove(name), Deed::Remove(script)) => is_name(alloc, name.name(), *script),
         (Act::Start(number, name), Deed::Start(job, script)) => {
-            Ok(*number == *job && is_name(alloc, name, *script)?)
+            Ok(*number == *job && is_name(alloc, name.name(), *script)?)
         }
         _ => Ok(is_plain_act(act, deed)),
     }

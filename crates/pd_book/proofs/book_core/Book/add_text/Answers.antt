@@ -34,6 +34,6 @@ invariant_of-self-2 c =
     (sym c.is_valid.ensures ∙ c.if-not-is_valid.false, absent, count, fits)
     refl refl c.self.invariant.settings
     (c.in_ok-add.ensures.ok ∙ cc (c.self.invariant.scripts, c.in_ok-share.ensures))
-    (c.record.ensures.past ∙ cc (c.in_ok-reserve.ensures.items, c.in_ok-copy.ensures, c.in_ok-share.ensures))
+    (c.record.ensures.past ∙ cc (c.in_ok-reserve.ensures.items, c.in_ok-kept.ensures, c.in_ok-share.ensures))
     few
     (omega (arith, c.in_ok-reserve.ensures.ok, c.record.ensures.capacity, length-reverse acts, c.in_ok-reserve.ensures.len, c.len.ensures))
