@@ -110,10 +110,27 @@ impl Held {
         ensures tracks { self.new.book.tracks ≡ self.old.book.tracks }
         ensures refuses { OnErr result ((self.new ≡ self.old) × (seat.new ≡ seat.old)) }
     {
+        let alloc = *self.notes.allocator();
+        let name = SharedName::copy_of(alloc, name)?;
+        let edit = SharedEdit::copy_of(alloc, edit)?;
+        self.edit_shared(seat, name, edit)
+    }
+
+    /// Edits the text of a script, where history and seat keep one name and one edit.
+    fn edit_shared(
+        &mut self,
+        seat: &mut Seat,
+        name: SharedName,
+        edit: SharedEdit,
+    ) -> Result<(), BookFault>
+        ensures gives { Unless BookFault.OutOfMemory result (GivesEdit self.old.book.story name edit result self.new.book.story) }
+        ensures legal { Legal self.old.book.story.opening self.old.book.story.past }
+        ensures records { OnOk result (Records self.old seat.old (Act.Edit name edit) self.new seat.new) }
+        ensures tracks { self.new.book.tracks ≡ self.old.book.tracks }
+        ensures refuses { OnErr result ((self.new ≡ self.old) × (seat.new ≡ seat.old)) }
+    {
         self.notes.reserve(self.book.outstanding_count() + 1)?;
         seat.own.reserve(seat.open_jobs.len() + 1)?;
-        let name = SharedName::copy_of(*self.notes.allocator(), name)?;
-        let edit = SharedEdit::copy_of(*self.notes.allocator(), edit)?;
         let act = Act::Edit(name.share()?, edit.share()?);
         self.book.edit_shared(name, edit)?;
         let _acts = self.book.history();
