@@ -67,7 +67,7 @@ fn put_packet(alloc: Global, out: &mut Vec<u8>, packet: &Packet) -> Result<(), A
 }
 
 /// Adds the letters of flags in the order F, S, R and P, and the point of ACK; `-` where none is set.
-fn put_flags(out: &mut Vec<u8>, flags: Flags) -> Result<(), AllocError>
+pub fn put_flags(out: &mut Vec<u8>, flags: Flags) -> Result<(), AllocError>
     ensures { OnOk result (out.new.items ≡ out.old.items ++ flags_text flags) }
 {
     put_letter(out, flags.fin, b'F')?;
@@ -101,7 +101,7 @@ fn put_point(out: &mut Vec<u8>, flags: Flags) -> Result<(), AllocError>
 }
 
 /// Adds the start, the end and the length.
-fn put_octets(alloc: Global, out: &mut Vec<u8>, packet: &Packet) -> Result<(), AllocError>
+pub fn put_octets(alloc: Global, out: &mut Vec<u8>, packet: &Packet) -> Result<(), AllocError>
     ensures { OnOk result (out.new.items ≡ out.old.items ++ octets_text packet.now) }
 {
     put_field(alloc, out, b" ", packet.start)?;
@@ -114,13 +114,23 @@ fn put_octets(alloc: Global, out: &mut Vec<u8>, packet: &Packet) -> Result<(), A
 fn put_fields(alloc: Global, out: &mut Vec<u8>, packet: &Packet) -> Result<(), AllocError>
     ensures { OnOk result (out.new.items ≡ out.old.items ++ fields_text packet.now) }
 {
-    if let Some(ack) = packet.ack {
-        put_field(alloc, out, b" ack ", ack)?;
+    put_numbered(alloc, out, b" ack ", packet.ack)?;
+    put_numbered(alloc, out, b" win ", packet.win)
+}
+
+/// Adds a word and a number where one is written.
+pub fn put_numbered(
+    alloc: Global,
+    out: &mut Vec<u8>,
+    word: &[u8],
+    number: Option<u32>,
+) -> Result<(), AllocError>
+    ensures { OnOk result (out.new.items ≡ out.old.items ++ numbered word.now number) }
+{
+    match number {
+        None => Ok(()),
+        Some(number) => put_field(alloc, out, word, number),
     }
-    if let Some(win) = packet.win {
-        put_field(alloc, out, b" win ", win)?;
-    }
-    Ok(())
 }
 
 /// Adds a word and a number.

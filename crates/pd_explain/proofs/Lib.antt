@@ -1,0 +1,5 @@
+-- Lemmas on explanations.
+pub mod RuleLemmas
+pub mod StopIsThere
+pub mod ShownLemmas
+pub mod InputLemmas

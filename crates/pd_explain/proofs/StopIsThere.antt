@@ -1,0 +1,87 @@
+-- A run whose verdict has a line, with a header that is run, is found to stop there, at one of its events.
+use Rattle.std.proofs.Common.{◌≡◌, ◌≤◌, ◌<◌, ℕ, ◌+◌, List, [], ◌∷◌, length, Option, Some, None, Result, Ok, Err, refl, sym, ap, subst, ◌∙◌, arith, false}
+use Rattle.std.specs.List.{filter_map, last_or}
+use Rattle.pd_settings.specs.declared.fields.Settings.{Settings}
+use Rattle.pd_script.specs.Header.{Heading}
+use Rattle.pd_script.specs.declared.parsing.Parsed.{Parsed}
+use Rattle.pd_script.specs.declared.script_events.Event.{Event}
+use Rattle.pd_script.specs.declared.script_header.HeaderItem.{HeaderItem}
+use Rattle.pd_host.specs.Sender.{fresh}
+use Rattle.pd_run.specs.Run.{tolerance_in, start_of, verdict_in, verdict_from}
+use Rattle.pd_run.specs.Step.{Running, on_step, step}
+use Rattle.pd_run.specs.Stops.{reason_on, stop_by, stop_from, stop_in, line_of, VerdictsHaveReasons}
+use Rattle.pd_run.specs.Why.{verdict_at}
+use Rattle.pd_run.specs.declared.stops.Stopped.{Stopped}
+use Rattle.pd_run.specs.declared.verdicts.Verdict.{Verdict}
+use Rattle.pd_run.specs.declared.whys.Why.{Why}
+use Rattle.pd_explain.specs.Explained.{not_run}
+
+-- where a stop is found among so many events after n others
+abbrev Within : ℕ → ℕ → Option Stopped → Type 0
+Within n more None = Unit {0}
+Within n more (Some stop) = stop.passed < n + more
+
+later : (n more : ℕ) (found : Option Stopped) → Within (n + 1) more found → Within n (more + 1) found
+later n more None h = tt
+later n more (Some stop) h = omega arith
+
+here : (n more : ℕ) (r : Running) (reason : Option Why) (rest : Option Stopped) → Within n (more + 1) rest
+    → Within n (more + 1) (stop_by n r reason rest)
+here n more r (Some w) rest h = omega arith
+here n more r None rest h = h
+
+onwards : (line n : ℕ) (es : List Event) (came : Result Running Verdict)
+    → ((s : Running) → Within (n + 1) (length es) (stop_from line (n + 1) es s))
+    → Within n (length es + 1) (on_step (stop_from line (n + 1) es) (λ v. None) came)
+onwards line n es (Ok s) each = later n (length es) (stop_from line (n + 1) es s) (each s)
+onwards line n es (Err v) each = tt
+
+within : (line n : ℕ) (es : List Event) (r : Running) → Within n (length es) (stop_from line n es r)
+within line n [] r = tt
+within line n (e ∷ es) r =
+    let one_more : length es + 1 ≡ length (e ∷ es) = omega arith in
+    subst (λ m. Within n m (stop_from line n (e ∷ es) r)) one_more
+    (here n (length es) r (reason_on line r e) _ (onwards line n es (step r e) (λ s. within line (n + 1) es s)))
+
+-- the run of a header that is run begins
+starts : (settings : Settings) (items : List HeaderItem) → not_run items ≡ None → (r : Running) × (start_of items settings ≡ Ok r)
+starts settings items h = (
+  record {
+    host = fresh settings;
+    clock = 0;
+    base = 0;
+    written = last_or None (filter_map tolerance_in items);
+    compared = false;
+  },
+  rw h refl,
+)
+
+-- a stop among the events that were read
+abbrev pub IsThere : ℕ → Settings → Parsed → Type 0
+IsThere line settings parsed = (stop : Stopped) × (stop_in line settings parsed ≡ Some stop) × (stop.passed < length parsed.events)
+
+by_fault : VerdictsHaveReasons → (settings : Settings) (header : Heading) (events : List Event) (fault : Option ℕ) (line : ℕ)
+    → line_of (verdict_in settings (record { header = header; events = events; fault = fault })) ≡ Some line
+    → not_run header.items ≡ None → IsThere line settings (record { header = header; events = events; fault = fault })
+by_fault law settings header events (Some at) line h run = absurd cc
+by_fault law settings header events None line h run =
+    let start = starts settings header.items run in
+    let from : line_of (verdict_from 0 events start.0) ≡ Some line = rw start.1 at h in
+    let stop = law 0 line events start.0 from in
+    let below : stop.0.passed < 0 + length events = subst (Within 0 (length events)) stop.1 (within line 0 events start.0) in
+    (stop.0, rw start.1 stop.1, omega (arith, below))
+
+pub is_there : VerdictsHaveReasons → (settings : Settings) (parsed : Parsed) (line : ℕ)
+    → line_of (verdict_in settings parsed) ≡ Some line → not_run parsed.header.items ≡ None → IsThere line settings parsed
+is_there law settings parsed line h run = by_fault law settings parsed.header parsed.events parsed.fault line h run
+
+-- the event at which a stop is found is one of those that were read
+pub at_event : VerdictsHaveReasons → (settings : Settings) (parsed : Parsed) (line : ℕ) (stop : Stopped)
+    → line_of (verdict_in settings parsed) ≡ Some line → not_run parsed.header.items ≡ None → stop_in line settings parsed ≡ Some stop
+    → stop.passed < length parsed.events
+at_event law settings parsed line stop h run found =
+    let there = is_there law settings parsed line h run in
+    subst (λ (s : Stopped). s.passed < length parsed.events) (some_is (sym there.1 ∙ found)) there.2
+  where
+    some_is : {a b : Stopped} → Some a ≡ Some b → a ≡ b
+    some_is e = cc

@@ -1,0 +1,7 @@
+-- The definitions that the contracts cite.
+pub mod Columns
+pub mod Senders
+pub mod Failures
+pub mod Explained
+pub mod Shown
+pub mod Rules

@@ -1,0 +1,81 @@
+//! Explains a verdict: looks into the run where it stopped.
+ghost use Rattle.std.specs.Prelude.{◌≡◌, Some, option_map, IfOk};
+ghost use Rattle.pd_run.specs.Run.{verdict_of};
+ghost use Rattle.pd_run.specs.Stops.{line_of};
+ghost use Rattle.pd_explain.specs.Explained.{row_line, not_run};
+
+use crate::explanations::{Cause, Explanation};
+use crate::failing::failure_of;
+use crate::refusals::find_refusal;
+use crate::rules::{event_rule, header_rule};
+use crate::writings::written_at;
+use pd_run::{Verdict, find_stop, verdicts_have_reasons};
+use pd_script::{Header, HeaderItem, HeaderKind, parse};
+use pd_settings::Settings;
+use pd_text::Lines;
+use std::alloc::{AllocError, Global};
+
+/// Explains the verdict that a run of a text under settings came to; nothing for a pass.
+///
+/// # Errors
+/// `AllocError` where a growth is refused.
+pub fn explain(
+    alloc: Global,
+    lines: &Lines,
+    settings: &Settings,
+    verdict: Verdict,
+) -> Result<Option<Explanation>, AllocError>
+    requires { verdict ≡ verdict_of lines.now settings.now }
+    ensures told { IfOk result (λ told. option_map (λ e. e.verdict) told ≡ option_map (λ _. verdict) (row_line verdict)) }
+    ensures at { IfOk result (λ told. option_map (λ e. e.line) told ≡ row_line verdict) }
+{
+    let (line, cause) = match verdict {
+        Verdict::Pass(_) => return Ok(None),
+        Verdict::Syntax(line) => (line, Cause::Syntax(find_refusal(alloc, lines, line)?)),
+        Verdict::Fail(line, _) | Verdict::Unsupported(line) | Verdict::Limit(line) => {
+            (line, cause_of_stop(alloc, lines, settings, line)?)
+        }
+    };
+    Ok(Some(Explanation {
+        line,
+        verdict,
+        cause,
+    }))
+}
+
+/// Why the run of a script stops on a line.
+fn cause_of_stop(
+    alloc: Global,
+    lines: &Lines,
+    settings: &Settings,
+    line: usize,
+) -> Result<Cause, AllocError>
+    requires { line_of (verdict_of lines.now settings.now) ≡ Some line }
+{
+    // The law does no work: that a stop is found rests on it.
+    verdicts_have_reasons();
+    let parsed = parse(alloc, lines)?;
+    if let Some(item) = item_not_run(&parsed.header) {
+        return Ok(Cause::Rule(header_rule(&item)));
+    }
+    let Some(stop) = find_stop(alloc, &parsed, settings, line)? else {
+        unreachable!()
+    };
+    let event = &parsed.events.as_slice()[stop.passed];
+    let writing = written_at(alloc, lines, parsed.header.end(), stop.passed)?;
+    match failure_of(alloc, event, &stop, writing)? {
+        Some(failure) => Ok(Cause::Failed(failure)),
+        None => Ok(Cause::Rule(event_rule(event, &stop))),
+    }
+}
+
+/// The first header item that isn't run.
+fn item_not_run(header: &Header) -> Option<HeaderItem>
+    ensures { result ≡ not_run header.now.items }
+{
+    header
+        .as_slice()
+        .iter()
+        .copied()
+        .find(|item| !matches!(item.kind, HeaderKind::Tolerance(_)))
+}

@@ -1,0 +1,54 @@
+//! What a row came to, in words.
+use pd_match::Kind;
+use pd_run::Verdict;
+
+/// The name of a verdict, as in a report.
+pub fn verdict_name(verdict: Verdict) -> &'static str {
+    match verdict {
+        Verdict::Pass(_) => "pass",
+        Verdict::Fail(_, _) => "fail",
+        Verdict::Syntax(_) => "syntax",
+        Verdict::Unsupported(_) => "unsupported",
+        Verdict::Limit(_) => "limit",
+    }
+}
+
+/// The name of what differs first, as in a report.
+pub fn kind_name(kind: Kind) -> &'static str {
+    match kind {
+        Kind::Time => "time",
+        Kind::Flags => "flags",
+        Kind::Seq => "seq",
+        Kind::Ack => "ack",
+        Kind::Win => "win",
+        Kind::Options => "options",
+        Kind::Result => "result",
+        Kind::Missing => "missing",
+        Kind::Backwards => "backwards",
+    }
+}
+
+/// What a verdict says.
+pub fn verdict_words(verdict: Verdict) -> &'static str {
+    match verdict {
+        Verdict::Pass(_) => "all events passed",
+        Verdict::Fail(_, kind) => kind_words(kind),
+        Verdict::Syntax(_) => "the text is no script",
+        Verdict::Unsupported(_) => "the sender doesn't run this",
+        Verdict::Limit(_) => "a number is over its limit",
+    }
+}
+
+fn kind_words(kind: Kind) -> &'static str {
+    match kind {
+        Kind::Time => "the packet was sent at another time",
+        Kind::Flags => "the packet has other flags",
+        Kind::Seq => "the packet has other octets",
+        Kind::Ack => "the packet has another acknowledgment number",
+        Kind::Win => "the packet has another window",
+        Kind::Options => "the packet has other options",
+        Kind::Result => "the call has another result",
+        Kind::Missing => "no packet was sent in time",
+        Kind::Backwards => "the event's time lies before that of the event before it",
+    }
+}

@@ -1,0 +1,194 @@
+//! What could stand where no script goes on: candidates, each tried by reading a text with it.
+use crate::refusals::trying::{goes_on, is_script};
+use std::alloc::{AllocError, Global};
+
+/// A token that stands nowhere but inside an argument or a note.
+const ONLY_INSIDE: &[u8] = b";";
+
+/// A word that is no name that counts.
+const SOME_WORD: &[u8] = b"f";
+
+/// What follows the name of a call, and no name of an error.
+const SOME_CALL: &[u8] = b"f()=";
+
+/// A time, as no event but the next begins.
+const SOME_TIME: &[u8] = b"*";
+
+/// Inside an argument or a note: any token, and what may end it.
+const INSIDE: [(&str, &str); 5] = [
+    (";", "a token of an argument or a note"),
+    (",", "`,`"),
+    (")", "`)`"),
+    ("]", "`]`"),
+    ("}", "`}`"),
+];
+
+/// What comes first in the list.
+const FIRST: [(&str, &str); 3] = [
+    ("--a", "an option of the header"),
+    ("~", "`~`"),
+    ("...", "`...`"),
+];
+
+/// What comes before the numbers.
+const BEFORE_NUMBERS: [(&str, &str); 3] = [("``", "a command"), ("%{}%", "code"), (".", "`.`")];
+
+/// What comes behind the numbers.
+const BEHIND_NUMBERS: [(&str, &str); 5] = [
+    ("0x0", "a hexadecimal number up to 0xffffffff"),
+    ("-", "`-`"),
+    (":", "`:`"),
+    ("(", "`(`"),
+    (")", "`)`"),
+];
+
+/// The words that have a meaning each at its place; where any word may stand they aren't told.
+const NAMES: [(&str, &str); 11] = [
+    ("ack", "`ack`"),
+    ("win", "`win`"),
+    ("mss", "`mss`"),
+    ("wscale", "`wscale`"),
+    ("sackOK", "`sackOK`"),
+    ("nop", "`nop`"),
+    ("eol", "`eol`"),
+    ("TS", "`TS`"),
+    ("sack", "`sack`"),
+    ("val", "`val`"),
+    ("ecr", "`ecr`"),
+];
+
+/// What comes last but for a time and the end of the text.
+const LAST: [(&str, &str); 4] = [("=", "`=`"), (",", "`,`"), ("<", "`<`"), (">", "`>`")];
+
+/// The candidates that were tried.
+#[derive(Drop)]
+struct Trials<'a> {
+    alloc: Global,
+    /// The octets behind which they are tried.
+    before: &'a [u8],
+    /// What those are called with which a script goes on.
+    expected: Vec<&'static str>,
+}
+
+/// What could stand behind the octets of a script's first tokens, in the order of the tables. The end less the start is given
+/// where a packet's length stands next.
+///
+/// # Errors
+/// `AllocError` where a growth is refused.
+pub fn expected(
+    alloc: Global,
+    before: &[u8],
+    difference: Option<u64>,
+) -> Result<Vec<&'static str>, AllocError> {
+    let mut trials = Trials {
+        alloc,
+        before,
+        expected: Vec::new(alloc),
+    };
+    if trials.goes_on(ONLY_INSIDE)? {
+        trials.try_all(&INSIDE)?;
+    } else {
+        trials.try_outside(difference)?;
+    }
+    Ok(trials.expected)
+}
+
+impl Trials<'_> {
+    fn goes_on(&self, candidate: &[u8]) -> Result<bool, AllocError> {
+        goes_on(self.alloc, self.before, candidate)
+    }
+
+    fn tell(&mut self, words: &'static str) -> Result<(), AllocError> {
+        self.expected.push(words)?;
+        Ok(())
+    }
+
+    fn try_all(&mut self, candidates: &[(&'static str, &'static str)]) -> Result<(), AllocError> {
+        for (candidate, words) in candidates {
+            if self.goes_on(candidate.as_bytes())? {
+                self.tell(words)?;
+            }
+        }
+        Ok(())
+    }
+
+    /// Outside arguments and notes. Where an event may begin, a time stands for its parts.
+    fn try_outside(&mut self, difference: Option<u64>) -> Result<(), AllocError> {
+        let begins_event = self.goes_on(SOME_TIME)?;
+        let is_word = self.goes_on(SOME_WORD)?;
+        self.try_all(&FIRST)?;
+        if is_word {
+            self.try_any_word()?;
+        } else {
+            self.try_flags()?;
+        }
+        self.try_all(&BEFORE_NUMBERS)?;
+        if !begins_event {
+            self.try_number(difference)?;
+        }
+        self.try_all(&BEHIND_NUMBERS)?;
+        if !is_word {
+            self.try_all(&NAMES)?;
+        }
+        self.try_all(&LAST)?;
+        if begins_event {
+            self.tell("a time")?;
+        }
+        if is_script(self.alloc, self.before)? {
+            self.tell("the end of the text")?;
+        }
+        Ok(())
+    }
+
+    fn try_any_word(&mut self) -> Result<(), AllocError> {
+        if self.goes_on(SOME_CALL)? {
+            self.tell("the name of a call")
+        } else {
+            self.tell("the name of an error")
+        }
+    }
+
+    fn try_flags(&mut self) -> Result<(), AllocError> {
+        if self.goes_on(b"S")? {
+            self.tell("letters of flags")?;
+        }
+        Ok(())
+    }
+
+    /// A number is tried by the least and the greatest that are written in 32 bits.
+    fn try_number(&mut self, difference: Option<u64>) -> Result<(), AllocError> {
+        if self.goes_on(b"+")? {
+            self.tell("`+`")?;
+        }
+        if self.goes_on(b"4294967295.999999")? {
+            if self.goes_on(b"0.0")? {
+                self.tell("seconds below 4,294,967,296")
+            } else {
+                self.tell("seconds from the first number on, below 4,294,967,296")
+            }
+        } else if self.is_length(difference)? {
+            self.tell("the end less the start")
+        } else {
+            self.try_whole_number()
+        }
+    }
+
+    fn is_length(&self, difference: Option<u64>) -> Result<bool, AllocError> {
+        let Some(octets) = difference else {
+            return Ok(false);
+        };
+        let digits = octets.to_string(self.alloc)?;
+        self.goes_on(digits.as_bytes())
+    }
+
+    fn try_whole_number(&mut self) -> Result<(), AllocError> {
+        if !self.goes_on(b"4294967295")? {
+            return Ok(());
+        }
+        if self.goes_on(b"0")? {
+            self.tell("a whole number up to 4,294,967,295")
+        } else {
+            self.tell("a whole number from the start up to 4,294,967,295")
+        }
+    }
+}

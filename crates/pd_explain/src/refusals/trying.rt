@@ -1,0 +1,67 @@
+//! Whether a script goes on with some octets: the grammar's reader tells.
+ghost use Rattle.std.specs.Prelude.{◌≡◌};
+ghost use Rattle.pd_text.specs.Text.{is_line};
+
+use pd_script::parse;
+use pd_text::{LineList, Lines};
+use std::alloc::{AllocError, Global};
+
+/// The line on which a candidate stands, in the text that is tried.
+const TRIED: usize = 2;
+
+/// Whether a script goes on with a candidate behind these octets. One for which a text has no room isn't tried.
+///
+/// # Errors
+/// `AllocError` where a growth is refused.
+pub fn goes_on(alloc: Global, before: &[u8], candidate: &[u8]) -> Result<bool, AllocError> {
+    match fault_of(alloc, before, candidate)? {
+        Some(line) => Ok(line > TRIED),
+        None => Ok(true),
+    }
+}
+
+/// Whether these octets are a script.
+///
+/// # Errors
+/// `AllocError` where a growth is refused.
+pub fn is_script(alloc: Global, octets: &[u8]) -> Result<bool, AllocError> {
+    Ok(fault_of(alloc, octets, b"")?.is_none())
+}
+
+/// Whether no script begins with these octets.
+///
+/// # Errors
+/// `AllocError` where a growth is refused.
+pub fn is_refused(alloc: Global, octets: &[u8]) -> Result<bool, AllocError> {
+    match fault_of(alloc, octets, b"")? {
+        Some(line) => Ok(line < TRIED),
+        None => Ok(false),
+    }
+}
+
+/// The fault of a text of three lines: these octets, a candidate, and nothing, so that the end of the text stands on a line of
+/// its own. A text that has no room for them is refused at the candidate.
+fn fault_of(alloc: Global, before: &[u8], candidate: &[u8]) -> Result<Option<usize>, AllocError> {
+    let mut list = LineList::new(alloc);
+    push_line(&mut list, before)?;
+    push_line(&mut list, candidate)?;
+    push_line(&mut list, b"")?;
+    match Lines::new(list) {
+        Ok(lines) => Ok(parse(alloc, &lines)?.fault),
+        Err(_) => Ok(Some(TRIED)),
+    }
+}
+
+/// Adds octets as a line. None of those that are tried has a newline.
+fn push_line(list: &mut LineList, octets: &[u8]) -> Result<(), AllocError> {
+    if is_line(octets) {
+        list.push(octets)?;
+    }
+    Ok(())
+}
+
+fn is_line(octets: &[u8]) -> bool
+    ensures { result ≡ is_line octets.now }
+{
+    octets.iter().all(|octet| *octet != b'\n')
+}

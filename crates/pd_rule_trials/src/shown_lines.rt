@@ -1,0 +1,34 @@
+//! Lines as they are shown and cut.
+use pd_explain::{cut_around, cut_line, put_shown};
+use std::alloc::{AllocError, Global};
+
+/// A line as it is shown, cut.
+pub fn cut(alloc: Global, line: &str) -> Result<String, AllocError> {
+    let mut shown = Vec::new(alloc);
+    put_shown(&mut shown, line.as_bytes())?;
+    let cut = cut_line(alloc, shown.as_slice())?;
+    text_of(alloc, cut.as_slice())
+}
+
+/// The same around the first `!`, behind the column of that.
+pub fn cut_at_mark(alloc: Global, line: &str) -> Result<String, AllocError> {
+    let mut shown = Vec::new(alloc);
+    put_shown(&mut shown, line.as_bytes())?;
+    let mark = shown
+        .as_slice()
+        .iter()
+        .take_while(|octet| **octet != b'!')
+        .count();
+    let (cut, column) = cut_around(alloc, shown.as_slice(), mark)?;
+    let text = text_of(alloc, cut.as_slice())?;
+    format!(in alloc; "{column} {text}")
+}
+
+/// Octets of ASCII as a text.
+fn text_of(alloc: Global, octets: &[u8]) -> Result<String, AllocError> {
+    let mut text = String::new(alloc);
+    for octet in octets {
+        text.push(char::from(*octet))?;
+    }
+    Ok(text)
+}
