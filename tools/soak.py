@@ -1,5 +1,6 @@
-"""Runs a program on random input of several kinds and says how it fared; tools/soak.sh calls it."""
+"""Runs programs on random input of several kinds and says how they fared; tools/soak.sh calls it."""
 
+import json
 import os
 import random
 import re
@@ -21,6 +22,8 @@ LAST_LINE = re.compile(
     rb"total \d+ pass \d+ fail \d+ syntax \d+ unsupported \d+ limit \d+ pending \d+\n\Z"
 )
 FAULT = re.compile(rb"pdregress: \d+ [A-Za-z]+\n")
+# What a block may have: lines of octets that print, each of about 200 of them at most.
+BLOCKS = re.compile(rb"(?:[A-Za-z0-9_.-]+:\d+: [ -~]{1,300}\n(?:  [ -~]{1,300}\n)*)*")
 
 NAMES = [b"a", b"b", b"c", b"script", b"a.b", b"x" * 64]
 KEYS = [
@@ -225,6 +228,38 @@ def run_beside(program, text, figures):
     return None
 
 
+def run_explaining(program, explain, text, figures):
+    """One stream with each of both programs; what the one that explains says otherwise, if something."""
+    plain = subprocess.run([program], input=text, capture_output=True, timeout=SECONDS)
+    with open("/dev/full", "wb") as full:
+        unheard = subprocess.run([explain], input=text, stdout=subprocess.PIPE, stderr=full, timeout=SECONDS)
+    if (unheard.returncode, unheard.stdout) != (plain.returncode, plain.stdout):
+        return "another report or status where nobody hears"
+    for words in ([], ["--only", "a"], ["--json"]):
+        ended = timed([explain, *words], text, figures)
+        if ended is None:
+            return "no end within %d s with %s" % (SECONDS, words)
+        if figures.last_kib > MOST_KIB:
+            return "%d KiB with %s" % (figures.last_kib, words)
+        if (ended.returncode, ended.stdout) != (plain.returncode, plain.stdout):
+            return "another report or status with %s" % words
+        if not ended.stderr.endswith(plain.stderr) or not are_blocks(ended.stderr[: -len(plain.stderr) or None], words):
+            return "told %r with %s" % (ended.stderr[-200:], words)
+        figures.octets += len(ended.stderr)
+    figures.runs += 1
+    return None
+
+
+def are_blocks(said, words):
+    """Whether what was said is blocks, or where JSON was asked for an object a line."""
+    if "--json" not in words:
+        return bool(BLOCKS.fullmatch(said)) and (not words or all(it.startswith((b"a:", b"  ")) for it in said.split(b"\n")[:-1]))
+    try:
+        return all(isinstance(json.loads(line), dict) for line in said.decode("ascii").splitlines())
+    except ValueError:
+        return False
+
+
 def run_closed(program, text, workers):
     """One stream whose output or whose input fails; what is said otherwise than the fault, if something."""
     words = [program, "--workers", str(workers)]
@@ -260,6 +295,21 @@ def soak_beside(program, rounds, seed):
     return wrong
 
 
+def soak_explaining(program, explain, rounds, seed):
+    """Streams that are explained; prints a line and gives how many were wrong."""
+    figures, wrong = Figures(), 0
+    for number in range(seed, seed + rounds):
+        dice = random.Random(f"explaining {number}")
+        for fault in filter(None, (run_explaining(program, explain, stream(dice), figures) for _ in range(STREAMS))):
+            wrong += 1
+            print(f"explaining, seed {number}: {fault}")
+    print(
+        f"explaining: {figures.runs} streams, {figures.octets} octets of blocks; "
+        f"{figures.seconds:.2f} s at most, {figures.kib} KiB at most"
+    )
+    return wrong
+
+
 def fault_of(status, said, told, kib):
     if status not in (0, 1, 2):
         return "status %d" % status
@@ -273,7 +323,7 @@ def fault_of(status, said, told, kib):
 
 
 def main():
-    program, rounds, seed = sys.argv[1], int(sys.argv[2]), int(sys.argv[3])
+    program, explain, rounds, seed = sys.argv[1], sys.argv[2], int(sys.argv[3]), int(sys.argv[4])
     wrong = 0
     for kind, make in KINDS.items():
         figures = Figures()
@@ -286,6 +336,7 @@ def main():
         ends = ", ".join(f"{count} with status {status}" for status, count in sorted(figures.ends.items()))
         print(f"{kind}: {figures.runs} runs, {ends}; {figures.seconds:.2f} s at most, {figures.kib} KiB at most")
     wrong += soak_beside(program, rounds, seed)
+    wrong += soak_explaining(program, explain, rounds, seed)
     print(f"{wrong} wrong, bound {MOST_KIB} KiB and {SECONDS} s a run")
     sys.exit(1 if wrong else 0)
 

@@ -11,6 +11,7 @@ pub mod Newlines
 pub mod Gather
 pub mod Heard
 pub mod Known
+pub mod Looking
 pub mod Written
 pub mod Settled
 pub mod Telling

@@ -1,13 +1,13 @@
 -- The texts of the options among the program's words.
 use Rattle.std.proofs.Common.{◌≡◌, ◌≢◌, ◌⊎◌, inl, inr, ℕ, List, [], ◌∷◌, Result, Ok, Err, IfErr, IsErrAnd, sym, subst, Option, Some, None, option_map, unwrap_or, true, codes, Bor, refl, ap, ◌∙◌}
-use Rattle.clap.specs.Words.{App, HasKind, IsAmong, Kinds, is_simple_and_free, kind_of, Text, first_of, first_value, found_of, is_simple, matches_of, HasMatchesOf}
+use Rattle.clap.specs.Words.{all_of, matched_of, raw_values, App, HasKind, IsAmong, Kinds, is_simple_and_free, kind_of, Text, first_of, first_value, found_of, is_simple, matches_of, HasMatchesOf}
 use Rattle.clap.specs.declared.parser.matches.ArgMatches.{ArgMatches}
 use Rattle.clap.specs.declared.error.Error.{Error}
 use Rattle.clap.specs.declared.error.kind.ErrorKind.{ErrorKind}
 use Rattle.clap.specs.declared.error.kind.ErrorKind.TheVariants.{OutOfMemory}
 use Rattle.clap.proofs.OnLiterals.{clap_on_literals}
-use Rattle.clap.proofs.WalkLemmas.{first_value-rows}
-use Rattle.pd_cli.specs.ProgramWords.{pdregress, pdsteps, option_text}
+use Rattle.clap.proofs.WalkLemmas.{first_value-rows, raw_values-rows}
+use Rattle.pd_cli.specs.ProgramWords.{pdregress, pdsteps, pdexplain, option_text}
 
 pub simple_pdregress : is_simple pdregress ≡ true
 unfolding clap_on_literals
@@ -16,6 +16,10 @@ simple_pdregress = refl
 pub simple_pdsteps : is_simple pdsteps ≡ true
 unfolding clap_on_literals
 simple_pdsteps = refl
+
+pub simple_pdexplain : is_simple pdexplain ≡ true
+unfolding clap_on_literals
+simple_pdexplain = refl
 
 now_or : (r : Option (Bor (List ℕ))) (d : Bor (List ℕ)) → (unwrap_or r d).now ≡ unwrap_or (option_map (λ (s : Bor (List ℕ)). s.now) r) d.now
 now_or None d = refl
@@ -35,6 +39,14 @@ free_pdregress = refl
 pub free_pdsteps : is_simple_and_free pdsteps ≡ true
 unfolding clap_on_literals
 free_pdsteps = refl
+
+pub free_pdexplain : is_simple_and_free pdexplain ≡ true
+unfolding clap_on_literals
+free_pdexplain = refl
+
+-- the values of an option, where one that isn't written has none
+pub chosen_values : (program : App) (id : List ℕ) (m : ArgMatches) (words : List Text) → is_simple program ≡ true → HasMatchesOf program words m → unwrap_or (option_map raw_values (matched_of (found_of m) id)) [] ≡ unwrap_or (all_of id (matches_of program words)) []
+chosen_values program id m words simple h = ap (λ (o : Option (List Text)). unwrap_or o []) (raw_values-rows (found_of m) id ∙ ap (all_of id) (h simple).0)
 
 among : (kinds : Kinds) (k : ErrorKind) → IsAmong k kinds → kinds ≢ []
 among [] k h e = absurd h

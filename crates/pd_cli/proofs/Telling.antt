@@ -17,7 +17,7 @@ pub says_none : (w : Option (List ℕ)) → Says true w w []
 says_none w = ([], appends_none w, refl)
 
 -- a line behind others, where all of these were said
-says_more : (before told : Bool) (w w1 w2 : Option (List ℕ)) (lines line : List ℕ) → Says before w w1 lines → SaysMore before told w1 w2 line → Says told w w2 (lines ++ line)
+pub says_more : (before told : Bool) (w w1 w2 : Option (List ℕ)) (lines line : List ℕ) → Says before w w1 lines → SaysMore before told w1 w2 line → Says told w w2 (lines ++ line)
 says_more true told w w1 w2 lines line s m = says_then told w w1 w2 lines line s m
 says_more false told w w1 w2 lines line s m =
     rw m.0 (subst (λ (x : Option (List ℕ)). Says false w x (lines ++ line)) (sym m.1) (says_front w w1 lines line s))

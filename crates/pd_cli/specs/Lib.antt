@@ -1,8 +1,10 @@
 -- The definitions of the input, the commands, the report and the output.
 pub mod Beside
 pub mod BesideSteps
+pub mod Blocks
 pub mod Chosen
 pub mod Commands
+pub mod ExplainProgram
 pub mod Input
 pub mod Laws
 pub mod Output

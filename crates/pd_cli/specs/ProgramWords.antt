@@ -1,7 +1,7 @@
 -- The words of the programs, in the definitions of `clap`.
-use Rattle.std.specs.Prelude.{ℕ, nat_le, ◌==◌, ◌&&◌, ◌||◌, List, [], ◌∷◌, codes, if◌then◌else◌, Some, unwrap_or, pos}
-use Rattle.clap.specs.Words.{App, Kinds, Rule, Text, fault_of, first_of, matches_of, new_app, new_rule, with_rule}
-use Rattle.clap.specs.declared.builder.ArgAction.TheVariants.{Set}
+use Rattle.std.specs.Prelude.{ℕ, nat_le, Bool, ◌==◌, ◌&&◌, ◌||◌, List, [], ◌∷◌, bytes_eq, codes, if◌then◌else◌, Some, unwrap_or, pos}
+use Rattle.clap.specs.Words.{App, Kinds, Rule, Text, all_of, fault_of, first_of, matches_of, new_app, new_rule, with_rule}
+use Rattle.clap.specs.declared.builder.ArgAction.TheVariants.{Append, Set, SetTrue}
 use Rattle.clap.specs.declared.builder.value_parser.ValueParser.TheVariants as parser
 use Rattle.pd_cli.specs.Words.{are_digits, number_of}
 
@@ -34,6 +34,21 @@ cache_rule = record (new_rule (codes "cache")) {
   parser = Some (parser.Signed (pos 1) (pos 1024));
 }
 
+-- `--only NAME`, as often as it is wanted
+abbrev pub only_rule : Rule
+only_rule = record (new_rule (codes "only")) {
+  long = Some (codes "only");
+  action = Some Append;
+  value_names = 1;
+}
+
+-- `--json`
+abbrev pub json_rule : Rule
+json_rule = record (new_rule (codes "json")) {
+  long = Some (codes "json");
+  action = Some SetTrue;
+}
+
 -- the program that runs scripts
 abbrev pub pdregress : App
 pdregress = with_rule (with_rule (with_rule (new_app (codes "pdregress")) settings_rule) cache_rule) workers_rule
@@ -41,6 +56,10 @@ pdregress = with_rule (with_rule (with_rule (new_app (codes "pdregress")) settin
 -- the program that tells steps too: it takes no workers
 abbrev pub pdsteps : App
 pdsteps = with_rule (with_rule (new_app (codes "pdsteps")) settings_rule) cache_rule
+
+-- the program that explains rows too: it takes no workers
+abbrev pub pdexplain : App
+pdexplain = with_rule (with_rule (with_rule (with_rule (new_app (codes "pdexplain")) settings_rule) cache_rule) only_rule) json_rule
 
 -- the text of an option among the words of a program, of which the first is its own name; an empty one where the program
 -- hasn't this option
@@ -76,6 +95,14 @@ cache_in word =
 -- how many tracks words ask for
 abbrev pub cache_size : App → List Text → ℕ
 cache_size program words = cache_in (option_text program (codes "cache") words)
+
+-- the names of scripts that words single out
+abbrev pub only_names : App → List Text → List Text
+only_names program words = unwrap_or (all_of (codes "only") (matches_of program words)) []
+
+-- words ask for JSON
+abbrev pub asks_json : App → List Text → Bool
+asks_json program words = bytes_eq (option_text program (codes "json") words) (codes "true")
 
 -- why a program refuses words, the request for help among it: the kinds of the first fault, or none
 abbrev pub word_faults : App → List Text → Kinds

@@ -1,4 +1,4 @@
-//! What the program's words choose.
+//! What a program's words choose.
 
 /// What the program's words choose.
 #[derive(Clone, Copy, PartialEq, Eq)]
@@ -9,4 +9,17 @@ pub struct Options<'a> {
     pub workers: usize,
     /// How many tracks the book keeps, 1 to 1,024.
     pub cache: usize,
+}
+
+/// What the words of the program that explains choose.
+#[derive(Drop)]
+pub struct ExplainOptions<'a> {
+    /// A TOML text of settings.
+    pub settings: &'a str,
+    /// How many tracks the book keeps, 1 to 1,024.
+    pub cache: usize,
+    /// The names of the scripts that are looked into; where there are none, all are.
+    pub only: Vec<&'a str>,
+    /// Whether blocks are JSON.
+    pub json: bool,
 }

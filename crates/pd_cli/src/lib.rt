@@ -2,12 +2,15 @@
 #![tactic(auto)]
 
 mod acts;
+mod blocks;
 mod call_words;
 mod chosen;
 mod command;
 mod desk_acts;
 mod desk_reports;
 mod exits;
+mod explain_program;
+mod explain_words;
 mod faults;
 mod gathered;
 mod intake;
@@ -28,8 +31,10 @@ mod workers;
 mod writing;
 
 pub use call_words::{arguments, refuse_arguments};
-pub use chosen::Options;
+pub use chosen::{ExplainOptions, Options};
 pub use exits::Exit;
+pub use explain_program::run_explaining;
+pub use explain_words::explain_options;
 pub use faults::ServeFault;
 pub use laws::reports;
 pub use program_faults::ProgramFault;

@@ -3,6 +3,7 @@ ghost use Rattle.std.specs.Prelude.{◌≡◌, ◌++◌, IfOk, OnOk, OnErr};
 ghost use Rattle.pd_cli.specs.StepLines.{Counted, step_line};
 
 use crate::writing::say;
+use pd_book::Done;
 use pd_text::Name;
 use std::alloc::{AllocError, Global};
 use std::io::Write;
@@ -14,12 +15,12 @@ pub(crate) trait Listener {
 
     ghost hears: { Self → Self → Counted → Type 0 };
 
-    /// A job of this number on the script of this name was finished, after so many steps.
+    /// A job was finished with this result, after so many steps.
     ///
     /// # Errors
     /// `AllocError` where a growth for what is told is refused.
-    fn finished(&mut self, number: u64, name: &Name, steps: u64) -> Result<(), AllocError>
-        ensures heard { OnOk result (hears self.old self.new (record { number = number; name = name.now; steps = steps })) }
+    fn finished(&mut self, done: &Done, steps: u64) -> Result<(), AllocError>
+        ensures heard { OnOk result (hears self.old self.new (record { number = done.now.number; name = done.now.name; steps = steps })) }
         ensures same { OnErr result (self.new ≡ self.old) };
 }
 
@@ -30,7 +31,7 @@ pub(crate) struct Silent;
 impl Listener for Silent {
     ghost hears = { λ _ _ _. Unit {0} };
 
-    fn finished(&mut self, _number: u64, _name: &Name, _steps: u64) -> Result<(), AllocError> {
+    fn finished(&mut self, _done: &Done, _steps: u64) -> Result<(), AllocError> {
         Ok(())
     }
 }
@@ -52,8 +53,8 @@ impl<'a, E: Write> Listener for StepLines<'a, E> {
 
     ghost hears = { λ old new job. (new.err.ghost_name ≡ old.err.ghost_name) × SaysMore old.told new.told (E.contents old.err.now) (E.contents new.err.now) (step_line job) };
 
-    fn finished(&mut self, number: u64, name: &Name, steps: u64) -> Result<(), AllocError> {
-        let line = step_line(self.alloc, number, name, steps)?;
+    fn finished(&mut self, done: &Done, steps: u64) -> Result<(), AllocError> {
+        let line = step_line(self.alloc, done.number(), done.name(), steps)?;
         if self.told {
             self.told = say(self.err, line.as_slice());
         }

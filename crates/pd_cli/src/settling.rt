@@ -42,7 +42,7 @@ fn turn<L: Listener>(alloc: Global, book: &mut Book, listener: &mut L) -> Result
     match run_job(alloc, job, &mut stepper) {
         Ok(done) => {
             let _ruling = book.finish(&done).unwrap();
-            listener.finished(done.number(), done.name(), stepper.count())?;
+            listener.finished(&done, stepper.count())?;
             Ok(true)
         }
         Err(_) => Err(ServeFault::OutOfMemory),

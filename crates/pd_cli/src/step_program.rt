@@ -58,7 +58,7 @@ fn run_telling<R: Read, W: Write, E: Write>(
 }
 
 /// Ends a run behind its lines, with whether all of them were said.
-fn ended<E: Write>(told: bool, end: Result<bool, ProgramFault>, err: &mut E) -> Exit
+pub(crate) fn ended<E: Write>(told: bool, end: Result<bool, ProgramFault>, err: &mut E) -> Exit
     ensures status { result.status ≡ status_of end }
     ensures said { SaysMore told result.told (E.contents err.old) (E.contents err.new) (said_of end) }
 {

@@ -55,6 +55,9 @@ const COMMANDS: &str = commands!("pdregress");
 /// What `--help` of the program that tells steps says last.
 const COMMANDS_STEPS: &str = commands!("pdsteps");
 
+/// What `--help` of the program that explains says last.
+pub(crate) const COMMANDS_EXPLAIN: &str = commands!("pdexplain");
+
 /// Reads the words of the program that runs scripts, of which the first is its own name.
 ///
 /// # Errors
@@ -136,7 +139,7 @@ fn steps_command<'a>(alloc: Global) -> Result<Command<'a>, Error>
     )
 }
 
-fn settings_option<'a>(alloc: Global) -> Arg<'a>
+pub(crate) fn settings_option<'a>(alloc: Global) -> Arg<'a>
     ensures rule { rule_of result ≡ settings_rule }
     ensures local { result.global ≡ false }
 {
@@ -161,7 +164,7 @@ fn workers_option<'a>(alloc: Global) -> Arg<'a>
         .action(ArgAction::Set)
 }
 
-fn cache_option<'a>(alloc: Global) -> Arg<'a>
+pub(crate) fn cache_option<'a>(alloc: Global) -> Arg<'a>
     ensures rule { rule_of result ≡ cache_rule }
     ensures local { result.global ≡ false }
 {
@@ -186,7 +189,7 @@ fn workers_in(word: &[u8]) -> usize
 }
 
 /// The number of tracks that a word writes, which `clap` let through.
-fn cache_in(word: &[u8]) -> usize
+pub(crate) fn cache_in(word: &[u8]) -> usize
     ensures size { result ≡ cache_in word.now }
     ensures some { 1 ≤ result }
     ensures most { result ≤ 1024 }

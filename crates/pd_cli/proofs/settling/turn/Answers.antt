@@ -1,4 +1,4 @@
-use Rattle.std.proofs.Common.{sym, ap, ℕ, ◌+◌, ◌∙◌}
+use Rattle.std.proofs.Common.{refl, sym, ap, ℕ, ◌+◌, ◌∙◌}
 use Rattle.pd_track.specs.Reuse as reuse
 use Rattle.pd_cli.proofs.Settled.{start_full, finish_ok, finish_own, turn_done}
 use Rattle.pd_cli.proofs.Heard.{turn_heard}
@@ -27,5 +27,5 @@ returns-in-Err-run_job-clause-turns g c = tt
 
 pub returns-in_ok-finished-in-Ok-clause-heard : goal.returns-in_ok-finished-in-Ok-clause-heard
 returns-in_ok-finished-in-Ok-clause-heard g c =
-    turn_heard g.L.Listener.hears c.args.listener.now c.finished.new.self c.args.book.now.story c.in-Ok-Some.field-0 c.in-Ok-Some.job c.in-Ok.done c.number.result c.name.result.now c.count.result c.in-Ok-Some.field-0-is c.in-Ok-Some.ensures.job c.in-Ok.ensures.done c.number.ensures c.name.ensures
+    turn_heard g.L.Listener.hears c.args.listener.now c.finished.new.self c.args.book.now.story c.in-Ok-Some.field-0 c.in-Ok-Some.job c.in-Ok.done c.in-Ok.done.number c.in-Ok.done.name c.count.result c.in-Ok-Some.field-0-is c.in-Ok-Some.ensures.job c.in-Ok.ensures.done refl refl
     (c.count.ensures ∙ (c.in-Ok.ensures.steps ∙ ap (λ (n : ℕ). n + reuse.steps c.in-Ok-Some.job) c.new-stepper.ensures)) c.in_ok-finished-in-Ok.ensures.heard

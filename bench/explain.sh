@@ -1,0 +1,42 @@
+#!/bin/sh
+# Measures what explaining costs: the instructions of pdexplain for generated scripts that transfer data, over those of
+# pdregress for the same. Where all scripts fail at their last event they may be 3 times as many, where none fails 1.02
+# times; the status tells whether they are no more. Needs valgrind.
+#
+#   bench/explain.sh [SCRIPTS]      1,000 scripts of 60 events if nothing is said. EXPLAIN names another build of pdexplain
+. "$(dirname "$0")/program.sh"
+explain=${EXPLAIN:-$top/crates/pdexplain/out/pdexplain}
+[ -n "${EXPLAIN:-}" ] || "$top/pdexplain" </dev/null >/dev/null
+scripts=${1:-1000}
+
+# The same scripts with another end: the last acknowledgment once more, a write, and another packet than the one it sends.
+fail_last() {
+    awk '
+        /^add / { line = 0 }
+        { line++ }
+        line == 58 { acknowledgment = $0 }
+        line == 59 { write = $0; next }
+        line == 60 { packet = $0; next }
+        line == 61 { sub(/ack 1$/, "ack 2", packet); print acknowledgment; print write; print packet; next }
+        { print }
+    '
+}
+
+compare() { # WHAT INPUT MOST
+    plain=$(instructions "$2")
+    explained=$(program=$explain && instructions "$2")
+    awk -v what="$1" -v plain="$plain" -v explained="$explained" -v most="$3" 'BEGIN {
+        printf "%s: %.0f instructions, %.0f to explain: %.3f times, at most %s\n", what, plain, explained, explained / plain, most
+        exit explained > most * plain
+    }'
+}
+
+transfers "$scripts" >"$work/passing"
+fail_last <"$work/passing" >"$work/failing"
+for input in passing failing; do
+    "$program" <"$work/$input" | tail -n 1
+done
+bad=0
+compare "none fails" "$work/passing" 1.02 || bad=1
+compare "all fail" "$work/failing" 3 || bad=1
+exit $bad
