@@ -1,13 +1,26 @@
 #!/bin/sh
 # Measures `pdsuite run` over a folder of generated scripts, on 1, 2 and 4 processors, with a worker each: its time, the
-# processor time of the client alone, and that of a loop that only reads these files.
+# processor time of the client alone, and that of a loop that only reads these files. Or measures `pdsuite watch` over 500
+# scripts of 60 events: the time from the return of a save to its row on standard output, and to all of its report, 100 times.
 #
-#   bench/suite.sh [SCRIPTS [EVENTS]]      100,000 scripts of 20 events if nothing is said
+#   bench/suite.sh [SCRIPTS [EVENTS]]      100,000 scripts of 20 events if nothing is said. EXPLAIN names another build of
+#                                          pdexplain beside PROGRAM
+#   bench/suite.sh watch [SAVES]
 . "$(dirname "$0")/program.sh"
+mode=run
+if [ "${1:-}" = watch ]; then
+    mode=watch
+    saves=${2:-100}
+    set -- 500 60
+fi
 scripts=${1:-100000}
 events=${2:-20}
-[ -z "${PROGRAM:-}" ] || PDSUITE_PROGRAMS=$(dirname "$PROGRAM")
-export PDSUITE_PROGRAMS="${PDSUITE_PROGRAMS:-}"
+explain=${EXPLAIN:-$top/crates/pdexplain/out/pdexplain}
+[ -n "${EXPLAIN:-}" ] || "$top/pdexplain" </dev/null >/dev/null
+mkdir "$work/programs"
+ln -s "$(realpath "$program")" "$work/programs/pdregress"
+ln -s "$(realpath "$explain")" "$work/programs/pdexplain"
+export PDSUITE_PROGRAMS="$work/programs"
 
 # A file for each script, 1,000 to a folder.
 generate "$scripts" "$events" | awk -v top="$work/suite" '
@@ -19,6 +32,11 @@ generate "$scripts" "$events" | awk -v top="$work/suite" '
         next
     }
     { print > file }'
+
+if [ "$mode" = watch ]; then
+    /usr/bin/python3 -I "$top/bench/watch.py" "$top" "$work/suite" "$saves"
+    exit
+fi
 
 # The client runs in this process, so that its processor time is told from that of the programs.
 cat >"$work/measure.py" <<'END'

@@ -22,14 +22,28 @@ class Found:
     fault: str = ""  # why it can't be looked at
 
 
+@dataclass(frozen=True)
+class Finding:
+    """The scripts that were found, and the folders that were looked through, without links."""
+
+    scripts: list[Found]
+    folders: set[str]
+
+
 def find(paths: Iterable[Path], only: str | None, stop: Stop) -> list[Found]:
     """All scripts in the order of their paths, each file once, under the first of its paths."""
-    found = sorted(_all(paths, stop), key=lambda it: os.fsencode(it.path))
+    return find_with_folders(paths, only, stop).scripts
+
+
+def find_with_folders(paths: Iterable[Path], only: str | None, stop: Stop) -> Finding:
+    """The same scripts, and the folders in which one that comes would be found."""
+    folders: set[str] = set()
+    found = sorted(_all(paths, folders, stop), key=lambda it: os.fsencode(it.path))
     first: dict[tuple[str, str], Found] = {}
     for it in found:
         if it.fault or only is None or _is_meant(it, only):
             first.setdefault((it.folder, it.name), it)
-    return list(first.values())
+    return Finding(list(first.values()), folders)
 
 
 def _is_meant(found: Found, only: str) -> bool:
@@ -37,7 +51,7 @@ def _is_meant(found: Found, only: str) -> bool:
     return fnmatchcase(found.path, only) or fnmatchcase(os.path.basename(found.path), only)
 
 
-def _all(paths: Iterable[Path], stop: Stop) -> Iterator[Found]:
+def _all(paths: Iterable[Path], looked: set[str], stop: Stop) -> Iterator[Found]:
     for path in paths:
         try:
             is_folder = path.is_dir()
@@ -46,18 +60,21 @@ def _all(paths: Iterable[Path], stop: Stop) -> Iterator[Found]:
             yield _lost(str(path), error)
             continue
         if is_folder:
-            yield from _in_folder(path, stop)
+            yield from _in_folder(path, looked, stop)
         else:
-            yield _file(str(path))
+            found = _file(str(path))
+            looked.add(found.folder)
+            yield found
 
 
-def _in_folder(top: Path, stop: Stop) -> Iterator[Found]:
+def _in_folder(top: Path, looked: set[str], stop: Stop) -> Iterator[Found]:
     """The scripts in a folder and below it; links to folders and hidden names are left out."""
     before = "" if str(top) == os.curdir else os.path.join(top, "")
     folders = [(before, os.path.realpath(top))]
     while folders:
         stop.check()
         before, real = folders.pop()
+        looked.add(real)
         try:
             with os.scandir(before or os.curdir) as entries:
                 for entry in entries:

@@ -61,13 +61,16 @@ def _choice(command: Command) -> Command:
     return command
 
 
-@pdsuite.command(name="run")
-@_choice
-@click.option(
+_workers = click.option(
     "--workers",
     type=click.IntRange(0, MOST_WORKERS),
     help="How many threads run scripts; one a processor if nothing is said.",
 )
+
+
+@pdsuite.command(name="run")
+@_choice
+@_workers
 @click.option("--fail-fast", is_flag=True, help="Stop at the first piece that doesn't pass.")
 @click.option(
     "--junit",
@@ -91,11 +94,30 @@ def run_command(
     verbose: bool,
 ) -> int:
     """Runs all scripts in files and folders, and reports what came of them."""
-    if workers is None:
-        workers = min(len(os.sched_getaffinity(0)), MOST_WORKERS)
-    wish = Wish(paths, only, settings, workers, fail_fast, junit)
+    wish = Wish(paths, only, settings, _threads(workers), fail_fast, junit)
     with Screen(wants_color() and not no_color, progress=form is None) as screen:
         return run(wish, _form(form, verbose), screen)
+
+
+@pdsuite.command(name="watch")
+@_choice
+@_workers
+@click.option("-v", "--verbose", is_flag=True, help="At first a line for each script.")
+def watch_command(
+    paths: tuple[Path, ...],
+    only: str | None,
+    settings: str,
+    no_color: bool,
+    workers: int | None,
+    verbose: bool,
+) -> int:
+    """Watches files and folders, and shows at once what each change did."""
+    # Only who watches pays for what reports changes.
+    from pdsuite.commands.watch import Wish, watch
+
+    gc.enable()  # this may go on for days
+    with Screen(wants_color() and not no_color, progress=False) as screen:
+        return watch(Wish(paths, only, settings, _threads(workers), verbose), screen)
 
 
 @pdsuite.command(name="list")
@@ -104,6 +126,11 @@ def list_command(paths: tuple[Path, ...], only: str | None, settings: str, no_co
     """Lists the scripts with their settings, and runs nothing."""
     with Screen(wants_color() and not no_color, progress=False) as screen:
         return list_scripts(paths, only, settings, screen)
+
+
+def _threads(workers: int | None) -> int:
+    """As many threads as are asked for, or one a processor."""
+    return min(len(os.sched_getaffinity(0)), MOST_WORKERS) if workers is None else workers
 
 
 def _form(name: str | None, every: bool) -> Form:

@@ -24,6 +24,8 @@ _READ = 1 << 18
 _KEPT = 4_096
 _SHOWN = 200
 _GRACE = 1.0
+# The statuses of a program that has read all commands.
+_REGULAR = (0, 1)
 
 
 class Ended(Exception):
@@ -86,7 +88,9 @@ class Program:
         # An empty line before what was said lets every line begin after a newline.
         self._got = bytearray(b"\n")
         self._said = b""
-        self._selector = selectors.DefaultSelector()
+        self._kept = _KEPT
+        self._is_last = False
+        self._selector = selectors.EpollSelector()
         for descriptor in (stop.fileno(), self._out, self._err):
             self._selector.register(descriptor, selectors.EVENT_READ)
 
@@ -121,6 +125,38 @@ class Program:
                 raise Ended(self._last_words())
             self._work(None)
 
+    def finish(self, commands: bytes, longest: int) -> bytes:
+        """What the program says on standard error of these commands. It is asked nothing after them, and ends."""
+        self._kept = longest + 1
+        self._is_last = True
+        self._send(commands)
+        while self._is_open(self._out) or self._is_open(self._err):
+            self._work(None)
+            if max(len(self._said), len(self._got)) > longest:
+                raise Ended(f"{self._name} said more than was asked")
+        if not self._has_ended():
+            raise Ended(f"{self._name} closed its output")
+        status = self._kill()
+        if status not in _REGULAR:
+            raise Ended((self._last_line() if status > 0 else "") or self._end())
+        return self._said
+
+    def fileno(self) -> int:
+        """What can be read once a program that nobody asks has something to say, or has ended."""
+        return self._selector.fileno()
+
+    def check(self) -> None:
+        """Raises Ended where the program has ended since it was asked last, or says what nobody asked."""
+        self._work(0)
+        if not self._is_open(self._out):
+            raise Ended(self._last_words())
+        if len(self._got) > 1:
+            raise Ended(f"{self._name} answered more than was asked")
+
+    def close(self) -> None:
+        """Ends the program."""
+        self.__exit__(None, None, None)
+
     def _take(self, end: int) -> bytes:
         """What was said up to this newline; that newline stays, before what comes next."""
         answer = bytes(self._got[1 : end + 1])
@@ -141,7 +177,7 @@ class Program:
             elif key.fd == self._out:
                 self._got += self._read(self._out)
             elif key.fd == self._err:
-                self._said = (self._said + self._read(self._err))[-_KEPT:]
+                self._said = (self._said + self._read(self._err))[-self._kept :]
         self._stop.check()
         return bool(ready)
 
@@ -155,6 +191,8 @@ class Program:
             self._unsent = b""
         if not self._unsent:
             self._selector.unregister(self._in)
+            if self._is_last and self._process.stdin is not None:
+                self._process.stdin.close()
 
     def _read(self, descriptor: int) -> bytes:
         try:
@@ -174,11 +212,19 @@ class Program:
         """Why the program has ended: the last line that it said, else its status."""
         while self._is_open(self._err) and self._work(_GRACE):
             pass
-        lines = [line for line in self._said.split(b"\n") if line.strip()]
-        if lines:
-            return shown(lines[-1], _SHOWN)
+        if line := self._last_line():
+            return line
         if not self._has_ended():
             return f"{self._name} closed its output"
+        return self._end()
+
+    def _last_line(self) -> str:
+        """The last line that the program said, if it said one."""
+        lines = [line for line in self._said.split(b"\n") if line.strip()]
+        return shown(lines[-1], _SHOWN) if lines else ""
+
+    def _end(self) -> str:
+        """How the program ended, by its status."""
         status = self._kill()
         if status < 0:
             return f"{self._name} was ended by {_signal_name(-status)}"

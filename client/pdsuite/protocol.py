@@ -3,6 +3,7 @@
 import re
 from collections.abc import Sequence
 
+from pdsuite.edits import Edit
 from pdsuite.octets import shown
 from pdsuite.rows import Row, Verdict
 from pdsuite.text import Text
@@ -11,9 +12,13 @@ SETTLE = b"settle\n"
 SHOW = b"show\n"
 # The longest row, refusal or line of totals, and more.
 LONGEST_LINE = 256
+# The longest block, and more.
+LONGEST_BLOCK = 65_536
 _SHOWN = 80
 
 _ROW = re.compile(rb"(\S+) (?:(pass|syntax|unsupported|limit) (\d{1,6})|fail (\d{1,6}) ([a-z]+))")
+_BLOCK = re.compile(rb"(s\d{1,4}):(\d{1,6}): (.*)")
+_INDENT = b"  "
 _TOTAL = re.compile(rb"total (\d+) pass \d+ fail \d+ syntax \d+ unsupported \d+ limit \d+ pending 0")
 
 
@@ -35,9 +40,24 @@ def add(name: bytes, text: Text) -> bytes:
     return b"add %s %d\n%s" % (name, text.lines, text.octets)
 
 
+def edit(name: bytes, change: Edit) -> bytes:
+    """The command that edits a script."""
+    return b"edit %s %d %d %d\n%s" % (name, change.first, change.removed, change.put.lines, change.put.octets)
+
+
+def remove(name: bytes) -> bytes:
+    """The command that removes a script."""
+    return b"remove %s\n" % name
+
+
+def set_key(key: str, word: str) -> bytes:
+    """The command that sets a key."""
+    return f"set {key} {word}\n".encode()
+
+
 def set_and_show(key: str, word: str) -> bytes:
     """The commands that set a key in an empty run, and have it answered."""
-    return f"set {key} {word}\n".encode() + SHOW
+    return set_key(key, word) + SHOW
 
 
 def refusal_in(answer: bytes) -> str | None:
@@ -57,6 +77,20 @@ def rows_in(answer: bytes, before: bytes, names: Sequence[bytes], count: int) ->
     if total is None or int(total[1]) != count or lines[len(names) + 1 :] != [b""]:
         raise Unexpected(_quoted(last))
     return rows
+
+
+def blocks_in(said: bytes) -> dict[tuple[bytes, int], list[bytes]]:
+    """The blocks that were said, by the names of their scripts and their lines: what each is, and the lines below."""
+    blocks: dict[tuple[bytes, int], list[bytes]] = {}
+    block: list[bytes] = []
+    for line in said.split(b"\n")[:-1]:
+        if found := _BLOCK.fullmatch(line):
+            block = blocks[found[1], int(found[2])] = [found[3]]
+        elif block and line.startswith(_INDENT):
+            block.append(line.removeprefix(_INDENT))
+        else:
+            raise Unexpected(f'said "{shown(line, _SHOWN)}", which is no line of a block')
+    return blocks
 
 
 def before_total(answer: bytes) -> bytes:

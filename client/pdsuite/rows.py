@@ -51,12 +51,17 @@ _WITH_LINE = (Verdict.FAIL, Verdict.SYNTAX, Verdict.UNSUPPORTED, Verdict.LIMIT)
 
 @dataclass(frozen=True, slots=True)
 class Outcome:
-    """A script's path and settings, its row, and the line of its text that the row names."""
+    """A script's path and settings, its row, the line of its text that the row names, and why it is so.
+
+    That is what the row means and the lines below it, as they are said by the program that explains.
+    """
 
     path: str
     settings: Settings
     row: Row
     text: bytes | None = None
+    why: str = ""
+    told: tuple[str, ...] = ()
 
 
 @dataclass(frozen=True)

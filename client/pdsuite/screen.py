@@ -6,6 +6,7 @@ import sys
 from types import TracebackType
 
 from rich.console import Console
+from rich.live import Live
 from rich.progress import BarColumn, MofNCompleteColumn, Progress, TextColumn
 from rich.text import Text
 
@@ -33,6 +34,7 @@ class Screen:
         self._is_plain = not is_terminal
         self._progress = self._progress_line() if progress and is_terminal else None
         self._task = None if self._progress is None else self._progress.add_task("")
+        self._live = self._bottom_line() if is_terminal else None
 
     def __enter__(self) -> "Screen":
         return self
@@ -60,8 +62,11 @@ class Screen:
 
     def note(self, line: str) -> None:
         """Says on standard error what no report holds."""
+        was_live = self._live is not None and self._live.is_started
         self.clear()
         say(line)
+        if self._live is not None and was_live:
+            self._live.start(refresh=True)
 
     def advance(self, done: int, count: int) -> None:
         """Says how many of the scripts are done."""
@@ -71,10 +76,25 @@ class Screen:
                 self._progress.start()
             self._progress.refresh()
 
+    def bottom(self, line: str) -> None:
+        """Keeps a line below all that is shown."""
+        if self._live is not None:
+            self._live.update(Text(line, "dim", no_wrap=True, overflow="ellipsis"))
+            if not self._live.is_started:
+                self._live.start()
+            self._live.refresh()
+
     def clear(self) -> None:
-        """Takes the line of progress away."""
+        """Takes the line of progress, and the one at the bottom, away."""
         if self._progress is not None and self._progress.live.is_started:
             self._progress.stop()
+        if self._live is not None and self._live.is_started:
+            self._live.stop()
+
+    def _bottom_line(self) -> Live:
+        return Live(
+            console=self._console, auto_refresh=False, transient=True, redirect_stdout=False, redirect_stderr=False
+        )
 
     def _progress_line(self) -> Progress:
         parts = (BarColumn(), MofNCompleteColumn(), TextColumn("scripts"))

@@ -2,7 +2,7 @@
 
 from collections import deque
 from collections.abc import Callable, Generator, Iterable, Iterator
-from dataclasses import dataclass
+from dataclasses import dataclass, field
 
 from pdsuite.programs import Ended, Program
 from pdsuite.protocol import LONGEST_LINE, SETTLE, Unexpected
@@ -13,13 +13,16 @@ from pdsuite.settings import Settings
 from pdsuite.text import Text, Unfit, read_text
 
 Start = Callable[[Settings], Program]
+# Answers a script's text, or why it can't be run.
+Load = Callable[[Script], Text | str]
 
 
 @dataclass(frozen=True)
 class Settled:
-    """A piece that has been settled."""
+    """A piece that has been settled, with the texts that were run, by the places of their scripts."""
 
     outcomes: list[tuple[Script, Outcome]]
+    texts: dict[int, Text] = field(default_factory=dict)
 
 
 @dataclass(frozen=True)
@@ -39,7 +42,17 @@ def settle_all(runs: Iterable[Run], start: Start) -> Generator[Step, None, None]
         yield from settle(run, start)
 
 
-def settle(run: Run, start: Start) -> Generator[Step, None, None]:
+def load(script: Script) -> Text | str:
+    """The text that is in the script's file, or why it can't be run."""
+    if script.fault:
+        return script.fault
+    try:
+        return read_text(script.path)
+    except Unfit as unfit:
+        return str(unfit)
+
+
+def settle(run: Run, start: Start, load_text: Load = load) -> Generator[Step, None, None]:
     """Has a run settled.
 
     Where its program ends, a new one begins with what is left, each script of that piece by itself. A script whose
@@ -50,7 +63,7 @@ def settle(run: Run, start: Start) -> Generator[Step, None, None]:
     while left:
         try:
             with start(run.settings) as program:
-                yield from _settle_pieces(program, left)
+                yield from _settle_pieces(program, left, load_text)
         except Ended as end:
             piece = left.popleft()
             if len(piece) == 1 and piece[0].index in ended:
@@ -61,12 +74,12 @@ def settle(run: Run, start: Start) -> Generator[Step, None, None]:
             yield Again(piece[0], str(end))
 
 
-def _settle_pieces(program: Program, left: deque[Piece]) -> Iterator[Settled]:
+def _settle_pieces(program: Program, left: deque[Piece], load_text: Load) -> Iterator[Settled]:
     """Has one piece after another settled by this program; each is taken from `left` once it is."""
     before = b""
     count = 0
     while left:
-        loaded = [(script, _load(script)) for script in left[0]]
+        loaded = [(script, load_text(script)) for script in left[0]]
         texts = [it for _, it in loaded if isinstance(it, Text)]
         rows: Iterator[Row] = iter(())
         if texts:
@@ -77,7 +90,8 @@ def _settle_pieces(program: Program, left: deque[Piece]) -> Iterator[Settled]:
             rows = iter(_rows(answer, before, names, count))
             before = before_total(answer)
         left.popleft()
-        yield Settled([_outcome(script, text, rows) for script, text in loaded])
+        ran = {script.index: text for script, text in loaded if isinstance(text, Text)}
+        yield Settled([_outcome(script, text, rows) for script, text in loaded], ran)
 
 
 def _rows(answer: bytes, before: bytes, names: list[bytes], count: int) -> list[Row]:
@@ -85,16 +99,6 @@ def _rows(answer: bytes, before: bytes, names: list[bytes], count: int) -> list[
         return rows_in(answer, before, names, count)
     except Unexpected as unexpected:
         raise Ended(f"pdregress: {unexpected}") from unexpected
-
-
-def _load(script: Script) -> Text | str:
-    """The script's text, or why it can't be run."""
-    if script.fault:
-        return script.fault
-    try:
-        return read_text(script.path)
-    except Unfit as unfit:
-        return str(unfit)
 
 
 def _outcome(script: Script, text: Text | str, rows: Iterator[Row]) -> tuple[Script, Outcome]:

@@ -2,7 +2,7 @@
 
 import os
 import tomllib
-from collections.abc import Iterable, Iterator, Mapping
+from collections.abc import Callable, Iterable, Iterator, Mapping
 from dataclasses import dataclass
 from pathlib import Path
 
@@ -46,10 +46,11 @@ class Claim:
 
 
 class Suite:
-    """The settings of scripts, from `--settings` and from the files above them, each read once."""
+    """The settings of scripts, from `--settings` and from the files above them, each asked for once."""
 
-    def __init__(self, option: Layer) -> None:
+    def __init__(self, option: Layer, read: Callable[[Path], Layer | None] | None = None) -> None:
         self._option = option
+        self._read = read or read_layer
         self._layers: dict[str, Layer | None] = {}
         self._known: dict[str, tuple[Settings, Mapping[str, Table]]] = {}
 
@@ -66,7 +67,7 @@ class Suite:
     def claims(self) -> Iterator[Claim]:
         """What `--settings` and the files that were read say, whichever scripts it is about."""
         files = [it for it in self._layers.values() if it is not None]
-        yield from _claims([self._option, *sorted(files, key=lambda it: it.place)])
+        yield from claims_of([self._option, *sorted(files, key=lambda it: it.place)])
 
     def _merged(self, folder: str, own: Table) -> Settings:
         merged: dict[str, Value] = {}
@@ -88,7 +89,7 @@ class Suite:
 
     def _layer(self, folder: str) -> Layer | None:
         if folder not in self._layers:
-            self._layers[folder] = _read(Path(folder, FILE))
+            self._layers[folder] = self._read(Path(folder, FILE))
         return self._layers[folder]
 
 
@@ -116,7 +117,8 @@ def _table_of(place: str, octets: bytes) -> dict[str, Value]:
         raise Fault(f"{place}: no TOML: {_shown(str(error))}") from error
 
 
-def _claims(layers: Iterable[Layer]) -> Iterator[Claim]:
+def claims_of(layers: Iterable[Layer]) -> Iterator[Claim]:
+    """What layers say, one after another."""
     for layer in layers:
         for key, value in layer.keys.items():
             yield Claim(layer.place, "", key, value)
@@ -125,17 +127,28 @@ def _claims(layers: Iterable[Layer]) -> Iterator[Claim]:
                 yield Claim(layer.place, name, key, value)
 
 
-def _read(path: Path) -> Layer | None:
+def read_layer(path: Path) -> Layer | None:
+    """The layer that a file holds, if it is there."""
+    octets = read_octets(path)
+    return None if octets is None else layer_of(place_of(path), octets)
+
+
+def read_octets(path: Path) -> bytes | None:
+    """The octets of a file, if it is there."""
     if not os.path.lexists(path):
         return None
-    place = shown_path(_nearer(path))
     try:
         octets = read_file(path, _LONGEST + 1)
     except Unfit as unfit:
-        raise Fault(f"{place}: {unfit}") from unfit
+        raise Fault(f"{place_of(path)}: {unfit}") from unfit
     if len(octets) > _LONGEST:
-        raise Fault(f"{place}: more than {_LONGEST:,} octets")
-    return layer_of(place, octets)
+        raise Fault(f"{place_of(path)}: more than {_LONGEST:,} octets")
+    return octets
+
+
+def place_of(path: Path) -> str:
+    """Where a file stands, as people see it."""
+    return shown_path(_nearer(path))
 
 
 def _nearer(path: Path) -> Path:

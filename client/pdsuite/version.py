@@ -5,7 +5,7 @@ from collections.abc import Iterator
 from pdsuite.octets import shown_path
 from pdsuite.programs import commit, digest, locate
 
-PROGRAMS = ("pdregress",)
+PROGRAMS = ("pdregress", "pdexplain")
 
 
 def version() -> Iterator[str]:

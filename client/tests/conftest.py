@@ -4,13 +4,18 @@ import os
 import shutil
 import signal
 import subprocess
+from collections.abc import Iterator
 from pathlib import Path
 
 import pytest
 
+from pdsuite.stop import Stop
+from pdsuite.watcher import Watcher
 from tests.helpers import TOP, Call, Called
+from tests.site import Site
 
 STAND_IN = Path(__file__).with_name("stand_in.py")
+STAND_IN_EXPLAIN = Path(__file__).with_name("stand_in_explain.py")
 
 
 @pytest.fixture(autouse=True, scope="session")
@@ -21,27 +26,32 @@ def _heeded_signals() -> None:
             signal.signal(number, signal.SIG_DFL)
 
 
-def _program() -> Path:
-    """The folder of the built program."""
+def _program(name: str) -> Path:
+    """The built program of this name."""
     if folder := os.environ.get("PDSUITE_PROGRAMS"):
-        return Path(folder).resolve()
-    built = subprocess.run([TOP / "tools/built.sh", "pdregress"], capture_output=True, text=True)
+        return Path(folder, name).resolve()
+    built = subprocess.run([TOP / "tools/built.sh", name], capture_output=True, text=True)
     if built.returncode:
         pytest.fail(f"these tests need the built program: {built.stderr.strip()}", pytrace=False)
-    return Path(built.stdout.strip()).parent
+    return Path(built.stdout.strip())
 
 
 @pytest.fixture(scope="session")
-def programs() -> Path:
-    """The folder of the built program, or a failure that says which command builds it."""
-    return _program()
+def programs(tmp_path_factory: pytest.TempPathFactory) -> Path:
+    """A folder with the built programs, or a failure that says which command builds one."""
+    folder = tmp_path_factory.mktemp("programs")
+    folder.chmod(0o755)  # Another user runs them too.
+    for name in ("pdregress", "pdexplain"):
+        (folder / name).symlink_to(_program(name))
+    return folder
 
 
 @pytest.fixture(scope="session")
 def stand_in(tmp_path_factory: pytest.TempPathFactory) -> Path:
-    """A folder whose pdregress does what the texts of scripts say."""
+    """A folder whose pdregress and pdexplain do what the texts of scripts say."""
     folder = tmp_path_factory.mktemp("stand_in")
     shutil.copy(STAND_IN, folder / "pdregress")
+    shutil.copy(STAND_IN_EXPLAIN, folder / "pdexplain")
     return folder
 
 
@@ -58,3 +68,14 @@ def call(tmp_path: Path) -> Call:
         return Called(done.returncode, done.stdout.decode(), done.stderr.decode())
 
     return called
+
+
+@pytest.fixture
+def site(tmp_path: Path, monkeypatch: pytest.MonkeyPatch) -> Iterator[Site]:
+    """A folder that is watched in this process, where nobody goes on writing."""
+    monkeypatch.setattr("pdsuite.stamps._FRESH", 0)
+    top = tmp_path / "top"
+    top.mkdir()
+    (top / "pdsuite.toml").write_text("root = true\n")
+    with Stop() as stop, Watcher() as watcher:
+        yield Site(top, stop, watcher)

@@ -1,6 +1,7 @@
 """What the tests share: what a call of ./pdsuite came to, scripts, and processes."""
 
 import os
+import re
 import signal
 import subprocess
 from collections.abc import Callable
@@ -23,8 +24,9 @@ class Called:
 
     @property
     def rows(self) -> list[str]:
-        """What it printed, without the totals and the lines of scripts."""
-        return [line for line in self.out.splitlines() if line[:2] != "  " and not line.startswith("total ")]
+        """What it printed, without the totals, the lines below rows, and what these mean."""
+        lines = [line for line in self.out.splitlines() if line[:2] != "  " and not line.startswith("total ")]
+        return [_MEANT.sub(r"\1", line) for line in lines]
 
     @property
     def totals(self) -> dict[str, int]:
@@ -35,7 +37,24 @@ class Called:
         return {it: count for it, count in counts.items() if count}
 
 
+_MEANT = re.compile(r"^(.*:\d+: (?:fail [a-z]+|syntax|unsupported|limit)): .*$")
 Call = Callable[..., Called]
+_ROW = re.compile(r"(.*?)(?::\d+)?: (?:pass|fail|syntax|unsupported|limit|error|gone)\b.*")
+
+
+class Replay:
+    """The rows that stand after all that was printed, by their paths, and the last totals."""
+
+    def __init__(self, out: str) -> None:
+        self.rows: dict[str, str] = {}
+        self.totals = ""
+        for line in out.splitlines():
+            if line.startswith("total "):
+                self.totals = line.rsplit(" in ")[0]
+            elif not line.startswith("  ") and (found := _ROW.fullmatch(line)):
+                self.rows[found[1]] = line
+                if line.endswith(": gone"):
+                    del self.rows[found[1]]
 
 
 def write(folder: Path, **texts: bytes) -> None:

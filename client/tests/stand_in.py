@@ -7,8 +7,7 @@ import sys
 import time
 from pathlib import Path
 
-names: list[str] = []
-wants: dict[str, list[str]] = {}
+texts: dict[str, list[bytes]] = {}
 
 
 def say(line: str) -> None:
@@ -49,9 +48,14 @@ def act(words: list[str]) -> None:
             say(f"refused {' '.join(refusal)}")
 
 
+def wants(name: str) -> list[str]:
+    """What a script says that is to be done."""
+    return texts[name][0].decode("latin-1").split() if texts[name] else []
+
+
 def row(name: str) -> list[str]:
     """The row of a script, or what stands in its place."""
-    match wants[name]:
+    match wants(name):
         case ["short"]:
             return []
         case ["other"]:
@@ -67,28 +71,41 @@ def row(name: str) -> list[str]:
 
 def report() -> None:
     """Prints the rows and their totals."""
-    rows = [line for name in names for line in row(name)]
-    total = f"total {len(names)} pass {len(names)} fail 0 syntax 0 unsupported 0 limit 0 pending 0"
+    rows = [line for name in texts for line in row(name)]
+    total = f"total {len(texts)} pass {len(texts)} fail 0 syntax 0 unsupported 0 limit 0 pending 0"
     sys.stdout.write("\n".join([*rows, total]) + "\n")
     sys.stdout.flush()
+
+
+def take(words: list[str]) -> None:
+    """Does what a command says."""
+    match words:
+        case ["add", name, count]:
+            texts[name] = lines(count)
+        case ["edit", name, first, removed, count]:
+            begin = int(first) - 1
+            texts[name][begin : begin + int(removed)] = lines(count)
+        case ["remove", name]:
+            del texts[name]
+        case ["settle"]:
+            for name in texts:
+                act(wants(name))
+            report()
+        case ["show"]:
+            report()
+
+
+def lines(count: str) -> list[bytes]:
+    """So many lines of the input."""
+    return [sys.stdin.buffer.readline() for _ in range(int(count))]
 
 
 def main() -> None:
     """Takes commands to the end of the input."""
     if Path(sys.argv[0]).with_name("dead").exists():
         end("pdregress: 19 OutOfMemory")
-    for line in sys.stdin.buffer:
-        words = line.decode().split()
-        if words[0] == "add":
-            text = [sys.stdin.buffer.readline() for _ in range(int(words[2]))]
-            names.append(words[1])
-            wants[words[1]] = text[0].decode("latin-1").split() if text else []
-        elif words[0] == "settle":
-            for name in names:
-                act(wants[name])
-            report()
-        elif words[0] == "show":
-            report()
+    while line := sys.stdin.buffer.readline():
+        take(line.decode().split())
 
 
 main()

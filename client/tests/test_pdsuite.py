@@ -75,13 +75,13 @@ def test_a_program_that_is_not_built_is_named_with_its_command(words: list[str],
 
 def test_a_program_older_than_its_sources_is_not_taken(stand_in: Path, tmp_path: Path) -> None:
     command = copied(tmp_path)
-    (tmp_path / "crates.txt").write_text("low:\npdregress: low\n")
-    for name in ("low/src", "pdregress/src", "pdregress/out"):
+    (tmp_path / "crates.txt").write_text("low:\npdregress: low\npdexplain: low\n")
+    for name in ("low/src", "pdregress/src", "pdregress/out", "pdexplain/src", "pdexplain/out"):
         (tmp_path / "crates" / name).mkdir(parents=True)
     source = tmp_path / "crates/low/src/lib.rt"
     source.touch()
-    program = tmp_path / "crates/pdregress/out/pdregress"
-    shutil.copy(stand_in / "pdregress", program)
+    for name in ("pdregress", "pdexplain"):
+        shutil.copy(stand_in / name, tmp_path / f"crates/{name}/out/{name}")
     write(tmp_path / "suite", a=PASSES)
     environment = {key: value for key, value in os.environ.items() if key != "PDSUITE_PROGRAMS"}
 
@@ -103,16 +103,17 @@ def test_another_folder_of_programs_has_to_hold_one(tmp_path: Path, call: Call) 
 
 def test_the_version_names_commit_and_programs(stand_in: Path, call: Call) -> None:
     called = call(stand_in, "--version")
-    first, second = called.out.splitlines()
+    first, *others = called.out.splitlines()
     head = subprocess.run(["git", "-C", TOP, "rev-parse", "HEAD"], capture_output=True, text=True).stdout.strip()
-    digest = subprocess.run(["sha256sum", stand_in / "pdregress"], capture_output=True, text=True).stdout.split()[0]
+    paths = [stand_in / "pdregress", stand_in / "pdexplain"]
+    said = subprocess.run(["sha256sum", *paths], capture_output=True, text=True).stdout.splitlines()
     assert called.status == 0
     assert first in (f"pdsuite {head}", f"pdsuite {head}-dirty", "pdsuite unknown")
-    assert second == f"pdregress {digest} {stand_in}/pdregress"
+    assert others == [f"{path.name} {line.split()[0]} {path}" for path, line in zip(paths, said)]
 
 
 @pytest.mark.parametrize(
-    "words", [[], ["run"], ["list"], ["run", "--workers", "65", "."], ["run", "--no-such", "."], ["fly"]]
+    "words", [[], ["run"], ["list"], ["run", "--workers", "65", "."], ["run", "--no-such", "."], ["watch"], ["fly"]]
 )
 def test_other_words_are_status_2(words: list[str], call: Call) -> None:
     called = call(None, *words)

@@ -64,6 +64,7 @@ def test_a_program_that_never_answers_is_a_fault_in_its_words(tmp_path: Path, st
     dead.mkdir()
     (dead / "pdregress").write_bytes((stand_in / "pdregress").read_bytes())
     (dead / "pdregress").chmod(0o755)
+    (dead / "pdexplain").symlink_to(stand_in / "pdexplain")
     (dead / "dead").touch()
     called = call(dead, "run", "suite")
     assert (called.status, called.out, called.err) == (2, "", "pdsuite: pdregress: 19 OutOfMemory\n")
@@ -73,10 +74,13 @@ def test_a_program_that_never_answers_is_a_fault_in_its_words(tmp_path: Path, st
     ("octets", "reason"),
     [(b"\x7fELF", "Exec format error"), (b"#!/nowhere/at/all\n", "No such file or directory")],
 )
-def test_a_program_that_cannot_be_started_is_a_fault(octets: bytes, reason: str, tmp_path: Path, call: Call) -> None:
+def test_a_program_that_cannot_be_started_is_a_fault(
+    octets: bytes, reason: str, tmp_path: Path, stand_in: Path, call: Call
+) -> None:
     write(tmp_path / "suite", a=PASSES)
     (tmp_path / "pdregress").write_bytes(octets)
     (tmp_path / "pdregress").chmod(0o755)
+    (tmp_path / "pdexplain").symlink_to(stand_in / "pdexplain")
     called = call(tmp_path, "run", "suite")
     assert (called.status, called.err) == (2, f"pdsuite: {tmp_path}/pdregress: {reason}\n")
 

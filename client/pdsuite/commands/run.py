@@ -7,7 +7,8 @@ from dataclasses import dataclass
 from pathlib import Path
 
 from pdsuite.asked import refused
-from pdsuite.commands.choice import scripts_of
+from pdsuite.commands.choice import PROGRAM, scripts_of, start_with
+from pdsuite.explain import Explainer
 from pdsuite.files import write
 from pdsuite.octets import shown_path
 from pdsuite.programs import Program, locate
@@ -16,12 +17,9 @@ from pdsuite.reports.form import Form
 from pdsuite.rows import Outcome, Verdict
 from pdsuite.runs import Script, runs_of
 from pdsuite.screen import Screen, say
-from pdsuite.settings import Settings, settings_text
-from pdsuite.settle import Again, Start, Step, settle_all
+from pdsuite.settle import Again, Settled, Step, settle_all
 from pdsuite.stop import Stop, Stopped
 from pdsuite.suite import Suite, option_of
-
-PROGRAM = "pdregress"
 
 
 @dataclass(frozen=True)
@@ -44,6 +42,7 @@ def run(wish: Wish, form: Form, screen: Screen) -> int:
         try:
             scripts = scripts_of(wish.paths, wish.only, suite, stop)
             program = locate(PROGRAM)
+            explainer = Explainer(stop, screen.note)
             lines = refused(suite.claims(), lambda: Program([program], stop))
         except Stopped as stopped:
             return stopped.status
@@ -52,10 +51,10 @@ def run(wish: Wish, form: Form, screen: Screen) -> int:
                 say(line)
             return 2
         report = Report(scripts, form, screen)
-        start = _start(program, wish.workers, stop)
+        start = start_with(program, wish.workers, 1, stop)
         try:
             with closing(settle_all(runs_of(scripts), start)) as steps:
-                ended = _take(steps, report, screen, wish.fail_fast)
+                ended = _take(steps, report, screen, explainer, wish.fail_fast)
             totals = report.close(time.monotonic() - begin)
         finally:
             # Also where nothing can be shown any more.
@@ -64,18 +63,9 @@ def run(wish: Wish, form: Form, screen: Screen) -> int:
     return totals.status() if ended is None else ended.status
 
 
-def _start(program: Path, workers: int, stop: Stop) -> Start:
-    """What starts the program for a run under these settings."""
-
-    def start(settings: Settings) -> Program:
-        words: list[str | Path] = [program, "--workers", str(workers), "--cache", "1"]
-        text = settings_text(settings)
-        return Program([*words, "--settings", text] if text else words, stop)
-
-    return start
-
-
-def _take(steps: Iterable[Step], report: Report, screen: Screen, fail_fast: bool) -> Stopped | None:
+def _take(
+    steps: Iterable[Step], report: Report, screen: Screen, explainer: Explainer, fail_fast: bool
+) -> Stopped | None:
     """Reports each step, up to the last one or the one where it is to end; the signal that ended it, if one did."""
     try:
         for step in steps:
@@ -83,12 +73,21 @@ def _take(steps: Iterable[Step], report: Report, screen: Screen, fail_fast: bool
                 place = shown_path(step.script.path)
                 screen.note(f"pdsuite: {step.reason}; a new run begins at {place}")
                 continue
-            report.take(step.outcomes)
+            _report(step, report, explainer)
             if fail_fast and not all(map(_passes, step.outcomes)):
                 break
     except Stopped as stopped:
         return stopped
     return None
+
+
+def _report(step: Settled, report: Report, explainer: Explainer) -> None:
+    """Reports a piece, with what is told of it; also where a signal comes while that is asked for."""
+    outcomes = step.outcomes
+    try:
+        outcomes = explainer.explain(step)
+    finally:
+        report.take(outcomes)
 
 
 def _passes(settled: tuple[Script, Outcome]) -> bool:

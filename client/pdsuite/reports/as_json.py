@@ -40,4 +40,6 @@ def _script(outcome: Outcome) -> dict[str, object]:
             script.update(line=row.number, kind=row.word)
         case Verdict.SYNTAX | Verdict.UNSUPPORTED | Verdict.LIMIT:
             script["line"] = row.number
+    if outcome.why:
+        script["what"] = outcome.why
     return {**script, "below": block(outcome), "settings": dict(outcome.settings)}

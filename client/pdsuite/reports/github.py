@@ -2,9 +2,8 @@
 
 from rich.text import Text
 
-from pdsuite.block import block
+from pdsuite.block import block, heading
 from pdsuite.octets import shown_path
-from pdsuite.reports.plain import place
 from pdsuite.rows import Outcome, Totals, Verdict
 
 
@@ -20,7 +19,7 @@ class Github:
         where = f"file={_property(shown_path(outcome.path))}"
         if outcome.row.line is not None:
             where += f",line={outcome.row.line}"
-        told = [f"{place(outcome)}: {outcome.row}", *(f"  {it}" for it in block(outcome))]
+        told = [heading(outcome), *(f"  {it}" for it in block(outcome))]
         return Text(f"::error {where}::{'%0A'.join(map(_data, told))}\n")
 
     def foot(self, totals: Totals, seconds: float) -> Text:

@@ -6,9 +6,8 @@ from io import BytesIO
 
 from junitparser import Error, Failure, JUnitXml, TestCase, TestSuite
 
-from pdsuite.block import block
+from pdsuite.block import block, heading
 from pdsuite.octets import shown_path
-from pdsuite.reports.plain import place
 from pdsuite.rows import Outcome, Verdict
 
 
@@ -34,6 +33,6 @@ def _case(outcome: Outcome) -> TestCase:
         kind = Failure if verdict is Verdict.FAIL else Error
         result = kind(str(outcome.row), verdict.value)
         below = (f"  {it}" for it in block(outcome))
-        result.text = "\n".join([f"{place(outcome)}: {outcome.row}", *below])
+        result.text = "\n".join([heading(outcome), *below])
         case.result = [result]
     return case

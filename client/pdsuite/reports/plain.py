@@ -4,8 +4,7 @@ from dataclasses import dataclass
 
 from rich.text import Text
 
-from pdsuite.block import block
-from pdsuite.octets import shown_path
+from pdsuite.block import block, meaning, place
 from pdsuite.rows import Outcome, Totals, Verdict
 
 _STYLES = {
@@ -32,16 +31,14 @@ class Plain:
         verdict = outcome.row.verdict
         if not self.every and (verdict is Verdict.PASS or verdict is Verdict.NOT_RUN):
             return None
-        line = Text(f"{place(outcome)}: ").append(str(outcome.row), _STYLES[verdict])
+        line = self.row(outcome).append(meaning(outcome))
         below = "".join(f"  {it}\n" for it in block(outcome))
         return line.append("\n").append(below, "dim")
+
+    def row(self, outcome: Outcome) -> Text:
+        """A script's row alone."""
+        return Text(f"{place(outcome)}: ").append(str(outcome.row), _STYLES[outcome.row.verdict])
 
     def foot(self, totals: Totals, seconds: float) -> Text:
         style = "green" if totals.status() == 0 else "bold red"
         return Text().append(str(totals), style).append(f" in {seconds:.2f} s\n")
-
-
-def place(outcome: Outcome) -> str:
-    """The path, with the line that the row names."""
-    path = shown_path(outcome.path)
-    return path if outcome.row.line is None else f"{path}:{outcome.row.line}"

@@ -2,9 +2,8 @@
 
 from rich.text import Text
 
-from pdsuite.block import block
+from pdsuite.block import block, heading
 from pdsuite.octets import shown_path
-from pdsuite.reports.plain import place
 from pdsuite.rows import Outcome, Totals, Verdict
 
 # Begins a directive, and so stands in no name.
@@ -21,7 +20,7 @@ class Tap:
         name = shown_path(outcome.path, also=_DIRECTIVE)
         if outcome.row.verdict is Verdict.PASS:
             return Text(f"ok {number} {name}\n")
-        told = [f"{place(outcome)}: {outcome.row}", *(f"  {it}" for it in block(outcome))]
+        told = [heading(outcome), *(f"  {it}" for it in block(outcome))]
         lines = [*(f"# {it}" for it in told), f"not ok {number} {name}"]
         return Text("".join(f"{line}\n" for line in lines))
 

@@ -1,0 +1,163 @@
+"""`pdsuite watch`: keeps runs of the program up, and shows what each change of the files does."""
+
+import select
+import time
+from collections.abc import Iterable, Iterator, Mapping, Sequence
+from dataclasses import dataclass
+from pathlib import Path
+from typing import NoReturn
+
+from rich.text import Text as Shown
+
+from pdsuite.asked import refused
+from pdsuite.commands.choice import PROGRAM, start_with
+from pdsuite.explain import Explainer
+from pdsuite.fleet import Fleet
+from pdsuite.folders import Choice, Folders
+from pdsuite.layers import Layers
+from pdsuite.news import Outcomes, changed_blocks, changed_rows, first_report, foot, totals_of
+from pdsuite.programs import Program, locate
+from pdsuite.rows import Outcome, Row, Verdict
+from pdsuite.runs import RUN, Script, runs_of
+from pdsuite.screen import Screen, say
+from pdsuite.settle import Settled
+from pdsuite.stop import Stop, Stopped
+from pdsuite.suite import Claim, claims_of, option_of
+from pdsuite.text import Text
+from pdsuite.turns import Wanted
+from pdsuite.watcher import Event, Watcher
+
+_NO_SCRIPT = 2
+
+
+@dataclass(frozen=True)
+class Wish:
+    """What a call asks for: which scripts, and how they are run and shown."""
+
+    paths: Sequence[Path]
+    only: str | None
+    settings: str
+    workers: int
+    every: bool
+
+
+class View:
+    """What was shown last."""
+
+    def __init__(self, screen: Screen, explainer: Explainer, every: bool) -> None:
+        self.status: int | None = None
+        self._screen = screen
+        self._explainer = explainer
+        self._every = every
+        self._outcomes: Outcomes = {}
+        self._wanted: Mapping[str, Wanted] = {}
+
+    def show(self, outcomes: Outcomes, wanted: Mapping[str, Wanted], begin: float) -> None:
+        """Shows what changed: the rows at once, what is told of them once it is; at first all in one."""
+        rows = Shown() if self.status is None else changed_rows(self._outcomes, outcomes)
+        self._screen.show(rows)
+        after = {path: self._outcomes[path] if self._is_told(it, wanted) else it for path, it in outcomes.items()}
+        asked = [it for path, it in after.items() if it.row.line is not None and it is outcomes[path]]
+        try:
+            for outcome in self._explained(asked, wanted):
+                after[outcome.path] = outcome
+        finally:
+            # Also where a signal comes while that is asked for.
+            self._close(after, bool(rows.plain), begin)
+            self._wanted = wanted
+
+    def _close(self, after: Outcomes, has_changed: bool, begin: float) -> None:
+        """Shows what stands after the rows, and notes what was shown."""
+        if self.status is None:
+            self._screen.show(first_report(after, self._every, time.monotonic() - begin))
+        else:
+            blocks = changed_blocks(self._outcomes, after)
+            if has_changed or blocks.plain:
+                self._screen.show(blocks.append_text(foot(after, time.monotonic() - begin)))
+        if not after and (self._outcomes or self.status is None):
+            self._screen.note("pdsuite: no script found")
+        self._outcomes = after
+        self.status = totals_of(after).status() if after else _NO_SCRIPT
+        self.tell("")
+
+    def _is_told(self, outcome: Outcome, wanted: Mapping[str, Wanted]) -> bool:
+        """Whether what was told of a script is told of this outcome."""
+        path = outcome.path
+        old = self._outcomes.get(path)
+        return old is not None and old.row == outcome.row and self._wanted.get(path) == wanted.get(path)
+
+    def _explained(self, outcomes: Sequence[Outcome], wanted: Mapping[str, Wanted]) -> Iterator[Outcome]:
+        """Outcomes with what is told of them, piece by piece."""
+        scripts = [Script(index, it.path, wanted[it.path].settings) for index, it in enumerate(outcomes)]
+        for run in runs_of(scripts):
+            for piece in run.pieces:
+                texts = {it.index: wanted[it.path].text for it in piece}
+                settled = Settled([(it, outcomes[it.index]) for it in piece], texts)
+                yield from (outcome for _, outcome in self._explainer.explain(settled))
+
+    def tell(self, doing: str) -> None:
+        """Keeps at the bottom of a terminal how many scripts pass, and what is running."""
+        totals = totals_of(self._outcomes)
+        passing = "" if self.status is None else f"{totals.counts[Verdict.PASS]:,} of {totals.scripts:,} pass"
+        self._screen.bottom(", ".join(it for it in (passing, doing) if it))
+
+
+def watch(wish: Wish, screen: Screen) -> int:
+    """Watches until a signal comes, and answers the exit status of the last report."""
+    with Stop() as stop:
+        program = locate(PROGRAM)
+        view = View(screen, Explainer(stop, screen.note), wish.every)
+
+        def ask(claims: Iterable[Claim]) -> list[str]:
+            return refused(claims, lambda: Program([program], stop))
+
+        option = option_of(wish.settings)
+        try:
+            if lines := ask(claims_of([option])):
+                for line in lines:
+                    say(line)
+                return 2
+            layers = Layers(option, ask, screen.note)
+            start = start_with(program, wish.workers, RUN, stop)
+            with Watcher() as watcher, Fleet(start, screen.note, view.tell) as fleet:
+                folders = Folders(Choice(wish.paths, wish.only), layers, watcher, stop, screen.note)
+                _follow(folders, fleet, watcher, view, stop)
+        except Stopped as stopped:
+            return stopped.status if view.status is None else view.status
+
+
+def _follow(folders: Folders, fleet: Fleet, watcher: Watcher, view: View, stop: Stop) -> NoReturn:
+    """Shows what changes, on and on, until a signal comes."""
+    while True:
+        step(folders, fleet, view, watcher.read(), time.monotonic())
+        files = [stop.fileno(), watcher.fileno(), *(it.program.fileno() for it in fleet.runs)]
+        _wait(folders.due(), [it for it in files if it is not None])
+        stop.check()
+
+
+def step(folders: Folders, fleet: Fleet, view: View, events: Sequence[Event], now: float) -> None:
+    """Looks at what is reported or due, has run again what that changes, and shows what came of it."""
+    has_changed = folders.look(events, now)
+    if fleet.mend() or has_changed:
+        wanted, unfit = folders.wanted()
+        fleet.follow(wanted)
+        view.show(_outcomes(folders, fleet, unfit), wanted, now)
+
+
+def _outcomes(folders: Folders, fleet: Fleet, unfit: Mapping[str, str]) -> Outcomes:
+    """What came of each script, in the order of paths."""
+    rows = {**dict(fleet.rows()), **{path: Row(Verdict.ERROR, word=why) for path, why in unfit.items()}}
+    return {path: _outcome(path, it.file.value, rows[path]) for path, it in folders.sight.items()}
+
+
+def _outcome(path: str, text: Text | str, row: Row) -> Outcome:
+    line = text.line(row.line) if isinstance(text, Text) and row.line is not None else None
+    return Outcome(path, (), row, line)
+
+
+def _wait(until: float, files: Iterable[int]) -> None:
+    """Waits until a moment, or until one of these can be read."""
+    poll = select.poll()
+    for file in files:
+        poll.register(file, select.POLLIN)
+    poll.poll(max(0.0, until - time.monotonic()) * 1_000)

@@ -1,0 +1,142 @@
+"""Folders that are watched: what lies in them, by what is reported and by looking."""
+
+from collections.abc import Callable, Mapping, Sequence, Set
+from dataclasses import dataclass
+from pathlib import Path
+
+from pdsuite.find import SUFFIX, Found, find_with_folders
+from pdsuite.layers import Layers
+from pdsuite.seen import GRACE, Seen, Sight, is_other, see, see_all, take
+from pdsuite.stop import Stop
+from pdsuite.suite import FILE
+from pdsuite.turns import Wanted
+from pdsuite.watcher import Event, Kind, Watcher
+
+# The folders are walked so often, and so soon after the last event.
+_PERIOD = 2.0
+_QUIET = 0.5
+# Folders that come while others are found are found again, so many times.
+_TRIES = 3
+
+
+@dataclass(frozen=True)
+class Choice:
+    """Which scripts are meant."""
+
+    paths: Sequence[Path]
+    only: str | None
+
+
+class Folders:
+    """What is seen in folders, and when they have to be looked at again. Moments are those of the monotonic clock."""
+
+    def __init__(
+        self, choice: Choice, layers: Layers, watcher: Watcher, stop: Stop, note: Callable[[str], None]
+    ) -> None:
+        self.sight: Sight = {}
+        self._choice = choice
+        self._layers = layers
+        self._suite = layers.suite()
+        self._watcher = watcher
+        self._stop = stop
+        self._note = note
+        self._places: Mapping[tuple[str, str], str] = {}
+        self._watched: set[str] = set()
+        self._limits: set[str] = set()
+        self._gone: Mapping[str, float] = {}
+        self._again: dict[str, float] = {}
+        self._walked = self._walk_at = 0.0
+
+    def due(self) -> float:
+        """The moment at which something has to be looked at, whatever is reported."""
+        return min([self._walk_at, *self._again.values()])
+
+    def wanted(self) -> tuple[dict[str, Wanted], dict[str, str]]:
+        """The scripts that are to be run, and for all others why they can't."""
+        wanted: dict[str, Wanted] = {}
+        unfit: dict[str, str] = {}
+        for path, it in self.sight.items():
+            text = it.file.value
+            if isinstance(text, str):
+                unfit[path] = text
+            else:
+                wanted[path] = Wanted(self._suite.settings(it.found), text)
+        return wanted, unfit
+
+    def look(self, events: Sequence[Event], now: float) -> bool:
+        """Takes in what is reported and what is due; whether anything is other than it was."""
+        paths = {path for path, moment in self._again.items() if moment <= now}
+        for path in paths:
+            del self._again[path]
+        closed = {(it.folder, it.name) for it in events if it.kind is Kind.CLOSED}
+        is_walk = now >= self._walk_at
+        for event in events:
+            is_walk |= self._heed(event, paths, now)
+        if events:
+            self._walk_at = min(self._walked + _PERIOD, now + _QUIET)
+        seen = {path: self._see(path, closed) for path in paths if path in self.sight}
+        # What is gone, or new, is only known when all has been looked at.
+        if is_walk or len(seen) < len(paths) or any(it.is_gone for it in seen.values()):
+            return self._walk(closed, now)
+        return bool(seen) and self._take({**self.sight, **seen}, now)
+
+    def _heed(self, event: Event, paths: set[str], now: float) -> bool:
+        """Notes what an event is about; whether all has to be looked at for it."""
+        path = self._places.get((event.folder, event.name))
+        if event.kind is Kind.FOLDER:
+            return True
+        if path is None:
+            return event.kind is Kind.CLOSED and (event.name.endswith(SUFFIX) or event.name == FILE)
+        if event.kind is Kind.CLOSED:
+            paths.add(path)
+            return False
+        self._again.setdefault(path, now + GRACE)
+        if event.kind is Kind.GONE:
+            self._gone = {path: now, **self._gone}
+        return False
+
+    def _see(self, path: str, closed: Set[tuple[str, str]]) -> Seen:
+        known = self.sight[path]
+        return see(known.found, known, (known.found.folder, known.found.name) in closed)
+
+    def _walk(self, closed: Set[tuple[str, str]], now: float) -> bool:
+        """Looks at all there is, with what was closed just now."""
+        is_first = not self._walked
+        self._walked, self._walk_at = now, now + _PERIOD
+        scripts = self._find()
+        has_changed, is_torn = self._layers.look()
+        if has_changed:
+            self._suite = self._layers.suite()
+        if is_torn:
+            self._walk_at = now + GRACE
+        self._places = {(it.folder, it.name): it.path for it in scripts}
+        sight = see_all(scripts, self.sight, closed)
+        if is_first:
+            self.sight = sight
+        return self._take(sight, now) or has_changed or is_first
+
+    def _find(self) -> list[Found]:
+        """Finds all scripts, and has their folders watched before any of them is read."""
+        for _ in range(_TRIES):
+            finding = find_with_folders(self._choice.paths, self._choice.only, self._stop)
+            folders = finding.folders | self._layers.folders()
+            self._say_limit(self._watcher.watch(folders))
+            is_known = folders <= self._watched
+            self._watched = folders
+            if is_known:
+                break
+        return finding.scripts
+
+    def _take(self, seen: Sight, now: float) -> bool:
+        taken = take(self.sight, seen, self._gone, now)
+        self._gone = taken.gone
+        self._again.update(dict.fromkeys(taken.torn, now + GRACE))
+        if any(path not in seen or seen[path].is_gone for path in taken.gone):
+            self._walk_at = min(self._walk_at, now + GRACE)
+        before, self.sight = self.sight, taken.sight
+        return is_other(before, self.sight)
+
+    def _say_limit(self, limit: str | None) -> None:
+        if limit is not None and limit not in self._limits:
+            self._limits.add(limit)
+            self._note(f"pdsuite: {limit} is reached: what isn't watched is looked at every {_PERIOD:.0f} seconds")

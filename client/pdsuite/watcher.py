@@ -1,0 +1,116 @@
+"""Reports which names in folders change. It decides nothing, and what it loses the walks find.
+
+It asks watchdog's reader of inotify. watchdog's observer holds back for half a second what comes after a name that
+moved away, and watches hidden folders too.
+"""
+
+import errno
+import os
+from collections.abc import Iterable
+from dataclasses import dataclass
+from enum import Enum
+
+from watchdog.observers.inotify_c import Inotify, InotifyConstants, InotifyEvent
+
+_MASK = (
+    InotifyConstants.IN_CLOSE_WRITE
+    | InotifyConstants.IN_MOVE
+    | InotifyConstants.IN_CREATE
+    | InotifyConstants.IN_DELETE
+    | InotifyConstants.IN_ATTRIB
+    | InotifyConstants.IN_DELETE_SELF
+    | InotifyConstants.IN_MOVE_SELF
+)
+_LIMITS = {errno.ENOSPC: "fs.inotify.max_user_watches", errno.EMFILE: "fs.inotify.max_user_instances"}
+# So many blocks of events are read before they are looked at.
+_BLOCKS = 16
+
+
+class Kind(Enum):
+    """What happened to a name."""
+
+    CLOSED = "its file was closed after writing, or moved there"
+    GONE = "its file went"
+    FOLDER = "a folder came, went or moved, or a watch was lost"
+    OTHER = "anything else"
+
+
+@dataclass(frozen=True, slots=True)
+class Event:
+    """What happened to a name in a folder."""
+
+    kind: Kind
+    folder: str = ""
+    name: str = ""
+
+
+class Watcher:
+    """Watches folders, each by itself, as far as the system lets it."""
+
+    def __init__(self) -> None:
+        self._inotify: Inotify | None = None
+        self._is_refused = False
+
+    def __enter__(self) -> "Watcher":
+        return self
+
+    def __exit__(self, *error: object) -> None:
+        self._close()
+
+    def fileno(self) -> int | None:
+        """What can be read once there are events, if there can be any."""
+        return None if self._inotify is None else self._inotify.fd
+
+    def watch(self, folders: Iterable[str]) -> str | None:
+        """Has these folders watched, whatever lay at their paths before; the limit of the system that prevents it."""
+        for folder in sorted(folders):
+            if self._is_refused:
+                return None
+            try:
+                self._add(os.fsencode(folder))
+            except OSError as error:
+                if error.errno in _LIMITS:
+                    self._is_refused = self._inotify is None
+                    return _LIMITS[error.errno]
+        return None
+
+    def read(self) -> list[Event]:
+        """What has happened since it was read last."""
+        events: list[Event] = []
+        if self._inotify is None:
+            return events
+        try:
+            for _ in range(_BLOCKS):
+                events += [_event(it) for it in self._inotify.read_events()]
+        except BlockingIOError:
+            pass
+        except (KeyError, OSError):
+            # watchdog has lost sight of a folder: all are watched anew.
+            self._close()
+            events.append(Event(Kind.FOLDER))
+        if self._inotify is not None:
+            self._inotify.clear_move_records()
+        return events
+
+    def _add(self, folder: bytes) -> None:
+        if self._inotify is None:
+            self._inotify = Inotify(folder, recursive=False, event_mask=_MASK)
+            os.set_blocking(self._inotify.fd, False)
+        else:
+            self._inotify.add_watch(folder)
+
+    def _close(self) -> None:
+        if self._inotify is not None:
+            self._inotify.close()
+            self._inotify = None
+
+
+def _event(it: InotifyEvent) -> Event:
+    folder, name = os.path.split(os.fsdecode(it.src_path))
+    if it.is_directory or it.is_ignored:
+        return Event(Kind.FOLDER, folder, name)
+    if it.is_close_write or it.is_moved_to:
+        return Event(Kind.CLOSED, folder, name)
+    if it.is_delete or it.is_moved_from:
+        return Event(Kind.GONE, folder, name)
+    return Event(Kind.OTHER, folder, name)

@@ -1,0 +1,108 @@
+"""What stands in for programs in this process. What it says of a script depends on its text and its settings alone."""
+
+import re
+import zlib
+from dataclasses import replace
+
+from pdsuite.defaults import DEFAULTS
+from pdsuite.programs import Ended
+from pdsuite.rows import Outcome, Row, Verdict
+from pdsuite.runs import Script
+from pdsuite.settings import Settings, set_words
+from pdsuite.settle import Settled
+
+MOST = 1_024
+
+
+def settings_words(settings: Settings) -> dict[str, str]:
+    """Each setting as a word."""
+    return dict(set_words(key, value) for key, value in {**DEFAULTS, **dict(settings)}.items())
+
+
+def row_of(text: bytes, settings: dict[str, str]) -> Row:
+    """A row in which every octet and every setting counts."""
+    number = zlib.crc32(text + repr(sorted(settings.items())).encode()) % 1_000
+    verdict = Verdict.PASS if number % 2 else Verdict.SYNTAX
+    return Row(verdict, number)
+
+
+def meaning_of(text: bytes, settings: Settings) -> str:
+    """What is told of a row; every octet and every setting counts."""
+    return f"it is {zlib.crc32(text + repr(sorted(settings)).encode())}"
+
+
+class Teller:
+    """Stands in for what asks pdexplain."""
+
+    def explain(self, step: Settled) -> list[tuple[Script, Outcome]]:
+        """Tells of each script, in pieces with equal settings."""
+        assert len({script.settings for script, _ in step.outcomes}) == 1
+        return [
+            (script, replace(outcome, why=meaning_of(step.texts[script.index].octets, script.settings)))
+            for script, outcome in step.outcomes
+        ]
+
+
+class Model:
+    """Stands in for a started program."""
+
+    def __init__(self, settings: Settings, most_acts: int = 65_536) -> None:
+        self.settings = settings_words(settings)
+        self.texts: dict[bytes, list[bytes]] = {}
+        self.acts = 0
+        self.is_closed = False
+        self._most_acts = most_acts
+
+    def ask(self, commands: bytes, longest: int) -> bytes:
+        """Carries out commands, and answers the report."""
+        left = commands
+        while left:
+            line, left = left.split(b"\n", 1)
+            left = self._act(line.split(b" "), left)
+        if self.acts > self._most_acts:
+            raise Ended("pdregress: refused 11 HistoryFull")
+        rows = [b"%s %s" % (name, self._row(lines)) for name, lines in self.texts.items()]
+        total = b"total %d pass 0 fail 0 syntax 0 unsupported 0 limit 0 pending 0" % len(self.texts)
+        answer = b"\n".join([*rows, total]) + b"\n"
+        assert len(answer) <= longest
+        return answer
+
+    def check(self) -> None:
+        """It never ends by itself."""
+
+    def fileno(self) -> int:
+        """Nothing can be read of it."""
+        raise AssertionError("nobody waits for it")
+
+    def close(self) -> None:
+        """Notes that it was ended."""
+        self.is_closed = True
+
+    def _act(self, words: list[bytes], left: bytes) -> bytes:
+        self.acts += words[0] != b"settle"
+        match words:
+            case [b"add", name, count]:
+                assert name not in self.texts and len(self.texts) < MOST
+                self.texts[name], left = _lines(left, int(count))
+            case [b"edit", name, first, removed, count]:
+                lines = self.texts[name]
+                begin, end = int(first) - 1, int(first) - 1 + int(removed)
+                assert 0 <= begin <= end <= len(lines)
+                lines[begin:end], left = _lines(left, int(count))
+            case [b"remove", name]:
+                del self.texts[name]
+            case [b"set", key, word]:
+                assert re.fullmatch(r"[a-z_]+", key.decode()) and key.decode() in self.settings
+                self.settings[key.decode()] = word.decode()
+            case _:
+                assert words == [b"settle"]
+        return left
+
+    def _row(self, lines: list[bytes]) -> bytes:
+        row = row_of(b"".join(it + b"\n" for it in lines), self.settings)
+        return b"%s %d" % (row.verdict.value.encode(), row.number)
+
+
+def _lines(left: bytes, count: int) -> tuple[list[bytes], bytes]:
+    parts = left.split(b"\n", count)
+    return parts[:count], parts[count]
