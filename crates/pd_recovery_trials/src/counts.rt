@@ -29,7 +29,12 @@ impl Counts {
                 return Ok(());
             }
         }
-        self.counts.push(Count { name, times: 1 })?;
+        self.note(name, 1)
+    }
+
+    /// Adds a line with this number.
+    pub fn note(&mut self, name: &'static str, times: u64) -> Result<(), AllocError> {
+        self.counts.push(Count { name, times })?;
         Ok(())
     }
 

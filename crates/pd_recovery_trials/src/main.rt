@@ -15,62 +15,46 @@ use crate::counts::Counts;
 use crate::dice::Dice;
 use crate::trial::Trial;
 use crate::worked::is_worked;
-use std::alloc::AllocError;
+use std::alloc::{AllocError, Global};
 use std::io;
-use std::process::ExitCode;
 
 const LISTS: u64 = 1_000;
 
-const CALLS: u64 = 30;
-
-fn main(rt: HostRuntime) -> ExitCode {
-    match try_all(&rt) {
-        Ok(true) => ExitCode::SUCCESS,
-        Ok(false) => ExitCode::FAILURE,
-        Err(error) => {
-            let _ = eprintln!(rt; "not tried: {error}");
-            ExitCode::FAILURE
-        }
-    }
-}
-
-/// Whether all that was tried agrees.
-fn try_all(rt: &(impl Print + AllocGlobal)) -> io::Result<bool> {
-    let is_right = is_worked(rt.alloc())?;
-    println!(rt; "a scoreboard worked out by hand: {}", said(is_right))?;
-    let is_same = is_copied(rt.alloc())?;
-    println!(rt; "a copy of a packet: {}", said(is_same))?;
-    Ok(make_lists(rt)? && is_right && is_same)
-}
-
-fn said(is_right: bool) -> &'static str {
-    if is_right { "right" } else { "differs" }
-}
-
-/// Makes the lists and prints the counts; whether nothing differed.
-fn make_lists(rt: &(impl Print + AllocGlobal)) -> io::Result<bool> {
-    let mut dice = Dice::new(20_261_122);
+fn main(rt: HostRuntime) -> io::Result<()> {
     let mut counts = Counts::new(rt.alloc());
+    make_lists(rt.alloc(), &mut counts)?;
+    let is_right = is_worked(rt.alloc())?;
+    counts.note(
+        "right scoreboards that were worked out by hand",
+        u64::from(is_right),
+    )?;
+    let is_same = is_copied(rt.alloc())?;
+    counts.note("right copies of a packet", u64::from(is_same))?;
+    counts.print(&rt)
+}
+
+/// Makes the lists; counts what happens and how many differ, and notes in which list what differs first.
+fn make_lists(alloc: Global, counts: &mut Counts) -> Result<(), AllocError> {
+    let mut dice = Dice::new(20_261_122);
     let mut differing = 0u64;
     for list in 1..=LISTS {
-        if let Some(difference) = make_list(rt, &mut dice, &mut counts)? {
-            println!(rt; "list {list}: {difference} differs")?;
+        if let Some(difference) = make_list(alloc, &mut dice, counts)? {
+            counts.note(difference, list)?;
             differing = differing.wrapping_add(1);
         }
     }
-    println!(rt; "{LISTS} lists of {CALLS} calls, {differing} differ")?;
-    counts.print(rt)?;
-    Ok(differing == 0)
+    counts.note("lists of thirty calls", LISTS)?;
+    counts.note("lists that differ", differing)
 }
 
 /// Makes one list of calls, and tells what differed first.
 fn make_list(
-    rt: &impl AllocGlobal,
+    alloc: Global,
     dice: &mut Dice,
     counts: &mut Counts,
 ) -> Result<Option<&'static str>, AllocError> {
-    let mut trial = Trial::new(rt.alloc(), dice);
-    for _call in 0..CALLS {
+    let mut trial = Trial::new(alloc, dice);
+    for _call in 0..30 {
         if let Some(difference) = trial.make(dice, counts)? {
             return Ok(Some(difference));
         }

@@ -2,7 +2,7 @@
 use pd_seg::Span;
 use std::alloc::{AllocError, Global};
 
-/// The numbers, and the SACKed octets from `una` up to `top`, ascending.
+/// The numbers, and the octets below `top` that were SACKed, ascending; those below `una` no longer count.
 #[derive(Drop)]
 pub struct PlainBoard {
     pub smss: u32,
@@ -39,7 +39,6 @@ impl PlainBoard {
     pub fn take_ack(&mut self, ack: u32) {
         self.una = ack;
         self.next = self.next.max(ack);
-        self.sacked.retain(|octet| *octet >= ack);
     }
 
     /// The octets of a block are SACKed; whether one wasn't.
@@ -70,7 +69,7 @@ impl PlainBoard {
     }
 
     fn is_sacked(&self, octet: u32) -> bool {
-        self.sacked.binary_search(&octet).is_ok()
+        octet >= self.una && self.sacked.binary_search(&octet).is_ok()
     }
 
     /// Whether a run of SACKed octets begins here.
@@ -80,7 +79,10 @@ impl PlainBoard {
 
     /// Whether these are the maximal runs: all SACKed octets in their order, and as many as begin.
     pub fn are_runs(&self, runs: &[Span]) -> bool {
-        let mut place = 0usize;
+        let mut place = match self.sacked.binary_search(&self.una) {
+            Ok(place) | Err(place) => place,
+        };
+        let mut begun = 0usize;
         for run in runs {
             for octet in run.start..run.end {
                 if self.sacked.get(place).copied() != Some(octet) {
@@ -89,8 +91,12 @@ impl PlainBoard {
                 place = place.saturating_add(1);
             }
         }
-        let begun = self.sacked.iter().filter(|octet| self.begins_run(**octet));
-        place == self.sacked.len() && begun.count() == runs.len()
+        for octet in self.una..self.top {
+            if self.begins_run(octet) {
+                begun = begun.saturating_add(1);
+            }
+        }
+        place == self.sacked.len() && begun == runs.len()
     }
 
     /// Whether as many SACKed octets, in as many runs, lie above an octet that it is lost.

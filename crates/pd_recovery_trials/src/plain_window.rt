@@ -1,5 +1,6 @@
 //! Plain congestion control and loss recovery, as RFC 5681 and RFC 6675 tell them.
 use crate::plain_board::PlainBoard;
+use pd_recover::{NextSegment, Then};
 use pd_seg::Span;
 
 /// The greatest congestion window, in octets.
@@ -32,27 +33,6 @@ pub struct PlainAck {
     pub fresh: Option<bool>,
 }
 
-/// What follows an ACK.
-#[derive(Clone, Copy, PartialEq, Eq)]
-pub enum Response {
-    Ordinary,
-    Recover,
-    Enter,
-    Limited,
-    New(Span),
-    Again(Span),
-    Nothing,
-}
-
-/// The rule of NextSeg that gave a segment.
-#[derive(Clone, Copy, PartialEq, Eq)]
-pub enum Rule {
-    Lost,
-    New,
-    Hole,
-    Rescue,
-}
-
 /// How many octets a segment has.
 pub fn octets(segment: Span) -> u32 {
     segment.end.saturating_sub(segment.start)
@@ -65,7 +45,11 @@ fn new_segment(board: &PlainBoard, rwnd: u32) -> Option<Span> {
         end: board.end.min(board.top.saturating_add(board.smss)),
     };
     let is_taken = segment.end <= board.una.saturating_add(rwnd);
-    (octets(segment) > 0 && is_taken).then_some(segment)
+    if octets(segment) > 0 && is_taken {
+        Some(segment)
+    } else {
+        None
+    }
 }
 
 impl PlainWindow {
@@ -107,7 +91,7 @@ impl PlainWindow {
     }
 
     /// Takes an ACK, with the scoreboard as it is since.
-    pub fn take(&mut self, board: &PlainBoard, ack: PlainAck) -> Response {
+    pub fn take(&mut self, board: &PlainBoard, ack: PlainAck) -> Then {
         if ack.acked > 0 {
             self.has_expired = false;
         }
@@ -120,41 +104,41 @@ impl PlainWindow {
     }
 
     /// With SACK, in recovery.
-    fn take_in_recovery(&mut self, board: &PlainBoard, _fresh: bool) -> Response {
+    fn take_in_recovery(&mut self, board: &PlainBoard, _fresh: bool) -> Then {
         if board.una < self.recovery_point {
-            return Response::Recover;
+            return Then::StepC;
         }
         self.is_recovering = false;
         self.forget_duplicates();
-        Response::Ordinary
+        Then::Ordinary
     }
 
     /// With SACK, outside recovery.
-    fn take_blocks(&mut self, board: &PlainBoard, ack: PlainAck, fresh: bool) -> Response {
+    fn take_blocks(&mut self, board: &PlainBoard, ack: PlainAck, fresh: bool) -> Then {
         if ack.acked > 0 {
             self.forget_duplicates();
             self.grow(board, ack.acked);
         }
         if !fresh {
-            return Response::Ordinary;
+            return Then::Ordinary;
         }
         self.duplicates = self.duplicates.saturating_add(1);
         if board.una < self.recovery_point {
-            return Response::Ordinary;
+            return Then::Ordinary;
         }
         if self.duplicates >= 3 || board.is_lost(board.una) {
             self.recovery_point = board.top;
             self.ssthresh = self.halved(board);
             self.cwnd = self.ssthresh;
             self.is_recovering = true;
-            return Response::Enter;
+            return Then::Entry;
         }
         self.high_rxt = board.una;
-        Response::Limited
+        Then::LimitedTransmit
     }
 
     /// Without SACK, new octets.
-    fn take_octets(&mut self, board: &PlainBoard, ack: PlainAck) -> Response {
+    fn take_octets(&mut self, board: &PlainBoard, ack: PlainAck) -> Then {
         self.forget_duplicates();
         if self.is_recovering {
             self.cwnd = self.ssthresh;
@@ -162,14 +146,14 @@ impl PlainWindow {
         } else {
             self.grow(board, ack.acked);
         }
-        Response::Ordinary
+        Then::Ordinary
     }
 
     /// Without SACK, no new octets.
-    fn take_no_octets(&mut self, board: &PlainBoard, ack: PlainAck) -> Response {
+    fn take_no_octets(&mut self, board: &PlainBoard, ack: PlainAck) -> Then {
         let is_duplicate = board.una < board.top && ack.is_same_window;
         if !is_duplicate || board.una < self.recovery_point {
-            return Response::Ordinary;
+            return Then::Ordinary;
         }
         self.duplicates = self.duplicates.saturating_add(1);
         match self.duplicates {
@@ -179,26 +163,26 @@ impl PlainWindow {
                 self.cwnd = self.ssthresh.saturating_add(board.smss.saturating_mul(3));
                 self.is_recovering = true;
                 let end = board.top.min(board.una.saturating_add(board.smss));
-                Response::Again(Span {
+                Then::FastRetransmit(Span {
                     start: board.una,
                     end,
                 })
             }
             _ => {
                 self.cwnd = self.cwnd.saturating_add(board.smss).min(MOST);
-                Response::Ordinary
+                Then::Ordinary
             }
         }
     }
 
-    fn transmit_limited(&mut self, board: &PlainBoard, rwnd: u32) -> Response {
+    fn transmit_limited(&mut self, board: &PlainBoard, rwnd: u32) -> Then {
         let most = self.cwnd.saturating_add(board.smss.saturating_mul(2));
         match new_segment(board, rwnd) {
             Some(segment) if flight(board).saturating_add(octets(segment)) <= most => {
                 self.count_limited(octets(segment));
-                Response::New(segment)
+                Then::NewSegment(segment)
             }
-            _ => Response::Nothing,
+            _ => Then::Nothing,
         }
     }
 
@@ -221,23 +205,23 @@ impl PlainWindow {
     }
 
     /// NextSeg, where the window has room for a full segment.
-    pub fn next(&self, board: &PlainBoard, rwnd: u32, pipe: u32) -> Option<(Rule, Span)> {
+    pub fn next(&self, board: &PlainBoard, rwnd: u32, pipe: u32) -> Option<NextSegment> {
         if self.cwnd.saturating_sub(pipe) < board.smss {
             return None;
         }
         if let Some(start) = board.next_hole(self.high_rxt, true) {
-            return Some((Rule::Lost, board.run_at(start)));
+            return Some(NextSegment::Lost(board.run_at(start)));
         }
         if let Some(segment) = new_segment(board, rwnd) {
-            return Some((Rule::New, segment));
+            return Some(NextSegment::New(segment));
         }
         if let Some(start) = board.next_hole(self.high_rxt, false) {
-            return Some((Rule::Hole, board.run_at(start)));
+            return Some(NextSegment::Hole(board.run_at(start)));
         }
-        if board.una > self.rescue_rxt {
-            return board.rescue().map(|segment| (Rule::Rescue, segment));
+        if board.una <= self.rescue_rxt {
+            return None;
         }
-        None
+        Some(NextSegment::Rescue(board.rescue()?))
     }
 
     /// The segment of limited transmit with SACK, where the window has room for a full one.
@@ -249,11 +233,11 @@ impl PlainWindow {
     }
 
     /// What a segment of NextSeg moves.
-    pub fn note(&mut self, rule: Rule, segment: Span) {
-        match rule {
-            Rule::Lost | Rule::Hole => self.high_rxt = segment.end,
-            Rule::Rescue => self.rescue_rxt = self.recovery_point,
-            Rule::New => {}
+    pub fn note(&mut self, sent: NextSegment) {
+        match sent {
+            NextSegment::Lost(segment) | NextSegment::Hole(segment) => self.high_rxt = segment.end,
+            NextSegment::Rescue(_) => self.rescue_rxt = self.recovery_point,
+            NextSegment::New(_) => {}
         }
     }
 

@@ -4,7 +4,7 @@ ghost use Rattle.pd_recover.specs.Acks.{IsAck};
 use crate::counts::Counts;
 use crate::dice::Dice;
 use crate::plain_board::PlainBoard;
-use crate::plain_window::{PlainAck, PlainWindow, Response, Rule, octets};
+use crate::plain_window::{PlainAck, PlainWindow, octets};
 use pd_board::Board;
 use pd_recover::{Ack, Cong, News, NextSegment, Then};
 use pd_seg::Span;
@@ -32,46 +32,26 @@ fn settings(dice: &mut Dice) -> Settings {
         .unwrap_or(defaults)
 }
 
-/// What is answered, as the plain one answers it.
-fn response(then: Then) -> Response {
+/// The name of what an ACK leads to, and its segment if it has one.
+fn named(then: Then) -> (&'static str, Option<Span>) {
     match then {
-        Then::Ordinary => Response::Ordinary,
-        Then::StepC => Response::Recover,
-        Then::Entry => Response::Enter,
-        Then::LimitedTransmit => Response::Limited,
-        Then::NewSegment(segment) => Response::New(segment),
-        Then::FastRetransmit(segment) => Response::Again(segment),
-        Then::Nothing => Response::Nothing,
+        Then::Ordinary => ("ordinary sending", None),
+        Then::StepC => ("step C", None),
+        Then::Entry => ("entry", None),
+        Then::LimitedTransmit => ("limited transmit", None),
+        Then::NewSegment(segment) => ("limited transmit without SACK", Some(segment)),
+        Then::FastRetransmit(segment) => ("fast retransmit", Some(segment)),
+        Then::Nothing => ("nothing", None),
     }
 }
 
-fn name(response: Response) -> &'static str {
-    match response {
-        Response::Ordinary => "ordinary sending",
-        Response::Recover => "step C",
-        Response::Enter => "entry",
-        Response::Limited => "limited transmit",
-        Response::New(_) => "limited transmit without SACK",
-        Response::Again(_) => "fast retransmit",
-        Response::Nothing => "nothing",
-    }
-}
-
-fn rule(sent: NextSegment) -> (Rule, Span) {
+/// The rule of NextSeg that gave a segment.
+fn rule(sent: NextSegment) -> &'static str {
     match sent {
-        NextSegment::Lost(segment) => (Rule::Lost, segment),
-        NextSegment::New(segment) => (Rule::New, segment),
-        NextSegment::Hole(segment) => (Rule::Hole, segment),
-        NextSegment::Rescue(segment) => (Rule::Rescue, segment),
-    }
-}
-
-fn rule_name(rule: Rule) -> &'static str {
-    match rule {
-        Rule::Lost => "rule 1",
-        Rule::New => "rule 2",
-        Rule::Hole => "rule 3",
-        Rule::Rescue => "rule 4",
+        NextSegment::Lost(_) => "rule 1",
+        NextSegment::New(_) => "rule 2",
+        NextSegment::Hole(_) => "rule 3",
+        NextSegment::Rescue(_) => "rule 4",
     }
 }
 
@@ -168,14 +148,20 @@ impl Trial {
             acked: number - una,
             rwnd: dice.between(100, 2_000),
             is_same_window: !dice.is_once_in(4),
-            fresh: self.is_sack_agreed.then_some(fresh),
+            fresh: if self.is_sack_agreed {
+                Some(fresh)
+            } else {
+                None
+            },
         };
         let told = self.told(ack);
-        let then = response(self.window.on_ack(told));
-        if then != self.plain_window.take(&self.plain_board, ack) {
+        let then = self.window.on_ack(told);
+        let plain = self.plain_window.take(&self.plain_board, ack);
+        let ((name, segment), (plain_name, plain_segment)) = (named(then), named(plain));
+        if name != plain_name || segment != plain_segment {
             return Ok(Some("what an ACK leads to"));
         }
-        counts.add(name(then))?;
+        counts.add(name)?;
         self.respond(then, ack.rwnd, counts)
     }
 
@@ -183,6 +169,13 @@ impl Trial {
     fn told(&self, ack: PlainAck) -> Ack
         ensures { IsAck result }
     {
+        let sack = match ack.fresh {
+            Some(fresh) => Some(News {
+                fresh,
+                lost: fresh && self.board.is_lost(self.board.una()),
+            }),
+            None => None,
+        };
         Ack {
             smss: self.board.smss(),
             una: self.board.una(),
@@ -192,10 +185,7 @@ impl Trial {
             acked: ack.acked,
             same_window: ack.is_same_window,
             fin: false,
-            sack: ack.fresh.map(|fresh| News {
-                fresh,
-                lost: fresh && self.board.is_lost(self.board.una()),
-            }),
+            sack,
         }
     }
 
@@ -222,13 +212,13 @@ impl Trial {
     /// Sends what an ACK led to.
     fn respond(
         &mut self,
-        then: Response,
+        then: Then,
         rwnd: u32,
         counts: &mut Counts,
     ) -> Result<Difference, AllocError> {
         match then {
-            Response::Recover => self.recover(rwnd, counts),
-            Response::Enter => {
+            Then::StepC => self.recover(rwnd, counts),
+            Then::Entry => {
                 let segment = self.board.run_at(self.board.una());
                 if segment != self.plain_board.run_at(self.plain_board.una) {
                     return Ok(Some("the segment of an entry"));
@@ -237,8 +227,8 @@ impl Trial {
                 self.plain_window.enter(segment.end);
                 self.recover(rwnd, counts)
             }
-            Response::Limited => self.transmit_limited(rwnd),
-            Response::New(segment) => {
+            Then::LimitedTransmit => self.transmit_limited(rwnd),
+            Then::NewSegment(segment) => {
                 self.move_on(segment.end)?;
                 Ok(None)
             }
@@ -263,20 +253,22 @@ impl Trial {
         }
         for _segment in 0..20 {
             let found = self.window.step_c(&self.board, rwnd, pipe);
-            if found.map(rule) != self.plain_window.next(&self.plain_board, rwnd, pipe) {
+            let plain = self.plain_window.next(&self.plain_board, rwnd, pipe);
+            let (sent, plain) = match (found, plain) {
+                (Some(sent), Some(plain)) => (sent, plain),
+                (None, None) => return Ok(None),
+                _ => return Ok(Some("whether step C sends")),
+            };
+            if rule(sent) != rule(plain) || sent.segment() != plain.segment() {
                 return Ok(Some("a segment of step C"));
             }
-            let Some(sent) = found else {
-                return Ok(None);
-            };
-            let (rule, segment) = rule(sent);
-            counts.add(rule_name(rule))?;
-            if rule == Rule::New {
+            counts.add(rule(sent))?;
+            if let NextSegment::New(segment) = sent {
                 self.move_on(segment.end)?;
             }
             self.window.note(&sent);
-            self.plain_window.note(rule, segment);
-            pipe = pipe.saturating_add(octets(segment));
+            self.plain_window.note(plain);
+            pipe = pipe.saturating_add(octets(sent.segment()));
         }
         Ok(None)
     }

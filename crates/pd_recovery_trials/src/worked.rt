@@ -11,14 +11,19 @@ pub fn is_worked(alloc: Global) -> Result<bool, AllocError> {
     board.take_ack(1);
     mark(&mut board, 1_001, 1_401)?;
     mark(&mut board, 1_901, 2_401)?;
-    let apart = are_runs(&board, &[(1_001, 1_401), (1_901, 2_401)]);
+    let apart = board.runs() == [span(1_001, 1_401), span(1_901, 2_401)].as_slice();
     mark(&mut board, 1_401, 1_901)?;
-    let joined = are_runs(&board, &[(1_001, 2_401)]) && !board.is_lost(1);
+    let joined = board.runs() == [span(1_001, 2_401)].as_slice() && !board.is_lost(1);
     mark(&mut board, 2_500, 3_101)?;
-    let lost = are_runs(&board, &[(1_001, 2_401), (2_500, 3_101)]) && board.is_lost(1);
+    let lost = board.runs() == [span(1_001, 2_401), span(2_500, 3_101)].as_slice()
+        && board.is_lost(1);
     acknowledge(&mut board, 1_501);
-    let cut = are_runs(&board, &[(1_501, 2_401), (2_500, 3_101)]);
+    let cut = board.runs() == [span(1_501, 2_401), span(2_500, 3_101)].as_slice();
     Ok(apart && joined && lost && cut)
+}
+
+fn span(start: u32, end: u32) -> Span {
+    Span { start, end }
 }
 
 fn mark(board: &mut Board, start: u32, end: u32) -> Result<(), AllocError> {
@@ -32,10 +37,4 @@ fn acknowledge(board: &mut Board, number: u32) {
     if board.una() <= number && number <= board.top() {
         board.take_ack(number);
     }
-}
-
-fn are_runs(board: &Board, wanted: &[(u32, u32)]) -> bool {
-    let runs = board.runs();
-    runs.len() == wanted.len()
-        && runs.iter().zip(wanted).all(|(run, (start, end))| run.start == *start && run.end == *end)
 }

@@ -1,14 +1,12 @@
-//! The lines of the input: each a case with what is wanted of it.
+//! The lines of the input: each a case, which is said again with what is found.
 use crate::changes::change_everywhere;
-use crate::comparing::{Comparison, Wanted};
-use crate::escapes::unescape;
+use crate::comparing::Comparison;
 use crate::items::kinds_of;
 use crate::measures::decimal_value;
-use crate::product::steps_of;
-use crate::rereading::{edit_often, edited, read_both};
+use crate::rereading::{edit_often, read_both};
 use crate::stops::Stop;
-use crate::texts::text;
-use std::alloc::Global;
+use crate::texts::{line_list, many_of, octets_in, text};
+use pd_text::LineEdit;
 use std::fs;
 use std::rt::Files;
 
@@ -21,109 +19,81 @@ pub fn carry_out(
     if line.is_empty() || line.starts_with('#') {
         return Ok(());
     }
-    let Some((asked, text)) = line.split_once(':') else {
+    let Some((asked, rest)) = line.split_once(':') else {
         return Err(Stop::BadCase);
     };
-    let text = text.strip_prefix(' ').unwrap_or(text);
-    if asked.starts_with("script ") {
-        let script = fs::read(rt, text)?;
-        return check_script(comparison, asked, text, script.as_slice());
-    }
-    if asked.starts_with("edit") {
-        let (name, insert) = text.split_once(' ').unwrap_or((text, ""));
+    comparison.say(line)?;
+    comparison.say(" ->")?;
+    let rest = rest.strip_prefix(' ').unwrap_or(rest);
+    let (kind, numbers) = asked.split_once(' ').unwrap_or((asked, ""));
+    if matches!(kind, "script" | "edit" | "edits") {
+        let (name, insert) = rest.split_once(' ').unwrap_or((rest, ""));
         let script = fs::read(rt, name)?;
-        return check_edits(rt.alloc(), comparison, asked, script.as_slice(), insert);
+        check_file(comparison, kind, numbers, script.as_slice(), insert)?;
+    } else {
+        check_row(comparison, kind, rest)?;
     }
-    check_row(rt.alloc(), comparison, asked, text)
+    Ok(comparison.say("\n")?)
 }
 
-/// Edits a script as it is said, or so many times by dice.
-fn check_edits(
-    alloc: Global,
+/// Checks a script and each way to cut or change it, or edits it as these numbers say.
+fn check_file(
     comparison: &mut Comparison,
-    asked: &str,
+    kind: &str,
+    numbers: &str,
     script: &[u8],
     insert: &str,
 ) -> Result<(), Stop> {
-    let mut words = asked.as_bytes().split(|octet| *octet == b' ');
-    let _case = words.next();
-    let first = decimal_value(words.next().unwrap_or(&[]));
-    if asked.starts_with("edits ") {
-        let tally = edit_often(alloc, script, first)?;
-        comparison.note_edits(tally.edits, tally.kept, tally.wrong);
-        return Ok(());
+    let (first, second) = numbers.split_once(' ').unwrap_or((numbers, ""));
+    let first = number_of(first);
+    match kind {
+        "script" => {
+            comparison.check(script)?;
+            change_everywhere(comparison, script)
+        }
+        "edits" => edit_often(comparison, script, first),
+        _ => check_edit(comparison, script, first, number_of(second), insert),
     }
-    let remove = decimal_value(words.next().unwrap_or(&[]));
-    let same = decimal_value(words.next().unwrap_or(&[]));
-    let kept = decimal_value(words.next().unwrap_or(&[]));
-    let insert = unescape(alloc, insert)?;
-    let new = edited(alloc, script, first, remove, insert.as_slice())?;
-    let outcome = read_both(alloc, &text(alloc, script)?, &text(alloc, new.as_slice())?)?;
-    let is_wanted = outcome.same as u64 == same && outcome.kept as u64 == kept;
-    let is_right = outcome.is_right && is_wanted;
-    comparison.note_edits(1, outcome.kept as u64, if is_right { 0 } else { 1 });
-    Ok(())
 }
 
-/// Checks a whole script, and then each way to cut or change it.
-fn check_script(
+fn number_of(digits: &str) -> usize {
+    usize::try_from(decimal_value(digits.as_bytes())).unwrap_or(0)
+}
+
+/// Edits a script, and says how many first lines the edit left and how many events are kept.
+fn check_edit(
     comparison: &mut Comparison,
-    asked: &str,
-    name: &str,
     script: &[u8],
+    from: usize,
+    remove: usize,
+    insert: &str,
 ) -> Result<(), Stop> {
-    let wanted = wanted(asked);
-    comparison.check(script, wanted)?;
-    change_everywhere(comparison, name, script)
-}
-
-fn check_row(
-    alloc: Global,
-    comparison: &mut Comparison,
-    asked: &str,
-    text: &str,
-) -> Result<(), Stop> {
-    if let Some(kinds) = asked.strip_prefix("tokens ") {
-        let octets = unescape(alloc, text)?;
-        let found = kinds_of(alloc, octets.as_slice())?;
-        return comparison.check_words("tokens", text, kinds, found.as_str());
-    }
-    if let Some(steps) = asked.strip_prefix("steps ") {
-        let octets = unescape(alloc, text)?;
-        let found = steps_of(alloc, octets.as_slice())?;
-        return comparison.check_words("steps", text, steps, found.as_str());
-    }
-    let wanted = wanted(asked);
-    let octets = if asked.starts_with("many ") {
-        repeated(alloc, text)?
-    } else {
-        unescape(alloc, text)?
+    let old = text(comparison.alloc, script)?;
+    let insert = line_list(comparison.alloc, insert.as_bytes())?;
+    let edit = LineEdit {
+        from,
+        remove,
+        insert,
     };
-    comparison.check(octets.as_slice(), wanted)
+    let outcome = read_both(comparison.alloc, &old, &old.apply(&edit)?)?;
+    comparison.note_edit(outcome)?;
+    comparison.say_number(outcome.same)?;
+    Ok(comparison.say_number(outcome.kept)?)
 }
 
-/// As many times as a script may have events the text before the first blank, and then what stands behind it.
-fn repeated(alloc: Global, text: &str) -> Result<Vec<u8>, Stop> {
-    let (piece, rest) = text.split_once(' ').unwrap_or((text, ""));
-    let mut octets = Vec::new(alloc);
-    for _event in 0..4_096 {
-        octets.extend_from_slice(piece.as_bytes())?;
-    }
-    let rest = unescape(alloc, rest)?;
-    octets.extend_from_slice(rest.as_slice())?;
-    Ok(octets)
-}
-
-/// The reading that the words behind the first ask for: the line of the fault or `-`, and how many items and events.
-fn wanted(asked: &str) -> Wanted {
-    let mut words = asked.as_bytes().split(|octet| *octet == b' ');
-    let _case = words.next();
-    let fault = decimal_value(words.next().unwrap_or(&[]));
-    let header = decimal_value(words.next().unwrap_or(&[]));
-    let events = decimal_value(words.next().unwrap_or(&[]));
-    Wanted {
-        fault,
-        header,
-        events,
+/// Reads a text both ways, and says of it what is asked.
+fn check_row(comparison: &mut Comparison, kind: &str, rest: &str) -> Result<(), Stop> {
+    let alloc = comparison.alloc;
+    match kind {
+        "tokens" => {
+            let octets = octets_in(alloc, rest)?;
+            comparison.say(kinds_of(alloc, octets.as_slice())?.as_str())?;
+            comparison.compare(octets.as_slice())?;
+            Ok(())
+        }
+        "steps" => comparison.check_steps(octets_in(alloc, rest)?.as_slice()),
+        "many" => comparison.check(many_of(alloc, rest)?.as_slice()),
+        "reads" => comparison.check(octets_in(alloc, rest)?.as_slice()),
+        _ => Err(Stop::BadCase),
     }
 }

@@ -1,5 +1,6 @@
 //! Edits of texts, drawn by dice.
 use crate::dice::Dice;
+use crate::texts::add;
 use pd_text::Lines;
 use std::alloc::{AllocError, Global};
 
@@ -69,8 +70,8 @@ fn add_drawn(octets: &mut Vec<u8>, text: &Lines, dice: &mut Dice) -> Result<(), 
         _ => {
             let (front, back) = parted(drawn_line, dice);
             add_line(octets, front)?;
-            octets.extend_from_slice(piece(dice))?;
-            octets.extend_from_slice(back)
+            add(octets, piece(dice))?;
+            add(octets, back)
         },
     }
 }
@@ -85,7 +86,7 @@ fn add_line(octets: &mut Vec<u8>, line: &[u8]) -> Result<(), AllocError> {
     if !octets.is_empty() {
         octets.push(b'\n')?;
     }
-    octets.extend_from_slice(line)
+    add(octets, line)
 }
 
 fn parted<'a>(line: &'a [u8], dice: &mut Dice) -> (&'a [u8], &'a [u8]) {

@@ -86,16 +86,14 @@ fn newlines_of(piece: &[u8]) -> usize {
     newlines
 }
 
-/// The kinds of a text's tokens, by their names.
+/// The kinds of a text's tokens, by their names, each with a space in front.
 pub fn kinds_of(alloc: Global, octets: &[u8]) -> Result<String, Stop> {
     let lines = text(alloc, octets)?;
     let octets = octets_of(alloc, &lines)?;
     let mut names = String::new(alloc);
     for item in items(alloc, octets.as_slice(), lines.len())? {
         if let Item::Token(token) = item {
-            if !names.is_empty() {
-                names.push(' ')?;
-            }
+            names.push(' ')?;
             names.push_str(token.kind.name())?;
         }
     }

@@ -7,7 +7,7 @@ mod changes;
 mod comparing;
 mod dice;
 mod edits;
-mod escapes;
+mod events;
 mod grammar;
 mod items;
 mod machine;
@@ -35,24 +35,15 @@ fn main(rt: HostRuntime) -> ExitCode {
     }
 }
 
-/// Carries out the lines of the input; returns how many texts differ.
-fn compare_all(rt: &(impl Input + Print + Files + AllocGlobal)) -> Result<u64, Stop> {
+/// Carries out the lines of the input; returns how many texts are read in two ways.
+fn compare_all(rt: &(impl Input + Print + Files + AllocGlobal)) -> Result<usize, Stop> {
     let mut comparison = Comparison::new(rt.alloc());
     for line in rt.lines(rt.alloc()) {
-        let line = line?;
-        let wrong = comparison.wrong;
-        carry_out(rt, line.as_str(), &mut comparison)?;
+        carry_out(rt, line?.as_str(), &mut comparison)?;
         rt.print(comparison.said.as_str())?;
         comparison.said.clear();
-        if comparison.wrong > wrong {
-            println!(rt; "DIFFERS IN THE CASE {line}")?;
-        }
     }
-    let edits = comparison.edits;
-    let kept = comparison.kept;
-    println!(rt; "{edits} edited scripts read again, and {kept} events kept")?;
-    let texts = comparison.texts;
-    let wrong = comparison.wrong;
-    println!(rt; "{texts} texts in all, of which {wrong} are read in two ways")?;
-    Ok(wrong)
+    comparison.say_totals()?;
+    rt.print(comparison.said.as_str())?;
+    Ok(comparison.wrong)
 }

@@ -2,12 +2,14 @@
 ghost use Rattle.std.specs.Prelude.{◌≡◌, IfOk};
 ghost use Rattle.pd_reparse.specs.Reading.{reading_of};
 
+use crate::comparing::Comparison;
 use crate::dice::Dice;
 use crate::edits::random_edit;
+use crate::events::{header_numbers, is_same_action, time_numbers, until_numbers};
 use crate::stops::Stop;
-use crate::texts::{octets_of, text};
+use crate::texts::text;
 use pd_reparse::{Decided, Reading, Reread, read, reread};
-use pd_script::{Action, Header};
+use pd_script::Header;
 use pd_text::Lines;
 use std::alloc::{AllocError, Global};
 
@@ -21,69 +23,22 @@ pub struct Outcome {
     pub is_right: bool,
 }
 
-/// What came of many edits.
-#[derive(Clone, Copy)]
-pub struct Tally {
-    pub edits: u64,
-    pub kept: u64,
-    pub wrong: u64,
-}
-
 /// Edits a script so many times, again and again, from time to time from its beginning on.
-pub fn edit_often(alloc: Global, script: &[u8], edits: u64) -> Result<Tally, Stop> {
+pub fn edit_often(comparison: &mut Comparison, script: &[u8], edits: usize) -> Result<(), Stop> {
+    let alloc = comparison.alloc;
     let mut dice = Dice::new(20_261_123);
-    let mut tally = Tally {
-        edits,
-        kept: 0,
-        wrong: 0,
-    };
     let mut old = text(alloc, script)?;
     for _edit in 0..edits {
         let edited = random_edit(alloc, &old, &mut dice)?;
         let new = text(alloc, edited.as_slice())?;
-        let outcome = read_both(alloc, &old, &new)?;
-        tally.kept = tally.kept.saturating_add(outcome.kept as u64);
-        if !outcome.is_right {
-            tally.wrong = tally.wrong.saturating_add(1);
-        }
+        comparison.note_edit(read_both(alloc, &old, &new)?)?;
         old = if dice.is_once_in(3) {
             text(alloc, script)?
         } else {
             new
         };
     }
-    Ok(tally)
-}
-
-/// The octets of a script after an edit: so many lines from a line on are removed, and others put there.
-pub fn edited(
-    alloc: Global,
-    script: &[u8],
-    from: u64,
-    remove: u64,
-    insert: &[u8],
-) -> Result<Vec<u8>, Stop> {
-    let old = text(alloc, script)?;
-    let new = text(alloc, insert)?;
-    let mut octets = Vec::new(alloc);
-    for number in 1..=old.len() {
-        if number as u64 == from {
-            add(&mut octets, octets_of(alloc, &new)?.as_slice())?;
-        }
-        if (number as u64) < from || number as u64 >= from.saturating_add(remove) {
-            add(&mut octets, old.line(number).unwrap_or(&[]))?;
-            add(&mut octets, b"\n")?;
-        }
-    }
-    if from > old.len() as u64 {
-        add(&mut octets, octets_of(alloc, &new)?.as_slice())?;
-    }
-    let _newline = octets.pop();
-    Ok(octets)
-}
-
-fn add(octets: &mut Vec<u8>, more: &[u8]) -> Result<(), AllocError> {
-    octets.extend_from_slice(more)
+    Ok(())
 }
 
 /// Reads a text, and an edited one again and whole; and behind that the first text once more.
@@ -120,7 +75,7 @@ fn read_back(alloc: Global, old: &Lines, new: &Lines) -> Result<Reread, AllocErr
     reread(alloc, &again.reading, old, new.same_front(old))
 }
 
-/// The number of events whose reach is one of the first lines.
+/// The number of events that the first lines decide.
 fn counted(reading: &Reading, same: usize) -> usize {
     let mut count = 0usize;
     let events = reading.events();
@@ -133,16 +88,15 @@ fn counted(reading: &Reading, same: usize) -> usize {
 }
 
 fn is_same(one: &Reading, other: &Reading) -> bool {
-    if one.fault() != other.fault() || one.events().len() != other.events().len() {
-        return false;
-    }
     let (events, wanted) = (one.events(), other.events());
     for i in 0..events.len().min(wanted.len()) {
         if !is_same_event(events.at(i), wanted.at(i)) {
             return false;
         }
     }
-    is_same_header(one.header(), other.header())
+    one.fault() == other.fault()
+        && events.len() == wanted.len()
+        && is_same_header(one.header(), other.header())
 }
 
 fn is_same_event(one: &Decided, other: &Decided) -> bool {
@@ -150,28 +104,17 @@ fn is_same_event(one: &Decided, other: &Decided) -> bool {
         && one.after.line == other.after.line
         && one.after.at == other.after.at
         && one.event.line == other.event.line
-        && kind(&one.event.action) == kind(&other.event.action)
-}
-
-fn kind(action: &Action) -> u8 {
-    match action {
-        Action::Inbound(_) => 1,
-        Action::Outbound(_) => 2,
-        Action::Call(_) => 3,
-        Action::Command => 4,
-        Action::Code => 5,
-    }
+        && time_numbers(one.event.time) == time_numbers(other.event.time)
+        && until_numbers(one.event.until) == until_numbers(other.event.until)
+        && is_same_action(&one.event.action, &other.event.action)
 }
 
 fn is_same_header(one: &Header, other: &Header) -> bool {
     let (end, other_end) = (one.end(), other.end());
-    if one.len() != other.len() || end.line != other_end.line || end.at != other_end.at {
-        return false;
-    }
     for (item, wanted) in one.as_slice().iter().zip(other.as_slice().iter()) {
-        if item.line != wanted.line {
+        if item.line != wanted.line || header_numbers(item.kind) != header_numbers(wanted.kind) {
             return false;
         }
     }
-    true
+    one.len() == other.len() && end.line == other_end.line && end.at == other_end.at
 }
