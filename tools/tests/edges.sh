@@ -1,6 +1,6 @@
 #!/bin/sh
-# Tests of tools/add_scripts.sh on files that can't be added, and of ./pdregress and ./pdsteps called through links, in a
-# copy whose programs say their names. Prints a line for each, and `N passed, M failed` last.
+# Tests of tools/add_scripts.sh on files that can't be added, and of ./pdregress, ./pdsteps and ./pdexplain called through
+# links, in a copy whose programs say their names. Prints a line for each, and `N passed, M failed` last.
 set -eu
 top=$(cd "$(dirname "$0")/../.." && pwd)
 work=$(mktemp -d)
@@ -95,13 +95,13 @@ test_adding() {
     expect too-many-files "$(printf 'add_scripts: refused\n0 adds\n! add_scripts: many_1025.pkt: more than 1,024 files\nstatus 0')" count_of 1025
 }
 
-# A copy of the two names, whose programs are newer than their sources and say which they are.
+# A copy of the three names, whose programs are newer than their sources and say which they are.
 make_tree() {
     mkdir -p "$work/tree/tools" "$work/bin" "$work/far/tree"
     cp "$top/pdregress" "$work/tree/pdregress"
     cp "$top/tools/built.sh" "$top/tools/crates_below.sh" "$work/tree/tools"
-    ln -s pdregress "$work/tree/pdsteps"
-    for program in pdregress pdsteps; do
+    for program in pdregress pdsteps pdexplain; do
+        [ "$program" = pdregress ] || ln -s pdregress "$work/tree/$program"
         mkdir -p "$work/tree/crates/$program/src" "$work/tree/crates/$program/out"
         echo 'fn main() {}' >"$work/tree/crates/$program/src/main.rt"
         printf '#!/bin/sh\necho "%s $*"\n' "$program" >"$work/tree/crates/$program/out/$program"
@@ -112,18 +112,21 @@ make_tree() {
 
 test_links() {
     make_tree
-    ln -s "$work/tree/pdregress" "$work/bin/pdregress"
-    ln -s "$work/tree/pdsteps" "$work/bin/pdsteps"
+    for program in pdregress pdsteps pdexplain; do
+        ln -s "$work/tree/$program" "$work/bin/$program"
+    done
     ln -s ../tree/pdsteps "$work/bin/relative"
     ln -s relative "$work/bin/twice"
     ln -s ../tree/pdregress "$work/bin/runner"
     ln -s "$work/bin" "$work/far/away"
     for folder in /tmp "$work/bin" "$work/far"; do
-        expect "pdregress-by-link-from-${folder##*/}" "$(printf 'pdregress a b\nstatus 0')" in_folder "$folder" env PATH="$work/bin:$PATH" pdregress a b
-        expect "pdsteps-by-link-from-${folder##*/}" "$(printf 'pdsteps a b\nstatus 0')" in_folder "$folder" env PATH="$work/bin:$PATH" pdsteps a b
+        for program in pdregress pdsteps pdexplain; do
+            expect "$program-by-link-from-${folder##*/}" "$(printf '%s a b\nstatus 0' "$program")" in_folder "$folder" env PATH="$work/bin:$PATH" "$program" a b
+        done
     done
     expect own-names "$(printf 'pdregress \nstatus 0')" in_folder "$work/tree" ./pdregress
     expect own-link "$(printf 'pdsteps \nstatus 0')" in_folder "$work/tree" ./pdsteps
+    expect another-own-link "$(printf 'pdexplain \nstatus 0')" in_folder "$work/tree" ./pdexplain
     expect relative-link "$(printf 'pdsteps \nstatus 0')" in_folder "$work/bin" ./relative
     expect link-to-a-link "$(printf 'pdsteps \nstatus 0')" in_folder "$work" bin/twice
     expect link-of-another-name "$(printf 'pdregress \nstatus 0')" in_folder "$work/far" ../bin/runner
