@@ -1,14 +1,15 @@
 """Asks pdexplain why scripts don't pass."""
 
 import re
-from collections.abc import Callable, Sequence
-from dataclasses import replace
+from collections.abc import Callable, Mapping, Sequence
+from dataclasses import dataclass, replace
 from pathlib import Path
+from typing import Generic, TypeVar
 
 from pdsuite.octets import shown, shown_path
 from pdsuite.programs import Ended, Program, locate
-from pdsuite.protocol import LONGEST_BLOCK, Unexpected
-from pdsuite.protocol import add, blocks_in, name_of
+from pdsuite.protocol import LONGEST_BLOCK, LONGEST_CAUSE, Cause, Unexpected
+from pdsuite.protocol import add, blocks_in, causes_in, name_of
 from pdsuite.rows import Outcome, Row
 from pdsuite.runs import Script
 from pdsuite.settings import Settings, settings_text
@@ -25,22 +26,37 @@ _PLAIN = re.compile(rb"[ -~]*")
 Told = tuple[str, tuple[str, ...]]
 _NOTHING: Told = ("", ())
 
+T = TypeVar("T")
 
-class Explainer:
-    """Has pdexplain tell why scripts don't pass; `note` is told of a script on which it ends."""
 
-    def __init__(self, stop: Stop, note: Callable[[str], None]) -> None:
+@dataclass(frozen=True)
+class Speech(Generic[T]):
+    """How pdexplain is to speak: by which words, how much of a script at most, and how that is read."""
+
+    words: tuple[str, ...]
+    longest: int
+    read: Callable[[bytes], Mapping[tuple[bytes, int], T]]
+
+
+BLOCKS: Speech[list[bytes]] = Speech((), LONGEST_BLOCK, blocks_in)
+CAUSES: Speech[Cause] = Speech(("--json",), LONGEST_CAUSE, causes_in)
+
+
+class Asker(Generic[T]):
+    """Has pdexplain speak of scripts that don't pass; `note` is told of a script on which it ends."""
+
+    def __init__(self, speech: Speech[T], stop: Stop, note: Callable[[str], None]) -> None:
         self._program = locate(PROGRAM)
+        self._speech = speech
         self._stop = stop
         self._note = note
 
-    def explain(self, step: Settled) -> list[tuple[Script, Outcome]]:
-        """The outcomes of a piece, each that doesn't pass with what is told of it."""
+    def told(self, step: Settled) -> dict[int, T]:
+        """What is told of the scripts of a piece, by their places."""
         asked = [it for it in step.outcomes if it[1].row.line is not None and it[0].index in step.texts]
-        told = self._told(asked, step.texts) if asked else {}
-        return [(script, _with(outcome, told.get(script.index, _NOTHING))) for script, outcome in step.outcomes]
+        return self._told(asked, step.texts) if asked else {}
 
-    def _told(self, asked: Sequence[tuple[Script, Outcome]], texts: dict[int, Text]) -> dict[int, Told]:
+    def _told(self, asked: Sequence[tuple[Script, Outcome]], texts: Mapping[int, Text]) -> dict[int, T]:
         """What is told of these scripts; where the program ends on the way, each is asked about by itself."""
         try:
             return self._ask(asked, texts)
@@ -51,28 +67,41 @@ class Explainer:
                 return {}
         return {index: told for one in asked for index, told in self._told([one], texts).items()}
 
-    def _ask(self, asked: Sequence[tuple[Script, Outcome]], texts: dict[int, Text]) -> dict[int, Told]:
+    def _ask(self, asked: Sequence[tuple[Script, Outcome]], texts: Mapping[int, Text]) -> dict[int, T]:
         names = [name_of(number) for number in range(len(asked))]
         commands = b"".join(add(name, texts[script.index]) for name, (script, _) in zip(names, asked))
         with self._start(asked[0][0].settings) as program:
-            blocks = blocks_in(program.finish(commands, LONGEST_BLOCK * (len(asked) + 1)))
+            told = self._speech.read(program.finish(commands, self._speech.longest * (len(asked) + 1)))
         return {
-            script.index: _told(block, outcome.row)
+            script.index: told[name, outcome.row.number]
             for name, (script, outcome) in zip(names, asked)
-            if (block := blocks.get((name, outcome.row.number)))
+            if (name, outcome.row.number) in told
         }
 
     def _start(self, settings: Settings) -> Program:
-        words: list[str | Path] = [self._program, "--cache", "1"]
+        words: list[str | Path] = [self._program, *self._speech.words, "--cache", "1"]
         text = settings_text(settings)
         return Program([*words, "--settings", text] if text else words, self._stop)
+
+
+class Explainer:
+    """Has pdexplain tell why scripts don't pass, in lines for people."""
+
+    def __init__(self, stop: Stop, note: Callable[[str], None]) -> None:
+        self._asker = Asker(BLOCKS, stop, note)
+
+    def explain(self, step: Settled) -> list[tuple[Script, Outcome]]:
+        """The outcomes of a piece, each that doesn't pass with what is told of it."""
+        blocks = self._asker.told(step)
+        return [(script, _with(outcome, blocks.get(script.index))) for script, outcome in step.outcomes]
+
+
+def _with(outcome: Outcome, block: Sequence[bytes] | None) -> Outcome:
+    why, told = _told(block, outcome.row) if block else _NOTHING
+    return replace(outcome, why=why, told=told)
 
 
 def _told(block: Sequence[bytes], row: Row) -> Told:
     """What a block tells of a row; its first line begins with the row's own words."""
     first, *below = [it.decode("ascii") if _PLAIN.fullmatch(it) else shown(it) for it in block]
     return first.removeprefix(str(row)).removeprefix(": "), tuple(below)
-
-
-def _with(outcome: Outcome, told: Told) -> Outcome:
-    return replace(outcome, why=told[0], told=told[1])

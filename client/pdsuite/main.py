@@ -67,11 +67,18 @@ _workers = click.option(
     type=click.IntRange(0, MOST_WORKERS),
     help="How many threads run scripts; one a processor if nothing is said.",
 )
+_html = click.option(
+    "--html",
+    metavar="FOLDER",
+    type=click.Path(path_type=Path),
+    help="Write a page into this folder, too.",
+)
 
 
 @pdsuite.command(name="run")
 @_choice
 @_workers
+@_html
 @click.option("--fail-fast", is_flag=True, help="Stop at the first piece that doesn't pass.")
 @click.option(
     "--junit",
@@ -89,13 +96,14 @@ def run_command(
     settings: str,
     no_color: bool,
     workers: int | None,
+    html: Path | None,
     fail_fast: bool,
     junit: Path | None,
     form: str | None,
     verbose: bool,
 ) -> int:
     """Runs all scripts in files and folders, and reports what came of them."""
-    wish = Wish(paths, only, settings, _threads(workers), fail_fast, junit)
+    wish = Wish(paths, only, settings, _threads(workers), fail_fast, junit, html)
     with Screen(wants_color() and not no_color, progress=form is None) as screen:
         return run(wish, _form(form, verbose), screen)
 
@@ -103,6 +111,7 @@ def run_command(
 @pdsuite.command(name="watch")
 @_choice
 @_workers
+@_html
 @click.option("-v", "--verbose", is_flag=True, help="At first a line for each script.")
 def watch_command(
     paths: tuple[Path, ...],
@@ -110,6 +119,7 @@ def watch_command(
     settings: str,
     no_color: bool,
     workers: int | None,
+    html: Path | None,
     verbose: bool,
 ) -> int:
     """Watches files and folders, and shows at once what each change did."""
@@ -118,7 +128,7 @@ def watch_command(
 
     gc.enable()  # this may go on for days
     with Screen(wants_color() and not no_color, progress=False) as screen:
-        return watch(Wish(paths, only, settings, _threads(workers), verbose), screen)
+        return watch(Wish(paths, only, settings, _threads(workers), verbose, html), screen)
 
 
 @pdsuite.command(name="list")

@@ -4,10 +4,13 @@ import contextlib
 import fcntl
 import hashlib
 import os
+import pickle
 import select
 import selectors
 import signal
 import subprocess
+import sys
+import tempfile
 from collections.abc import Sequence
 from pathlib import Path
 from types import TracebackType
@@ -24,6 +27,8 @@ _READ = 1 << 18
 _KEPT = 4_096
 _SHOWN = 200
 _GRACE = 1.0
+# Starts a module of this client.
+_MODULE = "import sys, importlib; sys.path[:0] = [sys.argv[1]]; sys.exit(importlib.import_module(sys.argv[2]).main())"
 # The statuses of a program that has read all commands.
 _REGULAR = (0, 1)
 
@@ -243,6 +248,52 @@ class Program:
             with contextlib.suppress(ProcessLookupError):
                 os.killpg(self._process.pid, signal.SIGKILL)
         return self._process.wait()
+
+
+class Worker:
+    """A process of this client in a group of its own: it gets its job at once, and says lines."""
+
+    def __init__(self, module: str, job: object) -> None:
+        words: list[str | Path] = [sys.executable, "-I", "-c", _MODULE, TOP / "client", module]
+        with tempfile.TemporaryFile() as file:
+            pickle.dump(job, file)
+            file.seek(0)
+            self._process = subprocess.Popen(words, stdin=file, stdout=subprocess.PIPE, bufsize=0, process_group=0)
+        assert self._process.stdout is not None
+        self._out = self._process.stdout
+        os.set_blocking(self._out.fileno(), False)
+        self._got = b""
+        self.has_ended = False
+
+    def fileno(self) -> int:
+        """What can be read once it has said something, or has ended."""
+        return self._out.fileno()
+
+    def read(self) -> list[str]:
+        """The lines that it has said since they were read last."""
+        while (octets := self._out.read(_READ)) is not None:
+            self._got += octets
+            if not octets:
+                self.has_ended = True
+                break
+        *lines, self._got = self._got.split(b"\n")
+        return [line.decode() for line in lines]
+
+    def end(self) -> None:
+        """Asks it to end."""
+        self._process.terminate()
+
+    def close(self) -> int:
+        """Its status, once it has ended: by itself if it has, else since it is asked to, or has to."""
+        if not self.has_ended:
+            self.end()
+        try:
+            return self._process.wait(_GRACE)
+        except subprocess.TimeoutExpired:
+            self._process.kill()
+            return self._process.wait()
+        finally:
+            self._out.close()
 
 
 def _pipes(process: "subprocess.Popen[bytes]") -> tuple[int, int, int]:

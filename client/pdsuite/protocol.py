@@ -1,7 +1,8 @@
 """What is written to the program, and what its answers say. Names are given here and seen nowhere else."""
 
+import json
 import re
-from collections.abc import Sequence
+from collections.abc import Mapping, Sequence
 
 from pdsuite.edits import Edit
 from pdsuite.octets import shown
@@ -12,8 +13,9 @@ SETTLE = b"settle\n"
 SHOW = b"show\n"
 # The longest row, refusal or line of totals, and more.
 LONGEST_LINE = 256
-# The longest block, and more.
+# The longest block, and more; and as JSON, where nothing is cut.
 LONGEST_BLOCK = 65_536
+LONGEST_CAUSE = 1 << 20
 _SHOWN = 80
 
 _ROW = re.compile(rb"(\S+) (?:(pass|syntax|unsupported|limit) (\d{1,6})|fail (\d{1,6}) ([a-z]+))")
@@ -21,6 +23,8 @@ _BLOCK = re.compile(rb"(s\d{1,4}):(\d{1,6}): (.*)")
 _INDENT = b"  "
 _TOTAL = re.compile(rb"total (\d+) pass \d+ fail \d+ syntax \d+ unsupported \d+ limit \d+ pending 0")
 
+# What is told of a script as JSON, by its keys.
+Cause = Mapping[str, object]
 
 _WORDS = (Verdict.PASS, Verdict.SYNTAX, Verdict.UNSUPPORTED, Verdict.LIMIT)
 _VERDICTS = {it.value.encode(): it for it in _WORDS}
@@ -91,6 +95,27 @@ def blocks_in(said: bytes) -> dict[tuple[bytes, int], list[bytes]]:
         else:
             raise Unexpected(f'said "{shown(line, _SHOWN)}", which is no line of a block')
     return blocks
+
+
+def causes_in(said: bytes) -> dict[tuple[bytes, int], Cause]:
+    """What was said as JSON, an object a line, by the names of scripts and their lines."""
+    causes: dict[tuple[bytes, int], Cause] = {}
+    for line in said.split(b"\n")[:-1]:
+        cause = _object(line)
+        match cause:
+            case {"name": str(name), "line": int(number)}:
+                causes[name.encode(), number] = cause
+            case _:
+                raise Unexpected(f'said "{shown(line, _SHOWN)}", which tells of no script')
+    return causes
+
+
+def _object(line: bytes) -> Cause:
+    try:
+        found = json.loads(line)
+    except (ValueError, RecursionError):
+        found = None
+    return found if isinstance(found, dict) else {}
 
 
 def before_total(answer: bytes) -> bytes:

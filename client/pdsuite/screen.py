@@ -33,7 +33,7 @@ class Screen:
         )
         self._is_plain = not is_terminal
         self._progress = self._progress_line() if progress and is_terminal else None
-        self._task = None if self._progress is None else self._progress.add_task("")
+        self._task = None if self._progress is None else self._progress.add_task("scripts")
         self._live = self._bottom_line() if is_terminal else None
 
     def __enter__(self) -> "Screen":
@@ -68,10 +68,10 @@ class Screen:
         if self._live is not None and was_live:
             self._live.start(refresh=True)
 
-    def advance(self, done: int, count: int) -> None:
-        """Says how many of the scripts are done."""
+    def advance(self, done: int, count: int, what: str = "scripts") -> None:
+        """Says how many of the scripts, or of other things, are done."""
         if self._progress is not None and self._task is not None:
-            self._progress.update(self._task, completed=done, total=count)
+            self._progress.update(self._task, completed=done, total=count, description=what)
             if not self._progress.live.is_started:
                 self._progress.start()
             self._progress.refresh()
@@ -97,7 +97,7 @@ class Screen:
         )
 
     def _progress_line(self) -> Progress:
-        parts = (BarColumn(), MofNCompleteColumn(), TextColumn("scripts"))
+        parts = (BarColumn(), MofNCompleteColumn(), TextColumn("{task.description}"))
         return Progress(*parts, console=self._console, auto_refresh=False, transient=True)
 
 

@@ -1,10 +1,11 @@
 """`pdsuite run`: runs scripts and reports what came of them."""
 
 import time
-from collections.abc import Iterable, Sequence
+from collections.abc import Iterable, Iterator, Sequence
 from contextlib import closing
 from dataclasses import dataclass
 from pathlib import Path
+from typing import TYPE_CHECKING
 
 from pdsuite.asked import refused
 from pdsuite.commands.choice import PROGRAM, scripts_of, start_with
@@ -20,6 +21,10 @@ from pdsuite.screen import Screen, say
 from pdsuite.settle import Again, Settled, Step, settle_all
 from pdsuite.stop import Stop, Stopped
 from pdsuite.suite import Suite, option_of
+from pdsuite.text import Text
+
+if TYPE_CHECKING:
+    from pdsuite.page.drawing import Drawing
 
 
 @dataclass(frozen=True)
@@ -32,6 +37,7 @@ class Wish:
     workers: int
     fail_fast: bool
     junit: Path | None
+    html: Path | None
 
 
 def run(wish: Wish, form: Form, screen: Screen) -> int:
@@ -50,17 +56,39 @@ def run(wish: Wish, form: Form, screen: Screen) -> int:
             for line in lines:
                 say(line)
             return 2
+        drawing = None if wish.html is None else _drawing(wish.html, screen)
         report = Report(scripts, form, screen)
         start = start_with(program, wish.workers, 1, stop)
+        texts: dict[int, Text] = {}
+        ended: Stopped | None = None
         try:
             with closing(settle_all(runs_of(scripts), start)) as steps:
-                ended = _take(steps, report, screen, explainer, wish.fail_fast)
+                heard = steps if drawing is None else _kept(steps, texts)
+                ended = _take(heard, report, screen, explainer, wish.fail_fast)
             totals = report.close(time.monotonic() - begin)
         finally:
             # Also where nothing can be shown any more.
             if wish.junit is not None:
                 _write_junit(wish.junit, report, time.monotonic() - begin)
-    return totals.status() if ended is None else ended.status
+            if drawing is not None and ended is None:
+                ended = _draw(drawing, report, texts, screen, stop)
+    status = totals.status() if ended is None else ended.status
+    return 2 if drawing is not None and drawing.has_failed else status
+
+
+def _drawing(folder: Path, screen: Screen) -> "Drawing":
+    # Only who asks for a page pays for what draws it.
+    from pdsuite.page.drawing import Drawing
+
+    return Drawing(folder, screen.note)
+
+
+def _kept(steps: Iterable[Step], texts: dict[int, Text]) -> Iterator[Step]:
+    """The steps, whose texts are kept."""
+    for step in steps:
+        if isinstance(step, Settled):
+            texts.update(step.texts)
+        yield step
 
 
 def _take(
@@ -99,3 +127,20 @@ def _write_junit(path: Path, report: Report, seconds: float) -> None:
     from pdsuite.reports.junit import junit
 
     write(path, junit([*report.outcomes, *report.left()], seconds))
+
+
+def _draw(drawing: "Drawing", report: Report, texts: dict[int, Text], screen: Screen, stop: Stop) -> Stopped | None:
+    """Has the page drawn; the signal that ended it, if one did."""
+    from pdsuite.page.sheets import Entry
+
+    outcomes = [*report.outcomes, *report.left()]
+    entries = [Entry(it, texts.get(index)) for index, it in enumerate(outcomes)]
+    try:
+        with drawing:
+            drawing.follow(entries)
+            drawing.finish(stop, lambda done, count: screen.advance(done, count, "pages"))
+    except Stopped as stopped:
+        return stopped
+    finally:
+        screen.clear()
+    return None

@@ -3,9 +3,10 @@
 import select
 import time
 from collections.abc import Iterable, Iterator, Mapping, Sequence
-from dataclasses import dataclass
+from contextlib import AbstractContextManager, nullcontext
+from dataclasses import dataclass, replace
 from pathlib import Path
-from typing import NoReturn
+from typing import TYPE_CHECKING, NoReturn
 
 from rich.text import Text as Shown
 
@@ -27,6 +28,10 @@ from pdsuite.text import Text
 from pdsuite.turns import Wanted
 from pdsuite.watcher import Event, Watcher
 
+if TYPE_CHECKING:
+    from pdsuite.page.drawing import Drawing
+    from pdsuite.page.sheets import Entry
+
 _NO_SCRIPT = 2
 
 
@@ -39,6 +44,7 @@ class Wish:
     settings: str
     workers: int
     every: bool
+    html: Path | None
 
 
 class View:
@@ -46,17 +52,17 @@ class View:
 
     def __init__(self, screen: Screen, explainer: Explainer, every: bool) -> None:
         self.status: int | None = None
+        self.outcomes: Outcomes = {}
         self._screen = screen
         self._explainer = explainer
         self._every = every
-        self._outcomes: Outcomes = {}
         self._wanted: Mapping[str, Wanted] = {}
 
     def show(self, outcomes: Outcomes, wanted: Mapping[str, Wanted], begin: float) -> None:
         """Shows what changed: the rows at once, what is told of them once it is; at first all in one."""
-        rows = Shown() if self.status is None else changed_rows(self._outcomes, outcomes)
+        rows = Shown() if self.status is None else changed_rows(self.outcomes, outcomes)
         self._screen.show(rows)
-        after = {path: self._outcomes[path] if self._is_told(it, wanted) else it for path, it in outcomes.items()}
+        after = {path: self.outcomes[path] if self._is_told(it, wanted) else it for path, it in outcomes.items()}
         asked = [it for path, it in after.items() if it.row.line is not None and it is outcomes[path]]
         try:
             for outcome in self._explained(asked, wanted):
@@ -71,19 +77,19 @@ class View:
         if self.status is None:
             self._screen.show(first_report(after, self._every, time.monotonic() - begin))
         else:
-            blocks = changed_blocks(self._outcomes, after)
+            blocks = changed_blocks(self.outcomes, after)
             if has_changed or blocks.plain:
                 self._screen.show(blocks.append_text(foot(after, time.monotonic() - begin)))
-        if not after and (self._outcomes or self.status is None):
+        if not after and (self.outcomes or self.status is None):
             self._screen.note("pdsuite: no script found")
-        self._outcomes = after
+        self.outcomes = after
         self.status = totals_of(after).status() if after else _NO_SCRIPT
         self.tell("")
 
     def _is_told(self, outcome: Outcome, wanted: Mapping[str, Wanted]) -> bool:
         """Whether what was told of a script is told of this outcome."""
         path = outcome.path
-        old = self._outcomes.get(path)
+        old = self.outcomes.get(path)
         return old is not None and old.row == outcome.row and self._wanted.get(path) == wanted.get(path)
 
     def _explained(self, outcomes: Sequence[Outcome], wanted: Mapping[str, Wanted]) -> Iterator[Outcome]:
@@ -97,7 +103,7 @@ class View:
 
     def tell(self, doing: str) -> None:
         """Keeps at the bottom of a terminal how many scripts pass, and what is running."""
-        totals = totals_of(self._outcomes)
+        totals = totals_of(self.outcomes)
         passing = "" if self.status is None else f"{totals.counts[Verdict.PASS]:,} of {totals.scripts:,} pass"
         self._screen.bottom(", ".join(it for it in (passing, doing) if it))
 
@@ -119,29 +125,68 @@ def watch(wish: Wish, screen: Screen) -> int:
                 return 2
             layers = Layers(option, ask, screen.note)
             start = start_with(program, wish.workers, RUN, stop)
-            with Watcher() as watcher, Fleet(start, screen.note, view.tell) as fleet:
+            with (
+                _drawing(wish.html, screen) as drawing,
+                Watcher() as watcher,
+                Fleet(start, screen.note, view.tell) as fleet,
+            ):
                 folders = Folders(Choice(wish.paths, wish.only), layers, watcher, stop, screen.note)
-                _follow(folders, fleet, watcher, view, stop)
+                _follow(folders, fleet, watcher, view, drawing, stop)
         except Stopped as stopped:
             return stopped.status if view.status is None else view.status
 
 
-def _follow(folders: Folders, fleet: Fleet, watcher: Watcher, view: View, stop: Stop) -> NoReturn:
+def _drawing(folder: Path | None, screen: Screen) -> "AbstractContextManager[Drawing | None]":
+    """The page, if one is asked for."""
+    if folder is None:
+        return nullcontext()
+    from pdsuite.page.drawing import Drawing
+
+    return Drawing(folder, screen.note)
+
+
+def _follow(
+    folders: Folders, fleet: Fleet, watcher: Watcher, view: View, drawing: "Drawing | None", stop: Stop
+) -> NoReturn:
     """Shows what changes, on and on, until a signal comes."""
     while True:
-        step(folders, fleet, view, watcher.read(), time.monotonic())
+        step(folders, fleet, view, watcher.read(), time.monotonic(), drawing)
         files = [stop.fileno(), watcher.fileno(), *(it.program.fileno() for it in fleet.runs)]
+        if drawing is not None:
+            drawing.look()
+            files += drawing.filenos()
         _wait(folders.due(), [it for it in files if it is not None])
         stop.check()
 
 
-def step(folders: Folders, fleet: Fleet, view: View, events: Sequence[Event], now: float) -> None:
+def step(
+    folders: Folders,
+    fleet: Fleet,
+    view: View,
+    events: Sequence[Event],
+    now: float,
+    drawing: "Drawing | None" = None,
+) -> None:
     """Looks at what is reported or due, has run again what that changes, and shows what came of it."""
     has_changed = folders.look(events, now)
     if fleet.mend() or has_changed:
+        if drawing is not None:
+            drawing.end()
         wanted, unfit = folders.wanted()
         fleet.follow(wanted)
         view.show(_outcomes(folders, fleet, unfit), wanted, now)
+        if drawing is not None:
+            drawing.follow(_entries(view.outcomes, wanted))
+
+
+def _entries(outcomes: Outcomes, wanted: Mapping[str, Wanted]) -> "list[Entry]":
+    """What the page shows."""
+    from pdsuite.page.sheets import Entry
+
+    return [
+        Entry(replace(it, settings=wanted[path].settings), wanted[path].text) if path in wanted else Entry(it)
+        for path, it in outcomes.items()
+    ]
 
 
 def _outcomes(folders: Folders, fleet: Fleet, unfit: Mapping[str, str]) -> Outcomes:

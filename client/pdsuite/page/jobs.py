@@ -1,0 +1,52 @@
+"""What a process that draws is to do, and how it is done: the table, and a page for each script."""
+
+from collections.abc import Callable, Sequence
+from dataclasses import dataclass
+from pathlib import Path
+
+from pdsuite.explain import CAUSES, Asker
+from pdsuite.files import write
+from pdsuite.page.folder import TABLE, sweep
+from pdsuite.page.links import FOLDER
+from pdsuite.page.render import script_page, table_page
+from pdsuite.page.sheets import Entry, Row, sheet_of
+from pdsuite.protocol import Cause
+from pdsuite.runs import Script, runs_of
+from pdsuite.settle import Settled
+from pdsuite.stop import Stop
+
+
+@dataclass(frozen=True)
+class Job:
+    """The folder, the rows of the table if that is to be written, and the scripts whose pages are."""
+
+    folder: Path
+    rows: tuple[Row, ...] | None
+    entries: tuple[Entry, ...]
+
+
+def carry_out(job: Job, stop: Stop, done: Callable[[int], None]) -> None:
+    """Does a job. `done` is told the place of each script whose page stands."""
+    if job.rows is not None:
+        write(job.folder / TABLE, table_page(job.rows))
+        sweep(job.folder, (it.file for it in job.rows))
+    scripts = [Script(place, it.outcome.path, it.outcome.settings) for place, it in enumerate(job.entries)]
+    # Where it tells nothing of a script, that has been said when its row was shown.
+    asker = Asker(CAUSES, stop, lambda line: None)
+    for run in runs_of(scripts):
+        for piece in run.pieces:
+            told = asker.told(_settled(piece, job.entries))
+            for script in piece:
+                stop.check()
+                _write_page(job, script.index, told.get(script.index))
+                done(script.index)
+
+
+def _settled(piece: Sequence[Script], entries: Sequence[Entry]) -> Settled:
+    texts = {it.index: text for it in piece if (text := entries[it.index].text) is not None}
+    return Settled([(it, entries[it.index].outcome) for it in piece], texts)
+
+
+def _write_page(job: Job, place: int, cause: Cause | None) -> None:
+    sheet = sheet_of(job.entries[place], cause)
+    write(job.folder / FOLDER / sheet.row.file, script_page(sheet))

@@ -1,0 +1,51 @@
+"""Pages as octets: templates filled with values, in which all is escaped that isn't a template's own."""
+
+from collections.abc import Sequence
+from functools import cache
+from pathlib import Path
+
+from jinja2 import Environment, FileSystemLoader, StrictUndefined
+
+from pdsuite.page.links import FOLDER
+from pdsuite.page.sheets import Row, Sheet
+from pdsuite.rows import Totals, Verdict
+
+_HERE = Path(__file__).parent
+# Stands in each page, and tells whose it is.
+GENERATOR = "pdsuite"
+# What all pages use, beside the table.
+STATIC = ("page.css", "page.js")
+
+
+def static(name: str) -> bytes:
+    """A file that all pages use."""
+    return (_HERE / "static" / name).read_bytes()
+
+
+def table_page(rows: Sequence[Row]) -> bytes:
+    """The page with the table."""
+    counts = Totals.of(it.verdict for it in rows).counts
+    verdicts = [(it, counts[it]) for it in Verdict if counts[it]]
+    return _filled("table.html", rows=rows, verdicts=verdicts, folder=FOLDER)
+
+
+def script_page(sheet: Sheet) -> bytes:
+    """The page of a script."""
+    return _filled("script.html", sheet=sheet, row=sheet.row)
+
+
+def _filled(name: str, **values: object) -> bytes:
+    text = _environment().get_template(name).render(generator=GENERATOR, passes=Verdict.PASS, **values)
+    return text.encode()
+
+
+@cache
+def _environment() -> Environment:
+    return Environment(
+        loader=FileSystemLoader(_HERE / "templates"),
+        autoescape=True,
+        undefined=StrictUndefined,
+        trim_blocks=True,
+        lstrip_blocks=True,
+        keep_trailing_newline=True,
+    )

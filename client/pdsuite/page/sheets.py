@@ -1,0 +1,227 @@
+"""What the page of a script shows, as values: all that comes from scripts stands there as it is shown."""
+
+from collections.abc import Iterator, Mapping
+from dataclasses import dataclass
+
+from pdsuite.block import block
+from pdsuite.octets import shown, shown_path
+from pdsuite.page.links import file_of
+from pdsuite.page.packets import Mark, Packet, Part, columns
+from pdsuite.protocol import Cause
+from pdsuite.rows import Outcome, Verdict
+from pdsuite.settings import shown_value
+from pdsuite.text import Text
+
+_LONGEST_LINE = 160
+_MICROSECONDS = 1_000_000
+_RULE = "rule: "
+
+# What stands below the packets, in this order: a key of the program's, and its words.
+_FACTS = {
+    "call": "call",
+    "expected_result": "expected result",
+    "actual_result": "actual result",
+    "event": "event",
+    "moment_us": "its moment",
+    "before_us": "lies before",
+    "awaited_from_us": "awaited from",
+    "awaited_until_us": "awaited until",
+    "tolerance_us": "tolerance",
+    "early_us": "early by",
+    "late_us": "late by",
+    "timer_us": "timer expires",
+    "rule_words": "rule",
+    "limit": "limit",
+}
+_NULLS = {"awaited_until_us": "any time", "timer_us": "never, it doesn't run", "expiry_us": "none"}
+
+# The sender's state: a key of the program's, its word, and what it is.
+_STATE = {
+    "name": ("state", "as RFC 9293 names it"),
+    "connection": ("connection", ""),
+    "una": ("una", "the oldest octet that isn't acknowledged"),
+    "next": ("next", "where sending goes on"),
+    "top": ("top", "the number after all that was sent"),
+    "end": ("end", "the number after all that is queued"),
+    "cwnd": ("cwnd", "the congestion window, in octets"),
+    "ssthresh": ("ssthresh", "the slow start threshold, in octets"),
+    "rwnd": ("rwnd", "the peer's window, in octets"),
+    "flight_size": ("FlightSize", "top less una, in octets"),
+    "pipe": ("pipe", "octets that count as on the way"),
+    "dup_acks": ("DupAcks", "duplicates counted; 4 stands for more too"),
+    "rto_us": ("RTO", "the retransmission timeout"),
+    "expiry_us": ("expiry", "when the timer expires next"),
+    "recovery": ("recovery", "from losses, and by which RFC"),
+}
+
+
+@dataclass(frozen=True, slots=True)
+class Entry:
+    """A script for the page: what came of it, and its text where it was run."""
+
+    outcome: Outcome
+    text: Text | None = None
+
+
+@dataclass(frozen=True, slots=True)
+class Row:
+    """A script in the table."""
+
+    path: str
+    file: str
+    verdict: Verdict
+    kind: str
+    line: int | None
+    text: str
+    why: str
+
+
+@dataclass(frozen=True, slots=True)
+class Fact:
+    """Something that is told: its name, its value and, where that helps, what it is."""
+
+    name: str
+    value: str
+    gloss: str = ""
+
+
+@dataclass(frozen=True, slots=True)
+class Line:
+    """A line of a script."""
+
+    number: int
+    text: str
+    is_named: bool  # by the row
+
+
+@dataclass(frozen=True, slots=True)
+class Refused:
+    """Where a text is no script: the line, in front of the token and from there on, and what could stand there."""
+
+    before: str
+    after: str
+    expected: tuple[str, ...]
+
+
+@dataclass(frozen=True)
+class Sheet:
+    """A script's page."""
+
+    row: Row
+    events: int | None
+    lines: tuple[Line, ...]
+    settings: tuple[Fact, ...]
+    packets: tuple[tuple[str, Packet], ...]
+    reason: str
+    refused: Refused | None
+    facts: tuple[Fact, ...]
+    untaken: tuple[str, ...]
+    more_untaken: int
+    state: tuple[Fact, ...]
+    below: tuple[str, ...]  # what is told in lines, where nothing is told by keys
+
+    @property
+    def marks(self) -> list[Mark]:
+        """The marks that its packets have."""
+        used = {part.mark for _, packet in self.packets for part in packet}
+        return [it for it in Mark if it in used and it is not Mark.NONE]
+
+
+def row_of(outcome: Outcome) -> Row:
+    """The row of a script in the table."""
+    row = outcome.row
+    return Row(
+        shown_path(outcome.path),
+        file_of(outcome.path),
+        row.verdict,
+        "" if row.verdict is Verdict.ERROR else row.word,
+        row.line,
+        "" if outcome.text is None else shown(outcome.text.expandtabs().strip(), _LONGEST_LINE),
+        row.word if row.verdict is Verdict.ERROR else _meaning(outcome),
+    )
+
+
+def sheet_of(entry: Entry, cause: Cause | None) -> Sheet:
+    """The page of a script, with what the program tells of it."""
+    outcome, told = entry.outcome, cause or {}
+    return Sheet(
+        row=row_of(outcome),
+        events=outcome.row.number if outcome.row.verdict is Verdict.PASS else None,
+        lines=tuple(_lines(entry.text, outcome.row.line)) if entry.text else (),
+        settings=tuple(Fact(key, _safe(shown_value(value))) for key, value in outcome.settings),
+        packets=_packets(told),
+        reason=_said(told, "reason_words"),
+        refused=_refused(told),
+        facts=tuple(Fact(words, _value(key, told[key])) for key, words in _FACTS.items() if key in told),
+        untaken=_texts(told, "untaken_packets"),
+        more_untaken=_number(told, "more_untaken_packets"),
+        state=tuple(_state(told)),
+        below=() if told else tuple(block(outcome)),
+    )
+
+
+def _meaning(outcome: Outcome) -> str:
+    """What a row means, with the rule where the script stops by one."""
+    rule = next((it.removeprefix(_RULE) for it in outcome.told[:1] if it.startswith(_RULE)), "")
+    return f"{outcome.why}: {rule}" if rule else outcome.why
+
+
+def _lines(text: Text, named: int | None) -> Iterator[Line]:
+    for number, line in enumerate(text.octets.split(b"\n")[: text.lines], 1):
+        yield Line(number, shown(line.removesuffix(b"\r").expandtabs()), number == named)
+
+
+def _packets(told: Cause) -> tuple[tuple[str, Packet], ...]:
+    """The packet of the script, and below it the one that was sent, if one was."""
+    script, actual = _said(told, "script_packet"), _said(told, "actual_packet")
+    if not script:
+        return ()
+    if not actual:
+        return (("script packet", (Part(script),)), ("actual packet", ()))
+    one, other = columns(script, actual, _said(told, "kind"))
+    return ("script packet", one), ("actual packet", other)
+
+
+def _refused(told: Cause) -> Refused | None:
+    if "expected" not in told:
+        return None
+    text, column = _said(told, "text"), told.get("column")
+    place = column if isinstance(column, int) else len(text)
+    return Refused(text[:place], text[place:], _texts(told, "expected"))
+
+
+def _state(told: Cause) -> Iterator[Fact]:
+    state = told.get("state")
+    if isinstance(state, Mapping):
+        for key, (word, gloss) in _STATE.items():
+            if key in state:
+                yield Fact(word, _value(key, state[key]), gloss)
+
+
+def _value(key: str, value: object) -> str:
+    """A value as people see it: of moments and spans seconds."""
+    if value is None:
+        return _NULLS.get(key, "none")
+    if key.endswith("_us") and isinstance(value, int):
+        return f"{value // _MICROSECONDS}.{value % _MICROSECONDS:06} s"
+    return _safe(str(value))
+
+
+def _said(told: Cause, key: str) -> str:
+    value = told.get(key)
+    return _safe(value) if isinstance(value, str) else ""
+
+
+def _texts(told: Cause, key: str) -> tuple[str, ...]:
+    values = told.get(key)
+    return tuple(_safe(it) for it in values if isinstance(it, str)) if isinstance(values, list) else ()
+
+
+def _number(told: Cause, key: str) -> int:
+    value = told.get(key)
+    return value if isinstance(value, int) else 0
+
+
+def _safe(text: str) -> str:
+    """What the program has made safe to print, and anything else as it is shown."""
+    return text if text.isprintable() else shown(text.encode("utf-8", "surrogateescape"))

@@ -1,0 +1,282 @@
+"""The page in a browser: filter, links, marks, keyboard, colours, widths, and scripts that would be HTML."""
+
+import os
+import subprocess
+from collections.abc import Iterator
+from dataclasses import dataclass
+from pathlib import Path
+
+import pytest
+from selenium import webdriver
+from selenium.webdriver.chrome.service import Service
+from selenium.webdriver.common.by import By
+from selenium.webdriver.common.keys import Keys
+from selenium.webdriver.remote.webelement import WebElement
+
+from pdsuite.page.links import file_of
+from tests.helpers import FAILS, PASSES, TOP, write
+
+WORDS = ("--headless=new", "--no-sandbox", "--disable-gpu", "--disable-dev-shm-usage", "--hide-scrollbars")
+OPENING = (TOP / "examples/send.txt").read_bytes().split(b"\n", 1)[1].rsplit(b"\n", 2)[0] + b"\n"
+EVIL = b'<img src=x onerror="document.title=1"><b>&amp;'
+HTML = b"<script>document.title='x'</script>\n"
+SCRIPTS = {
+    b"pass": PASSES,
+    b"fail": FAILS,
+    b"seq": OPENING + b"+0    > P. 1:501(500) ack 1\n",
+    b"missing": OPENING + b"+0    > P. 1:1001(1000) ack 1\n+0 > . 1001:2001(1000) ack 1\n",
+    b"syntax": b"+0 > X. 0:0(0)\n",
+    EVIL: b"// " + HTML + b"0 <b>bold</b>\n",
+    b"$\\frac{$": b"// $\\frac{$\n" + FAILS,
+    b"\xff\x1b": b"// \xff\x1b[2J\n" + FAILS,
+    "grün".encode(): PASSES,
+}
+
+VISIBLE = """
+return [...document.querySelectorAll(arguments[0])].filter((it) => it.checkVisibility()).map((it) => it.innerText);
+"""
+
+
+@dataclass
+class Browser:
+    """A browser, and the page that is looked at."""
+
+    driver: webdriver.Chrome
+    folder: Path
+
+    def look(self, file: str = "index.html", width: int = 1_200, scheme: str = "light") -> None:
+        """Shows a file of the page."""
+        size = {"width": width, "height": 900, "deviceScaleFactor": 1, "mobile": False}
+        self.driver.execute_cdp_cmd("Emulation.setDeviceMetricsOverride", size)
+        media = {"features": [{"name": "prefers-color-scheme", "value": scheme}]}
+        self.driver.execute_cdp_cmd("Emulation.setEmulatedMedia", media)
+        self.driver.get("about:blank")
+        self.driver.get((self.folder / file.split("#")[0]).as_uri() + "".join(file.partition("#")[1:]))
+
+    def look_at(self, path: str) -> None:
+        """Shows the page of a script."""
+        self.look(f"scripts/{file_of(path)}")
+
+    def all(self, selector: str) -> list[WebElement]:
+        """The elements that a selector finds."""
+        return self.driver.find_elements(By.CSS_SELECTOR, selector)
+
+    def texts(self, selector: str) -> list[str]:
+        """The texts of the elements that a selector finds and that can be seen."""
+        texts = self.driver.execute_script(VISIBLE, selector)
+        assert isinstance(texts, list)
+        return texts
+
+    def run(self, script: str) -> object:
+        """What a script in the page answers."""
+        return self.driver.execute_script(script)
+
+    def press(self, *keys: str) -> None:
+        """Presses keys, whatever has the focus."""
+        for key in keys:
+            self.driver.switch_to.active_element.send_keys(key)
+
+
+def make(top: Path, programs: Path) -> Path:
+    """Makes the page of the scripts in a folder, which stands beside them."""
+    environment = {**os.environ, "PDSUITE_PROGRAMS": str(programs)}
+    words: list[str | Path] = [TOP / "pdsuite", "run", "--html", "out", "in"]
+    done = subprocess.run(words, cwd=top, env=environment, capture_output=True, timeout=60)
+    assert (done.returncode, done.stderr) == (1, b"")
+    return top / "out"
+
+
+@pytest.fixture(scope="module")
+def driver(tmp_path_factory: pytest.TempPathFactory) -> Iterator[webdriver.Chrome]:
+    """A browser without a window."""
+    options = webdriver.ChromeOptions()
+    for word in (*WORDS, f"--user-data-dir={tmp_path_factory.mktemp('profile')}"):
+        options.add_argument(word)
+    options.binary_location = "/usr/bin/chromium"
+    with webdriver.Chrome(service=Service("/usr/bin/chromedriver"), options=options) as chrome:
+        yield chrome
+
+
+@pytest.fixture(scope="module")
+def few(driver: webdriver.Chrome, programs: Path, tmp_path_factory: pytest.TempPathFactory) -> Browser:
+    """The page of a few scripts of all kinds."""
+    top = tmp_path_factory.mktemp("few")
+    (top / "in").mkdir()
+    for name, text in SCRIPTS.items():
+        (top / "in" / os.fsdecode(name + b".pkt")).write_bytes(text)
+    return Browser(driver, make(top, programs))
+
+
+@pytest.fixture(scope="module")
+def many(driver: webdriver.Chrome, stand_in: Path, tmp_path_factory: pytest.TempPathFactory) -> Browser:
+    """The page of as many scripts as one run of the program takes."""
+    top = tmp_path_factory.mktemp("many")
+    write(top / "in", **{f"s{it:04}": b"row fail 1 seq\n" if it % 100 == 7 else PASSES for it in range(1_024)})
+    return Browser(driver, make(top, stand_in))
+
+
+def path(name: bytes) -> bytes:
+    """The path of one of the few scripts."""
+    return b"in/" + name + b".pkt"
+
+
+def test_the_table_has_each_script_with_its_verdict_and_its_first_failing_line(few: Browser) -> None:
+    few.look()
+    rows = {row.find_element(By.TAG_NAME, "th").text: row for row in few.all("#scripts tbody tr")}
+    assert list(rows) == [
+        "in/$\\\\frac{$.pkt",
+        f"in/{EVIL.decode()}.pkt",
+        *("in/fail.pkt", "in/grün.pkt", "in/missing.pkt", "in/pass.pkt", "in/seq.pkt", "in/syntax.pkt"),
+        r"in/\xff\x1b.pkt",
+    ]
+    cells = [it.text for it in rows["in/seq.pkt"].find_elements(By.TAG_NAME, "td")]
+    assert cells == ["fail seq", "9 +0 > P. 1:501(500) ack 1", "the packet has other octets"]
+
+
+@pytest.mark.parametrize("name", SCRIPTS)
+def test_each_row_leads_to_a_page_of_its_own_and_back(name: bytes, few: Browser) -> None:
+    few.look()
+    (link,) = few.all(f'#scripts a[href="scripts/{file_of(os.fsdecode(path(name)))}"]')
+    shown = link.text
+    link.click()
+    assert few.texts("h1") == [shown]
+    assert few.run("return document.title") == shown
+    few.all("nav a")[0].click()
+    assert few.texts("tr:target th") == [shown]
+
+
+def test_what_scripts_hold_is_never_html(few: Browser) -> None:
+    for file in ("index.html", f"scripts/{file_of(os.fsdecode(path(EVIL)))}"):
+        few.look(file)
+        assert few.all("main img") == few.all("main b") == few.all("main script") == []
+        assert few.run("return document.title") not in ("1", "x")
+    assert few.texts("h1") == [f"in/{EVIL.decode()}.pkt"]
+    assert few.texts(".lines code") == ["// " + HTML.decode().strip(), "0 <b>bold</b>"]
+    assert few.texts(".refused") == ["0 <b>bold</b>"]
+
+
+@pytest.mark.parametrize(
+    ("name", "text"), [(b"$\\frac{$", r"// $\\frac{$"), (b"\xff\x1b", r"// \xff\x1b[2J")], ids=["mathtext", "octets"]
+)
+def test_octets_stand_as_they_are_shown_everywhere(name: bytes, text: str, few: Browser) -> None:
+    few.look_at(os.fsdecode(path(name)))
+    assert few.texts(".lines code")[0] == text
+
+
+def test_the_failing_line_and_the_fields_that_differ_are_marked(few: Browser) -> None:
+    few.look_at("in/seq.pkt")
+    assert few.texts(".lines .named") == ["9\n+0    > P. 1:501(500) ack 1\nfail seq"]
+    assert few.texts(".packets mark.fails") == ["1:501(500)", "1:1001(1000)"]
+    packets = few.texts("table.packets code")
+    assert packets == ["+0 > P. 1:501(500)   ack 1", "+0 > P. 1:1001(1000) ack 1 win 511 // 0.200000"]
+    assert "cwnd\n4000 the congestion window, in octets" in "\n".join(few.texts("dl")).replace(" \n", "\n")
+
+
+def test_a_missing_packet_has_its_reason(few: Browser) -> None:
+    few.look_at("in/missing.pkt")
+    assert few.texts("table.packets td") == ["+0 > . 1001:2001(1000) ack 1", "none was sent"]
+    (reason,) = few.texts(".reason")
+    assert reason.startswith("all that is queued was sent, up to 1001,")
+
+
+def test_the_line_of_a_row_leads_to_the_line_of_the_text(few: Browser) -> None:
+    few.look()
+    few.all('#scripts a[aria-label="line 9"]')[0].click()
+    assert few.run("return document.querySelector(':target').id") == "L9"
+    assert few.texts(":target code") == ["+0    > P. 1:501(500) ack 1"]
+
+
+def test_the_table_is_filtered_by_name_and_verdict_and_the_address_has_it(few: Browser) -> None:
+    few.look()
+    few.press("/", "S")
+    assert few.texts("#scripts tbody th") == [f"in/{EVIL.decode()}.pkt", "in/missing.pkt", "in/pass.pkt"] + [
+        "in/seq.pkt",
+        "in/syntax.pkt",
+    ]
+    few.all("input[value=fail]")[0].click()
+    assert few.texts("#scripts tbody th") == ["in/missing.pkt", "in/seq.pkt"]
+    assert few.texts("#shown") == ["2 of 9 shown"]
+    (hash_,) = [str(few.run("return location.hash"))]
+    few.look(f"index.html{hash_}")
+    assert few.texts("#scripts tbody th") == ["in/missing.pkt", "in/seq.pkt"]
+    few.press(Keys.ESCAPE)
+    assert len(few.texts("#scripts tbody th")) == len(SCRIPTS)
+
+
+def test_all_can_be_reached_by_keyboard(few: Browser) -> None:
+    few.look()
+    few.press(Keys.TAB)
+    assert few.driver.switch_to.active_element.text == "To the table"
+    few.press(Keys.ENTER, Keys.TAB)
+    assert few.driver.switch_to.active_element.text == "in/$\\\\frac{$.pkt"
+    few.look()
+    few.press("/", Keys.TAB, " ")
+    assert few.texts("#scripts tbody td.verdict") == ["pass", "pass"]
+    few.press("/", "ss", *[Keys.TAB] * 4)
+    assert few.driver.switch_to.active_element.text == "in/pass.pkt"
+    few.press(Keys.ENTER)
+    assert few.texts("h1") == ["in/pass.pkt"]
+    few.look_at("in/seq.pkt")
+    labels = []
+    for _ in range(5):
+        few.press(Keys.TAB)
+        element = few.driver.switch_to.active_element
+        labels.append(element.get_attribute("aria-label") or element.text)
+    assert labels[:4] == ["All scripts", "line 9", "The two packets", "The text of the script"]
+
+
+def test_without_scripts_of_its_own_the_table_is_whole(few: Browser) -> None:
+    few.driver.execute_cdp_cmd("Emulation.setScriptExecutionDisabled", {"value": True})
+    try:
+        few.look()
+        assert len(few.texts("#scripts tbody tr")) == len(SCRIPTS)
+        assert not few.all("#filter")[0].is_displayed()
+    finally:
+        few.driver.execute_cdp_cmd("Emulation.setScriptExecutionDisabled", {"value": False})
+
+
+# The least contrast of an element's text with what lies behind it, by WCAG 2.
+CONTRAST = """
+const number = (color) => color.match(/[\\d.]+/g).map(Number);
+const light = (color) => number(color).slice(0, 3).map((c) => c / 255)
+  .map((c) => c <= 0.04045 ? c / 12.92 : ((c + 0.055) / 1.055) ** 2.4)
+  .reduce((sum, c, i) => sum + c * [0.2126, 0.7152, 0.0722][i], 0);
+const behind = (element) => {
+  const color = getComputedStyle(element).backgroundColor;
+  return number(color)[3] === 0 ? behind(element.parentElement) : color;
+};
+return Math.min(...[...document.querySelectorAll("body *")]
+  .filter((it) => [...it.childNodes].some((node) => node.nodeType === 3 && node.data.trim()) && it.checkVisibility())
+  .map((it) => [light(getComputedStyle(it).color), light(behind(it))].sort((a, b) => b - a))
+  .map(([high, low]) => (high + 0.05) / (low + 0.05)));
+"""
+
+
+@pytest.mark.parametrize("scheme", ["light", "dark"])
+@pytest.mark.parametrize("name", [None, b"seq", b"missing", b"syntax"])
+def test_text_stands_out_in_both_schemes(scheme: str, name: bytes | None, few: Browser) -> None:
+    file = "index.html" if name is None else f"scripts/{file_of(os.fsdecode(path(name)))}"
+    few.look(file, scheme=scheme)
+    paper = str(few.run("return getComputedStyle(document.body).backgroundColor"))
+    assert ("rgb(250" in paper) == (scheme == "light")
+    contrast = few.run(CONTRAST)
+    assert isinstance(contrast, float | int) and contrast >= 4.5
+
+
+@pytest.mark.parametrize("width", [360, 1_600])
+@pytest.mark.parametrize("name", [None, *SCRIPTS])
+def test_no_page_is_wider_than_its_window(width: int, name: bytes | None, few: Browser) -> None:
+    file = "index.html" if name is None else f"scripts/{file_of(os.fsdecode(path(name)))}"
+    few.look(file, width=width)
+    assert few.run("return document.documentElement.scrollWidth") == width
+
+
+def test_a_thousand_scripts_are_filtered_at_once(many: Browser) -> None:
+    many.look()
+    assert many.run("return document.querySelectorAll('#scripts tbody tr').length") == 1_024
+    many.press("/", "s09")
+    assert many.texts("#shown") == ["100 of 1024 shown"]
+    many.all("input[value=fail]")[0].click()
+    assert many.texts("#scripts tbody th") == ["in/s0907.pkt"]
+    files = {it.name for it in (many.folder / "scripts").iterdir()}
+    assert files == {file_of(f"in/s{number:04}.pkt") for number in range(1_024)}
