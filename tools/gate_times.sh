@@ -27,6 +27,8 @@ else
     log=$(cd "$(dirname "$log")" && pwd)/$(basename "$log")
 fi
 work=$(mktemp -d)
+# A test of the client reads the clone as another user.
+chmod 755 "$work"
 trap 'rm -rf "$work"' EXIT
 trap 'exit 2' INT TERM HUP
 [ -z "$(git -C "$top" status --porcelain)" ] || echo "gate_times: what isn't committed isn't tried" >&2

@@ -1,23 +1,21 @@
 """Asks pdexplain why scripts don't pass."""
 
 import re
-from collections.abc import Callable, Mapping, Sequence
+from collections.abc import Callable, Iterable, Iterator, Mapping, Sequence
 from dataclasses import dataclass, replace
 from pathlib import Path
 from typing import Generic, TypeVar
 
 from pdsuite.octets import shown, shown_path
-from pdsuite.programs import Ended, Program, locate
+from pdsuite.programs import Ended, Program
 from pdsuite.protocol import LONGEST_BLOCK, LONGEST_CAUSE, Cause, Unexpected
 from pdsuite.protocol import add, blocks_in, causes_in, name_of
 from pdsuite.rows import Outcome, Row
 from pdsuite.runs import Script
 from pdsuite.settings import Settings, settings_text
-from pdsuite.settle import Settled
-from pdsuite.stop import Stop
+from pdsuite.settle import Settled, Step
+from pdsuite.stop import Stop, Stopped
 from pdsuite.text import Text
-
-PROGRAM = "pdexplain"
 
 # What the program has made safe to print already.
 _PLAIN = re.compile(rb"[ -~]*")
@@ -45,8 +43,8 @@ CAUSES: Speech[Cause] = Speech(("--json",), LONGEST_CAUSE, causes_in)
 class Asker(Generic[T]):
     """Has pdexplain speak of scripts that don't pass; `note` is told of a script on which it ends."""
 
-    def __init__(self, speech: Speech[T], stop: Stop, note: Callable[[str], None]) -> None:
-        self._program = locate(PROGRAM)
+    def __init__(self, program: Path, speech: Speech[T], stop: Stop, note: Callable[[str], None]) -> None:
+        self._program = program
         self._speech = speech
         self._stop = stop
         self._note = note
@@ -87,8 +85,8 @@ class Asker(Generic[T]):
 class Explainer:
     """Has pdexplain tell why scripts don't pass, in lines for people."""
 
-    def __init__(self, stop: Stop, note: Callable[[str], None]) -> None:
-        self._asker = Asker(BLOCKS, stop, note)
+    def __init__(self, program: Path, stop: Stop, note: Callable[[str], None]) -> None:
+        self._asker = Asker(program, BLOCKS, stop, note)
 
     def explain(self, step: Settled) -> list[tuple[Script, Outcome]]:
         """The outcomes of a piece, each that doesn't pass with what is told of it."""
@@ -99,6 +97,18 @@ class Explainer:
 def _with(outcome: Outcome, block: Sequence[bytes] | None) -> Outcome:
     why, told = _told(block, outcome.row) if block else _NOTHING
     return replace(outcome, why=why, told=told)
+
+
+def explained(steps: Iterable[Step], explainer: Explainer) -> Iterator[Step]:
+    """The steps, each piece with what is told of it; without that where a signal comes while it is asked for."""
+    for step in steps:
+        if isinstance(step, Settled):
+            try:
+                step = replace(step, outcomes=explainer.explain(step))
+            except Stopped:
+                yield step
+                raise
+        yield step
 
 
 def _told(block: Sequence[bytes], row: Row) -> Told:

@@ -5,6 +5,10 @@ class Fault(Exception):
     """Something without which a command can't go on; its text is one line for people."""
 
 
+class Cut(Fault):
+    """Something that ends a run early; what is settled until then is shown."""
+
+
 def why(error: OSError) -> str:
     """What the system says of a call that it refused."""
     return error.strerror or str(error)

@@ -79,6 +79,7 @@ _html = click.option(
 @_choice
 @_workers
 @_html
+@click.option("--scheduler", metavar="ADDRESS", help="Run scripts on the cluster of this Dask scheduler.")
 @click.option("--fail-fast", is_flag=True, help="Stop at the first piece that doesn't pass.")
 @click.option(
     "--junit",
@@ -97,13 +98,18 @@ def run_command(
     no_color: bool,
     workers: int | None,
     html: Path | None,
+    scheduler: str | None,
     fail_fast: bool,
     junit: Path | None,
     form: str | None,
     verbose: bool,
 ) -> int:
     """Runs all scripts in files and folders, and reports what came of them."""
-    wish = Wish(paths, only, settings, _threads(workers), fail_fast, junit, html)
+    if scheduler is not None and workers is not None:
+        raise click.UsageError("--workers is of this machine, and --scheduler runs scripts elsewhere")
+    if scheduler is not None and html is not None:
+        raise click.UsageError("--html draws what ran on this machine, and --scheduler runs scripts elsewhere")
+    wish = Wish(paths, only, settings, _threads(workers), scheduler, fail_fast, junit, html)
     with Screen(wants_color() and not no_color, progress=form is None) as screen:
         return run(wish, _form(form, verbose), screen)
 

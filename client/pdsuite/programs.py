@@ -21,6 +21,8 @@ from pdsuite.stop import Stop
 
 TOP = Path(__file__).resolve().parents[2]
 FOLDER = "PDSUITE_PROGRAMS"
+REGRESS = "pdregress"
+EXPLAIN = "pdexplain"
 
 _PIPE = 1 << 20
 _READ = 1 << 18

@@ -3,13 +3,16 @@
 from collections import deque
 from collections.abc import Callable, Generator, Iterable, Iterator
 from dataclasses import dataclass, field
+from pathlib import Path
 
+from pdsuite.octets import shown_path
 from pdsuite.programs import Ended, Program
 from pdsuite.protocol import LONGEST_LINE, SETTLE, Unexpected
 from pdsuite.protocol import add, before_total, name_of, rows_in
 from pdsuite.rows import Outcome, Row, Verdict
 from pdsuite.runs import Piece, Run, Script
-from pdsuite.settings import Settings
+from pdsuite.settings import Settings, settings_text
+from pdsuite.stop import Stop
 from pdsuite.text import Text, Unfit, read_text
 
 Start = Callable[[Settings], Program]
@@ -32,14 +35,25 @@ class Again:
     script: Script
     reason: str
 
+    def __str__(self) -> str:
+        """The line that says so."""
+        return f"pdsuite: {self.reason}; a new run begins at {shown_path(self.script.path)}"
+
 
 Step = Settled | Again
+# Has runs settled and what doesn't pass explained. The steps come in the order of the runs, whoever takes them.
+Mapper = Callable[[Iterable[Run]], Generator[Step, None, None]]
 
 
-def settle_all(runs: Iterable[Run], start: Start) -> Generator[Step, None, None]:
-    """Has all runs settled, one after another."""
-    for run in runs:
-        yield from settle(run, start)
+def start_with(program: Path, workers: int, cache: int, stop: Stop) -> Start:
+    """What starts the program for a run under settings."""
+
+    def start(settings: Settings) -> Program:
+        words: list[str | Path] = [program, "--workers", str(workers), "--cache", str(cache)]
+        text = settings_text(settings)
+        return Program([*words, "--settings", text] if text else words, stop)
+
+    return start
 
 
 def load(script: Script) -> Text | str:
@@ -67,7 +81,7 @@ def settle(run: Run, start: Start, load_text: Load = load) -> Generator[Step, No
         except Ended as end:
             piece = left.popleft()
             if len(piece) == 1 and piece[0].index in ended:
-                yield Settled([_unrun(piece[0], str(end))])
+                yield unrun(piece, str(end))
                 continue
             ended.update(script.index for script in piece)
             left.extendleft((script,) for script in reversed(piece))
@@ -103,12 +117,17 @@ def _rows(answer: bytes, before: bytes, names: list[bytes], count: int) -> list[
 
 def _outcome(script: Script, text: Text | str, rows: Iterator[Row]) -> tuple[Script, Outcome]:
     if isinstance(text, str):
-        return _unrun(script, text)
+        return _error(script, text)
     row = next(rows)
     line = None if row.line is None else text.line(row.line)
     return script, Outcome(script.path, script.settings, row, line)
 
 
-def _unrun(script: Script, reason: str) -> tuple[Script, Outcome]:
+def unrun(piece: Piece, reason: str) -> Settled:
+    """A piece that couldn't be run."""
+    return Settled([_error(script, reason) for script in piece])
+
+
+def _error(script: Script, reason: str) -> tuple[Script, Outcome]:
     row = Row(Verdict.ERROR, word=reason)
     return script, Outcome(script.path, script.settings, row)

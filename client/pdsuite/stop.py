@@ -2,6 +2,7 @@
 
 import os
 import signal
+from collections.abc import Sequence
 from types import FrameType, TracebackType
 
 _SIGNALS = (signal.SIGINT, signal.SIGTERM, signal.SIGHUP)
@@ -16,15 +17,20 @@ class Stopped(Exception):
 
 
 class Stop:
-    """Notes the first signal and makes a descriptor readable; a second signal ends the process as ever."""
+    """Notes the first signal and makes a descriptor readable; a second signal ends the process as ever.
 
-    def __init__(self) -> None:
+    In a thread that can't heed signals it is used without any.
+    """
+
+    def __init__(self, signals: Sequence[signal.Signals] = _SIGNALS) -> None:
+        self._signals = signals
         self._number = 0
         self._reader, self._writer = os.pipe2(os.O_NONBLOCK | os.O_CLOEXEC)
 
     def __enter__(self) -> "Stop":
-        signal.set_wakeup_fd(self._writer, warn_on_full_buffer=False)
-        for number in _SIGNALS:
+        if self._signals:
+            signal.set_wakeup_fd(self._writer, warn_on_full_buffer=False)
+        for number in self._signals:
             if signal.getsignal(number) != signal.SIG_IGN:
                 signal.signal(number, self._note)
         return self
@@ -35,8 +41,9 @@ class Stop:
         error: BaseException | None,
         trace: TracebackType | None,
     ) -> None:
-        signal.set_wakeup_fd(-1)
-        for number in _SIGNALS:
+        if self._signals:
+            signal.set_wakeup_fd(-1)
+        for number in self._signals:
             if signal.getsignal(number) == self._note:
                 signal.signal(number, signal.SIG_DFL)
         os.close(self._reader)
@@ -53,6 +60,6 @@ class Stop:
 
     def _note(self, number: int, frame: FrameType | None) -> None:
         self._number = number
-        for each in _SIGNALS:
+        for each in self._signals:
             if signal.getsignal(each) == self._note:
                 signal.signal(each, signal.SIG_DFL)

@@ -3,9 +3,9 @@
 from collections.abc import Iterator
 
 from pdsuite.octets import shown_path
-from pdsuite.programs import commit, digest, locate
+from pdsuite.programs import EXPLAIN, REGRESS, commit, digest, locate
 
-PROGRAMS = ("pdregress", "pdexplain")
+PROGRAMS = (REGRESS, EXPLAIN)
 
 
 def version() -> Iterator[str]:

@@ -29,6 +29,12 @@ def act(words: list[str]) -> None:
         case ["once", mark] if not Path(mark).exists():
             Path(mark).touch()
             os.kill(os.getpid(), signal.SIGKILL)
+        case ["orphan"]:
+            os.kill(os.getppid(), signal.SIGKILL)
+            time.sleep(60)
+        case ["orphan", mark] if not Path(mark).exists():
+            Path(mark).touch()
+            act(["orphan"])
         case ["exit"]:
             sys.exit(3)
         case ["fault", *fault]:

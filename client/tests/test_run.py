@@ -169,7 +169,10 @@ def test_what_may_not_be_read_is_a_row(tmp_path: Path, programs: Path) -> None:
     (tmp_path / "suite/b.pkt").chmod(0)
     (tmp_path / "suite/shut").chmod(0)
     (tmp_path / "suite").chmod(0o755)
-    command = ["setpriv", "--reuid=65534", "--clear-groups", str(TOP / "pdsuite"), "run", "suite"]
+    as_another = ["setpriv", "--reuid=65534", "--clear-groups"]
+    if subprocess.run([*as_another, "test", "-r", str(TOP / "pdsuite")]).returncode:
+        pytest.skip("needs a repository that other users can read")
+    command = [*as_another, str(TOP / "pdsuite"), "run", "suite"]
     tmp_path.chmod(0o755)
     for folder in tmp_path.parents[:2]:
         folder.chmod(0o755)

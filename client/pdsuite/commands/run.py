@@ -1,24 +1,26 @@
 """`pdsuite run`: runs scripts and reports what came of them."""
 
 import time
-from collections.abc import Iterable, Iterator, Sequence
-from contextlib import closing
+from collections.abc import Callable, Iterable, Iterator, Mapping, Sequence
+from contextlib import AbstractContextManager, closing, nullcontext
 from dataclasses import dataclass
 from pathlib import Path
 from typing import TYPE_CHECKING
 
 from pdsuite.asked import refused
-from pdsuite.commands.choice import PROGRAM, scripts_of, start_with
+from pdsuite.commands.choice import scripts_of
 from pdsuite.explain import Explainer
+from pdsuite.faults import Cut
 from pdsuite.files import write
-from pdsuite.octets import shown_path
-from pdsuite.programs import Program, locate
+from pdsuite.here import here
+from pdsuite.packages import need
+from pdsuite.programs import EXPLAIN, REGRESS, Program, digest, locate
 from pdsuite.report import Report
 from pdsuite.reports.form import Form
 from pdsuite.rows import Outcome, Verdict
 from pdsuite.runs import Script, runs_of
 from pdsuite.screen import Screen, say
-from pdsuite.settle import Again, Settled, Step, settle_all
+from pdsuite.settle import Again, Mapper, Settled, Step, start_with
 from pdsuite.stop import Stop, Stopped
 from pdsuite.suite import Suite, option_of
 from pdsuite.text import Text
@@ -35,6 +37,7 @@ class Wish:
     only: str | None
     settings: str
     workers: int
+    scheduler: str | None
     fail_fast: bool
     junit: Path | None
     html: Path | None
@@ -47,33 +50,15 @@ def run(wish: Wish, form: Form, screen: Screen) -> int:
         suite = Suite(option_of(wish.settings))
         try:
             scripts = scripts_of(wish.paths, wish.only, suite, stop)
-            program = locate(PROGRAM)
-            explainer = Explainer(stop, screen.note)
-            lines = refused(suite.claims(), lambda: Program([program], stop))
+            programs = {name: locate(name) for name in (REGRESS, EXPLAIN)}
+            if lines := refused(suite.claims(), lambda: Program([programs[REGRESS]], stop)):
+                for line in lines:
+                    say(line)
+                return 2
+            with _mapper(wish, programs, stop, screen.note) as mapper:
+                return _run(mapper, scripts, wish, form, screen, begin, stop)
         except Stopped as stopped:
             return stopped.status
-        if lines:
-            for line in lines:
-                say(line)
-            return 2
-        drawing = None if wish.html is None else _drawing(wish.html, screen)
-        report = Report(scripts, form, screen)
-        start = start_with(program, wish.workers, 1, stop)
-        texts: dict[int, Text] = {}
-        ended: Stopped | None = None
-        try:
-            with closing(settle_all(runs_of(scripts), start)) as steps:
-                heard = steps if drawing is None else _kept(steps, texts)
-                ended = _take(heard, report, screen, explainer, wish.fail_fast)
-            totals = report.close(time.monotonic() - begin)
-        finally:
-            # Also where nothing can be shown any more.
-            if wish.junit is not None:
-                _write_junit(wish.junit, report, time.monotonic() - begin)
-            if drawing is not None and ended is None:
-                ended = _draw(drawing, report, texts, screen, stop)
-    status = totals.status() if ended is None else ended.status
-    return 2 if drawing is not None and drawing.has_failed else status
 
 
 def _drawing(folder: Path, screen: Screen) -> "Drawing":
@@ -91,31 +76,59 @@ def _kept(steps: Iterable[Step], texts: dict[int, Text]) -> Iterator[Step]:
         yield step
 
 
-def _take(
-    steps: Iterable[Step], report: Report, screen: Screen, explainer: Explainer, fail_fast: bool
-) -> Stopped | None:
-    """Reports each step, up to the last one or the one where it is to end; the signal that ended it, if one did."""
+def _mapper(
+    wish: Wish, programs: Mapping[str, Path], stop: Stop, note: Callable[[str], None]
+) -> AbstractContextManager[Mapper]:
+    """The cluster that was asked for, else the processors of this machine."""
+    if wish.scheduler is None:
+        start = start_with(programs[REGRESS], wish.workers, 1, stop)
+        return nullcontext(here(start, Explainer(programs[EXPLAIN], stop, note)))
+    # Only who has a cluster needs what speaks with it.
+    need("distributed")
+    from pdsuite.cluster import cluster
+
+    return cluster(wish.scheduler, {name: (str(path), digest(path)) for name, path in programs.items()}, stop, note)
+
+
+def _run(
+    mapper: Mapper, scripts: Sequence[Script], wish: Wish, form: Form, screen: Screen, begin: float, stop: Stop
+) -> int:
+    """Runs the scripts by whoever is given, reports what came of them, and answers the exit status."""
+    drawing = None if wish.html is None else _drawing(wish.html, screen)
+    report = Report(scripts, form, screen)
+    texts: dict[int, Text] = {}
+    ended: Stopped | Cut | None = None
+    try:
+        with closing(mapper(runs_of(scripts))) as steps:
+            heard = steps if drawing is None else _kept(steps, texts)
+            ended = _take(heard, report, screen, wish.fail_fast)
+        totals = report.close(time.monotonic() - begin)
+    finally:
+        # Also where nothing can be shown any more.
+        if wish.junit is not None:
+            _write_junit(wish.junit, report, time.monotonic() - begin)
+        if drawing is not None and ended is None:
+            ended = _draw(drawing, report, texts, screen, stop)
+    if isinstance(ended, Stopped):
+        return ended.status
+    if ended is not None:
+        raise ended
+    return 2 if drawing is not None and drawing.has_failed else totals.status()
+
+
+def _take(steps: Iterable[Step], report: Report, screen: Screen, fail_fast: bool) -> Stopped | Cut | None:
+    """Reports each step, up to the last one or the one where it is to end; what ended it early, if anything did."""
     try:
         for step in steps:
             if isinstance(step, Again):
-                place = shown_path(step.script.path)
-                screen.note(f"pdsuite: {step.reason}; a new run begins at {place}")
+                screen.note(str(step))
                 continue
-            _report(step, report, explainer)
+            report.take(step.outcomes)
             if fail_fast and not all(map(_passes, step.outcomes)):
                 break
-    except Stopped as stopped:
-        return stopped
+    except (Stopped, Cut) as ended:
+        return ended
     return None
-
-
-def _report(step: Settled, report: Report, explainer: Explainer) -> None:
-    """Reports a piece, with what is told of it; also where a signal comes while that is asked for."""
-    outcomes = step.outcomes
-    try:
-        outcomes = explainer.explain(step)
-    finally:
-        report.take(outcomes)
 
 
 def _passes(settled: tuple[Script, Outcome]) -> bool:

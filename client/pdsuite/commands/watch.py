@@ -11,17 +11,16 @@ from typing import TYPE_CHECKING, NoReturn
 from rich.text import Text as Shown
 
 from pdsuite.asked import refused
-from pdsuite.commands.choice import PROGRAM, start_with
 from pdsuite.explain import Explainer
 from pdsuite.fleet import Fleet
 from pdsuite.folders import Choice, Folders
 from pdsuite.layers import Layers
 from pdsuite.news import Outcomes, changed_blocks, changed_rows, first_report, foot, totals_of
-from pdsuite.programs import Program, locate
+from pdsuite.programs import EXPLAIN, REGRESS, Program, locate
 from pdsuite.rows import Outcome, Row, Verdict
 from pdsuite.runs import RUN, Script, runs_of
 from pdsuite.screen import Screen, say
-from pdsuite.settle import Settled
+from pdsuite.settle import Settled, start_with
 from pdsuite.stop import Stop, Stopped
 from pdsuite.suite import Claim, claims_of, option_of
 from pdsuite.text import Text
@@ -111,8 +110,8 @@ class View:
 def watch(wish: Wish, screen: Screen) -> int:
     """Watches until a signal comes, and answers the exit status of the last report."""
     with Stop() as stop:
-        program = locate(PROGRAM)
-        view = View(screen, Explainer(stop, screen.note), wish.every)
+        program = locate(REGRESS)
+        view = View(screen, Explainer(locate(EXPLAIN), stop, screen.note), wish.every)
 
         def ask(claims: Iterable[Claim]) -> list[str]:
             return refused(claims, lambda: Program([program], stop))

@@ -10,6 +10,7 @@ from pdsuite.page.folder import TABLE, sweep
 from pdsuite.page.links import FOLDER
 from pdsuite.page.render import script_page, table_page
 from pdsuite.page.sheets import Entry, Row, sheet_of
+from pdsuite.programs import EXPLAIN, locate
 from pdsuite.protocol import Cause
 from pdsuite.runs import Script, runs_of
 from pdsuite.settle import Settled
@@ -32,7 +33,7 @@ def carry_out(job: Job, stop: Stop, done: Callable[[int], None]) -> None:
         sweep(job.folder, (it.file for it in job.rows))
     scripts = [Script(place, it.outcome.path, it.outcome.settings) for place, it in enumerate(job.entries)]
     # Where it tells nothing of a script, that has been said when its row was shown.
-    asker = Asker(CAUSES, stop, lambda line: None)
+    asker = Asker(locate(EXPLAIN), CAUSES, stop, lambda line: None)
     for run in runs_of(scripts):
         for piece in run.pieces:
             told = asker.told(_settled(piece, job.entries))

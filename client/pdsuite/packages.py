@@ -1,0 +1,12 @@
+"""Debian packages that only some commands need."""
+
+from importlib.util import find_spec
+
+from pdsuite.faults import Fault
+
+
+def need(module: str) -> None:
+    """Raises a fault that names the package of a module, where that isn't installed."""
+    if find_spec(module) is None:
+        package = f"python3-{module}"
+        raise Fault(f"{package} isn't installed: apt-get install --no-install-recommends {package}")
