@@ -104,7 +104,7 @@ def run_command(
     form: str | None,
     verbose: bool,
 ) -> int:
-    """Runs all scripts in files and folders, and reports what came of them."""
+    """Runs scripts in files and folders, and reports what came of them."""
     if scheduler is not None and workers is not None:
         raise click.UsageError("--workers is of this machine, and --scheduler runs scripts elsewhere")
     if scheduler is not None and html is not None:

@@ -21,6 +21,8 @@ from pdsuite.stop import Stop
 
 TOP = Path(__file__).resolve().parents[2]
 FOLDER = "PDSUITE_PROGRAMS"
+# In a package: its version, and the commit that it was made of. The programs are then installed, too.
+PACKED = TOP / "version"
 REGRESS = "pdregress"
 EXPLAIN = "pdexplain"
 
@@ -46,6 +48,8 @@ def locate(name: str) -> Path:
         if not path.is_file() or not os.access(path, os.X_OK):
             raise Fault(f"{shown_path(path)}: no program ({FOLDER} names the folder)")
         return path
+    if PACKED.exists():
+        return TOP.parents[1] / "bin" / name
     said = subprocess.run(
         [TOP / "tools/built.sh", name],
         stdin=subprocess.DEVNULL,
@@ -57,7 +61,9 @@ def locate(name: str) -> Path:
 
 
 def commit() -> str:
-    """The commit that this client is of, with `-dirty` where files differ from it."""
+    """The commit that this client is of, with `-dirty` where files differ from it; before it the package's version."""
+    if PACKED.exists():
+        return shown(PACKED.read_bytes().strip())
     words = ["describe", "--always", "--dirty", "--abbrev=40", "--exclude=*"]
     try:
         said = subprocess.run(["git", "-C", TOP, *words], stdin=subprocess.DEVNULL, capture_output=True)

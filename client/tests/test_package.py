@@ -1,0 +1,186 @@
+"""The Debian package: its version, its man pages and completion, and how it runs in a root that has nothing else."""
+
+import hashlib
+import os
+import re
+import shutil
+import subprocess
+from collections.abc import Iterator
+from pathlib import Path
+
+import pytest
+
+from tests.helpers import TOP, Called
+from tests.test_run import expected_rows
+
+PROVED = (TOP / "packaging/programs.txt").read_text().split()
+COMMANDS = ("run", "watch", "list")
+# Where pages and texts for terminals differ: the ends of lines, blanks, and the prompt of an example.
+_SPACE = re.compile(r"[\s$]+")
+
+
+def output(*words: str | Path, **more: str) -> str:
+    """What a command says, on both outputs; it may end with any status."""
+    environment = {**os.environ, "LC_ALL": "C.UTF-8", **more}
+    said = subprocess.run(words, stdin=subprocess.DEVNULL, capture_output=True, text=True, env=environment)
+    return said.stdout + said.stderr
+
+
+def clone_of_tools(folder: Path) -> Path:
+    """The tool in a repository of its own, whose commit is tagged as the release."""
+    (folder / "tools").mkdir(parents=True)
+    shutil.copy(TOP / "tools/package.sh", folder / "tools")
+    (folder / "CHANGELOG.md").write_text("# Changelog\n\n## 1.2.3\n\n## 1.2.2\n")
+    for words in (["init", "-q"], ["add", "."], ["commit", "-qm", "x"], ["tag", "v1.2.3"]):
+        git(folder, *words)
+    return folder / "tools/package.sh"
+
+
+def git(folder: Path, *words: str) -> str:
+    """What git says in a folder, at a fixed time."""
+    who = {f"GIT_{role}_{what}": "a@b" for role in ("AUTHOR", "COMMITTER") for what in ("NAME", "EMAIL")}
+    when = {f"GIT_{role}_DATE": "2026-01-02T12:00:00Z" for role in ("AUTHOR", "COMMITTER")}
+    environment = {**os.environ, **who, **when}
+    return subprocess.run(
+        ["git", "-C", folder, *words], env=environment, check=True, capture_output=True, text=True
+    ).stdout.strip()
+
+
+def test_the_version_is_the_release_only_where_its_tag_is(tmp_path: Path) -> None:
+    tool = clone_of_tools(tmp_path)
+    assert output(tool, "--version") == "1.2.3\n"
+    (tmp_path / "CHANGELOG.md").write_text("# Changelog\n\n## 1.2.3\n\nMore.\n")
+    assert output(tool, "--version") == f"1.2.3+git20260102.{git(tmp_path, 'rev-parse', '--short=10', 'HEAD')}.dirty\n"
+    git(tmp_path, "commit", "-qam", "y")
+    assert output(tool, "--version") == f"1.2.3+git20260102.{git(tmp_path, 'rev-parse', '--short=10', 'HEAD')}\n"
+
+
+def test_what_is_not_proved_is_not_packed(tmp_path: Path) -> None:
+    tool = clone_of_tools(tmp_path)
+    (tmp_path / "packaging").mkdir()
+    (tmp_path / "packaging/programs.txt").write_text("pdregress\n")
+    for name in ("tools/built.sh", "tools/crates_below.sh", "crates.txt", "pdregress"):
+        shutil.copy(TOP / name, tmp_path / name)
+    said = output(tool, tmp_path, PATH="/usr/bin:/bin:/usr/sbin:/sbin")  # without rt nothing is proved
+    assert said.endswith("package: pdregress isn't proved and built\n")
+    assert not list(tmp_path.glob("*.deb"))
+
+
+@pytest.mark.parametrize("words", [("pdregress",), ("pdexplain",), ("pdsuite",), *(("pdsuite", it) for it in COMMANDS)])
+def test_a_page_has_the_words_of_help(words: tuple[str, ...], programs: Path) -> None:
+    if shutil.which("help2man") is None:
+        pytest.skip("help2man isn't installed")
+    command = TOP / "pdsuite" if words[0] == "pdsuite" else programs / words[0]
+    page = output(TOP / "tools/man_page.sh", "0.1", "-".join(words), command, *words[1:])
+    # As a terminal would show it, but with neither breaks nor styles.
+    text = re.sub(r"\\f[A-Z]|\\f\([A-Z]{2}|\\[,/&]|^\.\S+ ?", "", page, flags=re.MULTILINE)
+    text = text.replace(r"\-", "-").replace(r"\e", "\\").replace(r"\'", "'").replace('"', "")
+    shown = _SPACE.sub("", text).casefold()
+    for line in output(command, *words[1:], "--help").replace('"', "").splitlines():
+        for part in re.split(r"\s{2,}", line.removeprefix("Usage: ").strip()):
+            assert _SPACE.sub("", part).rstrip(":").casefold() in shown, part
+
+
+@pytest.fixture(scope="module")
+def package(tmp_path_factory: pytest.TempPathFactory) -> Path:
+    """The package of the proved programs, where these are built."""
+    for name in PROVED:
+        if subprocess.run([TOP / "tools/built.sh", name], capture_output=True).returncode:
+            pytest.skip(f"{name} isn't proved and built")
+    for tool in ("dpkg-deb", "dpkg-shlibdeps", "help2man"):
+        if shutil.which(tool) is None:
+            pytest.skip(f"{tool} isn't installed")
+    said = subprocess.run(
+        [TOP / "tools/package.sh", tmp_path_factory.mktemp("package")], capture_output=True, text=True, timeout=200
+    )
+    assert said.returncode == 0, said.stderr
+    return Path(said.stdout.splitlines()[-1])
+
+
+def test_the_programs_are_packed_octet_for_octet(package: Path, tmp_path: Path) -> None:
+    subprocess.run(["dpkg-deb", "-x", package, tmp_path], check=True)
+    for name in PROVED:
+        built = Path(output(TOP / "tools/built.sh", name).strip())
+        assert (tmp_path / "usr/bin" / name).read_bytes() == built.read_bytes()
+    assert not list(tmp_path.rglob("__pycache__"))
+
+
+def test_lintian_finds_no_error(package: Path) -> None:
+    if shutil.which("lintian") is None:
+        pytest.skip("lintian isn't installed")
+    said = subprocess.run(["lintian", "--fail-on", "error", package], capture_output=True, text=True)
+    assert said.returncode == 0, said.stdout
+    assert "E: " not in said.stdout
+
+
+@pytest.fixture(scope="module")
+def root(package: Path, tmp_path_factory: pytest.TempPathFactory) -> Iterator[Path]:
+    """A root of Debian's with apt alone, in which the package was installed."""
+    if shutil.which("mmdebstrap") is None:
+        pytest.skip("mmdebstrap isn't installed")
+    if os.getuid() != 0:
+        pytest.skip("needs root, to change the root folder")
+    folder = tmp_path_factory.mktemp("root") / "root"
+    made = subprocess.run(
+        ["mmdebstrap", "--variant=apt", "bookworm", folder], capture_output=True, text=True, timeout=250
+    )
+    if made.returncode:
+        pytest.skip(f"no root was made: {made.stderr.splitlines()[-1:]}")
+    shutil.copy(package, folder / package.name)
+    shutil.copy("/etc/resolv.conf", folder / "etc/resolv.conf")
+    quiet = {"DEBIAN_FRONTEND": "noninteractive"}
+    for words in (["update"], ["install", "-y", "--no-install-recommends", f"./{package.name}"]):
+        done = in_root(folder, "apt-get", "-q", *words, **quiet)
+        assert done.status == 0, done.err
+    yield folder
+    shutil.rmtree(folder)
+
+
+def in_root(folder: Path, *words: str, text: str = "", **more: str) -> Called:
+    """What a command comes to in a root, with nothing of this environment."""
+    environment = {"PATH": "/usr/sbin:/usr/bin:/sbin:/bin", "HOME": "/root", "LC_ALL": "C.UTF-8", **more}
+    done = subprocess.run(["chroot", folder, *words], input=text.encode(), capture_output=True, env=environment)
+    return Called(done.returncode, done.stdout.decode(), done.stderr.decode())
+
+
+def test_all_programs_run_where_nothing_else_is(root: Path, package: Path) -> None:
+    send = (TOP / "examples/send.txt").read_text()
+    for name in ("pdregress", "pdsteps", "pdexplain"):
+        done = in_root(root, name, text=send)
+        assert (done.status, done.out.splitlines()[0]) == (0, "send pass 9")
+    for name in PROVED:
+        assert "Usage: " in in_root(root, name, "--help").err
+    assert not (root / "root/.rattle").exists() and in_root(root, "sh", "-c", "command -v rt").status != 0
+    done = in_root(root, "pdsuite", "run", "-v", "/usr/share/doc/pdregress/examples/scripts")
+    assert (done.status, done.err) == (1, "")
+    assert [it.removeprefix("/usr/share/doc/pdregress/examples/scripts/") for it in done.rows] == expected_rows()
+    version, *digests = in_root(root, "pdsuite", "--version").out.splitlines()
+    assert version.split()[1] == package.name.split("_")[1]
+    for name, line in zip(("pdregress", "pdexplain"), digests):
+        digest = hashlib.sha256((root / "usr/bin" / name).read_bytes()).hexdigest()
+        assert line == f"{name} {digest} /usr/bin/{name}"
+
+
+def test_pages_and_completion_are_installed(root: Path) -> None:
+    for name in (*PROVED, "pdsuite", *(f"pdsuite-{it}" for it in COMMANDS)):
+        assert (root / f"usr/share/man/man1/{name}.1.gz").exists()
+    source = (root / "usr/share/bash-completion/completions/pdsuite").read_text()
+    assert "_pdsuite_completion" in source
+    asked = "COMP_WORDS='pdsuite w' COMP_CWORD=1 _PDSUITE_COMPLETE=bash_complete pdsuite"
+    assert in_root(root, "bash", "-c", asked).out == "plain,watch\n"
+    for name in PROVED:
+        words = (root / f"usr/share/bash-completion/completions/{name}").read_text()
+        assert "--help" in words and "--settings" in words
+
+
+def test_a_package_that_only_some_commands_need_is_named(root: Path) -> None:
+    done = in_root(root, "pdsuite", "run", "--scheduler", "127.0.0.1:1", "/usr/share/doc/pdregress/examples/linux")
+    line = "python3-distributed isn't installed: apt-get install --no-install-recommends python3-distributed"
+    assert (done.status, done.err) == (2, f"pdsuite: {line}\n")
+
+
+def test_zz_nothing_is_left_when_it_is_removed(root: Path) -> None:
+    done = in_root(root, "dpkg", "--purge", "pdregress")
+    assert (done.status, done.err) == (0, "")
+    assert not [it for it in root.glob("usr/share/*pdregress*")]
+    assert not (root / "usr/bin/pdsuite").is_symlink()

@@ -1,0 +1,148 @@
+#!/bin/sh
+# Makes a Debian package of the proved programs, pdsuite, their man pages, their completion for bash and the documents. It
+# has each program proved and built first where that is needed, and packs no other. It prints the package's path, which is
+# in FOLDER, or in the present one. A tree whose commit has the tag vX.Y.Z of the changelog's last release is that release.
+#
+#   tools/package.sh [FOLDER]
+#   tools/package.sh --version     prints the version alone
+set -eu
+top=$(CDPATH='' cd -P -- "$(dirname -- "$0")/.." && pwd -P)
+name=pdregress
+
+die() {
+    echo "package: $*" >&2
+    exit 2
+}
+
+from_git() {
+    git -C "$top" "$@" 2>/dev/null
+}
+
+version_of_tree() {
+    release=$(sed -n 's/^## \([0-9][0-9.]*\).*/\1/p' "$top/CHANGELOG.md" | head -n 1)
+    [ -n "$release" ] || die "CHANGELOG.md has no release"
+    commit=$(from_git describe --always --dirty --abbrev=40 --exclude='*') || commit=unknown
+    case $commit in
+        unknown) echo "$release+unknown" ;;
+        *-dirty) echo "$release+git$(date_of_commit).$(from_git rev-parse --short=10 HEAD).dirty" ;;
+        *) from_git describe --exact-match --tags --match "v$release" >/dev/null && echo "$release" ||
+            echo "$release+git$(date_of_commit).$(from_git rev-parse --short=10 HEAD)" ;;
+    esac
+}
+
+date_of_commit() {
+    from_git show -s --format=%cd --date=format:%Y%m%d
+}
+
+# Where the tools that make a package are.
+needed() {
+    for tool in dpkg-deb dpkg-shlibdeps help2man gzip; do
+        command -v "$tool" >/dev/null || die "$tool isn't installed: apt-get install --no-install-recommends dpkg-dev help2man"
+    done
+}
+
+put() { # MODE FILE.. FOLDER, below the root of what is packed
+    mode=$1
+    shift
+    for last in "$@"; do :; done
+    mkdir -p "$root/$last"
+    while [ $# -gt 1 ]; do
+        install -m "$mode" "$1" "$root/$last"
+        shift
+    done
+}
+
+programs() {
+    for program in $(cat "$top/packaging/programs.txt"); do
+        "$top/$program" </dev/null >/dev/null || true
+        built=$("$top/tools/built.sh" "$program") || die "$program isn't proved and built"
+        put 755 "$built" usr/bin
+        page "$program" "$built"
+        completion "$program" "$built"
+    done
+}
+
+# The client stands as it does in the repository, so that what starts it finds its modules.
+client() {
+    share=usr/share/$name
+    put 755 "$top/pdsuite" "$share"
+    put 644 "$top/client/packages.txt" "$top/client/packages-more.txt" "$share/client"
+    (cd "$top/client" && find pdsuite -name '*.py') | while read -r module; do
+        put 644 "$top/client/$module" "$share/client/$(dirname "$module")"
+    done
+    echo "$version $commit" >"$root/$share/version"
+    ln -s "../share/$name/pdsuite" "$root/usr/bin/pdsuite"
+    page pdsuite "$top/pdsuite"
+    for command in run watch list; do
+        page "pdsuite-$command" "$top/pdsuite" "$command"
+    done
+    mkdir -p "$root/$completions"
+    _PDSUITE_COMPLETE=bash_source "$top/pdsuite" >"$root/$completions/pdsuite"
+}
+
+page() { # NAME COMMAND..
+    mkdir -p "$root/usr/share/man/man1"
+    "$top/tools/man_page.sh" "$version" "$@" | gzip -9n >"$root/usr/share/man/man1/$1.1.gz"
+}
+
+completions=usr/share/bash-completion/completions
+completion() { # NAME PROGRAM
+    words=$("$2" --help 2>&1 | grep -oE '^ +(-[a-z], )?--[a-z-]+' | tr -d ' ' | tr ',\n' '  ') || die "$1 has no words"
+    mkdir -p "$root/$completions"
+    echo "complete -o default -W '$words' $1" >"$root/$completions/$1"
+}
+
+documents() {
+    doc=usr/share/doc/$name
+    put 644 "$top/README.md" "$top/CHANGELOG.md" "$top/packaging/copyright" "$doc"
+    put 644 "$top"/docs/*.md "$doc/docs"
+    cp -R "$top/examples" "$root/$doc"
+    printf '%s (%s) unstable; urgency=medium\n\n  * CHANGELOG.md tells what changed.\n\n -- %s  %s\n' \
+        "$name" "$version" "$(sed -n 's/^Maintainer: //p' "$top/packaging/control")" "$(date -u -R -d "@$SOURCE_DATE_EPOCH")" |
+        gzip -9n >"$root/$doc/changelog.gz"
+    mkdir -p "$root/usr/share/lintian/overrides"
+    install -m 644 "$top/packaging/lintian-overrides" "$root/usr/share/lintian/overrides/$name"
+}
+
+listed() { # FILE the packages in it, as a field of a control file has them
+    paste -s -d , "$1" | sed 's/,/, /g'
+}
+
+libraries() { # what the programs need of the C library
+    printf 'Source: %s\n\nPackage: %s\nArchitecture: amd64\n' "$name" "$name" >"$work/debian/control"
+    (cd "$work" && find "debian/$name/usr/bin" -type f -exec dpkg-shlibdeps -O {} + 2>"$work/said") | sed -n 's/^shlibs:Depends=//p'
+}
+
+control() {
+    mkdir "$root/DEBIAN"
+    install -m 755 "$top/packaging/postinst" "$top/packaging/prerm" "$root/DEBIAN"
+    (cd "$root" && find usr -type f -exec md5sum {} + | LC_ALL=C sort -k 2) >"$root/DEBIAN/md5sums"
+    libraries=$(libraries)
+    [ -n "$libraries" ] || die "$(tail -n 1 "$work/said")"
+    depends="python3 (>= 3.11), $(listed "$top/client/packages.txt"), $libraries"
+    sed -e "s/@VERSION@/$version/" -e "s/@DEPENDS@/$depends/" -e "s/@SIZE@/$(du -sk "$root/usr" | cut -f 1)/" \
+        -e "s/@RECOMMENDS@/$(listed "$top/client/packages-more.txt")/" "$top/packaging/control" >"$root/DEBIAN/control"
+}
+
+version=$(version_of_tree)
+case ${1:-} in
+    --version) echo "$version" && exit ;;
+    -*) sed -n '6,7p' "$0" >&2 && exit 2 ;;
+esac
+folder=$(CDPATH='' cd -P -- "${1:-.}" && pwd -P) || die "${1:-.} is no folder"
+needed
+commit=$(from_git describe --always --dirty --abbrev=40 --exclude='*') || commit=unknown
+SOURCE_DATE_EPOCH=$(from_git show -s --format=%ct) || SOURCE_DATE_EPOCH=0
+export SOURCE_DATE_EPOCH
+umask 022
+work=$(mktemp -d)
+trap 'rm -rf "$work"' EXIT
+root=$work/debian/$name
+mkdir -p "$root"
+programs
+client
+documents
+control
+package=$folder/${name}_${version}_amd64.deb
+dpkg-deb --root-owner-group --build "$root" "$package" >/dev/null
+echo "$package"
