@@ -6,12 +6,18 @@
 #   bench/suite.sh [SCRIPTS [EVENTS]]      100,000 scripts of 20 events if nothing is said. EXPLAIN names another build of
 #                                          pdexplain beside PROGRAM
 #   bench/suite.sh watch [SAVES]
+#   bench/suite.sh cluster [SCRIPTS [EVENTS]]   the time with 1, 2 and 4 workers of a Dask cluster on this machine, beside a
+#                                               run without a cluster that has as many threads
 . "$(dirname "$0")/program.sh"
 mode=run
 if [ "${1:-}" = watch ]; then
     mode=watch
     saves=${2:-100}
     set -- 500 60
+fi
+if [ "${1:-}" = cluster ]; then
+    mode=cluster
+    shift
 fi
 scripts=${1:-100000}
 events=${2:-20}
@@ -35,6 +41,10 @@ generate "$scripts" "$events" | awk -v top="$work/suite" '
 
 if [ "$mode" = watch ]; then
     /usr/bin/python3 -I "$top/bench/watch.py" "$top" "$work/suite" "$saves"
+    exit
+fi
+if [ "$mode" = cluster ]; then
+    /usr/bin/python3 -I "$top/bench/cluster.py" "$top" "$work/suite"
     exit
 fi
 

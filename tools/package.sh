@@ -67,7 +67,7 @@ client() {
     share=usr/share/$name
     put 755 "$top/pdsuite" "$share"
     put 644 "$top/client/packages.txt" "$top/client/packages-more.txt" "$share/client"
-    (cd "$top/client" && find pdsuite -name '*.py') | while read -r module; do
+    (cd "$top/client" && find pdsuite -type f ! -path '*/__pycache__/*') | while read -r module; do
         put 644 "$top/client/$module" "$share/client/$(dirname "$module")"
     done
     echo "$version $commit" >"$root/$share/version"
