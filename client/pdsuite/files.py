@@ -1,7 +1,9 @@
-"""Files that are written whole or not at all."""
+"""Files and folders that are written whole or not at all."""
 
 import os
+import shutil
 import stat
+from collections.abc import Iterable
 from pathlib import Path
 
 from pdsuite.faults import Fault, why
@@ -30,3 +32,39 @@ def _write_beside(target: Path, octets: bytes) -> None:
     except BaseException:
         beside.unlink(missing_ok=True)
         raise
+
+
+def new_folder(path: Path) -> Path:
+    """Where a folder is to be written that is new or empty, and not the one that this process is in."""
+    target = Path(os.path.realpath(path))
+    try:
+        if os.path.lexists(target):
+            if not target.is_dir():
+                raise Fault(f"{shown_path(path)}: isn't a folder")
+            if any(target.iterdir()):
+                raise Fault(f"{shown_path(path)}: isn't empty")
+            if target.samefile(os.curdir):
+                raise Fault(f"{shown_path(path)}: is the folder that you are in")
+        elif not target.parent.is_dir():
+            raise Fault(f"{shown_path(path)}: the folder above it isn't there")
+    except OSError as error:
+        raise Fault(f"{shown_path(path)}: {why(error)}") from error
+    return target
+
+
+def write_folder(target: Path, files: Iterable[tuple[str, bytes]]) -> None:
+    """Writes files, by their paths from the folder, into one beside its place, and renames that."""
+    beside = target.with_name(f".{target.name[:200]}.{os.getpid()}")
+    try:
+        beside.mkdir()
+        try:
+            for name, octets in files:
+                file = beside / name
+                file.parent.mkdir(parents=True, exist_ok=True)
+                file.write_bytes(octets)
+            beside.replace(target)
+        except BaseException:
+            shutil.rmtree(beside, ignore_errors=True)
+            raise
+    except OSError as error:
+        raise Fault(f"{shown_path(target)}: {why(error)}") from error

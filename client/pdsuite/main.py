@@ -10,6 +10,7 @@ from typing import TypeVar
 
 import click
 
+from pdsuite.commands.import_ import import_scripts
 from pdsuite.commands.list import list_scripts
 from pdsuite.commands.run import Wish, run
 from pdsuite.faults import Fault, why
@@ -126,6 +127,17 @@ def list_command(paths: tuple[Path, ...], only: str | None, settings: str, no_co
     """Lists the scripts with their settings, and runs nothing."""
     with Screen(wants_color() and not no_color, progress=False) as screen:
         return list_scripts(paths, only, settings, screen)
+
+
+@pdsuite.command(name="import")
+@click.option("--keep", is_flag=True, help="Change nothing of packets.")
+@click.option("--no-color", is_flag=True, help="No colours on a terminal.")
+@click.argument("source", metavar="FROM", type=click.Path(path_type=Path))
+@click.argument("target", metavar="TO", type=click.Path(path_type=Path))
+def import_command(source: Path, target: Path, keep: bool, no_color: bool) -> int:
+    """Brings scripts of the kernel's self-tests over into a new folder, and runs nothing."""
+    with Screen(wants_color() and not no_color, progress=False) as screen:
+        return import_scripts(source, target, keep, screen)
 
 
 def _threads(workers: int | None) -> int:

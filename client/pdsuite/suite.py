@@ -64,6 +64,10 @@ class Suite:
         own = tables.get(script.name)
         return common if own is None else self._merged(script.folder, own)
 
+    def is_told(self, script: Found) -> bool:
+        """Whether some file is there for a script, whatever it says."""
+        return bool(self._chain(script.folder))
+
     def claims(self) -> Iterator[Claim]:
         """What `--settings` and the files that were read say, whichever scripts it is about."""
         files = [it for it in self._layers.values() if it is not None]

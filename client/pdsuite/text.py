@@ -8,7 +8,7 @@ from pathlib import Path
 LINES = 4_096
 OCTETS = 65_536
 # A carriage return before the end of a line doesn't count.
-_LONGEST_FILE = OCTETS + LINES
+LONGEST_FILE = OCTETS + LINES
 
 
 class Unfit(Exception):
@@ -43,7 +43,7 @@ def text_of(octets: bytes) -> Text:
 
 def read_text(path: str) -> Text:
     """The text of a script's file."""
-    return text_of(read_file(path, _LONGEST_FILE + 1))
+    return text_of(read_file(path, LONGEST_FILE + 1))
 
 
 def read_file(path: str | Path, most: int) -> bytes:

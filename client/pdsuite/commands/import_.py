@@ -1,0 +1,92 @@
+"""`pdsuite import`: brings over those scripts of the kernel's self-tests that this profile runs. It runs nothing."""
+
+import os
+from collections.abc import Iterator, Sequence
+from pathlib import Path
+
+from rich.text import Text
+
+from pdsuite.faults import Fault
+from pdsuite.files import new_folder, write_folder
+from pdsuite.find import Found, find
+from pdsuite.imports.convert import Imported, Left, Source, convert
+from pdsuite.imports.findings import Reason
+from pdsuite.imports.listing import Listed, lines_of, status, summary
+from pdsuite.imports.tables import is_key, tables_of
+from pdsuite.octets import shown_path
+from pdsuite.screen import Screen
+from pdsuite.settings import set_words
+from pdsuite.stop import Stop
+from pdsuite.suite import Suite, option_of
+from pdsuite.text import LONGEST_FILE, Unfit, read_file, text_of
+
+_NO_WORD = "?"
+
+
+def import_scripts(source: Path, target: Path, keep: bool, screen: Screen) -> int:
+    """Imports the scripts of a folder into another one, and answers the exit status."""
+    with Stop() as stop:
+        if not source.is_dir():
+            raise Fault(f"{shown_path(source)}: isn't a folder")
+        place = new_folder(target)
+        suite = Suite(option_of(""))
+        found = find([source], None, stop)
+        if not found:
+            raise Fault("no script found")
+        scripts = list(_imported(found, suite, keep, stop))
+        _refuse(suite)
+        if any(isinstance(it.came, Imported) for it in scripts):
+            write_folder(place, _files(source, scripts, stop))
+    lines = [line for it in scripts for line in lines_of(it)]
+    screen.show(Text("".join(f"{line}\n" for line in [*lines, *summary(scripts)])))
+    return status(scripts)
+
+
+def _imported(found: Sequence[Found], suite: Suite, keep: bool, stop: Stop) -> Iterator[Listed]:
+    for it in found:
+        stop.check()
+        yield Listed(it.path, it.fault or _import(it, suite, keep))
+
+
+def _import(found: Found, suite: Suite, keep: bool) -> Imported | Left | str:
+    """What comes of a script; or why it can't be read."""
+    try:
+        octets = read_file(found.path, LONGEST_FILE + 1)
+    except Unfit as unfit:
+        return str(unfit)
+    own = dict(suite.settings(found)) if suite.is_told(found) else None
+    try:
+        text_of(octets)
+    except Unfit as unfit:
+        return Left((Reason(1, str(unfit)),))
+    source = Source(_text(octets), own, lambda path: _load(found.path, path))
+    came = convert(source, keep)
+    if isinstance(came, Imported) and came.settings and not is_key(os.path.basename(found.path)):
+        return Left((Reason(1, "a name that isn't UTF-8, which no pdsuite.toml can have"),))
+    return came
+
+
+def _load(script: str, path: str) -> str:
+    """A file with commands of set-up, by its path from the folder of a script."""
+    return _text(read_file(os.path.join(os.path.dirname(script), path), LONGEST_FILE))
+
+
+def _text(octets: bytes) -> str:
+    """Octets as a text that says them all."""
+    return octets.decode("utf-8", "surrogateescape")
+
+
+def _refuse(suite: Suite) -> None:
+    """Refuses settings of a pdsuite.toml that no run could be given."""
+    for claim in suite.claims():
+        if _NO_WORD in set_words(claim.key, claim.value):
+            raise Fault(claim.refused("BadValue"))
+
+
+def _files(source: Path, scripts: Sequence[Listed], stop: Stop) -> Iterator[tuple[str, bytes]]:
+    """The files of the imported scripts, by their paths from the folder, and then their settings."""
+    imported = {os.path.relpath(it.path, source): it.came for it in scripts if isinstance(it.came, Imported)}
+    for path, script in imported.items():
+        stop.check()
+        yield path, script.text.encode("utf-8", "surrogateescape")
+    yield from tables_of({path: it.settings for path, it in imported.items()})

@@ -1,0 +1,103 @@
+"""Assertions of a script's code: which of them `pdsuite run` compares, and the comments that they become."""
+
+import ast
+import re
+import textwrap
+import warnings
+from collections.abc import Iterator
+from dataclasses import dataclass
+
+# What is compared: a name of Linux's tcp_info, and the values that it is compared with, as they are written.
+_NUMBER = re.compile(r"[0-9]{1,9}")
+_STATES = {
+    "TCP_CA_Open": "TCP_CA_Open",
+    "TCP_CA_Recovery": "TCP_CA_Recovery",
+    "TCP_CA_Loss": "TCP_CA_Loss",
+    "0": "TCP_CA_Open",
+    "3": "TCP_CA_Recovery",
+    "4": "TCP_CA_Loss",
+}
+_COMMENT = re.compile(r"[ \t]*// asserts (tcpi_[a-z_]+) == ([A-Za-z0-9_]+)\r?")
+
+
+@dataclass(frozen=True, slots=True)
+class Assertion:
+    """That a name of Linux's `tcp_info` has a value."""
+
+    name: str
+    value: str
+
+    def __str__(self) -> str:
+        return f"{self.name} == {self.value}"
+
+
+@dataclass(frozen=True, slots=True)
+class Asserted:
+    """What a code asserts that is compared, and what isn't compared of it, in words that are counted."""
+
+    assertions: tuple[Assertion, ...]
+    others: tuple[str, ...]
+
+
+def asserted(code: str) -> Asserted:
+    """What a code asserts. It is read, and never run."""
+    assertions: list[Assertion] = []
+    others: list[str] = []
+    for statement in _statements(code):
+        found = None if statement is None else _compared(statement)
+        if found is not None:
+            assertions.append(found)
+        else:
+            others.append(_words(statement))
+    return Asserted(tuple(assertions), tuple(others))
+
+
+def comment(assertion: Assertion) -> str:
+    """The comment that stands for an assertion in an imported script."""
+    return f"// asserts {assertion}"
+
+
+def assertion_in(line: str) -> Assertion | None:
+    """The assertion that a line of an imported script has as a comment."""
+    found = _COMMENT.fullmatch(line)
+    return None if found is None else _assertion(found[1], found[2])
+
+
+def _statements(code: str) -> Iterator[ast.stmt | None]:
+    """The statements of a code, or None where it isn't read."""
+    try:
+        with warnings.catch_warnings():
+            warnings.simplefilter("ignore")
+            yield from ast.parse(textwrap.dedent(code).strip()).body
+    except (SyntaxError, ValueError, RecursionError, MemoryError):
+        yield None
+
+
+def _compared(statement: ast.stmt) -> Assertion | None:
+    """The assertion of a statement `assert NAME == VALUE`, with a message or without, where it is compared."""
+    match statement:
+        case ast.Assert(ast.Compare(ast.Name(name), [ast.Eq()], [ast.Constant(int(number))])):
+            return _assertion(name, str(number)) if not isinstance(number, bool) else None
+        case ast.Assert(ast.Compare(ast.Name(name), [ast.Eq()], [ast.Name(value)])):
+            return _assertion(name, value)
+    return None
+
+
+def _assertion(name: str, value: str) -> Assertion | None:
+    match name:
+        case "tcpi_snd_cwnd" if _NUMBER.fullmatch(value):
+            return Assertion(name, value)
+        case "tcpi_unacked" if value == "0":
+            return Assertion(name, value)
+        case "tcpi_ca_state" if value in _STATES:
+            return Assertion(name, _STATES[value])
+    return None
+
+
+def _words(statement: ast.stmt | None) -> str:
+    """What isn't compared: the names that a statement asks about."""
+    if not isinstance(statement, ast.Assert):
+        return "other code"
+    names = sorted({it.id for it in ast.walk(statement.test) if isinstance(it, ast.Name) and it.id.isascii()})
+    told = [it for it in names if it.startswith("tcpi_")]
+    return " and ".join(told[:3]) or "other assertions"

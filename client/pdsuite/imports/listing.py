@@ -1,0 +1,89 @@
+"""What an import tells people: a line or a block for each script, and then a list by kind and count."""
+
+from collections import Counter
+from collections.abc import Iterable, Iterator, Sequence
+from dataclasses import dataclass
+
+from pdsuite.imports.convert import Imported, Left
+from pdsuite.imports.findings import Finding, Heading, Reason
+from pdsuite.octets import shown, shown_path
+from pdsuite.settings import shown_value
+
+_MOST = 120
+_FLOOR = "  of a kernel, min_rto_us: RFC 6298 puts this floor under the whole RTO, Linux under 4 RTTVAR alone"
+
+
+@dataclass(frozen=True)
+class Listed:
+    """What came of a script: it is imported, or left where it was, or it couldn't be read."""
+
+    path: str
+    came: Imported | Left | str
+
+
+def lines_of(listed: Listed) -> Iterator[str]:
+    """The line of a script, and what stands below it."""
+    path = shown_path(listed.path)
+    match listed.came:
+        case str(reason):
+            yield f"{path}: error: {reason}"
+        case Imported(changed=0):
+            yield f"{path}: imported, packets kept"
+        case Imported(changed=changed):
+            yield f"{path}: imported, changed to this profile: {_counted(changed, 'packet')}"
+        case Left(reasons):
+            yield f"{path}: not imported"
+            yield from map(_reason, reasons)
+
+
+def summary(scripts: Sequence[Listed]) -> Iterator[str]:
+    """The list by kind and count, and the totals."""
+    imported = [it.came for it in scripts if isinstance(it.came, Imported)]
+    left = [it.came for it in scripts if isinstance(it.came, Left)]
+    findings = [finding for it in imported for finding in it.findings]
+    yield from _table("not imported, scripts", (reason.words for it in left for reason in it.reasons))
+    for heading in Heading:
+        yield from _table(heading.value, _words(findings, heading))
+    settings = (f"{key} = {shown_value(value)}" for script in imported for key, value in script.settings)
+    yield from _table("settings, scripts", settings)
+    if not all(it.is_own for it in imported):
+        yield _FLOOR
+    kept = sum(not it.changed for it in imported)
+    errors = len(scripts) - len(imported) - len(left)
+    yield (
+        f"total {len(scripts)} imported {len(imported)} packets kept {kept} "
+        f"changed to this profile {len(imported) - kept} not imported {len(left)} error {errors}"
+    )
+
+
+def status(scripts: Sequence[Listed]) -> int:
+    """The exit status: 0 where each script is imported, 2 where one couldn't be read, else 1."""
+    if any(isinstance(it.came, str) for it in scripts):
+        return 2
+    return 0 if all(isinstance(it.came, Imported) for it in scripts) else 1
+
+
+def _reason(reason: Reason) -> str:
+    what = f": {_shown(reason.what)}" if reason.what else ""
+    return f"  line {reason.line}: {_shown(reason.words)}{what}"
+
+
+def _shown(text: str) -> str:
+    return shown(text.encode("utf-8", "surrogateescape"), _MOST)
+
+
+def _table(heading: str, words: Iterable[str]) -> Iterator[str]:
+    """The words below a heading, each with its count, the most frequent first."""
+    counts = Counter(words)
+    if counts:
+        yield f"{heading}:"
+        for word, count in sorted(counts.items(), key=lambda it: (-it[1], it[0])):
+            yield f"  {count:5} {_shown(word)}"
+
+
+def _words(findings: Iterable[Finding], heading: Heading) -> Iterator[str]:
+    return (it.words for it in findings if it.heading is heading)
+
+
+def _counted(count: int, noun: str) -> str:
+    return f"{count} {noun}" if count == 1 else f"{count} {noun}s"

@@ -1,0 +1,143 @@
+"""What of a script this profile doesn't run, as far as the text alone shows it: docs/SCRIPTS.md and docs/SENDER.md."""
+
+import re
+from collections.abc import Iterable, Iterator, Sequence
+
+from pdsuite.imports.calls import about, is_buffer, is_run, written
+from pdsuite.imports.findings import Reason
+from pdsuite.imports.items import SECOND, Call, HeaderOption, Item, Packet, Time
+from pdsuite.imports.packets import LEAST_SMSS, peer_mss
+
+MOST_TOLERANCE = 1_000_000
+_LATEST = 3_600 * SECOND
+_MOST_SEQUENCE = (1 << 31) - 1
+_MOST_FIELD = 65_535
+_MOST_SHIFT = 255
+_MOST_OPTIONS = 16
+_MOST_BLOCKS = 4
+_MOST_WRITTEN = 262_144
+
+# Options of the header that say where packets are sent, or what is printed.
+PLACES = ("local_ip", "remote_ip", "gateway_ip", "netmask_ip", "bind_port", "connect_port", "tun_dev", "verbose")
+TOLERANCE = "tolerance_usecs"
+_DIGITS = re.compile(r"[0-9]+")
+
+
+def unrun(items: Sequence[Item], has_timestamps: bool) -> Iterator[Reason]:
+    """What of these items isn't run; commands and code are looked at elsewhere."""
+    is_header = True
+    for item in items:
+        is_header = is_header and item.time is None
+        match item.what:
+            case HeaderOption():
+                yield from _option(item, item.what, is_header)
+            case Packet():
+                yield from _event(item, item.what.is_inbound)
+                yield from _packet(item.line, item.what)
+            case Call():
+                yield from _event(item, True)
+                yield from _call(item.line, item.what)
+    yield from _once(items)
+    yield from _syn(items, has_timestamps)
+
+
+def is_place(option: HeaderOption) -> bool:
+    """Whether an option is dropped, since this profile has no addresses and no devices."""
+    return option.name in PLACES or (option.name, option.value) == ("ip_version", "ipv4")
+
+
+def tolerance_of(items: Iterable[Item]) -> int | None:
+    """The tolerance in microseconds that a header says."""
+    told = [it.what.value for it in items if isinstance(it.what, HeaderOption) and it.what.name == TOLERANCE]
+    return _tolerance(told[-1]) if told else None
+
+
+def _option(item: Item, option: HeaderOption, is_header: bool) -> Iterator[Reason]:
+    what = f"--{option.name}" if option.value is None else f"--{option.name}={option.value}"
+    if not is_header:
+        yield Reason(item.line, "no script of this language", what)
+    elif option.name == "mtu":
+        yield Reason(item.line, "MTU", what)
+    elif option.name == "ip_version" and not is_place(option):
+        yield Reason(item.line, "IPv6", what)
+    elif not is_place(option) and not (option.name == TOLERANCE and _tolerance(option.value) is not None):
+        yield Reason(item.line, "an option of the header", what)
+
+
+def _tolerance(value: str | None) -> int | None:
+    """The microseconds that digits write, where they are no more than a script may say."""
+    if value is None or not _DIGITS.fullmatch(value):
+        return None
+    microseconds = int(value.lstrip("0")[:8] or "0")
+    return microseconds if microseconds <= MOST_TOLERANCE else None
+
+
+def _event(item: Item, acts: bool) -> Iterator[Reason]:
+    """What isn't run of the time of an event, which either acts or is awaited."""
+    time = item.time or Time(None)
+    if item.is_blocking:
+        yield Reason(item.line, "a blocking call")
+    elif acts and not time.is_fixed:
+        yield Reason(item.line, "a packet that arrives or a call, with no fixed time")
+    if max(time.first or 0, time.last or 0) > _LATEST:
+        yield Reason(item.line, "a time above an hour")
+
+
+def _packet(line: int, packet: Packet) -> Iterator[Reason]:
+    if set(packet.flags) & set("EWC"):
+        yield Reason(line, "ECN", str(packet))
+    if "U" in packet.flags:
+        yield Reason(line, "urgent data", str(packet))
+    if packet.is_inbound and packet.length:
+        yield Reason(line, "data from the peer", str(packet))
+    if _is_over_limit(packet):
+        yield Reason(line, "a number over its limit", str(packet))
+
+
+def _is_over_limit(packet: Packet) -> bool:
+    numbers = [packet.start, packet.end, packet.ack or 0]
+    fields = [packet.win or 0]
+    shifts = [0]
+    blocks = 0
+    for option in packet.options:
+        match option.name:
+            case "sack":
+                numbers.extend(option.numbers)
+                blocks = max(blocks, len(option.numbers) // 2)
+            case "mss":
+                fields.extend(option.numbers)
+            case "wscale":
+                shifts.extend(option.numbers)
+    if len(packet.options) > _MOST_OPTIONS or blocks > _MOST_BLOCKS:
+        return True
+    return max(numbers) > _MOST_SEQUENCE or max(fields) > _MOST_FIELD or max(shifts) > _MOST_SHIFT
+
+
+def _call(line: int, call: Call) -> Iterator[Reason]:
+    if not is_run(call) and not is_buffer(call):
+        yield Reason(line, about(call), f"{call.name}({', '.join(call.arguments)})")
+    if written(call) > _MOST_WRITTEN:
+        yield Reason(line, "a number over its limit", f"{call.name}({', '.join(call.arguments)})")
+
+
+def _once(items: Iterable[Item]) -> Iterator[Reason]:
+    """A second socket: there is one connection."""
+    sockets = [it for it in items if isinstance(it.what, Call) and it.what.name == "socket"]
+    if len(sockets) > 1:
+        yield Reason(sockets[1].line, "a second socket")
+
+
+def _syn(items: Sequence[Item], has_timestamps: bool) -> Iterator[Reason]:
+    """What isn't run of the first packet that arrives, and of each later SYN; a `connect` says it all."""
+    if any(isinstance(it.what, Call) and it.what.name == "connect" for it in items):
+        return
+    arrived = [(it.line, it.what) for it in items if isinstance(it.what, Packet) and it.what.is_inbound]
+    for number, (line, packet) in enumerate(arrived):
+        if number and "S" in packet.flags:
+            yield Reason(line, "a second SYN", str(packet))
+        elif not number and (packet.flags, packet.start) != ("S", 0):
+            yield Reason(line, "a connection that doesn't begin with the peer's SYN", str(packet))
+        elif not number and peer_mss(packet) < LEAST_SMSS:
+            yield Reason(line, "an MSS below 64", str(packet))
+        elif not number and has_timestamps and any(it.name == "TS" for it in packet.options):
+            yield Reason(line, "timestamps", str(packet))

@@ -1,0 +1,342 @@
+"""Reads a script into its items, by the grammar of docs/SCRIPTS.md, which here takes commands and code anywhere."""
+
+import re
+from collections.abc import Sequence
+from dataclasses import dataclass
+
+from pdsuite.imports.items import SECOND, Call, Code, Command, HeaderOption, Item, Packet, TcpOption, Time
+from pdsuite.imports.tokens import Kind, Token, Unread, line_of, tokens_of
+
+MOST_NUMBER = (1 << 32) - 1
+MOST_PAIRS = 16
+_FLAGS = re.compile(r"[FSRPUEWC]+")
+_CLOSING = {"(": ")", "[": "]", "{": "}"}
+_END = Token(Kind.SYMBOL, "", 0)
+
+# What a text that isn't read says by its token.
+_KNOWN = {
+    "md5": "MD5",
+    "FO": "Fast Open",
+    "FOEXP": "Fast Open",
+    "icmp": "ICMP",
+    "udp": "UDP",
+    "ipv4": "IP headers",
+    "ipv6": "IP headers",
+    "gre": "IP headers",
+    "?": "the result ?",
+    "[": "ECN",
+    "urg": "urgent data",
+    "mp_capable": "MPTCP",
+}
+_NO_SCRIPT = "no script of this language"
+
+
+@dataclass(frozen=True)
+class Reading:
+    """The items of a text, up to its end or to where no script goes on."""
+
+    items: tuple[Item, ...]
+    fault: Unread | None = None
+
+
+def read(text: str) -> Reading:
+    """Reads a text as far as it is a script."""
+    reader = _Reader(text)
+    items: list[Item] = []
+    try:
+        while not reader.is_at_end():
+            items.append(reader.item())
+    except Unread as unread:
+        return Reading(tuple(items), unread)
+    return Reading(tuple(items))
+
+
+class _Reader:
+    """A place among the tokens of a text; each method takes what its name says, or raises `Unread`."""
+
+    def __init__(self, text: str) -> None:
+        self._text = text
+        self._tokens: list[Token] = []
+        self._stuck: Unread | None = None
+        self._at = 0
+        try:
+            for token in tokens_of(text):
+                self._tokens.append(token)
+        except Unread as unread:
+            self._stuck = unread
+
+    def is_at_end(self) -> bool:
+        return self._at == len(self._tokens) and self._stuck is None
+
+    def item(self) -> Item:
+        """An option, a command or code without a time, or an event."""
+        token = self._next()
+        line = line_of(self._text, token.start)
+        match token.kind:
+            case Kind.OPTION:
+                self._at += 1
+                name, equals, value = token.text.removeprefix("--").partition("=")
+                what = HeaderOption(name, value if equals else None)
+                return Item(what, line, token.start, token.end, token.start)
+            case Kind.COMMAND | Kind.CODE:
+                self._at += 1
+                return Item(_quoted(token), line, token.start, token.end, token.start)
+        return self._event(token, line)
+
+    def _event(self, first: Token, line: int) -> Item:
+        time = self._time()
+        action = self._next().start
+        is_blocking = self._takes_dots()
+        token = self._next()
+        match token.kind, token.text:
+            case (Kind.COMMAND | Kind.CODE), _:
+                self._at += 1
+                what: Packet | Call | Command | Code = _quoted(token)
+            case Kind.SYMBOL, ("<" | ">"):
+                self._at += 1
+                what = self._packet(token.text == "<")
+            case _:
+                what = self._call()
+        return Item(what, line, first.start, self._tokens[self._at - 1].end, action, time, is_blocking)
+
+    # ---- times
+
+    def _time(self) -> Time:
+        if self._takes("*"):
+            return Time(None)
+        is_relative = self._takes("+")
+        first = self._seconds(0)
+        if not self._takes("~"):
+            return Time(first, None, is_relative)
+        if is_relative:
+            self._takes("+")
+        return Time(first, self._seconds(first), is_relative)
+
+    def _takes_dots(self) -> bool:
+        """Takes the end of a blocking call, where there is one."""
+        if self._next().kind is not Kind.DOTS:
+            return False
+        self._at += 1
+        self._takes("+")
+        self._seconds(0)
+        return True
+
+    def _seconds(self, least: int) -> int:
+        """Seconds as microseconds; digits after the sixth decimal are dropped."""
+        token = self._next()
+        if token.kind not in (Kind.NUMBER, Kind.DECIMAL):
+            raise self._unread(token)
+        whole, _, part = token.text.partition(".")
+        seconds = _number(whole or "0")
+        microseconds = seconds * SECOND + int(part[:6].ljust(6, "0"))
+        if seconds > MOST_NUMBER or microseconds < least:
+            raise self._unread(token)
+        self._at += 1
+        return microseconds
+
+    # ---- packets
+
+    def _packet(self, is_inbound: bool) -> Packet:
+        flags = self._flags()
+        start = self._int()
+        self._expect(":")
+        end = self._int(least=start)
+        self._expect("(")
+        self._int(least=end - start, most=end - start)
+        self._expect(")")
+        ack = self._named("ack")
+        win = self._named("win")
+        if win is None and is_inbound:
+            raise self._unread(self._peek())
+        first = self._at
+        options = self._options(is_inbound)
+        return Packet(is_inbound, flags, start, end, ack, win, options, self._flat(first, self._at))
+
+    def _flags(self) -> str:
+        if self._takes("-"):
+            return ""
+        if self._takes("."):
+            return "."
+        token = self._next()
+        if token.kind is not Kind.WORD or not _FLAGS.fullmatch(token.text):
+            raise self._unread(token)
+        self._at += 1
+        return "".join(dict.fromkeys(token.text)) + ("." if self._takes(".") else "")
+
+    def _named(self, name: str) -> int | None:
+        """A number after its name, where that stands here."""
+        token = self._peek()
+        if token.kind is not Kind.WORD or token.text != name:
+            return None
+        self._at += 1
+        return self._int()
+
+    def _options(self, is_inbound: bool) -> tuple[TcpOption, ...]:
+        if not self._takes("<") or self._takes(">"):
+            return ()
+        if not is_inbound and self._next().kind is Kind.DOTS:
+            self._at += 1
+            self._expect(">")
+            return ()
+        options = [self._option()]
+        while self._takes(","):
+            options.append(self._option())
+        self._expect(">")
+        return tuple(options)
+
+    def _option(self) -> TcpOption:
+        token = self._next()
+        self._at += 1
+        match token.text:
+            case "mss" | "wscale":
+                return TcpOption(token.text, (self._int(),))
+            case "sackOK" | "nop" | "eol":
+                return TcpOption(token.text)
+            case "TS":
+                return TcpOption("TS", (self._after("val"), self._after("ecr")))
+            case "sack":
+                return TcpOption("sack", self._blocks())
+        self._at -= 1
+        raise self._unread(token)
+
+    def _after(self, name: str) -> int:
+        token = self._next()
+        if token.text != name:
+            raise self._unread(token)
+        self._at += 1
+        return self._int()
+
+    def _blocks(self) -> tuple[int, ...]:
+        """The edges of one block or more."""
+        edges: list[int] = []
+        while not edges or self._peek().kind is Kind.NUMBER:
+            edges.append(self._int())
+            self._expect(":")
+            edges.append(self._int())
+        return tuple(edges)
+
+    # ---- calls
+
+    def _call(self) -> Call:
+        token = self._next()
+        if token.kind is not Kind.WORD:
+            raise self._unread(token)
+        self._at += 1
+        self._expect("(")
+        arguments = self._arguments()
+        self._expect("=")
+        result = self._result()
+        if self._takes("("):
+            self._balanced(MOST_PAIRS - 1, parted=False)
+            self._expect(")")
+        return Call(token.text, arguments, result)
+
+    def _arguments(self) -> tuple[str, ...]:
+        if self._takes(")"):
+            return ()
+        arguments = [self._balanced(MOST_PAIRS, parted=True)]
+        while self._takes(","):
+            arguments.append(self._balanced(MOST_PAIRS, parted=True))
+        self._expect(")")
+        return tuple(arguments)
+
+    def _balanced(self, most: int, parted: bool) -> str:
+        """Tokens whose brackets are balanced, up to the bracket after them, or to a comma where these part them."""
+        first = self._at
+        closing: list[str] = []
+        while closing or not self._ends_here(parted):
+            token = self._next()
+            if token.kind is Kind.SYMBOL:
+                self._pair(token, closing, most)
+            self._at += 1
+        if parted and first == self._at:
+            raise self._unread(self._next())
+        return self._flat(first, self._at)
+
+    def _ends_here(self, parted: bool) -> bool:
+        token = self._next()
+        return token.kind is Kind.SYMBOL and (token.text == ")" or (parted and token.text == ","))
+
+    def _pair(self, token: Token, closing: list[str], most: int) -> None:
+        """Opens a pair of brackets, or closes the innermost one."""
+        if token.text in _CLOSING:
+            if len(closing) == most:
+                raise self._unread(token)
+            closing.append(_CLOSING[token.text])
+        elif token.text in _CLOSING.values():
+            if not closing or closing.pop() != token.text:
+                raise self._unread(token)
+
+    def _result(self) -> int:
+        if not self._takes("-"):
+            return self._int(also=Kind.HEX)
+        number = self._int()
+        if self._peek().kind is Kind.WORD:
+            self._at += 1
+        return -number
+
+    # ---- tokens
+
+    def _next(self) -> Token:
+        """The token that stands here, which there has to be."""
+        if self._at < len(self._tokens):
+            return self._tokens[self._at]
+        raise self._stuck or Unread(max(len(self._text.rstrip("\n")) - 1, 0), "the script breaks off here")
+
+    def _peek(self) -> Token:
+        """The token that stands here, if there is one."""
+        return self._tokens[self._at] if self._at < len(self._tokens) else _END
+
+    def _takes(self, symbol: str) -> bool:
+        token = self._peek()
+        if token.kind is not Kind.SYMBOL or token.text != symbol:
+            return False
+        self._at += 1
+        return True
+
+    def _expect(self, symbol: str) -> None:
+        if not self._takes(symbol):
+            raise self._unread(self._next())
+
+    def _int(self, least: int = 0, most: int = MOST_NUMBER, also: Kind = Kind.NUMBER) -> int:
+        token = self._next()
+        if token.kind not in (Kind.NUMBER, also):
+            raise self._unread(token)
+        number = _number(token.text)
+        if not least <= number <= most:
+            raise self._unread(token)
+        self._at += 1
+        return number
+
+    def _unread(self, token: Token) -> Unread:
+        if token is _END:
+            return Unread(max(len(self._text) - 1, 0), "the script breaks off here")
+        return Unread(token.start, _KNOWN.get(token.text, _NO_SCRIPT), token.text)
+
+    def _flat(self, first: int, last: int) -> str:
+        """Tokens in one line: a blank stands where blanks or comments stood."""
+        return flat(self._tokens[first:last])
+
+
+def flat(tokens: Sequence[Token]) -> str:
+    """Tokens in one line: a blank stands where blanks or comments stood."""
+    parts: list[str] = []
+    for number, token in enumerate(tokens):
+        if number and tokens[number - 1].end < token.start:
+            parts.append(" ")
+        parts.append(token.text)
+    return "".join(parts)
+
+
+def _number(digits: str) -> int:
+    """The number that digits write, or one above all that a script may have."""
+    if digits.startswith("0x"):
+        return int(digits, 16)
+    digits = digits.lstrip("0")
+    return int(digits or "0") if len(digits) <= 20 else 10**20
+
+
+def _quoted(token: Token) -> Command | Code:
+    if token.kind is Kind.COMMAND:
+        return Command(token.text[1:-1])
+    return Code(token.text[2:-2])

@@ -1,0 +1,226 @@
+"""What the set-up of a script says, as settings. It is read and never run."""
+
+import re
+from collections.abc import Callable, Iterable, Iterator, Mapping
+from dataclasses import dataclass
+from enum import Enum, auto
+
+from pdsuite.imports.findings import Reason
+from pdsuite.imports.kernel import Meaning, Use, command_meaning, meaning
+from pdsuite.imports.shell import Command, Defaults, Metric, Other, Switch, commands_in
+from pdsuite.settings import Value
+from pdsuite.text import Unfit
+
+# The text of a `defaults.sh`, by its path from the script's folder, or `Unfit`.
+Load = Callable[[str], str]
+
+# The third number of tcp_rmem where none is written: Linux's usual default.
+USUAL_RMEM = 6_291_456
+MOST_WSCALE = 14
+# What holds on a kernel where no command says anything else.
+KERNEL: Mapping[str, Value] = {"initial_window": "rfc6928", "min_rto_us": 200_000}
+
+# What a command in the midst is that is about nothing known.
+RUN = "commands, which are never run"
+
+_RANGES = {"min_rto_us": range(1_000, 60_000_001), "max_rto_us": range(60_000_000, 3_600_000_001)}
+_NUMBER = re.compile(r"[0-9]{1,18}")
+_TIME = re.compile(r"([0-9]{1,12})(s|secs?|ms|msecs?)")
+_RMEM = "net.ipv4.tcp_rmem"
+_RMEM_MAX = "net.core.rmem_max"
+_SACK = "net.ipv4.tcp_sack"
+_TIMESTAMPS = "net.ipv4.tcp_timestamps"
+
+
+class Place(Enum):
+    """Where a command stands."""
+
+    SETUP = auto()  # before the first packet or call
+    MIDST = auto()
+
+
+@dataclass(frozen=True, slots=True)
+class Told:
+    """A command with the line of the script that it belongs to."""
+
+    line: int
+    command: Command
+
+
+@dataclass(frozen=True)
+class Setup:
+    """What a set-up comes to: settings, whether timestamps are agreed, and why the script isn't imported."""
+
+    settings: Mapping[str, Value]
+    has_timestamps: bool
+    reasons: tuple[Reason, ...]
+
+
+@dataclass(frozen=True)
+class Looked:
+    """A command that was looked at: what it says, in words, and why the script isn't imported."""
+
+    told: tuple[Told, ...]
+    settings: tuple[str, ...]
+    features: tuple[str, ...]
+    alike: tuple[str, ...]
+    reasons: tuple[Reason, ...]
+
+
+def look_at(text: str, line: int, place: Place, load: Load) -> Looked:
+    """What the commands of a text mean, each by itself."""
+    told = tuple(_told(text, line, load))
+    words: dict[Use, dict[str, None]] = {use: {} for use in Use}
+    reasons: list[Reason] = []
+    for it in told:
+        found = _meaning(it.command, place)
+        words[found.use][found.words] = None
+        if found.use is Use.SETTING and place is Place.MIDST:
+            reasons.append(Reason(line, "a setting in the midst", _shown(it.command)))
+        elif found.use is Use.REFUSED and (place is Place.MIDST or not isinstance(it.command, Switch)):
+            reasons.append(Reason(line, found.words, _shown(it.command)))
+    settings, features, alike = (tuple(words[use]) for use in (Use.SETTING, Use.FEATURE, Use.ALIKE))
+    return Looked(told, settings, features, alike, tuple(reasons))
+
+
+def _meaning(command: Command, place: Place) -> Meaning:
+    """What a command comes to. Of the switches of set-up the last one counts, so they are refused later."""
+    match command:
+        case Switch(name, value):
+            return meaning(name, value)
+        case Metric(name):
+            return Meaning(Use.SETTING, "initial_window" if name == "initcwnd" else "min_rto_us")
+        case Other(words) if known := command_meaning(words):
+            return known
+    if place is Place.MIDST:
+        return Meaning(Use.FEATURE, RUN)
+    return Meaning(Use.REFUSED, "a command of set-up")
+
+
+def _shown(command: Command) -> str:
+    match command:
+        case Switch(name, value):
+            return f"{name}={value}"
+        case Metric(name, value):
+            return f"{name} {value}"
+        case Defaults(path):
+            return path
+        case Other(words):
+            return " ".join(words)
+
+
+def setup_of(told: Iterable[Told], smss: int, own: Mapping[str, Value] | None) -> Setup:
+    """The settings that commands lead to, one after another.
+
+    Without settings of its own, which then come last, a script has those of a kernel first.
+    """
+    switches: dict[str, tuple[str, int]] = {}
+    metrics: dict[str, tuple[str, int]] = {}
+    for it in told:
+        if isinstance(it.command, Switch):
+            switches[it.command.name] = it.command.value, it.line
+        elif isinstance(it.command, Metric):
+            metrics[it.command.name] = it.command.value, it.line
+    settings: dict[str, Value] = {} if own is not None else dict(KERNEL)
+    reasons: list[Reason] = []
+    for said in (*_of_switches(switches, own is None), *_of_metrics(metrics, smss)):
+        if isinstance(said, Reason):
+            reasons.append(said)
+        else:
+            settings.update([said])
+    has_timestamps = switches.get(_TIMESTAMPS, ("0" if own is not None else "1", 0))[0] != "0"
+    return Setup({**settings, **(own or {})}, has_timestamps, tuple(reasons))
+
+
+def _told(text: str, line: int, load: Load) -> Iterator[Told]:
+    """The commands of a text, those of a `defaults.sh` in the place of its name."""
+    for command in commands_in(text):
+        if not isinstance(command, Defaults):
+            yield Told(line, command)
+            continue
+        try:
+            inside = load(command.path)
+        except Unfit as unfit:
+            yield Told(line, Other((command.path, f"({unfit})")))
+            continue
+        for other in commands_in(_without_comments(inside)):
+            yield Told(line, other)
+
+
+def _without_comments(text: str) -> str:
+    return "\n".join("" if line.lstrip().startswith("#") else line for line in text.splitlines())
+
+
+Setting = tuple[str, Value]
+
+
+def _of_switches(switches: Mapping[str, tuple[str, int]], is_kernel: bool) -> Iterator[Setting | Reason]:
+    """What the switches that are set last say."""
+    for name, (value, line) in switches.items():
+        found = meaning(name, value)
+        if found.use is Use.REFUSED:
+            yield Reason(line, found.words, f"{name}={value}")
+        elif name == _SACK:
+            yield ("sack", value == "1") if value in ("0", "1") else _unclear(name, value, line)
+        elif found.use is Use.SETTING and found.words != "wscale":
+            factor = 1_000 if name.endswith("_ms") else 1
+            yield _ranged(found.words, _scaled(value, factor), f"{name}={value}", line)
+    yield from _wscale(switches, is_kernel)
+
+
+def _wscale(switches: Mapping[str, tuple[str, int]], is_kernel: bool) -> Iterator[Setting | Reason]:
+    """The shift count that a kernel's buffers lead to."""
+    greatest = [USUAL_RMEM] if _RMEM not in switches else []
+    for name, least in ((_RMEM, 3), (_RMEM_MAX, 1)):
+        if name in switches:
+            value, line = switches[name]
+            numbers = value.split()
+            if len(numbers) != least or not all(map(_NUMBER.fullmatch, numbers)):
+                yield _unclear(name, value, line)
+                return
+            greatest.append(int(numbers[-1]))
+    if is_kernel or _RMEM in switches or _RMEM_MAX in switches:
+        yield "wscale", shift_count(max(greatest))
+
+
+def shift_count(octets: int) -> int:
+    """The shift count of a kernel whose greatest buffer has so many octets."""
+    return min(MOST_WSCALE, max(0, octets.bit_length() - 1 - 15))
+
+
+def _of_metrics(metrics: Mapping[str, tuple[str, int]], smss: int) -> Iterator[Setting | Reason]:
+    """What the metrics of a route say of connections whose segments have so many octets."""
+    for name, (value, line) in metrics.items():
+        if name == "initcwnd":
+            word = _window_word(value, smss)
+            yield Reason(line, "another initial window", f"{name} {value}") if word is None else (
+                "initial_window",
+                word,
+            )
+        elif found := _TIME.fullmatch(value):
+            factor = 1_000 if found[2].startswith("m") else 1_000_000
+            yield _ranged("min_rto_us", int(found[1]) * factor, f"{name} {value}", line)
+        else:
+            yield _unclear(name, value, line)
+
+
+def _window_word(value: str, smss: int) -> str | None:
+    """The initial window that has so many segments (RFC 6928, section 2; RFC 5681, section 3.1)."""
+    segments = int(value) if _NUMBER.fullmatch(value) else 0
+    if segments == min(10, max(2, 14_600 // smss)):
+        return "rfc6928"
+    return "rfc5681" if segments == (2 if smss > 2_190 else 3 if smss > 1_095 else 4) else None
+
+
+def _scaled(value: str, factor: int) -> int | None:
+    return int(value) * factor if _NUMBER.fullmatch(value) else None
+
+
+def _ranged(key: str, number: int | None, what: str, line: int) -> Setting | Reason:
+    if number is None or number not in _RANGES[key]:
+        return Reason(line, f"no value of {key}", what)
+    return key, number
+
+
+def _unclear(name: str, value: str, line: int) -> Reason:
+    return Reason(line, "a value that isn't read", f"{name}={value}")

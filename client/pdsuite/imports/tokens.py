@@ -1,0 +1,106 @@
+"""The tokens of a script: the longest piece at each place, as docs/SCRIPTS.md spells them."""
+
+import re
+from collections.abc import Iterator
+from dataclasses import dataclass
+from enum import Enum
+
+
+class Kind(Enum):
+    """What a token is."""
+
+    NUMBER = "number"
+    HEX = "hexadecimal"
+    WORD = "word"
+    DECIMAL = "decimal"
+    DOTS = "dots"
+    OPTION = "option"
+    STRING = "string"
+    COMMAND = "command"
+    CODE = "code"
+    SYMBOL = "symbol"
+
+
+@dataclass(frozen=True, slots=True)
+class Token:
+    """A token, and where it begins and ends in its text."""
+
+    kind: Kind
+    text: str
+    start: int
+
+    @property
+    def end(self) -> int:
+        return self.start + len(self.text)
+
+
+class Unread(Exception):
+    """Why no script goes on, and at which place of the text."""
+
+    def __init__(self, place: int, words: str, what: str = "") -> None:
+        super().__init__(words)
+        self.place = place
+        self.words = words
+        self.what = what
+
+
+_GAP = re.compile(r"(?:[ \t\r\n]+|//[^\n]*|/\*.*?\*/)*", re.DOTALL)
+_OPENING = re.compile(r'/\*|"|`|%\{')
+_CODE = re.compile(r"%\{.*?\}%", re.DOTALL)
+_COMMAND = re.compile(r"`[^`]*`")
+_STRING = re.compile(r'"(?:[^"\\]|\\.)*"', re.DOTALL)
+_OPTION = re.compile(r"--[0-9A-Za-z_]+(?:=[^ \t\r\n]*)?")
+_DECIMAL = re.compile(r"[0-9]*\.[0-9]+")
+_DOTS = re.compile(r"\.\.\.")
+_LETTERS = re.compile(r"[0-9A-Za-z_]+")
+_SYMBOL = re.compile(r"[!-~]")
+_DIGITS = re.compile(r"[0-9]+")
+_HEX = re.compile(r"0x[0-9A-Fa-f]+")
+
+# The first that fits is the longest.
+_PIECES = (
+    (Kind.CODE, _CODE),
+    (Kind.COMMAND, _COMMAND),
+    (Kind.STRING, _STRING),
+    (Kind.OPTION, _OPTION),
+    (Kind.DECIMAL, _DECIMAL),
+    (Kind.DOTS, _DOTS),
+    (Kind.WORD, _LETTERS),
+)
+
+
+def tokens_of(text: str) -> Iterator[Token]:
+    """The tokens of a text, up to its end or to the first place where none fits."""
+    place = _after_gap(text, 0)
+    while place < len(text):
+        token = _token_at(text, place)
+        yield token
+        place = _after_gap(text, token.end)
+
+
+def line_of(text: str, place: int) -> int:
+    """The line that a place of a text lies in."""
+    return text.count("\n", 0, place) + 1
+
+
+def _after_gap(text: str, place: int) -> int:
+    """The place after blanks and comments."""
+    found = _GAP.match(text, place)
+    return place if found is None else found.end()
+
+
+def _token_at(text: str, place: int) -> Token:
+    for kind, piece in _PIECES:
+        if found := piece.match(text, place):
+            return Token(_kind_of(found[0]) if kind is Kind.WORD else kind, found[0], place)
+    if _OPENING.match(text, place):
+        raise Unread(place, "what is opened here is never closed")
+    if found := _SYMBOL.match(text, place):
+        return Token(Kind.SYMBOL, found[0], place)
+    raise Unread(place, "an octet that no script has here")
+
+
+def _kind_of(letters: str) -> Kind:
+    if _DIGITS.fullmatch(letters):
+        return Kind.NUMBER
+    return Kind.HEX if _HEX.fullmatch(letters) else Kind.WORD
