@@ -12,6 +12,7 @@ from pdsuite.explain import Explainer
 from pdsuite.files import write
 from pdsuite.octets import shown_path
 from pdsuite.programs import Program, locate
+from pdsuite.recorder import Recorder
 from pdsuite.report import Report
 from pdsuite.reports.form import Form
 from pdsuite.rows import Outcome, Verdict
@@ -52,10 +53,13 @@ def run(wish: Wish, form: Form, screen: Screen) -> int:
             return 2
         report = Report(scripts, form, screen)
         start = start_with(program, wish.workers, 1, stop)
+        recorder = Recorder(stop, screen.note)
         try:
             with closing(settle_all(runs_of(scripts), start)) as steps:
-                ended = _take(steps, report, screen, explainer, wish.fail_fast)
+                ended = _take(steps, report, screen, explainer, recorder, wish.fail_fast)
             totals = report.close(time.monotonic() - begin)
+            for line in recorder.lines():
+                say(line)
         finally:
             # Also where nothing can be shown any more.
             if wish.junit is not None:
@@ -64,7 +68,12 @@ def run(wish: Wish, form: Form, screen: Screen) -> int:
 
 
 def _take(
-    steps: Iterable[Step], report: Report, screen: Screen, explainer: Explainer, fail_fast: bool
+    steps: Iterable[Step],
+    report: Report,
+    screen: Screen,
+    explainer: Explainer,
+    recorder: Recorder,
+    fail_fast: bool,
 ) -> Stopped | None:
     """Reports each step, up to the last one or the one where it is to end; the signal that ended it, if one did."""
     try:
@@ -74,6 +83,7 @@ def _take(
                 screen.note(f"pdsuite: {step.reason}; a new run begins at {place}")
                 continue
             _report(step, report, explainer)
+            recorder.take(step)
             if fail_fast and not all(map(_passes, step.outcomes)):
                 break
     except Stopped as stopped:
