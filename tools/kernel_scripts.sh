@@ -27,11 +27,11 @@ for tool in apt-get apt-cache dpkg-deb tar xz; do
     command -v "$tool" >/dev/null || refuse "$tool isn't there"
 done
 top=$(CDPATH='' cd -P -- "$(dirname -- "$0")/.." && pwd -P)
-mkdir -p -- "$1"
-folder=$(CDPATH='' cd -P -- "$1" && pwd -P)
+folder=$(realpath -m -- "$1")
 case $folder/ in
 "$top"/*) refuse "$1: lies in this repository" ;;
 esac
+mkdir -p -- "$folder"
 [ -z "$(ls -A -- "$folder")" ] || refuse "$1: isn't empty"
 
 if ! apt-cache show "$package" >/dev/null 2>&1; then
