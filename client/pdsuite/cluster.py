@@ -62,7 +62,9 @@ def cluster(address: str, programs: Programs, stop: Stop, note: Callable[[str], 
         workers.wait_for_one()
         yield workers.settle
     finally:
-        client.close(timeout=_LOOK)
+        # A scheduler that went away answers no good-bye, and what ended the run counts.
+        with suppress(OSError):
+            client.close(timeout=_LOOK)
 
 
 def _connected(address: str) -> Client:
