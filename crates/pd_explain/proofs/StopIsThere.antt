@@ -1,5 +1,6 @@
 -- A run whose verdict has a line, with a header that is run, is found to stop there, at one of its events.
-use Rattle.std.proofs.Common.{◌≡◌, ◌≤◌, ◌<◌, ℕ, ◌+◌, List, [], ◌∷◌, length, Option, Some, None, Result, Ok, Err, refl, sym, ap, subst, ◌∙◌, arith, false}
+use Rattle.std.proofs.Common.{◌≡◌, ◌≤◌, ◌<◌, ℕ, ◌+◌, List, [], ◌∷◌, length, slice_get, Option, Some, None, Result, Ok, Err, IfOk, refl, sym, ap, subst, ◌∙◌, arith, false}
+use Rattle.std.specs.declared.alloc.AllocError.{AllocError}
 use Rattle.std.specs.List.{filter_map, last_or}
 use Rattle.pd_settings.specs.declared.fields.Settings.{Settings}
 use Rattle.pd_script.specs.Header.{Heading}
@@ -14,7 +15,9 @@ use Rattle.pd_run.specs.Why.{verdict_at}
 use Rattle.pd_run.specs.declared.stops.Stopped.{Stopped}
 use Rattle.pd_run.specs.declared.verdicts.Verdict.{Verdict}
 use Rattle.pd_run.specs.declared.whys.Why.{Why}
+use Rattle.pd_explain.specs.Causes.{IsCauseOf, StopsAt, IsCauseIn}
 use Rattle.pd_explain.specs.Explained.{not_run}
+use Rattle.pd_explain.specs.declared.explanations.Cause.{Cause}
 
 -- where a stop is found among so many events after n others
 abbrev Within : ℕ → ℕ → Option Stopped → Type 0
@@ -56,9 +59,12 @@ starts settings items h = (
   rw h refl,
 )
 
--- a stop among the events that were read
+-- a stop among the events that were read, with the verdict of the run
+abbrev pub StopsWithin : ℕ → Settings → Parsed → Stopped → Type 0
+StopsWithin line settings parsed stop = (stop.passed < length parsed.events) × (verdict_at line stop.why ≡ verdict_in settings parsed)
+
 abbrev pub IsThere : ℕ → Settings → Parsed → Type 0
-IsThere line settings parsed = (stop : Stopped) × (stop_in line settings parsed ≡ Some stop) × (stop.passed < length parsed.events)
+IsThere line settings parsed = (stop : Stopped) × (stop_in line settings parsed ≡ Some stop) × StopsWithin line settings parsed stop
 
 by_fault : VerdictsHaveReasons → (settings : Settings) (header : Heading) (events : List Event) (fault : Option ℕ) (line : ℕ)
     → line_of (verdict_in settings (record { header = header; events = events; fault = fault })) ≡ Some line
@@ -69,19 +75,26 @@ by_fault law settings header events None line h run =
     let from : line_of (verdict_from 0 events start.0) ≡ Some line = rw start.1 at h in
     let stop = law 0 line events start.0 from in
     let below : stop.0.passed < 0 + length events = subst (Within 0 (length events)) stop.1 (within line 0 events start.0) in
-    (stop.0, rw start.1 stop.1, omega (arith, below))
+    (stop.0, rw start.1 stop.1, (omega (arith, below), rw start.1 stop.2))
 
 pub is_there : VerdictsHaveReasons → (settings : Settings) (parsed : Parsed) (line : ℕ)
     → line_of (verdict_in settings parsed) ≡ Some line → not_run parsed.header.items ≡ None → IsThere line settings parsed
 is_there law settings parsed line h run = by_fault law settings parsed.header parsed.events parsed.fault line h run
 
--- the event at which a stop is found is one of those that were read
-pub at_event : VerdictsHaveReasons → (settings : Settings) (parsed : Parsed) (line : ℕ) (stop : Stopped)
+-- the stop that is found is such a stop
+pub stops_within : VerdictsHaveReasons → (settings : Settings) (parsed : Parsed) (line : ℕ) (stop : Stopped)
     → line_of (verdict_in settings parsed) ≡ Some line → not_run parsed.header.items ≡ None → stop_in line settings parsed ≡ Some stop
-    → stop.passed < length parsed.events
-at_event law settings parsed line stop h run found =
+    → StopsWithin line settings parsed stop
+stops_within law settings parsed line stop h run found =
     let there = is_there law settings parsed line h run in
-    subst (λ (s : Stopped). s.passed < length parsed.events) (some_is (sym there.1 ∙ found)) there.2
+    subst (StopsWithin line settings parsed) (some_is (sym there.1 ∙ found)) there.2
   where
     some_is : {a b : Stopped} → Some a ≡ Some b → a ≡ b
     some_is e = cc
+
+-- the cause of such a stop at an event is that of the run's verdict
+pub causes_in : (settings : Settings) (parsed : Parsed) (line : ℕ) (v : Verdict) (stop : Stopped) (e : Event) (told : Result Cause AllocError)
+    → not_run parsed.header.items ≡ None → StopsAt line settings parsed v e stop → IfOk told (IsCauseOf e stop)
+    → IfOk told (IsCauseIn line settings parsed v)
+causes_in settings parsed line v stop e (Ok cause) run at is = rw run (e, stop, at, is)
+causes_in settings parsed line v stop e (Err x) run at is = tt

@@ -3,5 +3,6 @@ pub mod Columns
 pub mod Senders
 pub mod Failures
 pub mod Explained
+pub mod Causes
 pub mod Shown
 pub mod Rules

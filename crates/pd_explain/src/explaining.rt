@@ -1,16 +1,18 @@
 //! Explains a verdict: looks into the run where it stopped.
-ghost use Rattle.std.specs.Prelude.{◌≡◌, Some, option_map, IfOk};
+ghost use Rattle.std.specs.Prelude.{◌≡◌, Some, option_map, IfOk, IfSome};
 ghost use Rattle.pd_run.specs.Run.{verdict_of};
 ghost use Rattle.pd_run.specs.Stops.{line_of};
+ghost use Rattle.pd_script.specs.Script.{script_of};
+ghost use Rattle.pd_explain.specs.Causes.{IsCauseOf, IsCauseIn, IsCause};
 ghost use Rattle.pd_explain.specs.Explained.{row_line, not_run};
 
 use crate::explanations::{Cause, Explanation};
 use crate::failing::failure_of;
 use crate::refusals::find_refusal;
 use crate::rules::{event_rule, header_rule};
-use crate::writings::written_at;
-use pd_run::{Verdict, find_stop, verdicts_have_reasons};
-use pd_script::{Header, HeaderItem, HeaderKind, parse};
+use crate::writings::{Writing, written_at};
+use pd_run::{Stopped, Verdict, find_stop, verdicts_have_reasons};
+use pd_script::{Event, Header, HeaderItem, HeaderKind, parse};
 use pd_settings::Settings;
 use pd_text::Lines;
 use std::alloc::{AllocError, Global};
@@ -28,12 +30,13 @@ pub fn explain(
     requires { verdict ≡ verdict_of lines.now settings.now }
     ensures told { IfOk result (λ told. option_map (λ e. e.verdict) told ≡ option_map (λ _. verdict) (row_line verdict)) }
     ensures at { IfOk result (λ told. option_map (λ e. e.line) told ≡ row_line verdict) }
+    ensures cause { IfOk result (λ told. IfSome told (λ e. IsCause lines.now settings.now verdict e.cause)) }
 {
     let (line, cause) = match verdict {
         Verdict::Pass(_) => return Ok(None),
         Verdict::Syntax(line) => (line, Cause::Syntax(find_refusal(alloc, lines, line)?)),
         Verdict::Fail(line, _) | Verdict::Unsupported(line) | Verdict::Limit(line) => {
-            (line, cause_of_stop(alloc, lines, settings, line)?)
+            (line, cause_of_stop(alloc, lines, settings, verdict, line)?)
         }
     };
     Ok(Some(Explanation {
@@ -43,14 +46,17 @@ pub fn explain(
     }))
 }
 
-/// Why the run of a script stops on a line.
+/// Why the run of a script comes to its verdict at a line.
 fn cause_of_stop(
     alloc: Global,
     lines: &Lines,
     settings: &Settings,
+    verdict: Verdict,
     line: usize,
 ) -> Result<Cause, AllocError>
-    requires { line_of (verdict_of lines.now settings.now) ≡ Some line }
+    requires verdict { verdict ≡ verdict_of lines.now settings.now }
+    requires line { line_of verdict ≡ Some line }
+    ensures { IfOk result (IsCauseIn line settings.now (script_of lines.now) verdict) }
 {
     // The law does no work: that a stop is found rests on it.
     verdicts_have_reasons();
@@ -63,9 +69,21 @@ fn cause_of_stop(
     };
     let event = &parsed.events.as_slice()[stop.passed];
     let writing = written_at(alloc, lines, parsed.header.end(), stop.passed)?;
-    match failure_of(alloc, event, &stop, writing)? {
+    cause_at(alloc, event, &stop, writing)
+}
+
+/// Why an event, which is written so, stopped a run.
+fn cause_at(
+    alloc: Global,
+    event: &Event,
+    stop: &Stopped,
+    writing: Writing,
+) -> Result<Cause, AllocError>
+    ensures { IfOk result (IsCauseOf event.now stop.now) }
+{
+    match failure_of(alloc, event, stop, writing)? {
         Some(failure) => Ok(Cause::Failed(failure)),
-        None => Ok(Cause::Rule(event_rule(event, &stop))),
+        None => Ok(Cause::Rule(event_rule(event, stop))),
     }
 }
 
