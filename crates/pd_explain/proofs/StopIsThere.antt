@@ -1,9 +1,10 @@
 -- A run whose verdict has a line, with a header that is run, is found to stop there, at one of its events.
-use Rattle.std.proofs.Common.{◌≡◌, ◌≤◌, ◌<◌, ℕ, ◌+◌, List, [], ◌∷◌, length, slice_get, Option, Some, None, Result, Ok, Err, IfOk, refl, sym, ap, subst, ◌∙◌, arith, false}
+use Rattle.std.proofs.Common.{◌≡◌, ◌≢◌, ◌≤◌, ◌<◌, ℕ, ◌+◌, List, [], ◌∷◌, length, slice_get, Option, Some, None, Result, Ok, Err, IfOk, refl, sym, ap, subst, ◌∙◌, arith, false}
 use Rattle.std.specs.declared.alloc.AllocError.{AllocError}
 use Rattle.std.specs.List.{filter_map, last_or}
 use Rattle.pd_settings.specs.declared.fields.Settings.{Settings}
 use Rattle.pd_script.specs.Header.{Heading}
+use Rattle.pd_script.specs.Script.{script_of}
 use Rattle.pd_script.specs.declared.parsing.Parsed.{Parsed}
 use Rattle.pd_script.specs.declared.script_events.Event.{Event}
 use Rattle.pd_script.specs.declared.script_header.HeaderItem.{HeaderItem}
@@ -14,9 +15,10 @@ use Rattle.pd_run.specs.Stops.{reason_on, stop_by, stop_from, stop_in, line_of, 
 use Rattle.pd_run.specs.Why.{verdict_at}
 use Rattle.pd_run.specs.declared.stops.Stopped.{Stopped}
 use Rattle.pd_run.specs.declared.verdicts.Verdict.{Verdict}
+use Rattle.pd_run.specs.declared.verdicts.Verdict.TheVariants as verdict
 use Rattle.pd_run.specs.declared.whys.Why.{Why}
-use Rattle.pd_explain.specs.Causes.{IsCauseOf, StopsAt, IsCauseIn}
-use Rattle.pd_explain.specs.Explained.{not_run}
+use Rattle.pd_explain.specs.Causes.{IsCauseOf, StopsAt, IsCauseIn, IsCause}
+use Rattle.pd_explain.specs.Explained.{row_line, not_run}
 use Rattle.pd_explain.specs.declared.explanations.Cause.{Cause}
 
 -- where a stop is found among so many events after n others
@@ -98,3 +100,28 @@ pub causes_in : (settings : Settings) (parsed : Parsed) (line : ℕ) (v : Verdic
     → IfOk told (IsCauseIn line settings parsed v)
 causes_in settings parsed line v stop e (Ok cause) run at is = rw run (e, stop, at, is)
 causes_in settings parsed line v stop e (Err x) run at is = tt
+
+some_line : {a b : ℕ} → Some a ≡ Some b → a ≡ b
+some_line e = cc
+
+-- such a cause is that of the row
+of_stop : (text : List (List ℕ)) (settings : Settings) (v : Verdict) (line : ℕ) (told : Cause)
+    → line_of v ≡ Some line → IsCauseIn line settings (script_of text) v told → IsCause text settings v told
+of_stop text settings (verdict.Pass n) line told e is = cc
+of_stop text settings (verdict.Syntax l) line told e is = cc
+of_stop text settings (verdict.Fail l kind) line told e is = subst (λ (n : ℕ). IsCauseIn n settings (script_of text) (verdict.Fail l kind) told) (sym (some_line e)) is
+of_stop text settings (verdict.Unsupported l) line told e is = subst (λ (n : ℕ). IsCauseIn n settings (script_of text) (verdict.Unsupported l) told) (sym (some_line e)) is
+of_stop text settings (verdict.Limit l) line told e is = subst (λ (n : ℕ). IsCauseIn n settings (script_of text) (verdict.Limit l) told) (sym (some_line e)) is
+
+pub causes_of : (text : List (List ℕ)) (settings : Settings) (v : Verdict) (line : ℕ) (told : Result Cause AllocError)
+    → line_of v ≡ Some line → IfOk told (IsCauseIn line settings (script_of text) v) → IfOk told (IsCause text settings v)
+causes_of text settings v line (Ok cause) e is = of_stop text settings v line cause e is
+causes_of text settings v line (Err x) e is = tt
+
+-- the line of a row that isn't a pass is that of its stop, but where the text is refused
+pub at_stop : (v : Verdict) (line : ℕ) → ((l : ℕ) → v ≢ verdict.Syntax l) → row_line v ≡ Some line → line_of v ≡ Some line
+at_stop (verdict.Pass n) line not e = cc
+at_stop (verdict.Syntax l) line not e = absurd (not l refl)
+at_stop (verdict.Fail l kind) line not e = e
+at_stop (verdict.Unsupported l) line not e = e
+at_stop (verdict.Limit l) line not e = e

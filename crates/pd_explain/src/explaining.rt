@@ -32,18 +32,44 @@ pub fn explain(
     ensures at { IfOk result (λ told. option_map (λ e. e.line) told ≡ row_line verdict) }
     ensures cause { IfOk result (λ told. IfSome told (λ e. IsCause lines.now settings.now verdict e.cause)) }
 {
-    let (line, cause) = match verdict {
-        Verdict::Pass(_) => return Ok(None),
-        Verdict::Syntax(line) => (line, Cause::Syntax(find_refusal(alloc, lines, line)?)),
-        Verdict::Fail(line, _) | Verdict::Unsupported(line) | Verdict::Limit(line) => {
-            (line, cause_of_stop(alloc, lines, settings, verdict, line)?)
-        }
+    let Some(line) = row_line(verdict) else {
+        return Ok(None);
     };
+    let cause = cause_of(alloc, lines, settings, verdict, line)?;
     Ok(Some(Explanation {
         line,
         verdict,
         cause,
     }))
+}
+
+/// The line of a row that isn't a pass.
+fn row_line(verdict: Verdict) -> Option<usize>
+    ensures { result ≡ row_line verdict }
+{
+    match verdict {
+        Verdict::Pass(_) => None,
+        Verdict::Fail(line, _) => Some(line),
+        Verdict::Syntax(line) | Verdict::Unsupported(line) | Verdict::Limit(line) => Some(line),
+    }
+}
+
+/// Why a text comes to its verdict at a line.
+fn cause_of(
+    alloc: Global,
+    lines: &Lines,
+    settings: &Settings,
+    verdict: Verdict,
+    line: usize,
+) -> Result<Cause, AllocError>
+    requires verdict { verdict ≡ verdict_of lines.now settings.now }
+    requires line { row_line verdict ≡ Some line }
+    ensures { IfOk result (IsCause lines.now settings.now verdict) }
+{
+    match verdict {
+        Verdict::Syntax(_) => Ok(Cause::Syntax(find_refusal(alloc, lines, line)?)),
+        _ => cause_of_stop(alloc, lines, settings, verdict, line),
+    }
 }
 
 /// Why the run of a script comes to its verdict at a line.
