@@ -30,6 +30,15 @@ FAULT = 2
 Command = TypeVar("Command", bound=Callable[..., int])
 
 
+class _Place(click.Path):
+    """The path of a file or folder. An empty word, as a shell makes of a variable that isn't set, names none."""
+
+    def convert(self, value: str | os.PathLike[str], param: click.Parameter | None, ctx: click.Context | None) -> Path:
+        if not os.fspath(value):
+            self.fail("it is empty, and so names no file.", param, ctx)
+        return Path(value)
+
+
 def _print_version(context: click.Context, option: click.Parameter, on: bool) -> None:
     if on and not context.resilient_parsing:
         for line in version():
@@ -56,7 +65,7 @@ def _choice(command: Command) -> Command:
         click.option("--no-color", is_flag=True, help="No colours on a terminal."),
         click.option("--settings", default="", metavar="TEXT", help="Settings before all others."),
         click.option("--only", metavar="PATTERN", help="Only scripts whose path or name fits."),
-        click.argument("paths", nargs=-1, required=True, type=click.Path(path_type=Path)),
+        click.argument("paths", nargs=-1, required=True, type=_Place()),
     ):
         command = option(command)
     return command
@@ -70,7 +79,7 @@ _workers = click.option(
 _html = click.option(
     "--html",
     metavar="FOLDER",
-    type=click.Path(path_type=Path),
+    type=_Place(),
     help="Write a page into this folder, too.",
 )
 
@@ -84,7 +93,7 @@ _html = click.option(
 @click.option(
     "--junit",
     metavar="FILE",
-    type=click.Path(path_type=Path),
+    type=_Place(),
     help="Write JUnit's XML, too.",
 )
 @click.option("--tap", "form", flag_value="tap", help="Print TAP, version 13.")
@@ -148,8 +157,8 @@ def list_command(paths: tuple[Path, ...], only: str | None, settings: str, no_co
 @pdsuite.command(name="import")
 @click.option("--keep", is_flag=True, help="Change nothing of packets.")
 @click.option("--no-color", is_flag=True, help="No colours on a terminal.")
-@click.argument("source", metavar="FROM", type=click.Path(path_type=Path))
-@click.argument("target", metavar="TO", type=click.Path(path_type=Path))
+@click.argument("source", metavar="FROM", type=_Place())
+@click.argument("target", metavar="TO", type=_Place())
 def import_command(source: Path, target: Path, keep: bool, no_color: bool) -> int:
     """Brings scripts of the kernel's self-tests over into a new folder, and runs nothing."""
     with Screen(wants_color() and not no_color, progress=False) as screen:

@@ -145,6 +145,8 @@ REFUSALS = [
     (["import", "from", "full"], "full: isn't empty"),
     (["import", "from", "file"], "file: isn't a folder"),
     (["import", "from", "a/b"], "a/b: the folder above it isn't there"),
+    (["import", "from", "from/to"], "from/to: lies in the folder that is imported"),
+    (["import", ".", "to"], "to: lies in the folder that is imported"),
     (["import", "from", "."], ".: isn't empty"),
     (["import", "nowhere", "to"], "nowhere: isn't a folder"),
     (["import", "file", "to"], "file: isn't a folder"),

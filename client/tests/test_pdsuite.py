@@ -180,3 +180,23 @@ def test_names_are_shown_alike_in_every_locale(locale: str, stand_in: Path, tmp_
     (tmp_path / os.fsdecode(b"\xff.pkt")).write_bytes(b"row fail 1 seq\n")
     called = call(stand_in, "run", ".", LC_ALL=locale)
     assert called.rows == ["grün.pkt:1: fail seq", r"\xff.pkt:1: fail seq"]
+
+
+NAMELESS = [
+    ("PATHS...", ["run", "a.pkt", ""]),
+    ("PATHS...", ["watch", ""]),
+    ("PATHS...", ["list", ""]),
+    ("FROM", ["import", "", "to"]),
+    ("TO", ["import", ".", ""]),
+    ("--junit", ["run", ".", "--junit", ""]),
+    ("--html", ["run", ".", "--html="]),
+]
+
+
+@pytest.mark.parametrize(("word", "words"), NAMELESS, ids=[" ".join(it[1]) for it in NAMELESS])
+def test_an_empty_word_is_no_path(word: str, words: list[str], stand_in: Path, tmp_path: Path, call: Call) -> None:
+    write(tmp_path, a=PASSES)
+    called = call(stand_in, *words)
+    assert (called.status, called.out) == (2, "")
+    assert called.err.splitlines()[-1] == f"Error: Invalid value for '{word}': it is empty, and so names no file."
+    assert os.listdir(tmp_path) == ["a.pkt"]

@@ -29,6 +29,8 @@ def import_scripts(source: Path, target: Path, keep: bool, screen: Screen) -> in
         if not source.is_dir():
             raise Fault(f"{shown_path(source)}: isn't a folder")
         place = new_folder(target)
+        if place.is_relative_to(os.path.realpath(source)):
+            raise Fault(f"{shown_path(target)}: lies in the folder that is imported")
         suite = Suite(option_of(""))
         found = find([source], None, stop)
         if not found:
