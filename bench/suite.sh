@@ -3,22 +3,29 @@
 # processor time of the client alone, and that of a loop that only reads these files. Or measures `pdsuite watch` over 500
 # scripts of 60 events: the time from the return of a save to its row on standard output, and to all of its report, 100 times.
 #
-#   bench/suite.sh [SCRIPTS [EVENTS]]      100,000 scripts of 20 events if nothing is said. EXPLAIN names another build of
-#                                          pdexplain beside PROGRAM
+#   bench/suite.sh [SCRIPTS [EVENTS]]      100,000 scripts of 20 events if nothing is said. PDSUITE_PROGRAMS names the folder
+#                                          of another build, or PROGRAM that of pdregress and EXPLAIN that of pdexplain
 #   bench/suite.sh watch [SAVES]
 #   bench/suite.sh cluster [SCRIPTS [EVENTS]]   the time with 1, 2 and 4 workers of a Dask cluster on this machine, beside a
 #                                               run without a cluster that has as many threads
+#   bench/suite.sh all [SCRIPTS [EVENTS]]       the first, and then the cluster over the same scripts
+if [ -n "${PDSUITE_PROGRAMS:-}" ]; then
+    PROGRAM=${PROGRAM:-$PDSUITE_PROGRAMS/pdregress}
+    EXPLAIN=${EXPLAIN:-$PDSUITE_PROGRAMS/pdexplain}
+fi
 . "$(dirname "$0")/program.sh"
 mode=run
-if [ "${1:-}" = watch ]; then
-    mode=watch
-    saves=${2:-100}
-    set -- 500 60
-fi
-if [ "${1:-}" = cluster ]; then
-    mode=cluster
-    shift
-fi
+case ${1:-} in
+    watch)
+        mode=watch
+        saves=${2:-100}
+        set -- 500 60
+        ;;
+    cluster | all)
+        mode=$1
+        shift
+        ;;
+esac
 scripts=${1:-100000}
 events=${2:-20}
 explain=${EXPLAIN:-$top/crates/pdexplain/out/pdexplain}
@@ -43,8 +50,11 @@ if [ "$mode" = watch ]; then
     /usr/bin/python3 -I "$top/bench/watch.py" "$top" "$work/suite" "$saves"
     exit
 fi
-if [ "$mode" = cluster ]; then
+measure_cluster() {
     /usr/bin/python3 -I "$top/bench/cluster.py" "$top" "$work/suite"
+}
+if [ "$mode" = cluster ]; then
+    measure_cluster
     exit
 fi
 
@@ -80,3 +90,6 @@ END
 for processors in 1 2 4; do
     /usr/bin/python3 -I "$work/measure.py" "$top/client" "$processors" "$work/suite"
 done
+if [ "$mode" = all ]; then
+    measure_cluster
+fi

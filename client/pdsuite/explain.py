@@ -22,7 +22,6 @@ _PLAIN = re.compile(rb"[ -~]*")
 
 # What a row means, and the lines below it.
 Told = tuple[str, tuple[str, ...]]
-_NOTHING: Told = ("", ())
 
 T = TypeVar("T")
 
@@ -95,7 +94,9 @@ class Explainer:
 
 
 def _with(outcome: Outcome, block: Sequence[bytes] | None) -> Outcome:
-    why, told = _told(block, outcome.row) if block else _NOTHING
+    if not block:
+        return outcome
+    why, told = _told(block, outcome.row)
     return replace(outcome, why=why, told=told)
 
 

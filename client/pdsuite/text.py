@@ -36,7 +36,7 @@ def text_of(octets: bytes) -> Text:
     lines = octets.count(b"\n")
     if lines > LINES:
         raise Unfit(f"more than {LINES:,} lines")
-    if len(octets) - octets.count(b"\r\n") > OCTETS:
+    if len(octets) > OCTETS and len(octets) - octets.count(b"\r\n") > OCTETS:
         raise Unfit(f"more than {OCTETS:,} octets")
     return Text(octets, lines)
 
