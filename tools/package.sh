@@ -73,7 +73,7 @@ client() {
     echo "$version $commit" >"$root/$share/version"
     ln -s "../share/$name/pdsuite" "$root/usr/bin/pdsuite"
     page pdsuite "$top/pdsuite"
-    for command in run watch list; do
+    for command in run watch list import; do
         page "pdsuite-$command" "$top/pdsuite" "$command"
     done
     mkdir -p "$root/$completions"
@@ -95,7 +95,7 @@ completion() { # NAME PROGRAM
 documents() {
     doc=usr/share/doc/$name
     put 644 "$top/README.md" "$top/CHANGELOG.md" "$top/packaging/copyright" "$doc"
-    put 644 "$top"/docs/*.md "$doc/docs"
+    put 644 "$top"/docs/*.md "$top"/docs/*.png "$doc/docs"
     cp -R "$top/examples" "$root/$doc"
     printf '%s (%s) unstable; urgency=medium\n\n  * CHANGELOG.md tells what changed.\n\n -- %s  %s\n' \
         "$name" "$version" "$(sed -n 's/^Maintainer: //p' "$top/packaging/control")" "$(date -u -R -d "@$SOURCE_DATE_EPOCH")" |

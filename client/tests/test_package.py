@@ -14,7 +14,7 @@ from tests.helpers import TOP, Called
 from tests.test_run import expected_rows
 
 PROVED = (TOP / "packaging/programs.txt").read_text().split()
-COMMANDS = ("run", "watch", "list")
+COMMANDS = ("import", "list", "run", "watch")
 # Where pages and texts for terminals differ: the ends of lines, blanks, and the prompt of an example.
 _SPACE = re.compile(r"[\s$]+")
 
@@ -64,6 +64,14 @@ def test_what_is_not_proved_is_not_packed(tmp_path: Path) -> None:
     said = output(tool, tmp_path, PATH="/usr/bin:/bin:/usr/sbin:/sbin")  # without rt nothing is proved
     assert said.endswith("package: pdregress isn't proved and built\n")
     assert not list(tmp_path.glob("*.deb"))
+
+
+def test_each_command_has_its_page() -> None:
+    commands = output(TOP / "pdsuite", "--help").split("Commands:\n")[1]
+    assert tuple(line.split()[0] for line in commands.splitlines()) == COMMANDS
+    told = output(TOP / "tools/man_page.sh", "0.1", "pdsuite", TOP / "pdsuite")
+    for name in (f"pdsuite-{it}" for it in COMMANDS):
+        assert f".BR {name} (1)" in told and (TOP / f"packaging/man/{name}.h2m").is_file()
 
 
 @pytest.mark.parametrize("words", [("pdregress",), ("pdexplain",), ("pdsuite",), *(("pdsuite", it) for it in COMMANDS)])
