@@ -12,6 +12,7 @@ pub mod Pieces
 pub mod Program
 pub mod ProgramFaults
 pub mod ProgramWords
+pub mod RecordWords
 pub mod Report
 pub mod Requests
 pub mod ServeFaults
