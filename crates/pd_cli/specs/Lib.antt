@@ -12,7 +12,6 @@ pub mod Pieces
 pub mod Program
 pub mod ProgramFaults
 pub mod ProgramWords
-pub mod RecordWords
 pub mod Report
 pub mod Requests
 pub mod ServeFaults

@@ -11,15 +11,6 @@ pub struct Options<'a> {
     pub cache: usize,
 }
 
-/// What the words of the program that records choose.
-#[derive(Clone, Copy)]
-pub struct RecordOptions<'a> {
-    /// A TOML text of settings.
-    pub settings: &'a str,
-    /// Whether a trace is written.
-    pub trace: bool,
-}
-
 /// What the words of the program that explains choose.
 #[derive(Drop)]
 pub struct ExplainOptions<'a> {

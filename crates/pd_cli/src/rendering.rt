@@ -36,7 +36,7 @@ fn put_row(alloc: Global, out: &mut Vec<u8>, row: &Row) -> Result<(), AllocError
 }
 
 /// Adds the text of a verdict.
-pub(crate) fn put_verdict(alloc: Global, out: &mut Vec<u8>, verdict: Verdict) -> Result<(), AllocError>
+fn put_verdict(alloc: Global, out: &mut Vec<u8>, verdict: Verdict) -> Result<(), AllocError>
     ensures { OnOk result (out.new.items ≡ out.old.items ++ verdict_text verdict) }
 {
     match verdict {

@@ -206,7 +206,7 @@ fn serve_beside<H: Threads + Wait + Sync, R: Read, W: Write>(
 }
 
 /// The settings of a TOML text.
-pub(crate) fn settings_of(alloc: Global, text: &str) -> Result<Settings, ProgramFault>
+fn settings_of(alloc: Global, text: &str) -> Result<Settings, ProgramFault>
     ensures ok { IfOk result (λ settings. settings_in text.now ≡ Ok settings) }
     ensures err { IfErr result (λ fault. (settings_in text.now ≡ Err fault) ⊎ (fault ≡ ProgramFault.Serving ServeFault.OutOfMemory)) }
 {

@@ -1,7 +1,5 @@
 //! A script as the input of a program, without the lines of a trace.
-use crate::faults::ServeFault;
-use crate::gathered::Gathered;
-use crate::intake::{Intake, Taken};
+use pd_cli::{Gathered, Intake, ServeFault, Taken};
 use pd_record::is_trace;
 use pd_text::{Lines, MAX_LINES, MAX_OCTETS};
 use std::alloc::{AllocError, Global};

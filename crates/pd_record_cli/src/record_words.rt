@@ -1,16 +1,23 @@
 //! The words of the program that records, read by `clap`.
 ghost use Rattle.std.specs.Prelude.{false, ◌≡◌, ◌≢◌, ◌⊎◌, [], IfOk, IfErr, map};
 ghost use Rattle.clap.specs.Words.{app_of, kind_of, rule_of};
-ghost use Rattle.pd_cli.specs.RecordWords.{pdrecord, trace_rule, HasChosenToRecord};
+ghost use Rattle.pd_record_cli.specs.RecordWords.{pdrecord, trace_rule, HasChosenToRecord};
 ghost use Rattle.pd_cli.specs.ProgramWords.{word_faults};
 
-use crate::chosen::RecordOptions;
-use crate::explain_words::is_true;
-use crate::word_options::settings_option;
 use clap::error::ErrorKind;
 use clap::{Arg, ArgAction, Command, Error};
+use pd_cli::{is_true, settings_option};
 use std::alloc::Global;
 use std::convert::AsStr;
+
+/// What the words of the program that records choose.
+#[derive(Clone, Copy)]
+pub struct RecordOptions<'a> {
+    /// A TOML text of settings.
+    pub settings: &'a str,
+    /// Whether a trace is written.
+    pub trace: bool,
+}
 
 /// What `--help` says first.
 const ABOUT: &str = "\
@@ -69,6 +76,8 @@ fn trace_option<'a>(alloc: Global) -> Arg<'a>
 {
     Arg::new(alloc, "trace")
         .long("trace")
-        .help("Writes after each event its moment and the state of the sender, in a line that begins with //=")
+        .help(
+            "Writes after each event its moment and the state of the sender, in a line that begins with //=",
+        )
         .action(ArgAction::SetTrue)
 }

@@ -1,14 +1,10 @@
 //! The program that records: one script in, its recording out.
-use crate::chosen::RecordOptions;
-use crate::exits::Exit;
-use crate::program_faults::ProgramFault;
-use crate::faults::ServeFault;
-use crate::record_words::record_options;
+use crate::record_words::{RecordOptions, record_options};
 use crate::recorded_text::text_of;
-use crate::rendering::put_verdict;
 use crate::script_input::ScriptInput;
-use crate::whole_program::{fail, refuse, settings_of};
-use crate::writing::{put_all, say};
+use pd_cli::{
+    Exit, ProgramFault, ServeFault, fail, put_all, put_verdict, refuse, say, settings_of,
+};
 use pd_record::{NotRecorded, record};
 use pd_run::Verdict;
 use pd_settings::Settings;

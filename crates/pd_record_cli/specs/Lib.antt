@@ -1,0 +1,2 @@
+-- The definitions of the program that records.
+pub mod RecordWords
