@@ -28,4 +28,4 @@ pub use rule_laws::rules_are_lawful;
 pub use rules::{Input, Number, Rule, Shape, event_rule, header_rule};
 pub use shown::{cut_around, cut_line, put_shown};
 pub use shown_laws::shown_is_printable;
-pub use text_blocks::block_text;
+pub use text_blocks::{block_text, write_standing};

@@ -126,14 +126,24 @@ fn put_untaken(alloc: Global, out: &mut Vec<u8>, untaken: &Untaken) -> Result<()
 fn put_standing(alloc: Global, out: &mut Vec<u8>, standing: &Standing) -> Result<(), AllocError> {
     let mut line = Vec::new(alloc);
     put_words(&mut line, "state: ")?;
-    put_words(&mut line, state_name(standing.state))?;
-    for fact in &facts_of_sender(alloc, standing)? {
-        put_words(&mut line, " ")?;
-        put_words(&mut line, fact.label)?;
-        put_words(&mut line, ":")?;
-        put_told(alloc, &mut line, fact.value)?;
-    }
+    line.extend_from_slice(&write_standing(alloc, standing)?)?;
     put_line(alloc, out, &line)
+}
+
+/// How a sender stands: the name of its state, and its numbers, each after its name and a colon, with a blank before each.
+///
+/// # Errors
+/// `AllocError` where a growth is refused.
+pub fn write_standing(alloc: Global, standing: &Standing) -> Result<Vec<u8>, AllocError> {
+    let mut out = Vec::new(alloc);
+    put_words(&mut out, state_name(standing.state))?;
+    for fact in &facts_of_sender(alloc, standing)? {
+        put_words(&mut out, " ")?;
+        put_words(&mut out, fact.label)?;
+        put_words(&mut out, ":")?;
+        put_told(alloc, &mut out, fact.value)?;
+    }
+    Ok(out)
 }
 
 /// Adds the line at which no script goes on, its token marked, and what could stand there.
