@@ -52,7 +52,7 @@ fn names_in<'a>(alloc: Global, matches: &ArgMatches<'a>) -> Result<Vec<&'a str>,
 }
 
 /// Whether a word is that of a flag which is written.
-fn is_true(word: &[u8]) -> bool
+pub fn is_true(word: &[u8]) -> bool
     ensures { result ≡ bytes_eq word.now (codes "true") }
 {
     word == b"true".as_slice()

@@ -36,7 +36,10 @@ fn put_row(alloc: Global, out: &mut Vec<u8>, row: &Row) -> Result<(), AllocError
 }
 
 /// Adds the text of a verdict.
-fn put_verdict(alloc: Global, out: &mut Vec<u8>, verdict: Verdict) -> Result<(), AllocError>
+///
+/// # Errors
+/// `AllocError` where a growth is refused.
+pub fn put_verdict(alloc: Global, out: &mut Vec<u8>, verdict: Verdict) -> Result<(), AllocError>
     ensures { OnOk result (out.new.items ≡ out.old.items ++ verdict_text verdict) }
 {
     match verdict {

@@ -139,7 +139,8 @@ fn steps_command<'a>(alloc: Global) -> Result<Command<'a>, Error>
     )
 }
 
-pub(crate) fn settings_option<'a>(alloc: Global) -> Arg<'a>
+/// What `--settings TEXT` may be: one text, empty where it isn't written.
+pub fn settings_option<'a>(alloc: Global) -> Arg<'a>
     ensures rule { rule_of result ≡ settings_rule }
     ensures local { result.global ≡ false }
 {
