@@ -128,8 +128,8 @@ fn take_lines<R: Read>(
     Ok(gathered.into_lines())
 }
 
-/// The text of lines.
-fn text_of(lines: Option<LineList>) -> Option<Lines>
+/// The text of lines; none where there are none, or they are over the limits of a text.
+pub fn text_of(lines: Option<LineList>) -> Option<Lines>
     ensures { result ≡ option_and_then fitted lines }
 {
     match lines {

@@ -32,6 +32,7 @@ mod writing;
 
 pub use call_words::{arguments, refuse_arguments};
 pub use chosen::{ExplainOptions, Options};
+pub use command::text_of;
 pub use exits::Exit;
 pub use explain_program::run_explaining;
 pub use explain_words::{explain_options, is_true};
