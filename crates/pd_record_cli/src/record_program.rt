@@ -1,28 +1,25 @@
 //! The program that records: one script in, its recording out.
+ghost use Rattle.std.specs.Prelude.{◌≡◌, ◌≢◌, ◌⊎◌, ℕ, List, [], Some, IfOk, IfErr, IfSome, map, take, true};
+ghost use Rattle.std.specs.Io.KnownBytes.{Appends};
+ghost use Rattle.pd_cli.specs.Program.{settings_in, Refuses, Says};
+ghost use Rattle.pd_cli.specs.ProgramFaults.{fault_line};
+ghost use Rattle.pd_cli.specs.ProgramWords.{settings_text, word_faults};
+ghost use Rattle.pd_record_cli.specs.RecordProgram.{Comes, Ends, FinishesRecording, IsOutcome, IsStop};
+ghost use Rattle.pd_record_cli.specs.RecordWords.{pdrecord, asks_trace};
+
+use crate::outcomes::{Outcome, refusal_of};
 use crate::record_words::{RecordOptions, record_options};
-use crate::recorded_text::text_of;
+use crate::recorded_text::octets_of;
 use crate::script_input::ScriptInput;
-use pd_cli::{
-    Exit, ProgramFault, ServeFault, fail, put_all, put_verdict, refuse, say, settings_of,
-};
+use pd_cli::{Exit, ProgramFault, ServeFault, fail, put_all, refuse, say, settings_of};
 use pd_record::{NotRecorded, record};
-use pd_run::Verdict;
 use pd_settings::Settings;
-use std::alloc::{AllocError, Global};
+use std::alloc::Global;
 use std::convert::AsStr;
 use std::io::{Read, Write};
 
 /// The status where the script isn't recorded.
 const NOT_RECORDED: u8 = 1;
-
-/// What came of a script.
-#[derive(Drop)]
-enum Outcome {
-    /// The octets of its recording.
-    Recorded(Vec<u8>),
-    /// Why it isn't recorded, in words.
-    Refused(Vec<u8>),
-}
 
 /// Runs the program that records on its words, of which the first is its own name. Words that `clap` refuses, and `--help`,
 /// print its own text on `err`, with the status 2.
@@ -32,22 +29,42 @@ pub fn run_recording<S: AsStr, R: Read, W: Write, E: Write>(
     reader: &mut R,
     out: &mut W,
     err: &mut E,
-) -> Exit {
+) -> Exit
+    ensures taken { let words = map S.text words.now in
+        let input = R.remaining reader.old in
+        word_faults pdrecord words ≡ [] → FinishesRecording result (settings_text pdrecord words) (asks_trace words) input (W.contents out.old) (W.contents out.new) (E.contents err.old) (E.contents err.new) }
+    ensures refused { word_faults pdrecord (map S.text words.now) ≢ [] → Refuses result (W.contents out.old) (W.contents out.new) }
+{
     match record_options(alloc, words) {
-        Ok(options) => run_tape(alloc, &options, reader, out, err),
+        Ok(options) => run_chosen(alloc, &options, reader, out, err),
         Err(error) => refuse(alloc, &error, err),
     }
 }
 
 /// Records the input and writes the recording, or says why there is none.
-fn run_tape<R: Read, W: Write, E: Write>(
+fn run_chosen<R: Read, W: Write, E: Write>(
     alloc: Global,
     options: &RecordOptions<'_>,
     reader: &mut R,
     out: &mut W,
     err: &mut E,
-) -> Exit {
-    match record_input(alloc, options, reader) {
+) -> Exit
+    ensures { let input = R.remaining reader.old in
+        FinishesRecording result options.now.settings.now options.now.trace input (W.contents out.old) (W.contents out.new) (E.contents err.old) (E.contents err.new) }
+{
+    let end = record_input(alloc, options, reader);
+    finish(end, out, err)
+}
+
+/// Ends a run: writes a recording, or says why there is none.
+fn finish<W: Write, E: Write>(
+    end: Result<Outcome, ProgramFault>,
+    out: &mut W,
+    err: &mut E,
+) -> Exit
+    ensures { Ends end result (W.contents out.old) (W.contents out.new) (E.contents err.old) (E.contents err.new) }
+{
+    match end {
         Ok(Outcome::Recorded(octets)) => match put_all(out, octets.as_slice()) {
             Ok(()) => Exit {
                 status: 0,
@@ -68,10 +85,12 @@ fn record_input<R: Read>(
     alloc: Global,
     options: &RecordOptions<'_>,
     reader: &mut R,
-) -> Result<Outcome, ProgramFault> {
+) -> Result<Outcome, ProgramFault>
+    ensures { IfSome (R.remaining reader.old) (Comes (settings_in options.now.settings.now) options.now.trace result) }
+{
     let settings = settings_of(alloc, options.settings)?;
     let input = ScriptInput::read(alloc, reader)?;
-    let outcome = outcome_of(alloc, &input, &settings, options.trace).map_err(ServeFault::from)?;
+    let outcome = outcome_of(alloc, &input, &settings, options.trace)?;
     Ok(outcome)
 }
 
@@ -81,40 +100,15 @@ fn outcome_of(
     input: &ScriptInput,
     settings: &Settings,
     with_trace: bool,
-) -> Result<Outcome, AllocError> {
+) -> Result<Outcome, ServeFault>
+    ensures outcome { IfOk result (λ outcome. IsOutcome settings.now with_trace input.now.lines outcome) }
+    ensures only { IfErr result IsStop }
+{
     let Some(lines) = &input.lines else {
-        return refused(alloc, b"2 TooLarge");
+        return refusal_of(alloc, NotRecorded::TooLarge, input);
     };
     match record(alloc, lines, settings) {
-        Ok(recording) => Ok(Outcome::Recorded(text_of(alloc, &recording, with_trace)?)),
-        Err(NotRecorded::Stopped(verdict)) => {
-            let mut row = Vec::new(alloc);
-            put_verdict(alloc, &mut row, seen(verdict, input))?;
-            refused(alloc, &row)
-        }
-        Err(NotRecorded::TooLarge) => refused(alloc, b"2 TooLarge"),
-        Err(NotRecorded::TooManyEvents) => refused(alloc, b"21 TooManyEvents"),
-        Err(NotRecorded::TooLongGap) => refused(alloc, b"22 TooLongGap"),
-        Err(NotRecorded::OutOfMemory) => Err(AllocError),
+        Ok(recording) => Ok(Outcome::Recorded(octets_of(alloc, &recording, with_trace)?)),
+        Err(refusal) => refusal_of(alloc, refusal, input),
     }
-}
-
-/// A verdict with the line of the input, the lines of a trace counted too.
-fn seen(verdict: Verdict, input: &ScriptInput) -> Verdict {
-    match verdict {
-        Verdict::Pass(events) => Verdict::Pass(events),
-        Verdict::Fail(line, kind) => Verdict::Fail(input.line_of(line), kind),
-        Verdict::Syntax(line) => Verdict::Syntax(input.line_of(line)),
-        Verdict::Unsupported(line) => Verdict::Unsupported(input.line_of(line)),
-        Verdict::Limit(line) => Verdict::Limit(input.line_of(line)),
-    }
-}
-
-/// The line that says why a script isn't recorded.
-fn refused(alloc: Global, why: &[u8]) -> Result<Outcome, AllocError> {
-    let mut line = Vec::new(alloc);
-    line.extend_from_slice(b"pdrecord: ")?;
-    line.extend_from_slice(why)?;
-    line.extend_from_slice(b"\n")?;
-    Ok(Outcome::Refused(line))
 }

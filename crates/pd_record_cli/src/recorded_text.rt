@@ -1,4 +1,11 @@
 //! The octets of a recording.
+ghost use Rattle.std.specs.Prelude.{◌≡◌, ◌++◌, ◌∷◌, [], true, IfOk, IfErr, OnOk, take};
+ghost use Rattle.pd_record_cli.specs.RecordProgram.{IsStop};
+ghost use Rattle.pd_record_cli.specs.ScriptInput.{is_dropped};
+ghost use Rattle.pd_record_cli.specs.Written.{IsWritten};
+
+use crate::script_input::is_dropped;
+use pd_cli::ServeFault;
 use pd_explain::write_standing;
 use pd_print::write_moment;
 use pd_record::{Mark, Recording};
@@ -7,24 +14,26 @@ use std::alloc::{AllocError, Global};
 /// The octets of a recording, each line ended by a newline; with a trace each event has a line of its own after it.
 ///
 /// # Errors
-/// `AllocError` where a growth is refused.
-pub fn text_of(
+/// `Differs` where a line of the recording would be taken for one of a trace, or one of the trace for none, which is a fault of
+/// this program; `OutOfMemory`.
+pub fn octets_of(
     alloc: Global,
     recording: &Recording,
     with_trace: bool,
-) -> Result<Vec<u8>, AllocError> {
+) -> Result<Vec<u8>, ServeFault>
+    ensures written { IfOk result (λ octets. IsWritten with_trace recording.now.lines octets.items) }
+    ensures only { IfErr result IsStop }
+{
     let mut out = Vec::new(alloc);
-    let mut marks = recording.marks.iter();
-    let mut next = marks.next();
-    for number in 1..=recording.lines.len() {
-        out.extend_from_slice(recording.lines.line(number).unwrap_or(&[]))?;
-        out.push(b'\n')?;
-        match next {
-            Some(mark) if mark.lines == number => {
+    let mut marked = 0usize;
+    for done in 0..recording.lines.len() {
+        put_line(&mut out, recording.lines.line(done + 1).unwrap_or(&[]))?;
+        match recording.marks.get(marked) {
+            Some(mark) if mark.lines == done + 1 => {
                 if with_trace {
                     put_trace(alloc, &mut out, mark)?;
                 }
-                next = marks.next();
+                marked += 1;
             }
             _ => {}
         }
@@ -32,17 +41,43 @@ pub fn text_of(
     Ok(out)
 }
 
+/// Adds a line of the recording.
+fn put_line(out: &mut Vec<u8>, line: &[u8]) -> Result<(), ServeFault>
+    ensures line { OnOk result ((is_dropped line.now ≡ false) × (out.new.items ≡ out.old.items ++ line.now ++ 10 ∷ [])) }
+    ensures only { IfErr result IsStop }
+{
+    if is_dropped(line) {
+        return Err(ServeFault::Differs);
+    }
+    out.extend_from_slice(line)?;
+    out.extend_from_slice(b"\n")?;
+    Ok(())
+}
+
 /// Adds the line of an event: its moment, and how the sender stands.
-fn put_trace(alloc: Global, out: &mut Vec<u8>, mark: &Mark) -> Result<(), AllocError> {
+fn put_trace(alloc: Global, out: &mut Vec<u8>, mark: &Mark) -> Result<(), ServeFault>
+    ensures line { OnOk result ((line : List ℕ) × (is_dropped line ≡ true) × (out.new.items ≡ out.old.items ++ line ++ 10 ∷ [])) }
+    ensures only { IfErr result IsStop }
+{
+    let line = trace_line(alloc, mark)?;
+    if !is_dropped(line.as_slice()) {
+        return Err(ServeFault::Differs);
+    }
+    out.extend_from_slice(line.as_slice())?;
+    out.extend_from_slice(b"\n")?;
+    Ok(())
+}
+
+/// The line of an event in a trace.
+fn trace_line(alloc: Global, mark: &Mark) -> Result<Vec<u8>, AllocError> {
     let standing = pd_explain::Standing {
         state: mark.standing.state,
         figures: mark.standing.figures,
         expiry: mark.standing.expiry,
     };
-    out.extend_from_slice(b"//= at ")?;
-    out.extend_from_slice(&write_moment(alloc, mark.at)?)?;
-    out.extend_from_slice(b" ")?;
-    out.extend_from_slice(&write_standing(alloc, &standing)?)?;
-    out.push(b'\n')?;
-    Ok(())
+    let mut line = Vec::from_slice(alloc, b"//= at ")?;
+    line.extend_from_slice(write_moment(alloc, mark.at)?.as_slice())?;
+    line.extend_from_slice(b" ")?;
+    line.extend_from_slice(write_standing(alloc, &standing)?.as_slice())?;
+    Ok(line)
 }

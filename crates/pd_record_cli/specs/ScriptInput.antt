@@ -1,0 +1,17 @@
+-- The script that an input is.
+use Rattle.std.specs.Prelude.{ℕ, not, Bool, nat_le, ◌&&◌, List, length, filter, Option}
+use Rattle.std.specs.Str.Lines.{lines}
+use Rattle.pd_cli.specs.Commands.{fitted}
+use Rattle.pd_record.specs.Traces.{is_trace}
+
+-- a line is dropped: one of a trace that isn't over the limits of a text by itself
+abbrev pub is_dropped : List ℕ → Bool
+is_dropped line = nat_le (length line) 65536 && is_trace line
+
+-- lines without those of a trace
+abbrev pub without_trace : List (List ℕ) → List (List ℕ)
+without_trace lines = filter (λ line. not (is_dropped line)) lines
+
+-- the script that an input is: its lines without those of a trace, where these are within the limits of a text
+abbrev pub script_in : List ℕ → Option (List (List ℕ))
+script_in input = fitted (without_trace (lines input))
