@@ -1,3 +1,4 @@
 -- The definitions that the contracts cite.
 pub mod Standings
 pub mod Tape
+pub mod Traces

@@ -1,87 +1,116 @@
 //! The lines of a trace, which tell of events when they happened and how the sender stood then.
+ghost use Rattle.std.specs.Prelude.{◌≡◌, ◌==◌};
+ghost use Rattle.std.specs.List.{slice_split};
+ghost use Rattle.pd_record.specs.Traces.{is_trace, are_told, is_moment, is_fraction, are_digits, is_state, is_fact, is_told, is_value, are_letters};
 
 /// What a line of a trace begins with.
 const OPENING: &[u8] = b"//= at ";
 
-/// The names of states with which a sender's state begins.
-const STATES: [&[u8]; 10] = [
-    b"CLOSED",
-    b"LISTEN",
-    b"SYN-RECEIVED",
-    b"ESTABLISHED",
-    b"FIN-WAIT-1",
-    b"FIN-WAIT-2",
-    b"CLOSE-WAIT",
-    b"CLOSING",
-    b"LAST-ACK",
-    b"TIME-WAIT",
-];
-
-/// The names of the facts that follow.
-const FACTS: [&[u8]; 14] = [
-    b"connection",
-    b"una",
-    b"next",
-    b"top",
-    b"end",
-    b"cwnd",
-    b"ssthresh",
-    b"rwnd",
-    b"FlightSize",
-    b"pipe",
-    b"DupAcks",
-    b"RTO",
-    b"expiry",
-    b"recovery",
-];
-
 /// Whether a line is one of a trace: `//= at`, seconds with six decimals, the name of a state, and facts, each with a
 /// colon and its value, with one blank before each word.
-pub fn is_trace(line: &[u8]) -> bool {
-    let Some(rest) = line.strip_prefix(OPENING) else {
-        return false;
-    };
-    let mut words = 0usize;
-    for word in rest.split(|octet| *octet == b' ') {
-        let is_right = match words {
-            0 => is_moment(word),
-            1 => is_among(&STATES, word),
-            _ => is_fact(word),
-        };
-        if !is_right {
-            return false;
-        }
-        words = words.saturating_add(1);
-    }
-    words > 1
-}
-
-/// Whether a word is seconds with six decimals.
-fn is_moment(word: &[u8]) -> bool {
-    let point = word.len().saturating_sub(7);
-    point > 0 && are_digits(&word[..point]) && word[point] == b'.' && are_digits(&word[point + 1..])
-}
-
-fn are_digits(word: &[u8]) -> bool {
-    word.iter().all(|octet| octet.is_ascii_digit())
-}
-
-/// Whether a word is the name of a fact, a colon and a value.
-fn is_fact(word: &[u8]) -> bool {
-    match word.iter().position(|octet| *octet == b':') {
-        Some(colon) => is_among(&FACTS, &word[..colon]) && is_value(&word[colon + 1..]),
+pub fn is_trace(line: &[u8]) -> bool
+    ensures { result ≡ is_trace line.now }
+{
+    match line.strip_prefix(OPENING) {
+        Some(told) => are_told(told),
         None => false,
     }
 }
 
-/// Whether a word is letters, digits and points.
-fn is_value(word: &[u8]) -> bool {
-    !word.is_empty()
-        && word
-            .iter()
-            .all(|octet| octet.is_ascii_alphanumeric() || *octet == b'.')
+/// Whether these are a moment, a state and facts.
+fn are_told(told: &[u8]) -> bool
+    ensures { result ≡ are_told (slice_split (λ octet. octet == 32) told.now) }
+{
+    let mut words = told.split(|octet| *octet == b' ');
+    match (words.next(), words.next()) {
+        (Some(moment), Some(state)) => {
+            is_moment(moment) && is_state(state) && words.all(|word| is_fact(word))
+        }
+        _ => false,
+    }
 }
 
-fn is_among(names: &[&[u8]], word: &[u8]) -> bool {
-    names.iter().any(|name| *name == word)
+/// Whether a word is seconds with six decimals.
+fn is_moment(word: &[u8]) -> bool
+    ensures { result ≡ is_moment word.now }
+{
+    let point = word.len().saturating_sub(7);
+    point > 0 && are_digits(&word[..point]) && is_fraction(&word[point..])
+}
+
+/// Whether a word is a point and digits.
+fn is_fraction(word: &[u8]) -> bool
+    ensures { result ≡ is_fraction word.now }
+{
+    match word {
+        [b'.', digits @ ..] => are_digits(digits),
+        _ => false,
+    }
+}
+
+fn are_digits(word: &[u8]) -> bool
+    ensures { result ≡ are_digits word.now }
+{
+    word.iter().all(|octet| octet.is_ascii_digit())
+}
+
+/// Whether a word is the name of a state.
+fn is_state(word: &[u8]) -> bool
+    ensures { result ≡ is_state word.now }
+{
+    word == b"CLOSED".as_slice()
+        || word == b"LISTEN".as_slice()
+        || word == b"SYN-RECEIVED".as_slice()
+        || word == b"ESTABLISHED".as_slice()
+        || word == b"FIN-WAIT-1".as_slice()
+        || word == b"FIN-WAIT-2".as_slice()
+        || word == b"CLOSE-WAIT".as_slice()
+        || word == b"CLOSING".as_slice()
+        || word == b"LAST-ACK".as_slice()
+        || word == b"TIME-WAIT".as_slice()
+}
+
+/// Whether a word is the name of a fact, a colon and a value.
+fn is_fact(word: &[u8]) -> bool
+    ensures { result ≡ is_fact word.now }
+{
+    is_told(word, b"connection:")
+        || is_told(word, b"una:")
+        || is_told(word, b"next:")
+        || is_told(word, b"top:")
+        || is_told(word, b"end:")
+        || is_told(word, b"cwnd:")
+        || is_told(word, b"ssthresh:")
+        || is_told(word, b"rwnd:")
+        || is_told(word, b"FlightSize:")
+        || is_told(word, b"pipe:")
+        || is_told(word, b"DupAcks:")
+        || is_told(word, b"RTO:")
+        || is_told(word, b"expiry:")
+        || is_told(word, b"recovery:")
+}
+
+/// Whether a word is this name and a value.
+fn is_told(word: &[u8], name: &[u8]) -> bool
+    ensures { result ≡ is_told word.now name.now }
+{
+    match word.strip_prefix(name) {
+        Some(value) => is_value(value),
+        None => false,
+    }
+}
+
+/// Whether a word is letters, digits and points, at least one.
+fn is_value(word: &[u8]) -> bool
+    ensures { result ≡ is_value word.now }
+{
+    word.len() > 0 && are_letters(word)
+}
+
+/// Whether a word is letters, digits and points.
+fn are_letters(word: &[u8]) -> bool
+    ensures { result ≡ are_letters word.now }
+{
+    word.iter()
+        .all(|octet| octet.is_ascii_alphanumeric() || *octet == b'.')
 }
