@@ -36,11 +36,7 @@ pub fn refusal_of(
 }
 
 /// Why a script isn't recorded, in words.
-fn why_of(
-    alloc: Global,
-    refusal: NotRecorded,
-    input: &ScriptInput,
-) -> Result<Vec<u8>, ServeFault>
+fn why_of(alloc: Global, refusal: NotRecorded, input: &ScriptInput) -> Result<Vec<u8>, ServeFault>
     ensures told { IfOk result (λ why. Tells refusal why.items) }
     ensures only { IfErr result IsStop }
 {

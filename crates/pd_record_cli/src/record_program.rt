@@ -57,11 +57,7 @@ fn run_chosen<R: Read, W: Write, E: Write>(
 }
 
 /// Ends a run: writes a recording, or says why there is none.
-fn finish<W: Write, E: Write>(
-    end: Result<Outcome, ProgramFault>,
-    out: &mut W,
-    err: &mut E,
-) -> Exit
+fn finish<W: Write, E: Write>(end: Result<Outcome, ProgramFault>, out: &mut W, err: &mut E) -> Exit
     ensures { Ends end result (W.contents out.old) (W.contents out.new) (E.contents err.old) (E.contents err.new) }
 {
     match end {

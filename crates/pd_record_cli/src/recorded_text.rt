@@ -1,8 +1,8 @@
 //! The octets of a recording.
-ghost use Rattle.std.specs.Prelude.{◌≡◌, ◌++◌, ◌∷◌, [], true, IfOk, IfErr, OnOk, take};
+ghost use Rattle.std.specs.Prelude.{◌≡◌, ◌++◌, ◌∷◌, [], true, false, IfOk, IfErr, OnOk};
 ghost use Rattle.pd_record_cli.specs.RecordProgram.{IsStop};
 ghost use Rattle.pd_record_cli.specs.ScriptInput.{is_dropped};
-ghost use Rattle.pd_record_cli.specs.Written.{IsWritten};
+ghost use Rattle.pd_record_cli.specs.Written.{GoesOn, IsWritten};
 
 use crate::script_input::is_dropped;
 use pd_cli::ServeFault;
@@ -28,14 +28,9 @@ pub fn octets_of(
     let mut marked = 0usize;
     for done in 0..recording.lines.len() {
         put_line(&mut out, recording.lines.line(done + 1).unwrap_or(&[]))?;
-        match recording.marks.get(marked) {
-            Some(mark) if mark.lines == done + 1 => {
-                if with_trace {
-                    put_trace(alloc, &mut out, mark)?;
-                }
-                marked += 1;
-            }
-            _ => {}
+        let mark = recording.marks.get(marked);
+        if put_mark(alloc, &mut out, mark, done + 1, with_trace)? {
+            marked = marked.saturating_add(1);
         }
     }
     Ok(out)
@@ -43,29 +38,57 @@ pub fn octets_of(
 
 /// Adds a line of the recording.
 fn put_line(out: &mut Vec<u8>, line: &[u8]) -> Result<(), ServeFault>
-    ensures line { OnOk result ((is_dropped line.now ≡ false) × (out.new.items ≡ out.old.items ++ line.now ++ 10 ∷ [])) }
+    ensures line { OnOk result ((is_dropped line.now ≡ false) × (out.new.items ≡ out.old.items ++ (line.now ++ 10 ∷ []))) }
     ensures only { IfErr result IsStop }
 {
     if is_dropped(line) {
         return Err(ServeFault::Differs);
     }
-    out.extend_from_slice(line)?;
-    out.extend_from_slice(b"\n")?;
+    add_line(out, line)?;
     Ok(())
+}
+
+/// Adds the line of an event behind its last line, if a trace is written; whether an event ends there.
+fn put_mark(
+    alloc: Global,
+    out: &mut Vec<u8>,
+    mark: Option<&Mark>,
+    number: usize,
+    with_trace: bool,
+) -> Result<bool, ServeFault>
+    ensures line { OnOk result (GoesOn with_trace out.old.items out.new.items) }
+    ensures only { IfErr result IsStop }
+{
+    match mark {
+        Some(mark) if mark.lines == number => {
+            if with_trace {
+                put_trace(alloc, out, mark)?;
+            }
+            Ok(true)
+        }
+        _ => Ok(false),
+    }
 }
 
 /// Adds the line of an event: its moment, and how the sender stands.
 fn put_trace(alloc: Global, out: &mut Vec<u8>, mark: &Mark) -> Result<(), ServeFault>
-    ensures line { OnOk result ((line : List ℕ) × (is_dropped line ≡ true) × (out.new.items ≡ out.old.items ++ line ++ 10 ∷ [])) }
+    ensures line { OnOk result (GoesOn true out.old.items out.new.items) }
     ensures only { IfErr result IsStop }
 {
     let line = trace_line(alloc, mark)?;
     if !is_dropped(line.as_slice()) {
         return Err(ServeFault::Differs);
     }
-    out.extend_from_slice(line.as_slice())?;
-    out.extend_from_slice(b"\n")?;
+    add_line(out, line.as_slice())?;
     Ok(())
+}
+
+/// Adds a line with its newline.
+fn add_line(out: &mut Vec<u8>, line: &[u8]) -> Result<(), AllocError>
+    ensures { OnOk result (out.new.items ≡ out.old.items ++ (line.now ++ 10 ∷ [])) }
+{
+    out.extend_from_slice(line)?;
+    out.extend_from_slice(b"\n")
 }
 
 /// The line of an event in a trace.

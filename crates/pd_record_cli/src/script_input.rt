@@ -1,9 +1,9 @@
 //! A script as the input of a program, without the lines of a trace.
-ghost use Rattle.std.specs.Prelude.{◌≡◌, ◌++◌, ◌∷◌, [], ◌≤◌, length, IfOk, IfErr, IfSome, OnOk, if◌then◌else◌, option_and_then};
-ghost use Rattle.pd_cli.specs.Commands.{fitted};
+ghost use Rattle.std.specs.Prelude.{◌≡◌, ◌<◌, IfOk, IfErr, IfSome, OnOk};
+ghost use Rattle.pd_cli.specs.Input.{IfKnown, to_come, work_left};
 ghost use Rattle.pd_cli.specs.Pieces.{NoNewline};
 ghost use Rattle.pd_cli.specs.TakenLines.{IsIo};
-ghost use Rattle.pd_record_cli.specs.ScriptInput.{is_dropped, script_in};
+ghost use Rattle.pd_record_cli.specs.ScriptInput.{Gathers, is_dropped, script_in, with_line};
 
 use pd_cli::{Gathered, Intake, ServeFault, Taken, text_of};
 use pd_record::is_trace;
@@ -16,8 +16,8 @@ use std::io::Read;
 pub struct ScriptInput {
     /// Its lines, those of a trace left out; none where they are over the limits of a text.
     pub lines: Option<Lines>,
-    /// Which line of the input each of them is, counted from 1.
-    numbers: Vec<usize>,
+    /// Which line of the input each of them is.
+    numbers: LineNumbers,
 }
 
 impl ScriptInput {
@@ -31,47 +31,83 @@ impl ScriptInput {
     {
         let mut intake = Intake::new(alloc);
         let mut gathered = Gathered::new(alloc);
-        let mut numbers = Vec::new(alloc);
-        let mut number = 0usize;
-        loop {
-            number = number.saturating_add(1);
-            match intake.next_line(alloc, reader, MAX_OCTETS)? {
-                Taken::Whole(line) => {
-                    gather(&mut gathered, line.as_slice())?;
-                    note(&mut numbers, line.as_slice(), number)?;
-                    intake.give_back(line);
-                }
-                Taken::Long => gathered.add_long(),
-                Taken::End => {
-                    return Ok(ScriptInput {
-                        lines: text_of(gathered.into_lines()),
-                        numbers,
-                    });
-                }
-            }
-        }
+        let mut numbers = LineNumbers::new(alloc);
+        while take_line(alloc, &mut intake, reader, &mut gathered, &mut numbers)? {}
+        Ok(ScriptInput {
+            lines: text_of(gathered.into_lines()),
+            numbers,
+        })
     }
 
     /// Which line of the input a line of the script is, both counted from 1.
     pub fn line_of(&self, line: usize) -> usize {
-        match self.numbers.get(line.saturating_sub(1)) {
+        match self.numbers.kept.get(line.saturating_sub(1)) {
             Some(number) => *number,
             None => line,
         }
     }
 }
 
-/// Whether a line is dropped: one of a trace that isn't over the limits of a text by itself.
-pub fn is_dropped(line: &[u8]) -> bool
-    ensures { result ≡ is_dropped line.now }
+/// Which line of an input each line of its script is.
+#[derive(Drop)]
+struct LineNumbers {
+    /// The numbers of the lines that were kept, counted from 1.
+    kept: Vec<usize>,
+    /// How many lines were read.
+    read: usize,
+}
+
+impl LineNumbers {
+    fn new(alloc: Global) -> LineNumbers {
+        LineNumbers {
+            kept: Vec::new(alloc),
+            read: 0,
+        }
+    }
+
+    /// Counts a line, which is kept or dropped; no text has more than 4,096.
+    fn count(&mut self, line: &[u8]) -> Result<(), AllocError> {
+        self.read = self.read.saturating_add(1);
+        if self.kept.len() < MAX_LINES && !is_dropped(line) {
+            self.kept.push(self.read)?;
+        }
+        Ok(())
+    }
+}
+
+/// Takes a line of an input; false where there is none.
+fn take_line<R: Read>(
+    alloc: Global,
+    intake: &mut Intake,
+    reader: &mut R,
+    gathered: &mut Gathered,
+    numbers: &mut LineNumbers,
+) -> Result<bool, ServeFault>
+    ensures line { let old = to_come intake.old (R.remaining reader.old) in
+        let new = to_come intake.new (R.remaining reader.new) in
+        IfOk result (λ more. IfKnown (Gathers more gathered.old gathered.new) old new) }
+    ensures less { IfOk result (λ _. work_left intake.new < work_left intake.old) }
+    ensures only { IfErr result IsIo }
 {
-    line.len() <= MAX_OCTETS && is_trace(line)
+    match intake.next_line(alloc, reader, MAX_OCTETS)? {
+        Taken::Whole(line) => {
+            numbers.count(line.as_slice())?;
+            gather(gathered, line.as_slice())?;
+            intake.give_back(line);
+            Ok(true)
+        }
+        Taken::Long => {
+            gathered.add_long();
+            Ok(true)
+        }
+        Taken::End => Ok(false),
+    }
 }
 
 /// Adds a line, unless it is dropped.
 fn gather(gathered: &mut Gathered, line: &[u8]) -> Result<(), AllocError>
     requires { NoNewline line.now }
-    ensures { OnOk result (gathered.new ≡ (if is_dropped line.now then gathered.old else option_and_then (λ t. fitted (t ++ line.now ∷ [])) gathered.old)) }
+    ensures { OnOk result (gathered.new ≡ with_line line.now gathered.old) }
 {
     if is_dropped(line) {
         return Ok(());
@@ -79,10 +115,9 @@ fn gather(gathered: &mut Gathered, line: &[u8]) -> Result<(), AllocError>
     gathered.add(line)
 }
 
-/// Notes the number of a line, unless it is dropped; no text has more than 4,096.
-fn note(numbers: &mut Vec<usize>, line: &[u8], number: usize) -> Result<(), AllocError> {
-    if numbers.len() < MAX_LINES && !is_dropped(line) {
-        numbers.push(number)?;
-    }
-    Ok(())
+/// Whether a line is dropped: one of a trace that isn't over the limits of a text by itself.
+pub fn is_dropped(line: &[u8]) -> bool
+    ensures { result ≡ is_dropped line.now }
+{
+    line.len() <= MAX_OCTETS && is_trace(line)
 }
