@@ -27,7 +27,7 @@ pub fn record(
     let recording = record_script(alloc, lines, &script, settings)?;
     match run_all(alloc, &recording.lines, settings)? {
         Verdict::Pass(events) if events == recording.events => Ok(recording),
-        verdict => Err(NotRecorded::Stopped(verdict)),
+        _ => Err(NotRecorded::Differs),
     }
 }
 
