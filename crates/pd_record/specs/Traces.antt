@@ -1,7 +1,7 @@
 -- The lines of a trace.
-use Rattle.std.specs.Prelude.{ℕ, ◌+◌, ◌-◌, ◌==◌, Bool, false, ◌&&◌, ◌||◌, nat_lt, List, [], ◌∷◌, length, take, drop, bytes_eq, codes}
+use Rattle.std.specs.Prelude.{ℕ, ◌+◌, ◌-◌, ◌==◌, Bool, false, ◌&&◌, ◌||◌, nat_lt, List, [], ◌∷◌, length, take, drop, Option, Some, None, bytes_eq, codes}
 use Rattle.std.specs.Char.{is_ascii_digit, is_ascii_alphanumeric}
-use Rattle.std.specs.List.{slice_split, list_all}
+use Rattle.std.specs.List.{slice_split, list_all, position}
 
 -- digits
 abbrev pub are_digits : List ℕ → Bool
@@ -36,22 +36,39 @@ is_value word = nat_lt 0 (length word) && are_letters word
 abbrev pub is_told : List ℕ → List ℕ → Bool
 is_told word name = bytes_eq (take (length name) word) name && is_value (drop (length name) word)
 
--- the name of a fact, a colon and a value
-abbrev pub is_fact : List ℕ → Bool
-is_fact word =
-    is_told word (codes "connection:") || is_told word (codes "una:") || is_told word (codes "next:") || is_told word (codes "top:")
-    || is_told word (codes "end:") || is_told word (codes "cwnd:") || is_told word (codes "ssthresh:") || is_told word (codes "rwnd:")
-    || is_told word (codes "FlightSize:") || is_told word (codes "pipe:") || is_told word (codes "DupAcks:")
+-- the name of an octet number or a window, a colon and a value
+abbrev pub is_octets : List ℕ → Bool
+is_octets word =
+    is_told word (codes "una:") || is_told word (codes "next:") || is_told word (codes "top:") || is_told word (codes "end:")
+    || is_told word (codes "cwnd:") || is_told word (codes "ssthresh:") || is_told word (codes "rwnd:")
+
+-- the name of another fact, a colon and a value
+abbrev pub is_count : List ℕ → Bool
+is_count word =
+    is_told word (codes "connection:") || is_told word (codes "FlightSize:") || is_told word (codes "pipe:") || is_told word (codes "DupAcks:")
     || is_told word (codes "RTO:") || is_told word (codes "expiry:") || is_told word (codes "recovery:")
 
--- a moment, a state and facts
-abbrev pub are_told : List (List ℕ) → Bool
-are_told [] = false
-are_told (moment ∷ words) = of_words words
-  where
-    of_words : List (List ℕ) → Bool
-    of_words [] = false
-    of_words (state ∷ told) = is_moment moment && is_state state && list_all is_fact told
+-- the name of a fact, a colon and a value
+abbrev pub is_fact : List ℕ → Bool
+is_fact word = is_octets word || is_count word
+
+-- facts, parted by single blanks
+abbrev pub are_facts : List ℕ → Bool
+are_facts words = list_all is_fact (slice_split (λ octet. octet == 32) words)
+
+-- the first blank
+abbrev pub blank_at : List ℕ → Option ℕ
+blank_at octets = position (λ octet. octet == 32) octets
+
+-- a state, and facts behind a blank
+abbrev pub is_standing_at : Option ℕ → List ℕ → Bool
+is_standing_at None words = is_state words
+is_standing_at (Some at) words = is_state (take at words) && are_facts (drop (at + 1) words)
+
+-- a moment, and behind a blank a state and facts
+abbrev pub are_told_at : Option ℕ → List ℕ → Bool
+are_told_at None words = false
+are_told_at (Some at) words = let rest = drop (at + 1) words in is_moment (take at words) && is_standing_at (blank_at rest) rest
 
 -- what a line of a trace begins with
 abbrev pub opening : List ℕ
@@ -59,4 +76,4 @@ opening = codes "//= at "
 
 -- a line of a trace: its opening, and words parted by single blanks
 abbrev pub is_trace : List ℕ → Bool
-is_trace line = bytes_eq (take 7 line) opening && are_told (slice_split (λ octet. octet == 32) (drop 7 line))
+is_trace line = let words = drop 7 line in bytes_eq (take 7 line) opening && are_told_at (blank_at words) words

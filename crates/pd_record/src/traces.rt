@@ -1,7 +1,6 @@
 //! The lines of a trace, which tell of events when they happened and how the sender stood then.
-ghost use Rattle.std.specs.Prelude.{◌≡◌, ◌==◌};
-ghost use Rattle.std.specs.List.{slice_split};
-ghost use Rattle.pd_record.specs.Traces.{is_trace, are_told, is_moment, is_fraction, are_digits, is_state, is_fact, is_told, is_value, are_letters};
+ghost use Rattle.std.specs.Prelude.{◌≡◌, ◌<◌, length, IfSome};
+ghost use Rattle.pd_record.specs.Traces.{is_trace, are_told_at, is_standing_at, blank_at, is_moment, is_fraction, are_digits, is_state, is_fact, is_octets, is_count, are_facts, is_told, is_value, are_letters};
 
 /// What a line of a trace begins with.
 const OPENING: &[u8] = b"//= at ";
@@ -18,16 +17,40 @@ pub fn is_trace(line: &[u8]) -> bool
 }
 
 /// Whether these are a moment, a state and facts.
-fn are_told(told: &[u8]) -> bool
-    ensures { result ≡ are_told (slice_split (λ octet. octet == 32) told.now) }
+fn are_told(words: &[u8]) -> bool
+    ensures { result ≡ are_told_at (blank_at words.now) words.now }
 {
-    let mut words = told.split(|octet| *octet == b' ');
-    match (words.next(), words.next()) {
-        (Some(moment), Some(state)) => {
-            is_moment(moment) && is_state(state) && words.all(|word| is_fact(word))
-        }
-        _ => false,
+    match blank_at(words) {
+        Some(at) => is_moment(&words[..at]) && is_standing(&words[at + 1..]),
+        None => false,
     }
+}
+
+/// Whether these are a state and facts.
+fn is_standing(words: &[u8]) -> bool
+    ensures { result ≡ is_standing_at (blank_at words.now) words.now }
+{
+    match blank_at(words) {
+        Some(at) => is_state(&words[..at]) && are_facts(&words[at + 1..]),
+        None => is_state(words),
+    }
+}
+
+/// Whether these are facts, parted by single blanks.
+fn are_facts(words: &[u8]) -> bool
+    ensures { result ≡ are_facts words.now }
+{
+    words
+        .split(|octet| *octet == b' ')
+        .all(|word| is_fact(word))
+}
+
+/// Where the first blank stands.
+fn blank_at(octets: &[u8]) -> Option<usize>
+    ensures place { result ≡ blank_at octets.now }
+    ensures within { IfSome result (λ at. at < length octets.now) }
+{
+    octets.iter().position(|octet| *octet == b' ')
 }
 
 /// Whether a word is seconds with six decimals.
@@ -74,14 +97,27 @@ fn is_state(word: &[u8]) -> bool
 fn is_fact(word: &[u8]) -> bool
     ensures { result ≡ is_fact word.now }
 {
-    is_told(word, b"connection:")
-        || is_told(word, b"una:")
+    is_octets(word) || is_count(word)
+}
+
+/// Whether a word is the name of an octet number or a window, a colon and a value.
+fn is_octets(word: &[u8]) -> bool
+    ensures { result ≡ is_octets word.now }
+{
+    is_told(word, b"una:")
         || is_told(word, b"next:")
         || is_told(word, b"top:")
         || is_told(word, b"end:")
         || is_told(word, b"cwnd:")
         || is_told(word, b"ssthresh:")
         || is_told(word, b"rwnd:")
+}
+
+/// Whether a word is the name of another fact, a colon and a value.
+fn is_count(word: &[u8]) -> bool
+    ensures { result ≡ is_count word.now }
+{
+    is_told(word, b"connection:")
         || is_told(word, b"FlightSize:")
         || is_told(word, b"pipe:")
         || is_told(word, b"DupAcks:")
