@@ -5,14 +5,18 @@ mod extents;
 mod gaps;
 mod layouts;
 mod outcomes;
+mod probes;
 mod recorder;
 mod recording;
 mod recordings;
 mod refusals;
+mod sameness;
 mod scripts;
 mod tape;
 mod times;
 mod traces;
+mod tracks;
+mod transcripts;
 mod writer;
 
 pub use recording::record;

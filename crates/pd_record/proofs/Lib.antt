@@ -1,0 +1,4 @@
+-- Lemmas of the recorder.
+pub mod Rulings
+pub mod Bounds
+pub mod Leaving
