@@ -1,3 +1,4 @@
 -- The definitions that the contracts cite.
+pub mod Sameness
 pub mod Standings
 pub mod Tape
