@@ -1,11 +1,11 @@
 -- Lists as long agree in what their items become exactly where all pairs do.
-use Rattle.std.proofs.Common.{◌≡◌, ◌≢◌, ℕ, zero, suc, ◌<◌, Bool, true, false, List, [], ◌∷◌, map, length, get_or, Option, Some, None, MatchOption, refl, sym, arith}
+use Rattle.std.proofs.Common.{◌≡◌, ◌≢◌, ℕ, zero, suc, ◌<◌, Bool, true, false, List, [], ◌∷◌, map, length, Option, MatchOption, refl, sym, arith}
 use denote.Param.Members.{Mut}
 use mathlib.Core.Bool.{true≢false}
-use Rattle.core.specs.Bool.{MatchBool, Decides}
-use Rattle.core.specs.Fn.{Called}
-use Rattle.core.specs.Iterator.{YieldsThen}
-use Rattle.core.specs.List.{FoldsTo, AllWithin, HoldsAt, zip}
+use Rattle.std.specs.Bool.{MatchBool, Decides}
+use Rattle.std.specs.Fn.{Called}
+use Rattle.std.specs.Iterator.{YieldsThen}
+use Rattle.std.specs.List.{FoldsTo, AllWithin, HoldsAt, zip}
 use Rattle.std.proofs.lemmas.Iterator.{YieldsList, cases_from_all}
 
 module _ {X Y : Type 0} (w : X → Y) where

@@ -1,4 +1,5 @@
 -- The definitions that the contracts cite.
 pub mod Sameness
+pub mod Scripts
 pub mod Standings
 pub mod Tape

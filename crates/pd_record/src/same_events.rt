@@ -21,8 +21,8 @@ fn is_same_time(one: Time, other: Time) -> bool
 {
     match (one, other) {
         (Time::Any, Time::Any) => true,
-        (Time::Absolute(mine), Time::Absolute(its))
-        | (Time::Relative(mine), Time::Relative(its)) => mine == its,
+        (Time::Absolute(mine), Time::Absolute(its)) | (Time::Relative(mine), Time::Relative(its)) =>
+            mine == its,
         (Time::AbsoluteRange(from, to), Time::AbsoluteRange(its_from, its_to))
         | (Time::RelativeRange(from, to), Time::RelativeRange(its_from, its_to)) => {
             from == its_from && to == its_to

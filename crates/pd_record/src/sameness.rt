@@ -20,9 +20,11 @@ pub fn same_script(
     ensures { IfOk result (λ same. IsTrue same ↔ IsReadAs header.now.items events.now lines.now) }
 {
     let parsed = parse(alloc, lines)?;
-    Ok(parsed.fault.is_none()
-        && is_same_header(parsed.header.as_slice(), header.as_slice())
-        && are_same_events(parsed.events.as_slice(), events))
+    Ok(
+        parsed.fault.is_none()
+            && is_same_header(parsed.header.as_slice(), header.as_slice())
+            && are_same_events(parsed.events.as_slice(), events),
+    )
 }
 
 /// Whether both say the same in the same order.
