@@ -1,4 +1,6 @@
--- Lemmas of the recorder.
+-- The lemmas of this crate.
+pub mod Images
+pub mod Found
 pub mod Rulings
 pub mod Bounds
 pub mod Leaving

@@ -1,7 +1,7 @@
 -- The definitions that the contracts cite.
+pub mod Sameness
+pub mod Scripts
 pub mod Standings
 pub mod Tape
 pub mod Rulings
-pub mod Sameness
 pub mod Recording
-pub mod Reads

@@ -11,7 +11,6 @@ use Rattle.pd_record.specs.Sameness.{IsReadAs}
 use Rattle.pd_record.specs.Tape.{Tape, Took, Answers, then_do, begun, left_by, recorded}
 use Rattle.pd_record.specs.declared.refusals.NotRecorded.{NotRecorded}
 use Rattle.pd_record.specs.declared.refusals.NotRecorded.TheVariants.{Stopped, TooLarge, Differs, OutOfMemory}
-use Rattle.pd_record.specs.declared.scripts.Placed.{Placed}
 use Rattle.pd_record.specs.declared.tape.Own.{Own}
 use Rattle.pd_record.specs.declared.tape.Recorded.{Recorded}
 
@@ -47,10 +46,6 @@ recording_of text settings = of (script_of text)
 -- the events recorded
 abbrev pub events_in : List Recorded → List Event
 events_in = map (λ x. x.event)
-
--- the events of a script that was read with their places
-abbrev pub events_placed : List Placed → List Event
-events_placed = map (λ placed. placed.event)
 
 -- what stands in the place of an event of the script
 abbrev pub event_in : Option Own → List Event
