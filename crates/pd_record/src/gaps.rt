@@ -47,8 +47,8 @@ pub fn put_gap(pieces: &mut Vec<Piece>, lines: &Lines, gap: Extent) -> Result<()
 }
 
 /// Where the first octet from a place of a line on stands that is no blank.
-fn after_blanks(line: &[u8], at: usize) -> usize {
-    let mut at = at;
+fn after_blanks(line: &[u8], from: usize) -> usize {
+    let mut at = from;
     while at < line.len() && matches!(line[at], b' ' | b'\t' | b'\r') {
         at += 1;
     }

@@ -1,4 +1,8 @@
 //! Scripts with the places of their events.
+ghost use Rattle.std.specs.Prelude.{◌≡◌, ◌≤◌, ◌++◌, ◌∷◌, [], length, IfOk, IfSome, OnOk};
+ghost use Rattle.pd_script.specs.Script.{found_in, script_of};
+ghost use Rattle.pd_record.specs.Scripts.{IsFound, IsRead};
+
 use pd_lex::Place;
 use pd_script::{Event, EventReader, Header, MAX_EVENTS, NextEvent, read_header};
 use pd_text::Lines;
@@ -26,16 +30,44 @@ pub struct Script {
 ///
 /// # Errors
 /// `AllocError` where a growth is refused.
-pub fn read_script(alloc: Global, lines: &Lines) -> Result<Option<Script>, AllocError> {
+#[tactic(auto, unfolding(pd_script::specs::Script::script_of, pd_script::specs::Script::script_in))]
+pub fn read_script(alloc: Global, lines: &Lines) -> Result<Option<Script>, AllocError>
+    ensures read { IfOk result (IsRead (script_of lines.now)) }
+    ensures few { IfOk result (λ read. IfSome read (λ script. length script.events.items ≤ 4096)) }
+{
     let header = read_header(alloc, lines)?;
     let mut reader = EventReader::at(lines, header.end());
+    match read_events(alloc, &mut reader)? {
+        Some(events) => Ok(Some(Script { header, events })),
+        None => Ok(None),
+    }
+}
+
+/// Reads the events that are left; nothing where no script goes on to the end.
+fn read_events(alloc: Global, reader: &mut EventReader) -> Result<Option<Vec<Placed>>, AllocError>
+    ensures found { IfOk result (IsFound (found_in 4096 reader.old)) }
+    ensures few { IfOk result (λ found. IfSome found (λ events. length events.items ≤ 4096)) }
+{
     let mut events = Vec::new(alloc);
-    for _ in 0..=MAX_EVENTS {
+    'events: for i in 0..MAX_EVENTS {
         match reader.next_event(alloc)? {
-            NextEvent::Got(event, after, _) => events.push(Placed { event, after })?,
-            NextEvent::End => return Ok(Some(Script { header, events })),
+            NextEvent::Got(event, after, reach) => {
+                if i + 1 == MAX_EVENTS && reach.is_some() {
+                    return Ok(None);
+                }
+                keep(&mut events, Placed { event, after })?;
+            }
+            NextEvent::End => return Ok(Some(events)),
             NextEvent::Fault(_) => return Ok(None),
         }
     }
-    Ok(None)
+    // The end of the text follows the last event that a script may have.
+    Ok(Some(events))
+}
+
+fn keep(events: &mut Vec<Placed>, placed: Placed) -> Result<(), AllocError>
+    ensures { OnOk result (events.new.items ≡ events.old.items ++ placed ∷ []) }
+{
+    events.push(placed)?;
+    Ok(())
 }
