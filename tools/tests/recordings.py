@@ -3,8 +3,8 @@
 
     recordings.py PDRECORD PDREGRESS [COUNT]
 
-The scripts are those of crates/pd_cases/data and COUNT random ones (200 if no number is given). Prints a line for each test
-and `N passed, M failed` last.
+The scripts are those of crates/pd_cases/data and COUNT random ones (200 if no number is given). Prints a line for each
+test that fails and `N passed, M failed` last. The two programs are paths of built ones.
 """
 
 import random
@@ -112,6 +112,10 @@ SETUP = b"""0 socket(..., SOCK_STREAM, IPPROTO_TCP) = 3
 """
 
 
+# What may stand after a random event: mostly the end of its line.
+ENDS = ["\n"] * 8 + [" ", " // a\n", " /* b */\n", "\n\n", "\n// c\n", "/* d\n e */", "\n  \n//= f\n"]
+
+
 def random_event(dice: random.Random, top: list[int]) -> str:
     """An event that may follow a handshake, near what was written so far."""
     time = dice.choice(["+0", "+0.1", "+0.25", "+1", "+3.5", "+0.000001"])
@@ -144,9 +148,7 @@ def random_scripts(count: int) -> Iterator[Script]:
         parts = [SETUP.decode()]
         for _ in range(dice.randrange(1, 25)):
             parts.append(random_event(dice, top))
-            parts.append(
-                dice.choice(["\n"] * 8 + [" ", " // a\n", " /* b */\n", "\n\n", "\n// c\n", "/* d\n e */", "\n  \n//= f\n"])
-            )
+            parts.append(dice.choice(ENDS))
         settings = dice.choice(["", "", "sack = false", "tolerance_us = 0", "min_rto_us = 200000", "mss = 536"])
         yield Script(f"random:{seed}", settings, "".join(parts).encode())
 
