@@ -42,15 +42,17 @@ is_octets word =
     is_told word (codes "una:") || is_told word (codes "next:") || is_told word (codes "top:") || is_told word (codes "end:")
     || is_told word (codes "cwnd:") || is_told word (codes "ssthresh:") || is_told word (codes "rwnd:")
 
--- the name of another fact, a colon and a value
+-- the name of a count, a colon and a value
 abbrev pub is_count : List ℕ → Bool
-is_count word =
-    is_told word (codes "connection:") || is_told word (codes "FlightSize:") || is_told word (codes "pipe:") || is_told word (codes "DupAcks:")
-    || is_told word (codes "RTO:") || is_told word (codes "expiry:") || is_told word (codes "recovery:")
+is_count word = is_told word (codes "FlightSize:") || is_told word (codes "pipe:") || is_told word (codes "DupAcks:")
+
+-- the name of another fact, a colon and a value
+abbrev pub is_course : List ℕ → Bool
+is_course word = is_told word (codes "connection:") || is_told word (codes "RTO:") || is_told word (codes "expiry:") || is_told word (codes "recovery:")
 
 -- the name of a fact, a colon and a value
 abbrev pub is_fact : List ℕ → Bool
-is_fact word = is_octets word || is_count word
+is_fact word = is_octets word || is_count word || is_course word
 
 -- facts, parted by single blanks
 abbrev pub are_facts : List ℕ → Bool

@@ -1,6 +1,6 @@
 //! The lines of a trace, which tell of events when they happened and how the sender stood then.
 ghost use Rattle.std.specs.Prelude.{◌≡◌, ◌<◌, length, IfSome};
-ghost use Rattle.pd_record.specs.Traces.{is_trace, are_told_at, is_standing_at, blank_at, is_moment, is_fraction, are_digits, is_state, is_fact, is_octets, is_count, are_facts, is_told, is_value, are_letters};
+ghost use Rattle.pd_record.specs.Traces.{is_trace, are_told_at, is_standing_at, blank_at, is_moment, is_fraction, are_digits, is_state, is_fact, is_octets, is_count, is_course, are_facts, is_told, is_value, are_letters};
 
 /// What a line of a trace begins with.
 const OPENING: &[u8] = b"//= at ";
@@ -97,7 +97,7 @@ fn is_state(word: &[u8]) -> bool
 fn is_fact(word: &[u8]) -> bool
     ensures { result ≡ is_fact word.now }
 {
-    is_octets(word) || is_count(word)
+    is_octets(word) || is_count(word) || is_course(word)
 }
 
 /// Whether a word is the name of an octet number or a window, a colon and a value.
@@ -113,14 +113,18 @@ fn is_octets(word: &[u8]) -> bool
         || is_told(word, b"rwnd:")
 }
 
-/// Whether a word is the name of another fact, a colon and a value.
+/// Whether a word is the name of a count, a colon and a value.
 fn is_count(word: &[u8]) -> bool
     ensures { result ≡ is_count word.now }
 {
+    is_told(word, b"FlightSize:") || is_told(word, b"pipe:") || is_told(word, b"DupAcks:")
+}
+
+/// Whether a word is the name of another fact, a colon and a value.
+fn is_course(word: &[u8]) -> bool
+    ensures { result ≡ is_course word.now }
+{
     is_told(word, b"connection:")
-        || is_told(word, b"FlightSize:")
-        || is_told(word, b"pipe:")
-        || is_told(word, b"DupAcks:")
         || is_told(word, b"RTO:")
         || is_told(word, b"expiry:")
         || is_told(word, b"recovery:")

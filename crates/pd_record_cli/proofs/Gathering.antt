@@ -62,6 +62,15 @@ fitted_again ls = go (fits_text ls) refl
     go true e = ap (λ (b : Bool). cond b (Some ls) None) e
     go false e = refl
 
+-- before the first line
+pub so_begin : (g : Option (List (List ℕ))) (intake : List ℕ × ℕ) (all : Option (List ℕ)) → g ≡ Some [] → intake ≡ ([], 1048576) → IfKnown (SoFar g) all (to_come intake all)
+so_begin g intake None e f = tt
+so_begin g intake (Some x) e f = rw f (so_first g x e)
+
+-- the text of all lines
+pub so_text : (g h text : Option (List (List ℕ))) (x y z : List ℕ) → text ≡ option_and_then fitted h → SoFar g x y → Gathers false g h y z → text ≡ script_in x
+so_text g h text x y z e s t = e ∙ (ap (λ (o : Option (List (List ℕ))). option_and_then fitted o) (so_last g h x y z s t) ∙ fitted_again (without_trace (lines x)))
+
 -- what one line leads to
 
 pub gathers_whole : (g h : Option (List (List ℕ))) (line x y : List ℕ) → h ≡ with_line line g → (lines x ≡ line ∷ lines y) × (length line ≤ 65536) → Gathers true g h x y
