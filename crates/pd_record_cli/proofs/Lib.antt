@@ -1,3 +1,4 @@
 -- The lemmas of the proofs.
 mod Gathering
 mod Joining
+mod Words
