@@ -135,7 +135,8 @@ impl<'a> Writer<'a> {
         self.line.extend_from_slice(b" ")?;
         put_extent(&mut self.line, self.source, layout.own)?;
         self.line.extend_from_slice(b" ")?;
-        self.line.extend_from_slice(&write_answer(self.alloc, reply.answer)?)?;
+        self.line
+            .extend_from_slice(&write_answer(self.alloc, reply.answer)?)?;
         if let Some(note) = layout.note {
             if reply.is_written {
                 self.line.extend_from_slice(b" ")?;
