@@ -5,6 +5,7 @@ mod extents;
 mod gaps;
 mod layouts;
 mod outcomes;
+mod probes;
 mod recorder;
 mod recording;
 mod recordings;
@@ -17,6 +18,8 @@ mod scripts;
 mod tape;
 mod times;
 mod traces;
+mod tracks;
+mod transcripts;
 mod writer;
 
 pub use recording::record;

@@ -1,13 +1,9 @@
-//! Answers as the results of a script, and what nothing answers or sends.
+//! Answers as the results of a script.
 ghost use Rattle.std.specs.Prelude.{◌≡◌};
 ghost use Rattle.pd_print.specs.Answers.{outcome_of, name_of};
-ghost use Rattle.pd_record.specs.Tape.{unsent};
 
-use pd_script::{Action, ErrorName, Event, Flags, Options, Outcome, Packet, Time};
+use pd_script::{ErrorName, Outcome};
 use pd_seg::{Answer, Errno};
-
-/// A result that no answer has.
-pub const UNANSWERED: Outcome = Outcome::Negative(2, None);
 
 /// The result of a script that is just this answer.
 pub fn outcome_of(answer: Answer) -> Outcome
@@ -28,32 +24,5 @@ fn name_of(error: Errno) -> ErrorName
         Errno::Einval => ErrorName::Einval,
         Errno::Eagain => ErrorName::Eagain,
         Errno::Epipe => ErrorName::Epipe,
-    }
-}
-
-/// An expected packet that nothing sends: it has no flag.
-pub fn unsent() -> Event
-    ensures { result ≡ unsent }
-{
-    Event {
-        line: 0,
-        time: Time::Any,
-        until: None,
-        action: Action::Outbound(Packet {
-            flags: Flags {
-                syn: false,
-                fin: false,
-                rst: false,
-                psh: false,
-                ack: false,
-                other: false,
-            },
-            start: 0,
-            end: 0,
-            length: 0,
-            ack: None,
-            win: None,
-            options: Options::Absent,
-        }),
     }
 }

@@ -4,13 +4,14 @@ ghost use Rattle.std.specs.List.{list_any};
 ghost use Rattle.pd_run.specs.Limits.{is_long, written_times};
 ghost use Rattle.pd_run.specs.Step.{tolerance_of};
 ghost use Rattle.pd_run.specs.Times.{moment_of, moments_of, is_in_reach};
-ghost use Rattle.pd_record.specs.Tape.{Finds, Gives, IsReached, Sound, event_at, put_out_next, leaves_next, departs, comes, taken, arrives, answer_at, begun, calls, expects, inputs, recorded, ruling_at, with_unmet};
+ghost use Rattle.pd_record.specs.Rulings.{ruled_by};
+ghost use Rattle.pd_record.specs.Tape.{Finds, Gives, Goes, IsReached, Sound, acts_at, answer_at, arrives, begun, calls, departs, event_at, expects, inputs, leaves_next, left_by, recorded, refusal_at, ruling_at, stepped, taken, with_base, with_unmet};
 
-use crate::outcomes::{UNANSWERED, outcome_of, unsent};
+use crate::outcomes::outcome_of;
+use crate::probes::{answer_of, next_packet};
 use crate::refusals::NotRecorded;
 use crate::tape::{Own, Recorded, Reply, Standing, Take};
 use crate::times::{base_after, is_backwards, is_in_reach, moment_of};
-use pd_host::Halt;
 use pd_match::{Kind, check_call};
 use pd_print::sent_packet;
 use pd_run::{Plain, RunState, StepEnd, Stepper, Verdict, Why, runs_are_bounded};
@@ -43,11 +44,15 @@ pub struct Recorder {
 }
 
 impl Model for Recorder {
+    ghost use Rattle.pd_run.specs.Laws.{IsUnderway};
+    ghost use Rattle.pd_record.specs.Rulings.{ruled_by};
     ghost use Rattle.pd_record.specs.Tape.{Tape};
 
     ghost Value = { Tape };
 
-    ghost view = { λ r. record { fresh = r.fresh; run = r.run; count = r.count; base = r.base; unmet = r.unmet.items } };
+    ghost view = { λ r. record { run = r.run; count = r.count; base = r.base; unmet = r.unmet.items } };
+
+    ghost invariant = { λ r. IsUnderway 0 r.fresh };
 }
 
 impl Recorder {
@@ -55,13 +60,10 @@ impl Recorder {
     ///
     /// # Errors
     /// `Stopped` at the first header item that isn't run; `OutOfMemory`.
-    pub fn new(
-        alloc: Global,
-        header: &Header,
-        settings: &Settings,
-    ) -> Result<Recorder, NotRecorded>
+    pub fn new(alloc: Global, header: &Header, settings: &Settings) -> Result<Recorder, NotRecorded>
         ensures begins { Finds (begun header.now.items settings.now) result }
         ensures sound { IfOk result (λ recorder. Sound recorder) }
+        ensures base { IfOk result (λ recorder. recorder.base ≡ 0) }
     {
         runs_are_bounded();
         let run = match RunState::new(alloc, header, settings) {
@@ -85,6 +87,13 @@ impl Recorder {
         self.count
     }
 
+    /// The present moment of the recording, in microseconds since the start of the run.
+    pub fn clock(&self) -> u64
+        ensures { result ≡ self.now.run.clock }
+    {
+        self.run.clock()
+    }
+
     /// Records an event of the script.
     ///
     /// # Errors
@@ -92,12 +101,12 @@ impl Recorder {
     pub fn record(&mut self, alloc: Global, event: &Event) -> Result<Take, NotRecorded>
         requires sound { Sound self.old }
         requires early { self.old.base < 2 ^ 60 }
-        ensures take { Gives (λ take. (take.before.items, take.own)) (recorded self.old event.now) result self.new }
+        ensures take { Gives (λ take. take) (recorded self.old event.now) result self.new }
         ensures sound { OnOk result (Sound self.new) }
         ensures base { OnOk result (self.new.base ≤ max (self.old.base + 3600000000) (3600000000 * 4097)) }
     {
-        if let Some(verdict) = self.ruling(event)? {
-            return Err(NotRecorded::Stopped(verdict));
+        if let Some(refusal) = self.ruling(event)? {
+            return Err(refusal);
         }
         match &event.action {
             Action::Outbound(_) => self.expect(alloc, event),
@@ -110,39 +119,48 @@ impl Recorder {
     }
 
     /// The checks of a step before anything happens: limits, shapes that aren't run, and times that go backwards.
-    fn ruling(&self, event: &Event) -> Result<Option<Verdict>, AllocError>
-        requires sound { Sound self.now }
+    fn ruling(&self, event: &Event) -> Result<Option<NotRecorded>, AllocError>
         ensures { IfOk result (λ ruling. ruling ≡ ruling_at self.now event.now) }
     {
-        Ok(match self.fresh.why(event)? {
-            Some(Why::OverLimit) => Some(Verdict::Limit(event.line)),
-            Some(Why::NotRun) => Some(Verdict::Unsupported(event.line)),
-            _ if is_backwards(self.base, event.time) => {
-                Some(Verdict::Fail(event.line, Kind::Backwards))
-            }
-            _ => None,
-        })
+        let reason = self.fresh.why(event)?;
+        Ok(self.ruled_by(event, reason))
+    }
+
+    /// What rules at an event, by the reason why some run stops there.
+    fn ruled_by(&self, event: &Event, reason: Option<Why>) -> Option<NotRecorded>
+        ensures { result ≡ ruled_by self.now event.now reason }
+    {
+        let verdict = match reason {
+            Some(Why::OverLimit) => Verdict::Limit(event.line),
+            Some(Why::NotRun) => Verdict::Unsupported(event.line),
+            _ if is_backwards(self.base, event.time) => Verdict::Fail(event.line, Kind::Backwards),
+            _ => return None,
+        };
+        Some(NotRecorded::Stopped(verdict))
+    }
+
+    /// The moment at which an input acts.
+    fn acts_at(&self, event: &Event) -> u64
+        requires early { self.now.base < 2 ^ 60 }
+        requires short { list_any is_long (written_times event.now.time) ≡ false }
+        ensures { result ≡ acts_at self.now event.now }
+    {
+        moment_of(self.base, event.time).max(self.run.clock())
     }
 
     /// A packet arrives.
-    fn arrive(
-        &mut self,
-        alloc: Global,
-        event: &Event,
-        packet: &Packet,
-    ) -> Result<Take, NotRecorded>
+    fn arrive(&mut self, alloc: Global, event: &Event, packet: &Packet) -> Result<Take, NotRecorded>
         requires sound { Sound self.old }
         requires early { self.old.base < 2 ^ 60 }
         requires short { list_any is_long (written_times event.now.time) ≡ false }
-        ensures take { Gives (λ take. (take.before.items, take.own)) (inputs (arrives event.now.line packet.now) self.old event.now) result self.new }
+        ensures take { Gives (λ take. take) (inputs (arrives event.now.line (acts_at self.old event.now) packet.now) self.old event.now) result self.new }
         ensures sound { OnOk result (Sound self.new) }
         ensures base { OnOk result (self.new.base ≡ moment_of self.old.base event.now.time) }
     {
-        let moment = moment_of(self.base, event.time);
-        let at = moment.max(self.run.clock());
-        let before = self.record_up_to(alloc, event.line, at)?;
+        let at = self.acts_at(event);
+        let before = self.record_left(alloc, event.line, at)?;
         let recorded = self.take(event.line, at, Action::Inbound(packet.copy()?))?;
-        self.base = moment;
+        self.base = moment_of(self.base, event.time);
         Ok(Take {
             before,
             own: Some(Own {
@@ -157,39 +175,39 @@ impl Recorder {
         requires sound { Sound self.old }
         requires early { self.old.base < 2 ^ 60 }
         requires short { list_any is_long (written_times event.now.time) ≡ false }
-        ensures take { Gives (λ take. (take.before.items, take.own)) (inputs (calls event.now.line call.now) self.old event.now) result self.new }
+        ensures take { Gives (λ take. take) (inputs (calls event.now.line (acts_at self.old event.now) call.now) self.old event.now) result self.new }
         ensures sound { OnOk result (Sound self.new) }
         ensures base { OnOk result (self.new.base ≡ moment_of self.old.base event.now.time) }
     {
-        let moment = moment_of(self.base, event.time);
-        let at = moment.max(self.run.clock());
-        let before = self.record_up_to(alloc, event.line, at)?;
+        let at = self.acts_at(event);
+        let before = self.record_left(alloc, event.line, at)?;
         let own = self.record_call(event.line, at, call)?;
-        self.base = moment;
+        self.base = moment_of(self.base, event.time);
         Ok(Take {
             before,
             own: Some(own),
         })
     }
 
-    /// Records what left, and what the expiries up to a moment send, one by one.
+    /// Records what left and what the expiries up to a moment send, one by one.
     ///
     /// # Errors
     /// `Stopped`, `TooManyEvents`, `TooLongGap` and `OutOfMemory`.
-    pub fn record_up_to(
+    pub fn record_left(
         &mut self,
         alloc: Global,
         line: usize,
-        at: u64,
+        until: u64,
     ) -> Result<Vec<Recorded>, NotRecorded>
         requires sound { Sound self.old }
-        ensures packets { Gives (λ packets. packets.items) (comes 4097 line at [] self.old) result self.new }
+        requires early { until < 2 ^ 61 }
+        ensures packets { Gives (λ packets. packets.items) (left_by line until self.old) result self.new }
         ensures sound { OnOk result (Sound self.new) }
         ensures base { OnOk result (self.new.base ≡ self.old.base) }
     {
         let mut before = Vec::new(alloc);
-        'packets: for _ in 0..=MAX_EVENTS {
-            let Some(sent) = self.next_up_to(at)? else {
+        'packets: for _ in 0..MAX_EVENTS {
+            let Some(sent) = self.next_by(until)? else {
                 return Ok(before);
             };
             let recorded = self.leave(alloc, line, &sent)?;
@@ -197,6 +215,32 @@ impl Recorder {
             self.keep_unmet(sent.at)?;
         }
         Err(NotRecorded::TooManyEvents)
+    }
+
+    /// The packet that leaves next, if it stands untaken, or an expiry up to a moment sends it.
+    fn next_by(&self, until: u64) -> Result<Option<Sent>, AllocError>
+        requires sound { Sound self.now }
+        ensures { IfOk result (λ sent. sent ≡ leaves_next (λ due. nat_le due until) self.now.run) }
+    {
+        let due = match self.run.host().deadline() {
+            Some(due) if due <= until => Some(due),
+            _ => None,
+        };
+        next_packet(self.run.host(), due)
+    }
+
+    /// The packet that leaves next, if it stands untaken, or an expiry that may come in time for an expected one sends it.
+    fn next_in_reach(&self, event: &Event) -> Result<Option<Sent>, AllocError>
+        requires sound { Sound self.now }
+        requires early { self.now.base < 2 ^ 60 }
+        requires short { list_any is_long (written_times event.now.time) ≡ false }
+        ensures { IfOk result (λ sent. sent ≡ leaves_next (is_in_reach (moments_of self.now.base event.now.time) (tolerance_of self.now.run)) self.now.run) }
+    {
+        let due = match self.run.host().deadline() {
+            Some(due) if is_in_reach(self.base, event.time, self.run.tolerance(), due) => Some(due),
+            _ => None,
+        };
+        next_packet(self.run.host(), due)
     }
 
     /// A packet was recorded that no expected packet has met.
@@ -207,39 +251,36 @@ impl Recorder {
         Ok(())
     }
 
-    /// Records a call with what the sender answers.
+    /// Makes a call, and records it with what the sender answers.
     fn record_call(&mut self, line: usize, at: u64, call: &Call) -> Result<Own, NotRecorded>
         requires sound { Sound self.old }
-        ensures own { Gives (λ x. x) (calls line call.now self.old at) result self.new }
+        requires early { at < 2 ^ 61 }
+        ensures own { Gives (λ own. own) (calls line at call.now self.old) result self.new }
         ensures sound { OnOk result (Sound self.new) }
         ensures base { OnOk result (self.new.base ≡ self.old.base) }
     {
         let answer = self.answer_at(line, at, call)?;
         let mut answered = call.copy()?;
         answered.result = outcome_of(answer);
-        let is_written = check_call(call, &answer).is_none();
         let recorded = self.take(line, at, Action::Call(answered))?;
         Ok(Own {
             recorded,
             reply: Some(Reply {
                 answer,
-                is_written,
+                is_written: check_call(call, &answer).is_none(),
             }),
         })
     }
 
-    /// What the sender answers to a call at a moment: why a run stops that expects of it what nothing answers.
+    /// What the sender answers to a call at a moment.
     fn answer_at(&self, line: usize, at: u64, call: &Call) -> Result<Answer, NotRecorded>
         requires sound { Sound self.now }
+        requires early { at < 2 ^ 61 }
         ensures { Finds (answer_at self.now line at call.now) result }
     {
-        let mut asked = call.copy()?;
-        asked.result = UNANSWERED;
-        let event = self.event_at(line, at, Action::Call(asked))?;
-        match self.run.why(&event)? {
-            Some(Why::Answered(answer, _)) => Ok(answer),
-            Some(Why::Halted(Halt::Limit)) => Err(NotRecorded::Stopped(Verdict::Limit(line))),
-            _ => Err(NotRecorded::Stopped(Verdict::Unsupported(line))),
+        match self.refusal_at(at) {
+            Some(refusal) => Err(refusal),
+            None => answer_of(self.run.host(), line, at, call),
         }
     }
 
@@ -248,7 +289,7 @@ impl Recorder {
         requires sound { Sound self.old }
         requires early { self.old.base < 2 ^ 60 }
         requires short { list_any is_long (written_times event.now.time) ≡ false }
-        ensures take { Gives (λ take. (take.before.items, take.own)) (expects self.old event.now) result self.new }
+        ensures take { Gives (λ take. take) (expects self.old event.now) result self.new }
         ensures sound { OnOk result (Sound self.new) }
         ensures base { OnOk result (self.new.base ≤ max (self.old.base + 3600000000) (3600000000 * 4097)) }
     {
@@ -271,56 +312,10 @@ impl Recorder {
         })
     }
 
-    /// The packet that leaves next, if it stands untaken, or the expiry that sends it may come in time for an expected one.
-    fn next_in_reach(&self, event: &Event) -> Result<Option<Sent>, NotRecorded>
-        requires sound { Sound self.now }
-        requires early { self.now.base < 2 ^ 60 }
-        requires short { list_any is_long (written_times event.now.time) ≡ false }
-        ensures { Finds (leaves_next (is_in_reach (moments_of self.now.base event.now.time) (tolerance_of self.now.run)) self.now) result }
-    {
-        if let Some(sent) = self.run.host().outbox().get(0) {
-            return Ok(Some(sent.copy()?));
-        }
-        match self.run.host().deadline() {
-            Some(at) if is_in_reach(self.base, event.time, self.run.tolerance(), at) => {
-                self.next_put_out()
-            }
-            _ => Ok(None),
-        }
-    }
-
-    /// The packet that leaves next, if it stands untaken, or an expiry up to a moment sends it.
-    fn next_up_to(&self, at: u64) -> Result<Option<Sent>, NotRecorded>
-        requires sound { Sound self.now }
-        ensures { Finds (leaves_next (λ due. nat_le due at) self.now) result }
-    {
-        if let Some(sent) = self.run.host().outbox().get(0) {
-            return Ok(Some(sent.copy()?));
-        }
-        match self.run.host().deadline() {
-            Some(due) if due <= at => self.next_put_out(),
-            _ => Ok(None),
-        }
-    }
-
-    /// What the next expiry puts out, where no packet stands untaken: why a run stops that expects a packet which nothing sends.
-    fn next_put_out(&self) -> Result<Option<Sent>, NotRecorded>
-        requires sound { Sound self.now }
-        ensures { Finds (put_out_next self.now) result }
-    {
-        if self.count >= MAX_EVENTS {
-            return Err(NotRecorded::TooManyEvents);
-        }
-        match self.run.why(&unsent())? {
-            Some(Why::Differs(_, sent, _)) => Ok(Some(sent)),
-            _ => Ok(None),
-        }
-    }
-
-    /// Records a packet that leaves next.
+    /// Records a packet as it left.
     fn leave(&mut self, alloc: Global, line: usize, sent: &Sent) -> Result<Recorded, NotRecorded>
         requires sound { Sound self.old }
-        ensures packet { Gives (λ x. x) (departs self.old line sent.now) result self.new }
+        ensures packet { Gives (λ recorded. recorded) (departs self.old line sent.now) result self.new }
         ensures sound { OnOk result (Sound self.new) }
         ensures reached { OnOk result (IsReached sent.now.at) }
         ensures same { OnOk result (self.new.unmet ≡ self.old.unmet) }
@@ -333,19 +328,17 @@ impl Recorder {
     /// Records what happens at a moment, and takes its step.
     fn take(&mut self, line: usize, at: u64, action: Action) -> Result<Recorded, NotRecorded>
         requires sound { Sound self.old }
-        ensures event { Gives (λ x. x) (taken self.old line at action) result self.new }
+        ensures event { Gives (λ recorded. recorded) (taken self.old line at action) result self.new }
         ensures sound { OnOk result (Sound self.new) }
         ensures reached { OnOk result (IsReached at) }
         ensures same { OnOk result (self.new.unmet ≡ self.old.unmet) }
         ensures base { OnOk result (self.new.base ≡ self.old.base) }
     {
-        runs_are_bounded();
-        let event = self.event_at(line, at, action)?;
-        match Plain::new().step(&mut self.run, &event, &self.settings)? {
-            StepEnd::Go => {}
-            StepEnd::Stop(verdict) => return Err(NotRecorded::Stopped(verdict)),
+        if let Some(refusal) = self.refusal_at(at) {
+            return Err(refusal);
         }
-        self.count += 1;
+        let event = self.event_at(line, at, action);
+        self.step(&event)?;
         Ok(Recorded {
             event,
             at,
@@ -353,32 +346,51 @@ impl Recorder {
         })
     }
 
-    /// The next event of the recording, which stops at a line of the script.
-    fn event_at(&self, line: usize, at: u64, action: Action) -> Result<Event, NotRecorded>
-        requires sound { Sound self.now }
-        ensures event { Finds (event_at self.now line at action) result }
-        ensures few { OnOk result (self.now.count < 4096) }
-        ensures reached { OnOk result (IsReached at) }
+    /// Takes the step of a recorded event.
+    fn step(&mut self, event: &Event) -> Result<(), NotRecorded>
+        requires sound { Sound self.old }
+        requires few { self.old.count < 4096 }
+        ensures step { Goes (stepped self.old event.now) result self.new }
+        ensures sound { OnOk result (Sound self.new) }
+    {
+        runs_are_bounded();
+        match Plain::new().step(&mut self.run, event, &self.settings)? {
+            StepEnd::Go => {}
+            StepEnd::Stop(verdict) => return Err(NotRecorded::Stopped(verdict)),
+        }
+        self.count += 1;
+        Ok(())
+    }
+
+    /// Why nothing is recorded at a moment, if there is a reason.
+    fn refusal_at(&self, at: u64) -> Option<NotRecorded>
+        ensures { result ≡ refusal_at self.now at }
     {
         if self.count >= MAX_EVENTS {
-            return Err(NotRecorded::TooManyEvents);
+            Some(NotRecorded::TooManyEvents)
+        } else if at.saturating_sub(self.run.base()) > MAX_GAP {
+            Some(NotRecorded::TooLongGap)
+        } else {
+            None
         }
-        let gap = at.saturating_sub(self.run.base());
-        if gap > MAX_GAP {
-            return Err(NotRecorded::TooLongGap);
-        }
-        Ok(Event {
+    }
+
+    /// An event of the recording, which stops at a line of the script.
+    fn event_at(&self, line: usize, at: u64, action: Action) -> Event
+        ensures { result ≡ event_at self.now line at action }
+    {
+        Event {
             line,
-            time: Time::Relative(gap),
+            time: Time::Relative(at.saturating_sub(self.run.base())),
             until: None,
             action,
-        })
+        }
     }
 }
 
 /// An event that records nothing.
 fn nothing(alloc: Global) -> Take
-    ensures before { result.before.items ≡ [] }
+    ensures before { result.before ≡ [] }
     ensures own { result.own ≡ None }
 {
     Take {

@@ -13,6 +13,8 @@ pub enum NotRecorded {
     TooManyEvents,
     /// Two recorded events lie more than 3,600 seconds apart.
     TooLongGap,
+    /// The recording isn't read and run as what was recorded: a fault of this program.
+    Differs,
     /// A growth was refused.
     OutOfMemory,
 }

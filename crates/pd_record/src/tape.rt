@@ -4,6 +4,7 @@ ghost use Rattle.std.specs.Prelude.{◌≡◌};
 use pd_host::{ConnState, Figures, Host};
 use pd_script::Event;
 use pd_seg::Answer;
+use std::marker::Model;
 
 /// How a sender stands.
 #[derive(Clone, Copy)]
@@ -49,6 +50,14 @@ pub struct Take {
     pub before: Vec<Recorded>,
     /// What stands in the event's place: an input, or the packet that an expected one met, unless it was recorded before.
     pub own: Option<Own>,
+}
+
+impl Model for Take {
+    ghost use Rattle.pd_record.specs.Tape.{Took};
+
+    ghost Value = { Took };
+
+    ghost view = { λ t. record { before = t.before.items; own = t.own } };
 }
 
 /// What a call answers.
