@@ -4,3 +4,4 @@ pub mod Found
 pub mod Rulings
 pub mod Bounds
 pub mod Leaving
+pub mod Whole

@@ -32,16 +32,17 @@ closed x = then_do (λ y. Ok (record { takes = x.1; rest = y.1 })) (left_by 0 x.
 abbrev pub tracks_of : List HeaderItem → List Event → Settings → Answers Tracked
 tracks_of header events settings = then_do (λ t. then_do closed (records events [] t)) (begun header settings)
 
--- what is recorded of a text under settings; nothing of one that is no script
-abbrev pub recording_of : List (List ℕ) → Settings → Answers Tracked
-recording_of text settings = of (script_of text)
+-- what is recorded of a script that was read; nothing where it has a fault
+abbrev pub recording_in : Settings → Parsed → Answers Tracked
+recording_in settings parsed = unless_refused parsed.fault
   where
-    of : Parsed → Answers Tracked
-    of parsed = unless_refused parsed.fault
-      where
-        unless_refused : Option ℕ → Answers Tracked
-        unless_refused (Some line) = Err (Stopped (Syntax line))
-        unless_refused None = tracks_of parsed.header.items parsed.events settings
+    unless_refused : Option ℕ → Answers Tracked
+    unless_refused (Some line) = Err (Stopped (Syntax line))
+    unless_refused None = tracks_of parsed.header.items parsed.events settings
+
+-- what is recorded of a text under settings
+abbrev pub recording_of : List (List ℕ) → Settings → Answers Tracked
+recording_of text settings = recording_in settings (script_of text)
 
 -- the events recorded
 abbrev pub events_in : List Recorded → List Event
