@@ -1,6 +1,11 @@
 -- The lines of a recording, one behind another.
-use Rattle.std.proofs.Common.{◌≡◌, ℕ, ◌+◌, Bool, true, false, not, ◌⊎◌, inl, inr, List, [], ◌∷◌, ◌++◌, take, refl, sym, ap, subst, ◌∙◌, append-nil, cond}
+use Rattle.std.proofs.Common.{◌≡◌, ℕ, ◌+◌, ◌-◌, ◌<◌, nat_le, length, Option, Some, None, unwrap_or, get_or, if◌then◌else◌, Bor, arith, Bool, true, false, not, ◌⊎◌, inl, inr, List, [], ◌∷◌, ◌++◌, take, refl, sym, ap, subst, ◌∙◌, append-nil, cond}
 use Rattle.std.proofs.lemmas.List.{flat_map_more}
+use Rattle.std.proofs.lemmas.Bool.Decides.{nat_tests}
+use Rattle.std.proofs.lemmas.Option.{slice_get-get_or}
+use Rattle.std.proofs.Math.Seq.{take-suc}
+use Rattle.std.specs.List.{slice_get}
+use Rattle.std.specs.Option.{option_copied}
 use Rattle.std.proofs.lemmas.List.Elements.{filter-append}
 use Rattle.pd_record_cli.specs.ScriptInput.{is_dropped, without_trace}
 use Rattle.pd_record_cli.specs.Written.{GoesOn, IsWritten, joined}
@@ -38,3 +43,16 @@ written_on tr text out new w (inr g) = (
 -- a line, and what a trace has behind it
 pub written_turn : (tr : Bool) (text more : List (List ℕ)) (out mid new line : List ℕ) → IsWritten tr text out → (is_dropped line ≡ false) × (mid ≡ out ++ (line ++ 10 ∷ [])) → GoesOn tr mid new → more ≡ text ++ line ∷ [] → IsWritten tr more new
 written_turn tr text more out mid new line w l g e = subst (λ (t : List (List ℕ)). IsWritten tr t new) (sym e) (written_on tr (text ++ line ∷ []) mid new (written_line tr text out mid line w l.0 l.1) g)
+
+lent : (r : Option (Bor (List ℕ))) (d : Bor (List ℕ)) (x : List ℕ) → option_copied r ≡ Some x → (unwrap_or r d).now ≡ x
+lent None d x e = cc
+lent (Some s) d x e = ap (λ (o : Option (List ℕ)). unwrap_or o []) e
+
+at_next : (lines : List (List ℕ)) (done : ℕ) → (if nat_le 1 (done + 1) then slice_get lines (done + 1 - 1) else None) ≡ slice_get lines done
+at_next lines done = grind (arith, nat_tests)
+
+-- the line after those that are written is the next of the text
+pub next_line : (lines : List (List ℕ)) (done : ℕ) (r : Option (Bor (List ℕ))) (d : Bor (List ℕ)) → done < length lines → option_copied r ≡ (if nat_le 1 (done + 1) then slice_get lines (done + 1 - 1) else None) → take (done + 1) lines ≡ take done lines ++ (unwrap_or r d).now ∷ []
+next_line lines done r d h e =
+    let found = lent r d (get_or lines done []) (e ∙ (at_next lines done ∙ slice_get-get_or lines done [] h)) in
+    take-suc lines done [] h ∙ ap (λ (l : List ℕ). take done lines ++ l ∷ []) (sym found)
