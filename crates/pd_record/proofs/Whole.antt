@@ -1,6 +1,6 @@
 -- The recording of a whole script.
-use Rattle.std.proofs.Common.{◌≡◌, ℕ, List, [], ◌∷◌, ◌++◌, Option, Some, None, Result, Ok, Err, refl, ap, subst, sym, ◌∙◌}
-use Rattle.std.specs.Prelude.{◌≢◌, IsSome, IsErrAnd, IfErr}
+use Rattle.std.proofs.Common.{◌≡◌, ◌≢◌, ℕ, List, [], ◌∷◌, ◌++◌, Option, Some, None, Result, Ok, Err, IfErr, IsErrAnd, refl, ap, subst, sym, ◌∙◌}
+use Rattle.std.specs.Prelude.{IsSome}
 use Rattle.pd_settings.specs.declared.fields.Settings.{Settings}
 use Rattle.pd_script.specs.Script.{script_of}
 use Rattle.pd_script.specs.declared.parsing.Parsed.{Parsed}

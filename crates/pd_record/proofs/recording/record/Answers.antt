@@ -1,6 +1,5 @@
 -- What is recorded of the script that was read is what is recorded of the text.
-use Rattle.std.proofs.Common.{◌≡◌, List, Some, sym, ap, subst, ◌∙◌}
-use Rattle.std.specs.Prelude.{◌≢◌}
+use Rattle.std.proofs.Common.{◌≡◌, ◌≢◌, List, Some, sym, ap, subst, ◌∙◌}
 use Rattle.pd_script.specs.Script.{script_of}
 use Rattle.pd_record.specs.Recording.{recording_of, tracks_of}
 use Rattle.pd_record.specs.Scripts.{IsRead, events_placed}
