@@ -10,7 +10,7 @@ use Rattle.pd_record.proofs.recorder.Recorder.record_left.Goals as goal
 
 pub returns-in_default-clause-packets : goal.returns-in_default-clause-packets
 returns-in_default-clause-packets c =
-    let none : c.in_ok-sent.field-0 ≡ None = search rules in
+    let none : c.in_ok-sent.field-0 ≡ None = none_left _ c.in_default.not-Some in
     let next : leaves_next (λ due. nat_le due c.args.until) c.packets.self.run ≡ None = sym c.in_ok-sent.ensures ∙ none in
     sym c.packets.invariant.left
     ∙ comes_over (4096 - c.packets.counter) (4096 - (c.packets.counter + 1)) c.args.line c.args.until c.packets.before.items c.packets.self (omega (arith, c.packets-test.true)) next
