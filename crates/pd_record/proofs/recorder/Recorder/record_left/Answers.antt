@@ -20,8 +20,8 @@ returns-in_err-recorded-clause-packets c =
     let next : leaves_next (λ due. nat_le due c.args.until) c.packets.self.run ≡ Some c.in-Some.sent = sym c.in_ok-sent.ensures ∙ c.in-Some.is in
     gives_refused _ (left_by c.args.line c.args.until c.args.self.now) c.from_residual-in_err-recorded.result c.in_err-recorded.field-0.0 c.leave.new.self c.from_residual-in_err-recorded.ensures.1
     (λ (other : c.in_err-recorded.field-0.0 ≢ OutOfMemory).
-        sym c.packets.invariant.left
-        ∙ comes_refused (4096 - c.packets.counter) (4096 - (c.packets.counter + 1)) c.args.line c.args.until c.packets.before.items c.packets.self c.in-Some.sent c.in_err-recorded.field-0.0 (omega (arith, c.packets-test.true)) next (c.in_err-recorded.ensures.packet other))
+    sym c.packets.invariant.left
+    ∙ comes_refused (4096 - c.packets.counter) (4096 - (c.packets.counter + 1)) c.args.line c.args.until c.packets.before.items c.packets.self c.in-Some.sent c.in_err-recorded.field-0.0 (omega (arith, c.packets-test.true)) next (c.in_err-recorded.ensures.packet other))
 
 pub packets-preserved : goal.packets-preserved
 packets-preserved c =
