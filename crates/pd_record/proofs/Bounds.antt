@@ -11,7 +11,7 @@ use Rattle.pd_run.specs.Laws.{IsUnderway}
 use Rattle.pd_run.specs.Limits.{is_long, written_times}
 use Rattle.pd_run.specs.Step.{Running}
 use Rattle.pd_run.specs.Times.{moment_of, base_after}
-use Rattle.pd_record.specs.Tape.{Tape, Sound, IsReached, refusal_at}
+use Rattle.pd_record.specs.Tape.{Tape, Sound, IsReached, refusal_at, with_unmet}
 use Rattle.pd_record.specs.declared.refusals.NotRecorded.{NotRecorded}
 use Rattle.pd_record.specs.declared.refusals.NotRecorded.TheVariants.{TooManyEvents, TooLongGap}
 
@@ -70,3 +70,7 @@ base_within base at (RelativeRange first last) h = omega arith
 pub all_more : (moments : List ℕ) (at : ℕ) → AllByRecursion IsReached moments → IsReached at → AllByRecursion IsReached (moments ++ at ∷ [])
 all_more [] at all more = (more, tt)
 all_more (m ∷ moments) at all more = (all.0, all_more moments at all.1 more)
+
+-- and the tape stays sound
+pub unmet_sound : (t : Tape) (at : ℕ) → Sound t → IsReached at → Sound (with_unmet t at)
+unmet_sound t at sound reached = record { run = sound.run; few = sound.few; unmet = all_more t.unmet at sound.unmet reached }

@@ -6,6 +6,10 @@ use Rattle.pd_record.specs.declared.refusals.NotRecorded.{NotRecorded}
 use Rattle.pd_record.specs.declared.refusals.NotRecorded.TheVariants.{TooManyEvents}
 use Rattle.pd_record.specs.declared.tape.Recorded.{Recorded}
 
+pub none_left : (o : Option Sent) → ((x : Sent) → o ≡ Some x → ⊥) → o ≡ None
+none_left None h = refl
+none_left (Some x) h = absurd (h x refl)
+
 -- what leaves next, up to a moment
 abbrev Next : ℕ → Tape → Option Sent
 Next until t = leaves_next (λ due. nat_le due until) t.run

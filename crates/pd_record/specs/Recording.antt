@@ -1,5 +1,5 @@
 -- The recording of a whole script.
-use Rattle.std.specs.Prelude.{◌≡◌, ℕ, List, [], ◌∷◌, ◌++◌, map, length, Option, Some, None, Ok, Err, IsOk}
+use Rattle.std.specs.Prelude.{◌≡◌, ℕ, List, [], ◌∷◌, ◌++◌, map, length, Option, Some, None, Ok, Err}
 use Rattle.pd_settings.specs.declared.fields.Settings.{Settings}
 use Rattle.pd_script.specs.Script.{script_of}
 use Rattle.pd_script.specs.declared.parsing.Parsed.{Parsed}
@@ -79,10 +79,10 @@ pub record IsRecording (text : List (List ℕ)) (settings : Settings) (recording
   pub recorded : recording_of text settings ≡ Ok tracks
   pub right : IsRight (script_of text).header.items (events_of tracks) settings recording count
 
--- why a text isn't recorded: it is no script, or its recording is refused; or the recording is too large. For want of memory,
--- and where a recording differs from what was recorded, nothing is said
+-- why a text isn't recorded: it is no script, or its recording is refused. Where the recording is too large or differs from
+-- what was recorded, and for want of memory, nothing more is said
 abbrev pub Refuses : Answers Tracked → NotRecorded → Type 0
 Refuses outcome OutOfMemory = Unit {0}
 Refuses outcome Differs = Unit {0}
-Refuses outcome TooLarge = IsOk outcome
+Refuses outcome TooLarge = Unit {0}
 Refuses outcome refusal = outcome ≡ Err refusal

@@ -7,4 +7,4 @@ use Rattle.pd_record.proofs.recorder.Recorder.ruling.Goals as goal
 pub returns : goal.returns
 returns c =
     c.ruled_by.ensures
-    ∙ (ap (ruled_by c.args.self.now c.args.event.now) c.in_ok-reason.ensures ∙ ruling_found c.args.self.now _ c.args.event.now)
+    ∙ (ap (ruled_by c.args.self.now c.args.event.now) c.in_ok-reason.ensures ∙ ruling_found c.args.self.now c.self.inside.fresh c.args.event.now)
