@@ -4,6 +4,7 @@ use Rattle.std.proofs.lemmas.List.{flat_map_more}
 use Rattle.std.proofs.lemmas.Bool.Decides.{nat_tests}
 use Rattle.std.proofs.lemmas.Option.{slice_get-get_or}
 use Rattle.std.proofs.Math.Seq.{take-suc}
+use native.Mathlib.Numerals.{unary_clauses}
 use Rattle.std.specs.List.{slice_get}
 use Rattle.std.specs.Option.{option_copied}
 use Rattle.std.proofs.lemmas.List.Elements.{filter-append}
@@ -55,4 +56,4 @@ at_next lines done = grind (arith, nat_tests)
 pub next_line : (lines : List (List ℕ)) (done : ℕ) (r : Option (Bor (List ℕ))) (d : Bor (List ℕ)) → done < length lines → option_copied r ≡ (if nat_le 1 (done + 1) then slice_get lines (done + 1 - 1) else None) → take (done + 1) lines ≡ take done lines ++ (unwrap_or r d).now ∷ []
 next_line lines done r d h e =
     let found = lent r d (get_or lines done []) (e ∙ (at_next lines done ∙ slice_get-get_or lines done [] h)) in
-    take-suc lines done [] h ∙ ap (λ (l : List ℕ). take done lines ++ l ∷ []) (sym found)
+    simp unary_clauses (take-suc lines done [] h ∙ ap (λ (l : List ℕ). take done lines ++ l ∷ []) (sym found))
