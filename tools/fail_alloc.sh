@@ -8,15 +8,18 @@
 #   - the calls below it, table by table of crates/pd_book_trials/memory.txt, and those of a desk and of its workers, of
 #     crates/pd_desk_trials/memory.txt: a call that is refused is made again, and it and all calls after it are to answer
 #     as with memory, or as a row says of a worker that left. Where what tells the rows found no memory, no call did.
+#   - the built pdrecord, with no input, with a script that is recorded, with a trace too, and with one that isn't. It says so
+#     by status 2 and the fault 19 and writes nothing, or the refusal made no difference.
 #   - the programs pd_book_trials, with its word `memory`, and pd_cases on its file memory.cases, which let a first want
 #     of memory pass and make the call again.
 # No run may take longer than ten seconds. Outside the gate: needs a C compiler, and pd_book_trials, pd_desk_trials and
-# pd_cases as `rt run` leaves them in out/. PROGRAM, TRIALS, DESK and CASES name other builds of the four.
+# pd_cases as `rt run` leaves them in out/. PROGRAM, RECORD, TRIALS, DESK and CASES name other builds of the five.
 #
 #   tools/fail_alloc.sh [INPUT..]
 set -eu
 top=$(cd "$(dirname "$0")/.." && pwd)
 program=${PROGRAM:-$top/crates/pdregress/out/pdregress}
+record=${RECORD:-$top/crates/pdrecord/out/pdrecord}
 cases=${CASES:-$top/crates/pd_cases/out/pd_cases}
 trials=${TRIALS:-$top/crates/pd_book_trials/out/pd_book_trials}
 desk=${DESK:-$top/crates/pd_desk_trials/out/pd_desk_trials}
@@ -24,7 +27,8 @@ work=$(mktemp -d)
 trap 'rm -rf "$work"' EXIT
 cc -O2 -shared -fPIC -o "$work/fail_alloc.so" "$top/tools/fail_alloc.c" -ldl
 [ -n "${PROGRAM:-}" ] || "$top/pdregress" </dev/null >/dev/null
-for built in "$program" "$cases" "$trials" "$desk"; do
+[ -n "${RECORD:-}" ] || "$top/pdrecord" </dev/null >/dev/null
+for built in "$program" "$record" "$cases" "$trials" "$desk"; do
     [ -x "$built" ] || { echo "$built: not built"; exit 2; }
 done
 bad=0
@@ -155,5 +159,26 @@ for workers in 0 1 2; do
     for settings in 'min_rto_us = 200000' 'mss = 10'; do
         try_program "the program, $settings, --workers $workers" "$program" --workers "$workers" --settings "$settings"
     done
+done
+
+cat >"$work/script" <<END
+0 socket(/* a */ ..., SOCK_STREAM, 0) = 3 (note) // b
++0 bind(3, ..., ...) = 0
++0 listen(3, 1) = 0
++0.1 < S 0:0(0) win 32792 <mss 1000,sackOK,nop,nop,nop,wscale 7>
++0 > S. 0:0(0) ack 1 <...>
+// c
++0.1 < . 1:1(0) ack 1 win 257
++0 accept(3, ..., ...) = 4
++0 write(4, ..., 2000) = 1
++1.5 < . 1:1(0) ack 1 win 257 <nop,nop,sack 1001:2001>
+END
+{
+    cat "$work/script"
+    echo '+0 shutdown(4) = 0'
+} >"$work/refused"
+for input in /dev/null "$work/script" "$work/refused"; do
+    try_program "pdrecord, $(basename "$input")" "$record"
+    try_program "pdrecord --trace, $(basename "$input")" "$record" --trace
 done
 exit $bad

@@ -156,6 +156,8 @@ def test_all_programs_run_where_nothing_else_is(root: Path, package: Path) -> No
     for name in ("pdregress", "pdsteps", "pdexplain"):
         done = in_root(root, name, text=send)
         assert (done.status, done.out.splitlines()[0]) == (0, "send pass 9")
+    call = "0 socket(..., SOCK_STREAM, 0) = 3\n"
+    assert in_root(root, "pdrecord", text=call) == Called(0, "+" + call, "")
     for name in PROVED:
         assert "Usage: " in in_root(root, name, "--help").err
     assert not (root / "root/.rattle").exists() and in_root(root, "sh", "-c", "command -v rt").status != 0

@@ -1,0 +1,51 @@
+-- The steps of the loop over events with their places.
+use Rattle.std.proofs.Common.{◌≡◌, ℕ, ◌+◌, Bool, true, false, cond, List, [], ◌∷◌, ◌++◌, length, is_some, Option, Some, None, Ok, refl, sym, ap, ◌∙◌, arith}
+use Rattle.std.proofs.lemmas.List.{map-append, length-append}
+use Rattle.pd_lex.specs.declared.token.Place.{Place}
+use Rattle.pd_lex.specs.Tokens.{Item}
+use Rattle.pd_script.specs.declared.script_events.Event.{Event}
+use Rattle.pd_script.specs.declared.deciding.NextEvent.TheVariants.{Got, End, Fault}
+use Rattle.pd_script.specs.Items.{is_end, starts_event, goes_on, next_is}
+use Rattle.pd_script.specs.Reading.{next_line, event_at}
+use Rattle.pd_script.specs.Script.{followed, at_end, in_front}
+use Rattle.pd_script.specs.declared.parsing.Found.{Found}
+use Rattle.pd_script.specs.Next.{next_place, reach_of, next_in}
+use Rattle.pd_script.proofs.Finding.{in_front-append, in_front-none}
+use Rattle.pd_record.specs.Scripts.{events_placed}
+use Rattle.pd_record.specs.declared.scripts.Placed.{Placed}
+
+-- an event that no token follows stands before the end
+pub got_ends : (ts : List Item) (e : Event) (after : Place) (reach : Option ℕ) (rest : List Item) → Got e after reach ≡ next_in ts → followed goes_on (event_at ts) ≡ Ok (e, rest) → is_some reach ≡ false → next_is is_end rest ≡ true
+unfolding next_in
+got_ends ts e after reach rest h g none = by_test (next_is starts_event ts) refl
+  where
+    no_reach : (b : Bool) → next_is is_end rest ≡ b → reach ≡ cond b None (Some (next_line rest)) → next_is is_end rest ≡ true
+    no_reach true t r = t
+    no_reach false t r = absurd (let some : true ≡ false = sym (ap is_some r) ∙ none in cc)
+
+    by_end : (b : Bool) → Got e after reach ≡ cond b End (Fault (next_line ts)) → ⊥
+    by_end true k = cc
+    by_end false k = cc
+
+    by_test : (b : Bool) → next_is starts_event ts ≡ b → next_is is_end rest ≡ true
+    by_test true start =
+        let made : Got e after reach ≡ Got e (next_place rest) (reach_of rest) = rw (start, g) at h in
+        no_reach (next_is is_end rest) refl cc
+    by_test false start = absurd (by_end (next_is is_end ts) (rw start at h))
+
+-- after the last event that a script may have stands its end
+pub none_left : (ts : List Item) → next_is is_end ts ≡ true → at_end ts ≡ record { events = []; fault = None }
+none_left ts h = rw h refl
+
+-- reading stops after some events
+pub stops : (es : List Event) (f g : Found) (fault : Option ℕ) → in_front es f ≡ g → f ≡ record { events = []; fault = fault } → g ≡ record { events = es; fault = fault }
+stops es f g fault h e = sym h ∙ ap (λ (x : Found). in_front es x) e ∙ in_front-none es fault
+
+-- reading goes on with one event more
+pub goes_further : (ps qs : List Placed) (p : Placed) (f g h : Found) → qs ≡ ps ++ p ∷ [] → in_front (events_placed ps) f ≡ g → f ≡ in_front (p.event ∷ []) h → in_front (events_placed qs) h ≡ g
+goes_further ps qs p f g h q i e =
+    ap (λ (xs : List Placed). in_front (events_placed xs) h) q ∙ ap (λ (es : List Event). in_front es h) (map-append (λ (x : Placed). x.event) ps (p ∷ []))
+    ∙ in_front-append (events_placed ps) p.event h ∙ ap (λ (x : Found). in_front (events_placed ps) x) (sym e) ∙ i
+
+pub one_longer : (ps qs : List Placed) (p : Placed) (i : ℕ) → qs ≡ ps ++ p ∷ [] → length ps ≡ i → length qs ≡ i + 1
+one_longer ps qs p i q l = omega (arith, ap length q, length-append ps (p ∷ []), l)

@@ -1,0 +1,7 @@
+-- The lemmas of this crate.
+pub mod Images
+pub mod Found
+pub mod Rulings
+pub mod Bounds
+pub mod Leaving
+pub mod Whole

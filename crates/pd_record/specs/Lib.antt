@@ -1,0 +1,8 @@
+-- The definitions that the contracts cite.
+pub mod Sameness
+pub mod Scripts
+pub mod Standings
+pub mod Tape
+pub mod Rulings
+pub mod Recording
+pub mod Traces

@@ -1,0 +1,81 @@
+-- The lines of a trace.
+use Rattle.std.specs.Prelude.{ℕ, ◌+◌, ◌-◌, ◌==◌, Bool, false, ◌&&◌, ◌||◌, nat_lt, List, [], ◌∷◌, length, take, drop, Option, Some, None, bytes_eq, codes}
+use Rattle.std.specs.Char.{is_ascii_digit, is_ascii_alphanumeric}
+use Rattle.std.specs.List.{slice_split, list_all, position}
+
+-- digits
+abbrev pub are_digits : List ℕ → Bool
+are_digits word = list_all is_ascii_digit word
+
+-- a point, and digits
+abbrev pub is_fraction : List ℕ → Bool
+is_fraction [] = false
+is_fraction (octet ∷ digits) = octet == 46 && are_digits digits
+
+-- seconds with six decimals
+abbrev pub is_moment : List ℕ → Bool
+is_moment word = let point = length word - 7 in nat_lt 0 point && are_digits (take point word) && is_fraction (drop point word)
+
+-- the name of a state
+abbrev pub is_state : List ℕ → Bool
+is_state word =
+    bytes_eq word (codes "CLOSED") || bytes_eq word (codes "LISTEN") || bytes_eq word (codes "SYN-RECEIVED")
+    || bytes_eq word (codes "ESTABLISHED") || bytes_eq word (codes "FIN-WAIT-1") || bytes_eq word (codes "FIN-WAIT-2")
+    || bytes_eq word (codes "CLOSE-WAIT") || bytes_eq word (codes "CLOSING") || bytes_eq word (codes "LAST-ACK")
+    || bytes_eq word (codes "TIME-WAIT")
+
+-- letters, digits and points
+abbrev pub are_letters : List ℕ → Bool
+are_letters word = list_all (λ octet. is_ascii_alphanumeric octet || octet == 46) word
+
+-- the same, and at least one
+abbrev pub is_value : List ℕ → Bool
+is_value word = nat_lt 0 (length word) && are_letters word
+
+-- a name with its colon, and a value
+abbrev pub is_told : List ℕ → List ℕ → Bool
+is_told word name = bytes_eq (take (length name) word) name && is_value (drop (length name) word)
+
+-- the name of an octet number or a window, a colon and a value
+abbrev pub is_octets : List ℕ → Bool
+is_octets word =
+    is_told word (codes "una:") || is_told word (codes "next:") || is_told word (codes "top:") || is_told word (codes "end:")
+    || is_told word (codes "cwnd:") || is_told word (codes "ssthresh:") || is_told word (codes "rwnd:")
+
+-- the name of a count, a colon and a value
+abbrev pub is_count : List ℕ → Bool
+is_count word = is_told word (codes "FlightSize:") || is_told word (codes "pipe:") || is_told word (codes "DupAcks:")
+
+-- the name of another fact, a colon and a value
+abbrev pub is_course : List ℕ → Bool
+is_course word = is_told word (codes "connection:") || is_told word (codes "RTO:") || is_told word (codes "expiry:") || is_told word (codes "recovery:")
+
+-- the name of a fact, a colon and a value
+abbrev pub is_fact : List ℕ → Bool
+is_fact word = is_octets word || is_count word || is_course word
+
+-- facts, parted by single blanks
+abbrev pub are_facts : List ℕ → Bool
+are_facts words = list_all is_fact (slice_split (λ octet. octet == 32) words)
+
+-- the first blank
+abbrev pub blank_at : List ℕ → Option ℕ
+blank_at octets = position (λ octet. octet == 32) octets
+
+-- a state, and facts behind a blank
+abbrev pub is_standing_at : Option ℕ → List ℕ → Bool
+is_standing_at None words = is_state words
+is_standing_at (Some at) words = is_state (take at words) && are_facts (drop (at + 1) words)
+
+-- a moment, and behind a blank a state and facts
+abbrev pub are_told_at : Option ℕ → List ℕ → Bool
+are_told_at None words = false
+are_told_at (Some at) words = let rest = drop (at + 1) words in is_moment (take at words) && is_standing_at (blank_at rest) rest
+
+-- what a line of a trace begins with
+abbrev pub opening : List ℕ
+opening = codes "//= at "
+
+-- a line of a trace: its opening, and words parted by single blanks
+abbrev pub is_trace : List ℕ → Bool
+is_trace line = let words = drop 7 line in bytes_eq (take 7 line) opening && are_told_at (blank_at words) words

@@ -1,0 +1,228 @@
+//! How a script stands in its text: the octets of its parts, with the comments and blank lines around them.
+use crate::extents::{Extent, end_of, is_before};
+use crate::gaps::{Piece, put_gap};
+use pd_lex::{Lexed, Place, Token, TokenKind, next_token};
+use pd_text::{Lines, MAX_OCTETS};
+use std::alloc::{AllocError, Global};
+use std::mem::replace;
+
+/// How a header item or an event stands in its text.
+#[derive(Drop)]
+pub struct Layout {
+    /// The comments and blank lines before it and within it, those of its own octets and its note left out.
+    pub lead: Vec<Piece>,
+    /// The octets of a header item, or of a call up to `=`.
+    pub own: Extent,
+    /// The note of a call.
+    pub note: Option<Extent>,
+    /// The comments and blank lines within that note.
+    pub noted: Vec<Piece>,
+    /// The comments after it on its line.
+    pub trail: Vec<Piece>,
+}
+
+/// Reads the parts of a text one after the other.
+#[derive(Drop)]
+pub struct LayoutReader<'a> {
+    lines: &'a Lines,
+    /// Where the last part ends.
+    place: Place,
+    /// What stands before the next part.
+    lead: Vec<Piece>,
+}
+
+/// What of an event was read last.
+#[derive(Clone, Copy, PartialEq, Eq)]
+enum Reading {
+    /// Nothing yet.
+    Nothing,
+    /// Its time, or a header item.
+    Time,
+    /// A packet.
+    Packet,
+    /// A call up to its equals sign.
+    Call,
+    /// The equals sign, or the result after it.
+    Result,
+    /// A note.
+    Note,
+}
+
+/// A part of a text while it is read.
+#[derive(Drop)]
+struct Draft {
+    layout: Layout,
+    reading: Reading,
+    /// How many brackets are open.
+    depth: usize,
+    /// Where its last token ends.
+    to: Place,
+}
+
+impl<'a> LayoutReader<'a> {
+    /// Before the first part of a text.
+    ///
+    /// # Errors
+    /// `AllocError` where a growth is refused.
+    pub fn new(alloc: Global, lines: &'a Lines) -> Result<LayoutReader<'a>, AllocError> {
+        let first = Place::first();
+        let mut lead = Vec::new(alloc);
+        put_gap(&mut lead, lines, gap_after(lines, first))?;
+        Ok(LayoutReader {
+            lines,
+            place: first,
+            lead,
+        })
+    }
+
+    /// Reads the next part, which ends before a place.
+    ///
+    /// # Errors
+    /// `AllocError` where a growth is refused.
+    pub fn read_part(&mut self, alloc: Global, until: Place) -> Result<Layout, AllocError> {
+        let lead = replace(&mut self.lead, Vec::new(alloc));
+        let mut draft = Draft::new(alloc, lead, self.place);
+        for _ in 0..MAX_OCTETS {
+            match next_token(self.lines, self.place) {
+                Lexed::Token(token) if is_before(token.from, until) => {
+                    draft.take(self.lines, &token)?;
+                    self.place = token.to;
+                }
+                _ => break,
+            }
+        }
+        self.read_gap(&mut draft.layout)?;
+        Ok(draft.layout)
+    }
+
+    /// Reads the next part, which is a header item.
+    ///
+    /// # Errors
+    /// `AllocError` where a growth is refused.
+    pub fn read_item(&mut self, alloc: Global) -> Result<Layout, AllocError> {
+        let after = match next_token(self.lines, self.place) {
+            Lexed::Token(token) => token.to,
+            Lexed::End | Lexed::Bad(_) => self.place,
+        };
+        self.read_part(alloc, after)
+    }
+
+    /// What stands after the last part.
+    pub fn rest(self) -> Vec<Piece> {
+        self.lead
+    }
+
+    /// Reads what stands after a part: what begins in its line stays there, where no further token stands in that line.
+    fn read_gap(&mut self, part: &mut Layout) -> Result<(), AllocError> {
+        let gap = gap_after(self.lines, self.place);
+        let is_last = gap.to.line > gap.from.line;
+        let mut pieces = Vec::new(*self.lead.allocator());
+        put_gap(&mut pieces, self.lines, gap)?;
+        for piece in &pieces {
+            match piece {
+                Piece::Comment(extent) if is_last && extent.from.line == gap.from.line => {
+                    part.trail.push(*piece)?;
+                }
+                _ => self.lead.push(*piece)?,
+            }
+        }
+        Ok(())
+    }
+}
+
+/// From a place to the next token, or to the end of the text.
+fn gap_after(lines: &Lines, place: Place) -> Extent {
+    let to = match next_token(lines, place) {
+        Lexed::Token(token) => token.from,
+        Lexed::End | Lexed::Bad(_) => end_of(lines),
+    };
+    Extent { from: place, to }
+}
+
+impl Draft {
+    fn new(alloc: Global, lead: Vec<Piece>, place: Place) -> Draft {
+        let nothing = Extent {
+            from: place,
+            to: place,
+        };
+        Draft {
+            layout: Layout {
+                lead,
+                own: nothing,
+                note: None,
+                noted: Vec::new(alloc),
+                trail: Vec::new(alloc),
+            },
+            reading: Reading::Nothing,
+            depth: 0,
+            to: place,
+        }
+    }
+
+    /// Takes the next token, with what stands before it.
+    fn take(&mut self, lines: &Lines, token: &Token<'_>) -> Result<(), AllocError> {
+        let gap = Extent {
+            from: self.to,
+            to: token.from,
+        };
+        match self.reading {
+            Reading::Nothing | Reading::Call => {}
+            Reading::Time | Reading::Packet | Reading::Result => {
+                put_gap(&mut self.layout.lead, lines, gap)?;
+            }
+            Reading::Note => put_gap(&mut self.layout.noted, lines, gap)?,
+        }
+        self.read(token);
+        self.to = token.to;
+        Ok(())
+    }
+
+    /// Reads the next token.
+    fn read(&mut self, token: &Token<'_>) {
+        let extent = Extent {
+            from: token.from,
+            to: token.to,
+        };
+        match (self.reading, token.kind) {
+            (Reading::Nothing, _) => {
+                self.reading = Reading::Time;
+                self.layout.own = extent;
+            }
+            (Reading::Time, TokenKind::Word) => {
+                self.reading = Reading::Call;
+                self.layout.own = extent;
+            }
+            (Reading::Time, TokenKind::Symbol) if matches!(token.symbol, b'<' | b'>') => {
+                self.reading = Reading::Packet;
+            }
+            (Reading::Call, _) => {
+                self.layout.own.to = token.to;
+                self.read_in_call(token);
+            }
+            (Reading::Result, TokenKind::Symbol) if token.symbol == b'(' => {
+                self.reading = Reading::Note;
+                self.layout.note = Some(extent);
+            }
+            (Reading::Note, _) => {
+                if let Some(note) = &mut self.layout.note {
+                    note.to = token.to;
+                }
+            }
+            _ => {}
+        }
+    }
+
+    /// Reads a token of a call before its result.
+    fn read_in_call(&mut self, token: &Token<'_>) {
+        let symbol = match token.kind {
+            TokenKind::Symbol => token.symbol,
+            _ => 0,
+        };
+        match symbol {
+            b'(' | b'[' | b'{' => self.depth = self.depth.saturating_add(1),
+            b')' | b']' | b'}' => self.depth = self.depth.saturating_sub(1),
+            b'=' if self.depth == 0 => self.reading = Reading::Result,
+            _ => {}
+        }
+    }
+}

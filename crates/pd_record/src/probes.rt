@@ -1,0 +1,69 @@
+//! What a sender would send or answer next, found on a copy of it.
+ghost use Rattle.std.specs.Prelude.{◌≡◌, ◌<◌, ◌^◌, None, IfOk, IfSome};
+ghost use Rattle.pd_host.specs.Calls.{called};
+ghost use Rattle.pd_host.specs.Expiries.{advanced};
+ghost use Rattle.pd_host.specs.Outcome.{Answers};
+ghost use Rattle.pd_host.specs.Sender.{IsShort, then_on};
+ghost use Rattle.pd_record.specs.Tape.{Finds, answered, next_packet};
+
+use crate::refusals::NotRecorded;
+use pd_host::{Ending, Halt, Host, growth_is_lawful};
+use pd_run::Verdict;
+use pd_script::Call;
+use pd_seg::{Answer, Sent};
+use std::alloc::AllocError;
+
+/// The packet that leaves next: the oldest that stands untaken, else what the next expiry sends, if it comes at a moment.
+///
+/// # Errors
+/// `AllocError` where a growth is refused.
+pub fn next_packet(host: &Host, due: Option<u64>) -> Result<Option<Sent>, AllocError>
+    requires live { host.now.ended ≡ None }
+    requires early { IfSome due (λ at. at < 2 ^ 62) }
+    ensures { IfOk result (λ sent. sent ≡ next_packet host.now.state due) }
+{
+    if let Some(sent) = host.outbox().get(0) {
+        return Ok(Some(sent.copy()?));
+    }
+    let Some(at) = due else {
+        return Ok(None);
+    };
+    let mut ahead = host.copy()?;
+    match ahead.advance(at) {
+        Ok(()) => Ok(ahead.take()),
+        Err(Ending::Halted(_)) => Ok(None),
+        Err(Ending::OutOfMemory) => Err(AllocError),
+    }
+}
+
+/// What a sender answers to a call at a moment, told at a line.
+///
+/// # Errors
+/// `Stopped` where the sender halts, and `OutOfMemory`.
+pub fn answer_of(host: &Host, line: usize, at: u64, call: &Call) -> Result<Answer, NotRecorded>
+    requires live { host.now.ended ≡ None }
+    requires early { at < 2 ^ 62 }
+    requires short { IsShort host.now.state }
+    ensures { Finds (answered line (then_on (called call.now at) (advanced at host.now.state))) result }
+{
+    let mut ahead = host.copy()?;
+    match ask(&mut ahead, call, at) {
+        Ok(answer) => Ok(answer),
+        Err(Ending::Halted(Halt::Unsupported)) => {
+            Err(NotRecorded::Stopped(Verdict::Unsupported(line)))
+        }
+        Err(Ending::Halted(Halt::Limit)) => Err(NotRecorded::Stopped(Verdict::Limit(line))),
+        Err(Ending::OutOfMemory) => Err(NotRecorded::OutOfMemory),
+    }
+}
+
+/// A call is made, after all expiries up to its moment.
+fn ask(host: &mut Host, call: &Call, at: u64) -> Result<Answer, Ending>
+    requires early { at < 2 ^ 62 }
+    requires short { IsShort host.old.state }
+    ensures { Answers host.old (λ s. then_on (called call.now at) (advanced at s)) result host.new }
+{
+    growth_is_lawful();
+    host.advance(at)?;
+    host.call(call, at)
+}

@@ -1,0 +1,407 @@
+//! The run that is recorded, event by event.
+ghost use Rattle.std.specs.Prelude.{◌≡◌, ◌≤◌, ◌<◌, ◌+◌, ◌*◌, ◌^◌, ◌++◌, ◌∷◌, max, [], None, false, nat_le, IfOk, OnOk};
+ghost use Rattle.std.specs.List.{list_any};
+ghost use Rattle.pd_run.specs.Limits.{is_long, written_times};
+ghost use Rattle.pd_run.specs.Step.{tolerance_of};
+ghost use Rattle.pd_run.specs.Times.{moment_of, moments_of, is_in_reach};
+ghost use Rattle.pd_record.specs.Rulings.{ruled_by};
+ghost use Rattle.pd_record.specs.Tape.{Finds, Gives, Goes, IsReached, Sound, acts_at, answer_at, arrives, begun, calls, departs, event_at, expects, inputs, leaves_next, left_by, recorded, refusal_at, ruling_at, stepped, taken, with_base, with_unmet};
+
+use crate::outcomes::outcome_of;
+use crate::probes::{answer_of, next_packet};
+use crate::refusals::NotRecorded;
+use crate::tape::{Own, Recorded, Reply, Standing, Take};
+use crate::times::{base_after, is_backwards, is_in_reach, moment_of};
+use pd_match::{Kind, check_call};
+use pd_print::sent_packet;
+use pd_run::{Plain, RunState, StepEnd, Stepper, Verdict, Why, runs_are_bounded};
+use pd_script::{Action, Call, Event, Header, MAX_EVENTS, Packet, Time};
+use pd_seg::{Answer, Sent};
+use pd_settings::Settings;
+use std::alloc::{AllocError, Global};
+use std::collections::VecDeque;
+use std::marker::Model;
+
+/// The longest span between two recorded events, in microseconds.
+const MAX_GAP: u64 = 3_600_000_000;
+
+/// Records the events of a script one after the other. It takes each step of the recording itself as soon as it is known, so
+/// what was recorded so far always passes.
+#[derive(Drop)]
+pub struct Recorder {
+    /// A run of the same script in which nothing has happened.
+    fresh: RunState,
+    /// The run of what was recorded so far.
+    run: RunState,
+    /// The settings of the run.
+    settings: Settings,
+    /// How many events were recorded.
+    count: usize,
+    /// The moment from which the script's relative times are counted, in microseconds since the start of the run.
+    base: u64,
+    /// The moments of the packets that were recorded and that no expected packet has met, the oldest first.
+    unmet: VecDeque<u64>,
+}
+
+impl Model for Recorder {
+    ghost use Rattle.pd_run.specs.Laws.{IsUnderway};
+    ghost use Rattle.pd_record.specs.Rulings.{ruled_by};
+    ghost use Rattle.pd_record.specs.Tape.{Tape};
+
+    ghost Value = { Tape };
+
+    ghost view = { λ r. record { run = r.run; count = r.count; base = r.base; unmet = r.unmet.items } };
+
+    ghost invariant = { λ r. IsUnderway 0 r.fresh };
+}
+
+impl Recorder {
+    /// Before the first event.
+    ///
+    /// # Errors
+    /// `Stopped` at the first header item that isn't run; `OutOfMemory`.
+    pub fn new(alloc: Global, header: &Header, settings: &Settings) -> Result<Recorder, NotRecorded>
+        ensures begins { Finds (begun header.now.items settings.now) result }
+        ensures sound { IfOk result (λ recorder. Sound recorder) }
+        ensures base { IfOk result (λ recorder. recorder.base ≡ 0) }
+    {
+        runs_are_bounded();
+        let run = match RunState::new(alloc, header, settings) {
+            Ok(run) => run,
+            Err(verdict) => return Err(NotRecorded::Stopped(verdict)),
+        };
+        Ok(Recorder {
+            fresh: run.copy()?,
+            run,
+            settings: *settings,
+            count: 0,
+            base: 0,
+            unmet: VecDeque::new(alloc),
+        })
+    }
+
+    /// How many events were recorded.
+    pub fn count(&self) -> usize
+        ensures { result ≡ self.now.count }
+    {
+        self.count
+    }
+
+    /// The present moment of the recording, in microseconds since the start of the run.
+    pub fn clock(&self) -> u64
+        ensures { result ≡ self.now.run.clock }
+    {
+        self.run.clock()
+    }
+
+    /// Records an event of the script.
+    ///
+    /// # Errors
+    /// `Stopped` where a run stops at the event, whatever it expects; `TooManyEvents`, `TooLongGap` and `OutOfMemory`.
+    pub fn record(&mut self, alloc: Global, event: &Event) -> Result<Take, NotRecorded>
+        requires sound { Sound self.old }
+        requires early { self.old.base < 2 ^ 60 }
+        ensures take { Gives (λ take. take) (recorded self.old event.now) result self.new }
+        ensures sound { OnOk result (Sound self.new) }
+        ensures base { OnOk result (self.new.base ≤ max (self.old.base + 3600000000) (3600000000 * 4097)) }
+    {
+        if let Some(refusal) = self.ruling(event)? {
+            return Err(refusal);
+        }
+        match &event.action {
+            Action::Outbound(_) => self.expect(alloc, event),
+            Action::Inbound(packet) => self.arrive(alloc, event, packet),
+            Action::Call(call) => self.call(alloc, event, call),
+            Action::Command | Action::Code => {
+                Err(NotRecorded::Stopped(Verdict::Unsupported(event.line)))
+            }
+        }
+    }
+
+    /// The checks of a step before anything happens: limits, shapes that aren't run, and times that go backwards.
+    fn ruling(&self, event: &Event) -> Result<Option<NotRecorded>, AllocError>
+        ensures { IfOk result (λ ruling. ruling ≡ ruling_at self.now event.now) }
+    {
+        let reason = self.fresh.why(event)?;
+        Ok(self.ruled_by(event, reason))
+    }
+
+    /// What rules at an event, by the reason why some run stops there.
+    fn ruled_by(&self, event: &Event, reason: Option<Why>) -> Option<NotRecorded>
+        ensures { result ≡ ruled_by self.now event.now reason }
+    {
+        let verdict = match reason {
+            Some(Why::OverLimit) => Verdict::Limit(event.line),
+            Some(Why::NotRun) => Verdict::Unsupported(event.line),
+            _ if is_backwards(self.base, event.time) => Verdict::Fail(event.line, Kind::Backwards),
+            _ => return None,
+        };
+        Some(NotRecorded::Stopped(verdict))
+    }
+
+    /// The moment at which an input acts.
+    fn acts_at(&self, event: &Event) -> u64
+        requires early { self.now.base < 2 ^ 60 }
+        requires short { list_any is_long (written_times event.now.time) ≡ false }
+        ensures { result ≡ acts_at self.now event.now }
+    {
+        moment_of(self.base, event.time).max(self.run.clock())
+    }
+
+    /// A packet arrives.
+    fn arrive(&mut self, alloc: Global, event: &Event, packet: &Packet) -> Result<Take, NotRecorded>
+        requires sound { Sound self.old }
+        requires early { self.old.base < 2 ^ 60 }
+        requires short { list_any is_long (written_times event.now.time) ≡ false }
+        ensures take { Gives (λ take. take) (inputs (arrives event.now.line (acts_at self.old event.now) packet.now) self.old event.now) result self.new }
+        ensures sound { OnOk result (Sound self.new) }
+        ensures base { OnOk result (self.new.base ≡ moment_of self.old.base event.now.time) }
+    {
+        let at = self.acts_at(event);
+        let before = self.record_left(alloc, event.line, at)?;
+        let recorded = self.take(event.line, at, Action::Inbound(packet.copy()?))?;
+        self.base = moment_of(self.base, event.time);
+        Ok(Take {
+            before,
+            own: Some(Own {
+                recorded,
+                reply: None,
+            }),
+        })
+    }
+
+    /// A call is made.
+    fn call(&mut self, alloc: Global, event: &Event, call: &Call) -> Result<Take, NotRecorded>
+        requires sound { Sound self.old }
+        requires early { self.old.base < 2 ^ 60 }
+        requires short { list_any is_long (written_times event.now.time) ≡ false }
+        ensures take { Gives (λ take. take) (inputs (calls event.now.line (acts_at self.old event.now) call.now) self.old event.now) result self.new }
+        ensures sound { OnOk result (Sound self.new) }
+        ensures base { OnOk result (self.new.base ≡ moment_of self.old.base event.now.time) }
+    {
+        let at = self.acts_at(event);
+        let before = self.record_left(alloc, event.line, at)?;
+        let own = self.record_call(event.line, at, call)?;
+        self.base = moment_of(self.base, event.time);
+        Ok(Take {
+            before,
+            own: Some(own),
+        })
+    }
+
+    /// Records what left and what the expiries up to a moment send, one by one.
+    ///
+    /// # Errors
+    /// `Stopped`, `TooManyEvents`, `TooLongGap` and `OutOfMemory`.
+    pub fn record_left(
+        &mut self,
+        alloc: Global,
+        line: usize,
+        until: u64,
+    ) -> Result<Vec<Recorded>, NotRecorded>
+        requires sound { Sound self.old }
+        requires early { until < 2 ^ 61 }
+        ensures packets { Gives (λ packets. packets.items) (left_by line until self.old) result self.new }
+        ensures sound { OnOk result (Sound self.new) }
+        ensures base { OnOk result (self.new.base ≡ self.old.base) }
+    {
+        let mut before = Vec::new(alloc);
+        'packets: for _ in 0..MAX_EVENTS {
+            let Some(sent) = self.next_by(until)? else {
+                return Ok(before);
+            };
+            let recorded = self.leave(alloc, line, &sent)?;
+            keep(&mut before, recorded)?;
+            self.keep_unmet(sent.at)?;
+        }
+        Err(NotRecorded::TooManyEvents)
+    }
+
+    /// The packet that leaves next, if it stands untaken, or an expiry up to a moment sends it.
+    fn next_by(&self, until: u64) -> Result<Option<Sent>, AllocError>
+        requires sound { Sound self.now }
+        ensures { IfOk result (λ sent. sent ≡ leaves_next (λ due. nat_le due until) self.now.run) }
+    {
+        let due = match self.run.host().deadline() {
+            Some(due) if due <= until => Some(due),
+            _ => None,
+        };
+        next_packet(self.run.host(), due)
+    }
+
+    /// The packet that leaves next, if it stands untaken, or an expiry that may come in time for an expected one sends it.
+    fn next_in_reach(&self, event: &Event) -> Result<Option<Sent>, AllocError>
+        requires sound { Sound self.now }
+        requires early { self.now.base < 2 ^ 60 }
+        requires short { list_any is_long (written_times event.now.time) ≡ false }
+        ensures { IfOk result (λ sent. sent ≡ leaves_next (is_in_reach (moments_of self.now.base event.now.time) (tolerance_of self.now.run)) self.now.run) }
+    {
+        let due = match self.run.host().deadline() {
+            Some(due) if is_in_reach(self.base, event.time, self.run.tolerance(), due) => Some(due),
+            _ => None,
+        };
+        next_packet(self.run.host(), due)
+    }
+
+    /// A packet was recorded that no expected packet has met.
+    fn keep_unmet(&mut self, at: u64) -> Result<(), AllocError>
+        ensures { OnOk result (self.new ≡ with_unmet self.old at) }
+    {
+        self.unmet.push_back(at)?;
+        Ok(())
+    }
+
+    /// Makes a call, and records it with what the sender answers.
+    fn record_call(&mut self, line: usize, at: u64, call: &Call) -> Result<Own, NotRecorded>
+        requires sound { Sound self.old }
+        requires early { at < 2 ^ 61 }
+        ensures own { Gives (λ own. own) (calls line at call.now self.old) result self.new }
+        ensures sound { OnOk result (Sound self.new) }
+        ensures base { OnOk result (self.new.base ≡ self.old.base) }
+    {
+        let answer = self.answer_at(line, at, call)?;
+        let mut answered = call.copy()?;
+        answered.result = outcome_of(answer);
+        let recorded = self.take(line, at, Action::Call(answered))?;
+        Ok(Own {
+            recorded,
+            reply: Some(Reply {
+                answer,
+                is_written: check_call(call, &answer).is_none(),
+            }),
+        })
+    }
+
+    /// What the sender answers to a call at a moment.
+    fn answer_at(&self, line: usize, at: u64, call: &Call) -> Result<Answer, NotRecorded>
+        requires sound { Sound self.now }
+        requires early { at < 2 ^ 61 }
+        ensures { Finds (answer_at self.now line at call.now) result }
+    {
+        match self.refusal_at(at) {
+            Some(refusal) => Err(refusal),
+            None => answer_of(self.run.host(), line, at, call),
+        }
+    }
+
+    /// An expected packet meets the oldest that none met before: one that was recorded, else the one that leaves next.
+    fn expect(&mut self, alloc: Global, event: &Event) -> Result<Take, NotRecorded>
+        requires sound { Sound self.old }
+        requires early { self.old.base < 2 ^ 60 }
+        requires short { list_any is_long (written_times event.now.time) ≡ false }
+        ensures take { Gives (λ take. take) (expects self.old event.now) result self.new }
+        ensures sound { OnOk result (Sound self.new) }
+        ensures base { OnOk result (self.new.base ≤ max (self.old.base + 3600000000) (3600000000 * 4097)) }
+    {
+        if let Some(at) = self.unmet.pop_front() {
+            self.base = base_after(self.base, event.time, at);
+            return Ok(nothing(alloc));
+        }
+        let Some(sent) = self.next_in_reach(event)? else {
+            self.base = base_after(self.base, event.time, self.base);
+            return Ok(nothing(alloc));
+        };
+        let recorded = self.leave(alloc, event.line, &sent)?;
+        self.base = base_after(self.base, event.time, sent.at);
+        Ok(Take {
+            before: Vec::new(alloc),
+            own: Some(Own {
+                recorded,
+                reply: None,
+            }),
+        })
+    }
+
+    /// Records a packet as it left.
+    fn leave(&mut self, alloc: Global, line: usize, sent: &Sent) -> Result<Recorded, NotRecorded>
+        requires sound { Sound self.old }
+        ensures packet { Gives (λ recorded. recorded) (departs self.old line sent.now) result self.new }
+        ensures sound { OnOk result (Sound self.new) }
+        ensures reached { OnOk result (IsReached sent.now.at) }
+        ensures same { OnOk result (self.new.unmet ≡ self.old.unmet) }
+        ensures base { OnOk result (self.new.base ≡ self.old.base) }
+    {
+        let packet = sent_packet(alloc, &sent.segment)?;
+        self.take(line, sent.at, Action::Outbound(packet))
+    }
+
+    /// Records what happens at a moment, and takes its step.
+    fn take(&mut self, line: usize, at: u64, action: Action) -> Result<Recorded, NotRecorded>
+        requires sound { Sound self.old }
+        ensures event { Gives (λ recorded. recorded) (taken self.old line at action) result self.new }
+        ensures sound { OnOk result (Sound self.new) }
+        ensures reached { OnOk result (IsReached at) }
+        ensures same { OnOk result (self.new.unmet ≡ self.old.unmet) }
+        ensures base { OnOk result (self.new.base ≡ self.old.base) }
+    {
+        if let Some(refusal) = self.refusal_at(at) {
+            return Err(refusal);
+        }
+        let event = self.event_at(line, at, action);
+        self.step(&event)?;
+        Ok(Recorded {
+            event,
+            at,
+            standing: Standing::of(self.run.host()),
+        })
+    }
+
+    /// Takes the step of a recorded event.
+    fn step(&mut self, event: &Event) -> Result<(), NotRecorded>
+        requires sound { Sound self.old }
+        requires few { self.old.count < 4096 }
+        ensures step { Goes (stepped self.old event.now) result self.new }
+        ensures sound { OnOk result (Sound self.new) }
+    {
+        runs_are_bounded();
+        match Plain::new().step(&mut self.run, event, &self.settings)? {
+            StepEnd::Go => {}
+            StepEnd::Stop(verdict) => return Err(NotRecorded::Stopped(verdict)),
+        }
+        self.count += 1;
+        Ok(())
+    }
+
+    /// Why nothing is recorded at a moment, if there is a reason.
+    fn refusal_at(&self, at: u64) -> Option<NotRecorded>
+        ensures { result ≡ refusal_at self.now at }
+    {
+        if self.count >= MAX_EVENTS {
+            Some(NotRecorded::TooManyEvents)
+        } else if at.saturating_sub(self.run.base()) > MAX_GAP {
+            Some(NotRecorded::TooLongGap)
+        } else {
+            None
+        }
+    }
+
+    /// An event of the recording, which stops at a line of the script.
+    fn event_at(&self, line: usize, at: u64, action: Action) -> Event
+        ensures { result ≡ event_at self.now line at action }
+    {
+        Event {
+            line,
+            time: Time::Relative(at.saturating_sub(self.run.base())),
+            until: None,
+            action,
+        }
+    }
+}
+
+/// An event that records nothing.
+fn nothing(alloc: Global) -> Take
+    ensures before { result.before ≡ [] }
+    ensures own { result.own ≡ None }
+{
+    Take {
+        before: Vec::new(alloc),
+        own: None,
+    }
+}
+
+fn keep(list: &mut Vec<Recorded>, recorded: Recorded) -> Result<(), AllocError>
+    ensures { OnOk result (list.new.items ≡ list.old.items ++ recorded ∷ []) }
+{
+    list.push(recorded)?;
+    Ok(())
+}

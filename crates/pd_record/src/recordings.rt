@@ -1,0 +1,25 @@
+//! Recordings as texts.
+use crate::tape::Standing;
+use pd_text::Lines;
+
+/// A recording: the text of a script that passes.
+#[derive(Drop)]
+pub struct Recording {
+    /// Its lines.
+    pub lines: Lines,
+    /// How many events it has.
+    pub events: usize,
+    /// What a trace tells of each of its events, in order.
+    pub marks: Vec<Mark>,
+}
+
+/// What a trace tells of an event.
+#[derive(Clone, Copy)]
+pub struct Mark {
+    /// How many lines stand up to the event's end.
+    pub lines: usize,
+    /// The event's moment, in microseconds since the start of the run.
+    pub at: u64,
+    /// The sender after the input or expiry that the event belongs to.
+    pub standing: Standing,
+}

@@ -1,0 +1,156 @@
+//! The lines of a trace, which tell of events when they happened and how the sender stood then.
+ghost use Rattle.std.specs.Prelude.{◌≡◌, ◌<◌, length, IfSome};
+ghost use Rattle.pd_record.specs.Traces.{is_trace, are_told_at, is_standing_at, blank_at, is_moment, is_fraction, are_digits, is_state, is_fact, is_octets, is_count, is_course, are_facts, is_told, is_value, are_letters};
+
+/// What a line of a trace begins with.
+const OPENING: &[u8] = b"//= at ";
+
+/// Whether a line is one of a trace: `//= at`, seconds with six decimals, the name of a state, and facts, each with a
+/// colon and its value, with one blank before each word.
+pub fn is_trace(line: &[u8]) -> bool
+    ensures { result ≡ is_trace line.now }
+{
+    match line.strip_prefix(OPENING) {
+        Some(told) => are_told(told),
+        None => false,
+    }
+}
+
+/// Whether these are a moment, a state and facts.
+fn are_told(words: &[u8]) -> bool
+    ensures { result ≡ are_told_at (blank_at words.now) words.now }
+{
+    match blank_at(words) {
+        Some(at) => is_moment(&words[..at]) && is_standing(&words[at + 1..]),
+        None => false,
+    }
+}
+
+/// Whether these are a state and facts.
+fn is_standing(words: &[u8]) -> bool
+    ensures { result ≡ is_standing_at (blank_at words.now) words.now }
+{
+    match blank_at(words) {
+        Some(at) => is_state(&words[..at]) && are_facts(&words[at + 1..]),
+        None => is_state(words),
+    }
+}
+
+/// Whether these are facts, parted by single blanks.
+fn are_facts(words: &[u8]) -> bool
+    ensures { result ≡ are_facts words.now }
+{
+    words
+        .split(|octet| *octet == b' ')
+        .all(|word| is_fact(word))
+}
+
+/// Where the first blank stands.
+fn blank_at(octets: &[u8]) -> Option<usize>
+    ensures place { result ≡ blank_at octets.now }
+    ensures within { IfSome result (λ at. at < length octets.now) }
+{
+    octets.iter().position(|octet| *octet == b' ')
+}
+
+/// Whether a word is seconds with six decimals.
+fn is_moment(word: &[u8]) -> bool
+    ensures { result ≡ is_moment word.now }
+{
+    let point = word.len().saturating_sub(7);
+    point > 0 && are_digits(&word[..point]) && is_fraction(&word[point..])
+}
+
+/// Whether a word is a point and digits.
+fn is_fraction(word: &[u8]) -> bool
+    ensures { result ≡ is_fraction word.now }
+{
+    match word {
+        [b'.', digits @ ..] => are_digits(digits),
+        _ => false,
+    }
+}
+
+fn are_digits(word: &[u8]) -> bool
+    ensures { result ≡ are_digits word.now }
+{
+    word.iter().all(|octet| octet.is_ascii_digit())
+}
+
+/// Whether a word is the name of a state.
+fn is_state(word: &[u8]) -> bool
+    ensures { result ≡ is_state word.now }
+{
+    word == b"CLOSED".as_slice()
+        || word == b"LISTEN".as_slice()
+        || word == b"SYN-RECEIVED".as_slice()
+        || word == b"ESTABLISHED".as_slice()
+        || word == b"FIN-WAIT-1".as_slice()
+        || word == b"FIN-WAIT-2".as_slice()
+        || word == b"CLOSE-WAIT".as_slice()
+        || word == b"CLOSING".as_slice()
+        || word == b"LAST-ACK".as_slice()
+        || word == b"TIME-WAIT".as_slice()
+}
+
+/// Whether a word is the name of a fact, a colon and a value.
+fn is_fact(word: &[u8]) -> bool
+    ensures { result ≡ is_fact word.now }
+{
+    is_octets(word) || is_count(word) || is_course(word)
+}
+
+/// Whether a word is the name of an octet number or a window, a colon and a value.
+fn is_octets(word: &[u8]) -> bool
+    ensures { result ≡ is_octets word.now }
+{
+    is_told(word, b"una:")
+        || is_told(word, b"next:")
+        || is_told(word, b"top:")
+        || is_told(word, b"end:")
+        || is_told(word, b"cwnd:")
+        || is_told(word, b"ssthresh:")
+        || is_told(word, b"rwnd:")
+}
+
+/// Whether a word is the name of a count, a colon and a value.
+fn is_count(word: &[u8]) -> bool
+    ensures { result ≡ is_count word.now }
+{
+    is_told(word, b"FlightSize:") || is_told(word, b"pipe:") || is_told(word, b"DupAcks:")
+}
+
+/// Whether a word is the name of another fact, a colon and a value.
+fn is_course(word: &[u8]) -> bool
+    ensures { result ≡ is_course word.now }
+{
+    is_told(word, b"connection:")
+        || is_told(word, b"RTO:")
+        || is_told(word, b"expiry:")
+        || is_told(word, b"recovery:")
+}
+
+/// Whether a word is this name and a value.
+fn is_told(word: &[u8], name: &[u8]) -> bool
+    ensures { result ≡ is_told word.now name.now }
+{
+    match word.strip_prefix(name) {
+        Some(value) => is_value(value),
+        None => false,
+    }
+}
+
+/// Whether a word is letters, digits and points, at least one.
+fn is_value(word: &[u8]) -> bool
+    ensures { result ≡ is_value word.now }
+{
+    word.len() > 0 && are_letters(word)
+}
+
+/// Whether a word is letters, digits and points.
+fn are_letters(word: &[u8]) -> bool
+    ensures { result ≡ are_letters word.now }
+{
+    word.iter()
+        .all(|octet| octet.is_ascii_alphanumeric() || *octet == b'.')
+}

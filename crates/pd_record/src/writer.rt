@@ -1,0 +1,213 @@
+//! Puts a recording into lines.
+ghost use Rattle.std.specs.Prelude.{◌≡◌};
+ghost use Rattle.pd_text.specs.Text.{is_line};
+
+use crate::extents::{Extent, put_extent};
+use crate::gaps::Piece;
+use crate::layouts::Layout;
+use crate::recordings::{Mark, Recording};
+use crate::refusals::NotRecorded;
+use crate::tape::{Own, Recorded, Reply};
+use crate::traces::is_trace;
+use pd_print::{Direction, write_answer, write_event, write_time};
+use pd_script::{Action, Time};
+use pd_text::{LineList, Lines, MAX_OCTETS};
+use std::alloc::{AllocError, Global};
+
+/// Writes the lines of a recording.
+#[derive(Drop)]
+pub struct Writer<'a> {
+    alloc: Global,
+    /// The text that is recorded.
+    source: &'a Lines,
+    /// The lines so far.
+    list: LineList,
+    /// The octets of the line or lines that are being written.
+    line: Vec<u8>,
+    /// What a trace tells of each event so far.
+    marks: Vec<Mark>,
+}
+
+impl<'a> Writer<'a> {
+    /// Before the first line of the recording of a text.
+    pub fn new(alloc: Global, source: &'a Lines) -> Writer<'a> {
+        Writer {
+            alloc,
+            source,
+            list: LineList::new(alloc),
+            line: Vec::new(alloc),
+            marks: Vec::new(alloc),
+        }
+    }
+
+    /// Writes comments and blank lines, on lines of their own.
+    ///
+    /// # Errors
+    /// `TooLarge` and `OutOfMemory`.
+    pub fn put_pieces(&mut self, pieces: &[Piece]) -> Result<(), NotRecorded> {
+        for piece in pieces {
+            if let Piece::Comment(extent) = piece {
+                self.put_comment(*extent)?;
+            }
+            self.end_line()?;
+        }
+        Ok(())
+    }
+
+    /// Writes a header item.
+    ///
+    /// # Errors
+    /// `TooLarge` and `OutOfMemory`.
+    pub fn put_item(&mut self, layout: &Layout) -> Result<(), NotRecorded> {
+        self.put_pieces(&layout.lead)?;
+        put_extent(&mut self.line, self.source, layout.own)?;
+        self.put_trail(&layout.trail)?;
+        self.end_line()
+    }
+
+    /// Writes the comments of an event that records nothing.
+    ///
+    /// # Errors
+    /// `TooLarge` and `OutOfMemory`.
+    pub fn put_nothing(&mut self, layout: &Layout) -> Result<(), NotRecorded> {
+        self.put_pieces(&layout.lead)?;
+        self.put_pieces(&layout.trail)
+    }
+
+    /// Writes what is recorded in the place of an event.
+    ///
+    /// # Errors
+    /// `TooLarge` and `OutOfMemory`.
+    pub fn put_own(&mut self, layout: &Layout, own: &Own) -> Result<(), NotRecorded> {
+        self.put_pieces(&layout.lead)?;
+        match own.reply {
+            None => self.put_moved(&own.recorded)?,
+            Some(reply) => self.put_call(layout, own.recorded.event.time, reply)?,
+        }
+        self.put_trail(&layout.trail)?;
+        self.end_event(&own.recorded)
+    }
+
+    /// Writes a packet that left before an input.
+    ///
+    /// # Errors
+    /// `TooLarge` and `OutOfMemory`.
+    pub fn put_packet(&mut self, recorded: &Recorded) -> Result<(), NotRecorded> {
+        self.put_moved(recorded)?;
+        self.end_event(recorded)
+    }
+
+    /// The recording, which has so many events.
+    ///
+    /// # Errors
+    /// `TooLarge` where it has too many lines or octets.
+    pub fn finish(self, events: usize) -> Result<Recording, NotRecorded> {
+        let Writer { list, marks, .. } = self;
+        match Lines::new(list) {
+            Ok(lines) => Ok(Recording {
+                lines,
+                events,
+                marks,
+            }),
+            Err(_) => Err(NotRecorded::TooLarge),
+        }
+    }
+
+    /// Adds an event in which a packet arrives or leaves.
+    fn put_moved(&mut self, recorded: &Recorded) -> Result<(), NotRecorded> {
+        let time = recorded.event.time;
+        let text = match &recorded.event.action {
+            Action::Inbound(packet) => write_event(self.alloc, time, Direction::Inbound, packet)?,
+            Action::Outbound(packet) => write_event(self.alloc, time, Direction::Outbound, packet)?,
+            Action::Call(_) | Action::Command | Action::Code => Vec::new(self.alloc),
+        };
+        self.line.extend_from_slice(&text)?;
+        Ok(())
+    }
+
+    /// Adds a call: its time, its octets up to `=`, what the sender answers, and its note if that is the written result. If not,
+    /// the comments of the note come before the call.
+    fn put_call(&mut self, layout: &Layout, time: Time, reply: Reply) -> Result<(), NotRecorded> {
+        if !reply.is_written {
+            self.put_pieces(&layout.noted)?;
+        }
+        self.line.extend_from_slice(&write_time(self.alloc, time)?)?;
+        self.line.extend_from_slice(b" ")?;
+        put_extent(&mut self.line, self.source, layout.own)?;
+        self.line.extend_from_slice(b" ")?;
+        self.line
+            .extend_from_slice(&write_answer(self.alloc, reply.answer)?)?;
+        if let Some(note) = layout.note {
+            if reply.is_written {
+                self.line.extend_from_slice(b" ")?;
+                put_extent(&mut self.line, self.source, note)?;
+            }
+        }
+        Ok(())
+    }
+
+    /// Adds the comments that stay on the line of an event.
+    fn put_trail(&mut self, trail: &[Piece]) -> Result<(), NotRecorded> {
+        for piece in trail {
+            if let Piece::Comment(extent) = piece {
+                self.line.extend_from_slice(b" ")?;
+                put_extent(&mut self.line, self.source, *extent)?;
+            }
+        }
+        Ok(())
+    }
+
+    /// Adds a comment that stands alone; one that looks like a line of a trace keeps a blank before it.
+    fn put_comment(&mut self, extent: Extent) -> Result<(), NotRecorded> {
+        let mut comment = Vec::new(self.alloc);
+        put_extent(&mut comment, self.source, extent)?;
+        if is_trace(&comment) {
+            self.line.extend_from_slice(b" ")?;
+        }
+        self.line.extend_from_slice(&comment)?;
+        Ok(())
+    }
+
+    /// Ends the line of an event.
+    fn end_event(&mut self, recorded: &Recorded) -> Result<(), NotRecorded> {
+        self.end_line()?;
+        self.mark(recorded)?;
+        Ok(())
+    }
+
+    /// Marks the event whose line was ended.
+    fn mark(&mut self, recorded: &Recorded) -> Result<(), AllocError> {
+        self.marks.push(Mark {
+            lines: self.list.len(),
+            at: recorded.at,
+            standing: recorded.standing,
+        })?;
+        Ok(())
+    }
+
+    /// Ends a line.
+    fn end_line(&mut self) -> Result<(), NotRecorded> {
+        for line in self.line.split(|octet| *octet == b'\n') {
+            push_line(&mut self.list, line)?;
+        }
+        self.line.clear();
+        if self.list.octets() > MAX_OCTETS {
+            return Err(NotRecorded::TooLarge);
+        }
+        Ok(())
+    }
+}
+
+/// Adds a line, of which none has a newline.
+fn push_line(list: &mut LineList, line: &[u8]) -> Result<(), AllocError> {
+    if is_line(line) {
+        list.push(line)?;
+    }
+    Ok(())
+}
+
+fn is_line(octets: &[u8]) -> bool
+    ensures { result ≡ is_line octets.now }
+{
+    octets.iter().all(|octet| *octet != b'\n')
+}

@@ -1,0 +1,5 @@
+-- The lemmas of the proofs.
+mod Gathering
+mod Joining
+mod Memory
+mod Words

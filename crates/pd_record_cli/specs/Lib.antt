@@ -1,0 +1,5 @@
+-- The definitions of the program that records.
+pub mod RecordProgram
+pub mod RecordWords
+pub mod ScriptInput
+pub mod Written

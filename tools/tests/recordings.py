@@ -1,0 +1,254 @@
+#!/usr/bin/env -S python3 -I
+"""Records scripts and tests what holds of every recording: it passes, and recording it again gives the same octets.
+
+    recordings.py PDRECORD PDREGRESS [COUNT]
+
+The scripts are those of crates/pd_cases/data and COUNT random ones (200 if no number is given). Prints a line for each
+test that fails and `N passed, M failed` last. The two programs are paths of built ones.
+"""
+
+import random
+import re
+import subprocess
+import sys
+from collections.abc import Iterator
+from dataclasses import dataclass, replace
+from pathlib import Path
+
+DATA = Path(__file__).resolve().parents[2] / "crates" / "pd_cases" / "data"
+TRACE = re.compile(rb"//= at (\d+\.\d{6}) [A-Z]")
+MAX_SCRIPTS = 500
+
+
+@dataclass(frozen=True)
+class Script:
+    """A script with its settings; `name` says where it comes from."""
+
+    name: str
+    settings: str
+    text: bytes
+
+
+@dataclass(frozen=True)
+class Recorded:
+    """A script and its recording, with a trace and without."""
+
+    script: Script
+    text: bytes
+    trace: bytes
+
+    @property
+    def events(self) -> int:
+        """How many events the recording has: one line of a trace each."""
+        return sum(1 for line in self.trace.split(b"\n") if TRACE.match(line))
+
+
+def octets(text: str) -> bytes:
+    """The octets that a row of a table of cases writes."""
+    while (found := re.search(r"\\<(\d+) (.*?)\\>", text)) is not None:
+        again = found[2] * int(found[1])
+        text = text[: found.start()] + again + text[found.end() :]
+    short = {"n": b"\n", "r": b"\r", "t": b"\t", "\\": b"\\"}
+
+    def octet(found: re.Match[bytes]) -> bytes:
+        word = found[1].decode()
+        return short[word] if word in short else bytes([int(word[1:], 16)])
+
+    return re.sub(rb"\\(x[0-9a-fA-F]{2}|[nrt\\])", octet, text.encode())
+
+
+def openings() -> dict[str, bytes]:
+    """The openings that tables put before their scripts, each line ended by a newline."""
+    found: dict[str, bytes] = {}
+    name = ""
+    for file in sorted(DATA.glob("*.cases"), key=lambda file: (file.name != "openings.cases", file)):
+        for line in file.read_text().splitlines():
+            if table := re.match(r"\[([^]]*)\] (?:opening(?: behind (\w+))?$)?", line):
+                name = table[1]
+                found[name] = found[table[2]] if table[2] else b""
+            elif line.startswith("< "):
+                found[name] += octets(line[2:]) + b"\n"
+    return found
+
+
+def settings_of(words: str) -> tuple[str, list[str]]:
+    """The settings text and the header options of a row."""
+    settings, options = [], []
+    for word in filter(None, words.split(", ")):
+        if word.startswith("-"):
+            options.append(word)
+        else:
+            key, value = word.split(" ", 1)
+            plain = re.fullmatch(r"\d+|true|false", value)
+            settings.append(f"{key} = {value}" if plain else f'{key} = "{value}"')
+    return "\n".join(settings), options
+
+
+def cases() -> Iterator[Script]:
+    """The scripts of the tables of cases."""
+    before = openings()
+    for file in sorted(DATA.glob("*.cases")):
+        opening, is_scripts = b"", False
+        for number, line in enumerate(file.read_text().splitlines(), 1):
+            if table := re.match(r"\[[^]]*\] (.*)", line):
+                kind = re.fullmatch(r"scripts(?: behind (\w+))?", table[1])
+                is_scripts = kind is not None
+                opening = before[kind[1]] if kind and kind[1] else b""
+            elif is_scripts and (
+                row := re.match(r"(?:pass|fail|syntax|unsupported|limit) [^:]*?(?: under ([^:]*))?: ?(.*)", line)
+            ):
+                settings, options = settings_of(row[1] or "")
+                head = "".join(option + "\n" for option in options).encode()
+                yield Script(f"{file.name}:{number}", settings, head + opening + octets(row[2]))
+
+
+SETUP = b"""0 socket(..., SOCK_STREAM, IPPROTO_TCP) = 3
++0 bind(3, ..., ...) = 0
++0 listen(3, 1) = 0
++0.1 < S 0:0(0) win 32792 <mss 1000,sackOK,nop,nop,nop,wscale 7>
++0 > S. 0:0(0) ack 1 <...>
++0.1 < . 1:1(0) ack 1 win 257
++0 accept(3, ..., ...) = 4
+"""
+
+
+# What may stand after a random event: mostly the end of its line.
+ENDS = ["\n"] * 8 + [" ", " // a\n", " /* b */\n", "\n\n", "\n// c\n", "/* d\n e */", "\n  \n//= f\n"]
+
+
+def random_event(dice: random.Random, top: list[int]) -> str:
+    """An event that may follow a handshake, near what was written so far."""
+    time = dice.choice(["+0", "+0.1", "+0.25", "+1", "+3.5", "+0.000001"])
+    kind = dice.randrange(10)
+    if kind < 3:
+        count = dice.choice([0, 1, 10, 500, 1000, 2500, 10000])
+        top[0] += count
+        return f"{time} write(4, ..., {count}) = {dice.choice([count, 1])}"
+    if kind < 6:
+        ack = dice.randrange(1, top[0] + 2)
+        blocks = ""
+        if dice.random() < 0.4:
+            left = dice.randrange(1, top[0] + 1)
+            blocks = f" <nop,nop,sack {left}:{left + dice.choice([1, 1000, 2000])}>"
+        return f"{time} < . 1:1(0) ack {ack} win {dice.choice([0, 1, 8, 257, 2000])}{blocks}"
+    if kind == 6:
+        choices = ["close(4) = 0", "setsockopt(4, SOL_TCP, TCP_NODELAY, [1], 4) = 0", "write(5, ..., 1) = 1"]
+        return f"{time} {dice.choice(choices)}"
+    if kind == 7 and dice.random() < 0.2:
+        return f"{time} < {dice.choice(['F.', 'R.'])} 1:1(0) ack {top[0]} win 257"
+    seen = dice.choice(["*", "+0~+2", "+0", "+1", "+0.2~+0.4", "+9"])
+    return f"{seen} > P. 1:1001(1000) ack 1"
+
+
+def random_scripts(count: int) -> Iterator[Script]:
+    """Scripts with random events after a handshake, some with comments, several events on a line and blank lines."""
+    for seed in range(count):
+        dice = random.Random(seed)
+        top = [1]
+        parts = [SETUP.decode()]
+        for _ in range(dice.randrange(1, 25)):
+            parts.append(random_event(dice, top))
+            parts.append(dice.choice(ENDS))
+        settings = dice.choice(["", "", "sack = false", "tolerance_us = 0", "min_rto_us = 200000", "mss = 536"])
+        yield Script(f"random:{seed}", settings, "".join(parts).encode())
+
+
+class Programs:
+    """The two programs."""
+
+    def __init__(self, pdrecord: str, pdregress: str) -> None:
+        self.pdrecord = pdrecord
+        self.pdregress = pdregress
+
+    def record(self, script: Script, *words: str) -> tuple[int, bytes, bytes]:
+        """The status, the recording and what is said."""
+        chosen = [self.pdrecord, "--settings", script.settings, *words]
+        done = subprocess.run(chosen, input=script.text, capture_output=True, check=False)
+        return done.returncode, done.stdout, done.stderr
+
+    def verdicts(self, settings: str, texts: list[bytes]) -> list[bytes]:
+        """The verdicts of texts."""
+        commands = b""
+        for number, text in enumerate(texts):
+            lines = text.split(b"\n")[:-1] if text.endswith(b"\n") else text.split(b"\n")
+            commands += b"add s%d %d\n" % (number, len(lines)) + b"".join(line + b"\n" for line in lines)
+        done = subprocess.run(
+            [self.pdregress, "--settings", settings], input=commands, capture_output=True, check=False
+        )
+        rows = done.stdout.split(b"\n")
+        return [row.split(b" ", 1)[1] for row in rows if row.startswith(b"s")]
+
+
+def without_trace(text: bytes) -> bytes:
+    """A trace without its lines."""
+    return b"".join(line for line in text.splitlines(keepends=True) if not TRACE.match(line))
+
+
+def refusal_faults(programs: Programs, script: Script, status: int, said: bytes) -> Iterator[str]:
+    """What is wrong about a refusal: it has to be the row, unless that is about what the script expects."""
+    row = programs.verdicts(script.settings, [script.text])
+    words = said.removeprefix(b"pdrecord: ").rstrip(b"\n")
+    if status != 1:
+        yield f"status {status}: {said!r}"
+    elif row and not row[0].startswith((b"pass", b"fail")) and row[0] != words:
+        yield f"refused by {words!r}, where the row is {row[0]!r}"
+
+
+def again_faults(programs: Programs, done: Recorded) -> Iterator[str]:
+    """What is wrong about recording a recording."""
+    again = replace(done.script, text=done.text)
+    if programs.record(again) != (0, done.text, b""):
+        yield "another recording of the recording"
+    traced = replace(done.script, text=done.trace)
+    if programs.record(traced, "--trace") != (0, done.trace, b""):
+        yield "another trace of the trace"
+    if without_trace(done.trace) != done.text:
+        yield "a trace that isn't the recording"
+
+
+def check(programs: Programs, scripts: list[Script]) -> tuple[int, int]:
+    """Tests scripts and tells of each that fails; how many pass and fail."""
+    passed = failed = 0
+    kept: dict[str, list[Recorded]] = {}
+    refused = 0
+    for script in scripts:
+        status, text, said = programs.record(script)
+        faults = []
+        if status != 0:
+            refused += 1
+            faults = list(refusal_faults(programs, script, status, said))
+        else:
+            done = Recorded(script, text, programs.record(script, "--trace")[1])
+            faults = list(again_faults(programs, done))
+            kept.setdefault(script.settings, []).append(done)
+        for fault in faults:
+            print(f"FAILED {script.name}: {fault}")
+        passed, failed = passed + (not faults), failed + bool(faults)
+    for settings, group in kept.items():
+        for start in range(0, len(group), MAX_SCRIPTS):
+            part = group[start : start + MAX_SCRIPTS]
+            rows = programs.verdicts(settings, [done.text for done in part])
+            for done, row in zip(part, rows, strict=True):
+                if row == b"pass %d" % done.events:
+                    passed += 1
+                else:
+                    print(f"FAILED {done.script.name}: {row.decode()}, with {done.events} events")
+                    failed += 1
+    print(f"{len(scripts) - refused} scripts recorded, {refused} not")
+    return passed, failed
+
+
+def main(words: list[str]) -> int:
+    """Runs the tests."""
+    if len(words) not in (2, 3):
+        print(__doc__, file=sys.stderr)
+        return 2
+    programs = Programs(words[0], words[1])
+    count = int(words[2]) if len(words) == 3 else 200
+    passed, failed = check(programs, [*cases(), *random_scripts(count)])
+    print(f"{passed} passed, {failed} failed")
+    return 1 if failed else 0
+
+
+if __name__ == "__main__":
+    sys.exit(main(sys.argv[1:]))
