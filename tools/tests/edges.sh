@@ -1,6 +1,7 @@
 #!/bin/sh
 # Tests of tools/add_scripts.sh on files that can't be added, and of ./pdregress, ./pdsteps and ./pdexplain called through
-# links, in a copy whose programs say their names. Prints a line for each, and `N passed, M failed` last.
+# links, in a copy whose programs say their names; and whether tools/random_lists.py makes the rows that are stored. Prints
+# a line for each, and `N passed, M failed` last.
 set -eu
 top=$(cd "$(dirname "$0")/../.." && pwd)
 work=$(mktemp -d)
@@ -135,7 +136,13 @@ test_links() {
     expect folders-to-search "$(printf 'pdregress \nstatus 0')" in_folder "$work" env CDPATH="$work/far:/" tree/pdregress
 }
 
+# The rows that are stored are those that the tool makes, and no others.
+test_random_lists() {
+    expect random-lists "status 0" sh -c "'$top/tools/random_lists.py' | cmp - '$top/crates/pd_book_trials/data/random_lists.txt'"
+}
+
 test_adding
 test_links
+test_random_lists
 echo "$passed passed, $failed failed"
 [ "$failed" -eq 0 ]
