@@ -35,7 +35,11 @@ pub fn job(tasks: &mut Vec<Task>, number: u64) -> Option<&mut Task> {
     tasks.get_mut((number as usize).wrapping_sub(1))
 }
 
+/// Starts a job, once there is room to keep it.
 fn start<C: Calls>(book: &mut C, tasks: &mut Vec<Task>, said: &mut Said) {
+    if tasks.reserve(1).is_err() {
+        return said.say(REFUSED);
+    }
     match book.start() {
         Ok(task) => {
             say_start(said, &task.job);
