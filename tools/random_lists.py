@@ -8,6 +8,7 @@ no words it prints crates/pd_book_trials/data/random_lists.txt.
 """
 
 import argparse
+import re
 import sys
 from collections import Counter
 from collections.abc import Iterator
@@ -33,6 +34,9 @@ LINES = {
 }
 CONNECTION = "ghijklmn"
 
+# How many lines of kind `a` may be drawn in a row: 3 behind the last line of the connection, and 15 more.
+LONGEST = 3 + 15
+
 # Each setting with its default and another value, in the order in which a report says them.
 SETTINGS = {
     "mss": ("1460", "900"),
@@ -49,6 +53,12 @@ SETTINGS = {
     "tolerance_us": ("4000", "1"),
 }
 DEFAULTS = {key: values[0] for key, values in SETTINGS.items()}
+
+# The settings in the order in which one is drawn.
+DRAWN = (
+    "mss sack wscale rcv_wnd min_rto_us max_rto_us tolerance_us initial_ssthresh granularity_us nagle "
+    "initial_window sndbuf"
+).split()
 
 # What a SYN that is answered consults, and the ACK that establishes the connection.
 AT_SYN = {"mss", "sack", "wscale", "rcv_wnd", "min_rto_us", "max_rto_us"}
@@ -447,8 +457,15 @@ def drawn_text(dice: Dice) -> Text:
 
 
 def written(text: Text) -> str:
-    """A text as a row writes it behind other words."""
-    return " " + " | ".join(text) if text else ""
+    """A text as a row writes it behind other words: lines of kind `a` in a row as one word with their number."""
+    parts = re.findall("a+|[^a]", text)
+    return " " + " | ".join(part if len(part) == 1 else f"a{len(part)}" for part in parts) if text else ""
+
+
+def word_rows() -> Iterator[str]:
+    """The rows that say for which lines words stand."""
+    yield from (f"let {word} {line} -> ok" for word, line in LINES.items())
+    yield from (f"let a{count} {lines_of('a' * count)} -> ok" for count in range(2, LONGEST + 1))
 
 
 class Lists:
@@ -510,8 +527,8 @@ class Lists:
                 return "tolerance", "1"
             case 1:
                 return "tolerance_us", "1000001"
-        key = list(SETTINGS)[self.dice.below(len(SETTINGS))]
-        return key, SETTINGS[key][self.dice.below(2)]
+        key = DRAWN[self.dice.below(len(DRAWN))]
+        return key, SETTINGS[key][1 - self.dice.below(2)]
 
     def start(self, model: Model) -> Iterator[str]:
         """A start, and the run of its job."""
@@ -537,11 +554,12 @@ class Lists:
         if kind == 25:
             yield self.row("abandon", f" {number}", model.abandon(number))
             return
-        tolerance = model.settings()["tolerance_us"]
+        settings = model.jobs[number - 1].settings if 0 < number <= jobs else DEFAULTS
+        tolerance = settings["tolerance_us"]
         name, tolerance, text = ((script, tolerance, "b" * 10), (script, "777", "a"), ("s9", tolerance, "a"))[
             self.dice.below(3)
         ]
-        job = Job(number, name, text, DEFAULTS | {"tolerance_us": tolerance})
+        job = Job(number, name, text, settings | {"tolerance_us": tolerance})
         yield self.row("give", f" {number} {name} {tolerance}{written(text)}", model.give(job))
 
 
@@ -554,7 +572,7 @@ def tables(lists: int, calls: int, seed: int) -> Iterator[str]:
         yield f"== {call}: {answer} {count}"
     yield f"== events not run again {drawn.spared}"
     yield f"== of them behind another setting {drawn.spared_behind}"
-    yield from (f"let {word} {line} -> ok" for word, line in LINES.items())
+    yield from word_rows()
     for number, made in enumerate(rows, 1):
         yield f"# list {number}"
         yield from made

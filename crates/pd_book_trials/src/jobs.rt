@@ -23,7 +23,7 @@ pub fn work<C: Calls>(
         "start" => start(book, tasks, said),
         "run" => tell_run(tasks, texts, words, said),
         "finish" => said.say(finish(book, tasks, texts, words)),
-        "give" => said.say(give(book, texts, words)),
+        "give" => said.say(give(book, tasks, texts, words)),
         "abandon" => said.say(abandon(book, tasks, words.number())),
         _ => return false,
     }
@@ -80,21 +80,39 @@ fn finish<C: Calls>(
 }
 
 /// Finishes a job with the result of one that no book handed out.
-fn give<C: Calls>(book: &mut C, texts: &Texts, words: &mut Words<'_>) -> &'static str {
-    match foreign(texts, words) {
+fn give<C: Calls>(
+    book: &mut C,
+    tasks: &mut Vec<Task>,
+    texts: &Texts,
+    words: &mut Words<'_>,
+) -> &'static str {
+    match foreign(tasks, texts, words) {
         Ok(ran) => book.finish(&ran.done, None),
         Err(fault) => fault.text(),
     }
 }
 
-/// The result of a job of the number, the script, the tolerance and the text that a call names.
-fn foreign(texts: &Texts, words: &mut Words<'_>) -> Result<Ran, TextFault> {
+/// The result of a job of the number, the script, the tolerance and the text that a call names, with the other settings of
+/// the job of that number.
+fn foreign(
+    tasks: &mut Vec<Task>,
+    texts: &Texts,
+    words: &mut Words<'_>,
+) -> Result<Ran, TextFault> {
     let number = words.number();
     let name = texts.name(words.name())?;
-    let tolerance = Value::Number(words.number());
-    let settings = with(&Settings::new(), b"tolerance_us", tolerance).unwrap_or(Settings::new());
+    let settings = settings_like(tasks, number, words.number());
     let text = Text::new(texts.alloc, texts.text(words.rest)?)?;
     Ok(run(texts, Job::new(number, name, text, settings, None))?)
+}
+
+/// The settings of the job of a number, or the defaults where there is none, with a tolerance in microseconds.
+fn settings_like(tasks: &mut Vec<Task>, number: u64, tolerance: u64) -> Settings {
+    let settings = match job(tasks, number) {
+        Some(task) => task.job.settings(),
+        None => Settings::new(),
+    };
+    with(&settings, b"tolerance_us", Value::Number(tolerance)).unwrap_or(settings)
 }
 
 fn abandon<C: Calls>(book: &mut C, tasks: &mut Vec<Task>, number: u64) -> &'static str {
