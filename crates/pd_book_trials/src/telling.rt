@@ -67,7 +67,7 @@ impl Teller {
 
     /// Takes each line of a text.
     pub fn take_all(&mut self, text: &str) {
-        for line in text.lines() {
+        for line in text.split("\n") {
             self.take(line);
         }
         self.end();
