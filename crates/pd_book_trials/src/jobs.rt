@@ -94,11 +94,7 @@ fn give<C: Calls>(
 
 /// The result of a job of the number, the script, the tolerance and the text that a call names, with the other settings of
 /// the job of that number.
-fn foreign(
-    tasks: &mut Vec<Task>,
-    texts: &Texts,
-    words: &mut Words<'_>,
-) -> Result<Ran, TextFault> {
+fn foreign(tasks: &mut Vec<Task>, texts: &Texts, words: &mut Words<'_>) -> Result<Ran, TextFault> {
     let number = words.number();
     let name = texts.name(words.name())?;
     let settings = settings_like(tasks, number, words.number());
