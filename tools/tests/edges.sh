@@ -1,6 +1,7 @@
 #!/bin/sh
 # Tests of tools/add_scripts.sh on files that can't be added, of ./pdregress, ./pdsteps, ./pdexplain and ./pdrecord called
-# through links, in a copy whose programs say their names, and of tools/record.sh, in a copy whose programs stand in. Prints
+# through links, in a copy whose programs say their names, and of tools/record.sh, in a copy whose programs stand in; and
+# whether tools/random_lists.py makes the rows that are stored. Prints
 # a line for each, and `N passed, M failed` last.
 set -eu
 top=$(cd "$(dirname "$0")/../.." && pwd)
@@ -191,8 +192,14 @@ test_recording() {
     expect unknown-word "$(printf '! #   tools/record.sh [--check] [--all] [--settings TEXT] FILE..\nstatus 2')" "$work/recording/tools/record.sh" --checked todo.pkt
 }
 
+# The rows that are stored are those that the tool makes, and no others.
+test_random_lists() {
+    expect random-lists "status 0" sh -c "'$top/tools/random_lists.py' | cmp - '$top/crates/pd_book_trials/data/random_lists.txt'"
+}
+
 test_adding
 test_links
 test_recording
+test_random_lists
 echo "$passed passed, $failed failed"
 [ "$failed" -eq 0 ]

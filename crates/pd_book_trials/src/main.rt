@@ -1,28 +1,41 @@
-//! Tries a book, alone and as seats share it, and the parts below it: tells the stories of the input, makes random lists of
-//! calls and compares them with a plain replay, and goes on where there is no memory. With the word `memory` it does the
-//! last alone, with the word `stories` the first; a status of 2 says that it wasn't tried to the end.
+//! Tells stories of a book, alone and as seats share it, and of the parts below it: makes the call of each row and compares
+//! its answer with the one that is written behind it. Tells those of the input, of the file `random_lists.txt`, and once
+//! more of its own. With the word `stories` it tells the first alone, with the word `memory` the last; a status of 2 says
+//! that not all were told.
 #![tactic(auto)]
 
-mod book;
+mod acts;
+mod answers;
+mod bench;
+mod books;
+mod calls;
+mod changes;
+mod jobs;
+mod looks;
 mod memory;
 mod parts;
-mod plain;
-mod random;
-mod saying;
-mod seats;
-mod stories;
+mod said;
+mod scripts;
+mod settings;
+mod story;
+mod tasks;
+mod telling;
+mod texts;
+mod words;
 
-use crate::memory::check_memory;
-use crate::random::make_lists;
-use crate::stories::tell;
+use crate::memory::ROWS;
+use crate::telling::Teller;
 use std::process::ExitCode;
-use std::rt::Env;
-use std::{env, io};
+use std::rt::{Env, Files};
+use std::{env, fs, io};
+
+/// The random lists of calls, as `tools/random_lists.py` writes them.
+const LISTS: &str = "random_lists.txt";
 
 /// The status where the input or the output failed, or what tells the stories found no memory.
-const NOT_TRIED: u8 = 2;
+const NOT_TOLD: u8 = 2;
 
-/// What is tried.
+/// What is told.
 #[derive(Clone, Copy)]
 enum Asked {
     All,
@@ -31,25 +44,21 @@ enum Asked {
 }
 
 fn main(rt: HostRuntime) -> ExitCode {
-    let tried = match read_word(&rt)
-        .or_else(|_| read_word(&rt))
-        .unwrap_or(Asked::All)
-    {
-        Asked::All => try_all(&rt),
-        Asked::Memory => check_memory(&rt),
-        Asked::Stories => tell(&rt),
+    let asked = match read_word(&rt) {
+        Ok(asked) => asked,
+        Err(_) => read_word(&rt).unwrap_or(Asked::All),
     };
-    match tried {
+    match tell(&rt, asked) {
         Ok(true) => ExitCode::SUCCESS,
         Ok(false) => ExitCode::FAILURE,
         Err(_) => {
-            let _ = rt.eprint("not tried: the input or the output failed, or there is no memory\n");
-            ExitCode::from(NOT_TRIED)
+            let _ = rt.eprint("not told: the input or the output failed, or there is no memory\n");
+            ExitCode::from(NOT_TOLD)
         }
     }
 }
 
-/// What the word asks for that stands behind the program's name.
+/// What the word behind the program's name asks for.
 fn read_word(rt: &(impl Env + AllocGlobal)) -> io::Result<Asked> {
     let words = env::args(rt)?.collect::<Vec<String>>(rt.alloc())?;
     Ok(match words.get(1) {
@@ -59,10 +68,53 @@ fn read_word(rt: &(impl Env + AllocGlobal)) -> io::Result<Asked> {
     })
 }
 
-/// Whether all that was tried agrees.
-fn try_all(rt: &(impl Input + Print + AllocGlobal)) -> io::Result<bool> {
-    let is_told = tell(rt)?;
-    let is_replayed = make_lists(rt)?;
-    let is_kept = check_memory(rt)?;
-    Ok(is_told && is_replayed && is_kept)
+/// Whether all rows that are told are answered as they are written.
+fn tell(rt: &(impl Input + Print + Files + AllocGlobal), asked: Asked) -> io::Result<bool> {
+    let mut teller = match Teller::new(rt.alloc()) {
+        Ok(teller) => teller,
+        Err(_) => Teller::new(rt.alloc())?,
+    };
+    tell_asked(rt, asked, &mut teller)?;
+    Ok(teller.agrees)
+}
+
+fn tell_asked(
+    rt: &(impl Input + Print + Files + AllocGlobal),
+    asked: Asked,
+    teller: &mut Teller,
+) -> io::Result<()> {
+    match asked {
+        Asked::All => {
+            tell_stories(rt, teller)?;
+            tell_lists(rt, teller)?;
+        }
+        Asked::Memory => {}
+        Asked::Stories => return tell_stories(rt, teller),
+    }
+    teller.take_all(ROWS);
+    print_told(rt, teller)
+}
+
+/// Tells the stories of the input.
+fn tell_stories(rt: &(impl Input + Print + AllocGlobal), teller: &mut Teller) -> io::Result<()> {
+    for line in rt.lines(rt.alloc()) {
+        let line = line?;
+        teller.take(line.as_str());
+        print_told(rt, teller)?;
+    }
+    teller.end();
+    print_told(rt, teller)
+}
+
+/// Tells the random lists of calls.
+fn tell_lists(rt: &(impl Print + Files + AllocGlobal), teller: &mut Teller) -> io::Result<()> {
+    let lists = fs::read_to_string(rt, LISTS)?;
+    teller.take_all(lists.as_str());
+    print_told(rt, teller)
+}
+
+fn print_told(rt: &impl Print, teller: &mut Teller) -> io::Result<()> {
+    rt.print(teller.told()?)?;
+    teller.clear();
+    Ok(())
 }

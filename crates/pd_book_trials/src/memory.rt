@@ -1,37 +1,33 @@
-//! Want of memory: a call that finds none leaves its value as it was, and made again gives its answer. In the gate there
-//! is memory; outside it this is tried with each allocation refused in turn.
-mod desk;
-mod making;
-mod parts;
-mod stop;
+//! Rows for want of memory: a call that finds none leaves its value as it was, and made again gives its answer. In the gate
+//! there is memory; outside it they are told with each allocation refused in turn.
 
-use self::desk::{Desk, STEPS};
-use self::parts::check_parts;
-use self::stop::Stop;
-use std::alloc::Global;
-use std::io;
-
-/// Whether a book and its parts are as they were, which is printed.
-pub fn check_memory(rt: &(impl Print + AllocGlobal)) -> io::Result<bool> {
-    let book = check_book(rt.alloc());
-    let parts = check_parts(rt.alloc());
-    match book.and(parts) {
-        Ok(()) => {
-            rt.print("a book and its parts without memory are as they were\n")?;
-            Ok(true)
-        }
-        Err(stop) => {
-            rt.print(stop.words())?;
-            Ok(false)
-        }
-    }
-}
-
-/// Takes a book through all steps.
-fn check_book(alloc: Global) -> Result<(), Stop> {
-    let mut desk = Desk::new(alloc);
-    for step in STEPS {
-        desk.take(step)?;
-    }
-    Ok(())
-}
+/// A book, and then the parts below it.
+pub const ROWS: &str = "== a book and its parts, where each allocation may be refused
+# a book, and then its parts
+add a 0 socket(..., SOCK_STREAM, 0) = 3 | +0 bind(3, ..., ...) = 0 | +0 listen(3, 1) = 0 -> ok
+start -> 1 a, 3 lines, 4000 us
+run 1 -> Pass(3), 3 steps
+edit a 3 1 +0 listen(3, 1) = 0 -> ok
+finish 1 -> Stale
+start -> 2 a, 3 lines, 4000 us
+finish 2 -> Taken
+show -> a Pass(3), 0 owed
+set tolerance_us 5000 -> ok
+add b -> ok
+remove b -> ok
+show -> a pending, 1 owed
+start -> 3 a, 3 lines, 5000 us
+abandon 3 -> ok
+start -> 4 a, 3 lines, 5000 us
+finish 4 -> Taken
+show -> a Pass(3), 0 owed
+history -> 13
+text (empty) | +0 bind(3, ..., ...) = 0 -> 2
+become 1 1 0 socket(..., SOCK_STREAM, 0) = 3 -> 2
+line 1 -> 0 socket(..., SOCK_STREAM, 0) = 3
+script -> 1 event, 2 event, end
+plain-verdict -> Pass(2)
+verdict -> Pass(2), 2 steps
+edited 3 0 -> 0 socket(..., SOCK_STREAM, 0) = 3 | +0 bind(3, ..., ...) = 0
+name a -> valid
+";

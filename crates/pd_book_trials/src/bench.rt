@@ -1,0 +1,123 @@
+//! A book that seats share, its seats, the seats that left, and the jobs that were handed out.
+use crate::acts::say_acts;
+use crate::books::Seated;
+use crate::calls::call;
+use crate::said::{MISSING, REFUSED, Said};
+use crate::tasks::Task;
+use crate::texts::Texts;
+use crate::words::Words;
+use pd_seat::{CloseFault, Held, Seat};
+use pd_settings::Settings;
+use std::alloc::Global;
+use std::mem;
+
+#[derive(Drop)]
+pub struct Bench {
+    alloc: Global,
+    held: Option<Held>,
+    pub seats: Vec<Seat>,
+    away: Vec<Seat>,
+    tasks: Vec<Task>,
+}
+
+impl Bench {
+    pub fn new(alloc: Global) -> Bench {
+        Bench {
+            alloc,
+            held: None,
+            seats: Vec::new(alloc),
+            away: Vec::new(alloc),
+            tasks: Vec::new(alloc),
+        }
+    }
+
+    /// Makes a call of a book that seats share; whether there is such a call.
+    pub fn answer(
+        &mut self,
+        texts: &Texts,
+        word: &str,
+        words: &mut Words<'_>,
+        said: &mut Said,
+    ) -> bool {
+        match word {
+            "seats" => self.open(words.number() as usize, said),
+            "seat" => return self.answer_of_seat(texts, words, said),
+            "leave" => move_seats(
+                &mut self.seats,
+                &mut self.away,
+                words.number() as usize,
+                said,
+            ),
+            "call-back" => move_seats(
+                &mut self.away,
+                &mut self.seats,
+                words.number() as usize,
+                said,
+            ),
+            "close" => self.close(said),
+            _ => return false,
+        }
+        true
+    }
+
+    /// Opens a book with so many seats.
+    fn open(&mut self, count: usize, said: &mut Said) {
+        match Held::new(self.alloc, 64, Settings::new(), count.max(1)) {
+            Ok((held, seats)) => {
+                self.held = Some(held);
+                self.seats = seats;
+                said.say("ok");
+            }
+            Err(_) => said.say(REFUSED),
+        }
+    }
+
+    /// Makes the call of a seat; whether there is such a call.
+    fn answer_of_seat(&mut self, texts: &Texts, words: &mut Words<'_>, said: &mut Said) -> bool {
+        let seat = self.seats.get_mut(words.number() as usize);
+        let (Some(held), Some(seat)) = (&mut self.held, seat) else {
+            said.say(MISSING);
+            return true;
+        };
+        let word = words.word();
+        if word == "number" {
+            said.number(seat.number() as u64);
+            return true;
+        }
+        let mut book = Seated { held, seat };
+        call(&mut book, &mut self.tasks, texts, word, words, said)
+    }
+
+    /// Closes the book with the seats that are here, and says its acts. What comes back is kept.
+    fn close(&mut self, said: &mut Said) {
+        let Some(held) = self.held.take() else {
+            return said.say(MISSING);
+        };
+        let seats = mem::replace(&mut self.seats, Vec::new(self.alloc));
+        match held.close(seats) {
+            Ok(book) => say_acts(said, book.history(), false),
+            Err(CloseFault::Differs(book)) => {
+                said.say("14 Differs, ");
+                say_acts(said, book.history(), false);
+            }
+            Err(CloseFault::MissingSeat(held, seats)) => {
+                said.say("13 MissingSeat");
+                self.held = Some(held);
+                self.seats = seats;
+            }
+        }
+    }
+}
+
+/// Moves so many of the last seats, the last first.
+fn move_seats(from: &mut Vec<Seat>, to: &mut Vec<Seat>, count: usize, said: &mut Said) {
+    for _seat in 0..count {
+        let Some(seat) = from.pop() else {
+            return said.say(MISSING);
+        };
+        if to.push(seat).is_err() {
+            said.is_whole = false;
+        }
+    }
+    said.say("ok");
+}

@@ -1,3 +1,0 @@
-//! Stories of a book that seats share.
-pub mod bench;
-mod closing;
