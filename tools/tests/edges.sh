@@ -1,8 +1,7 @@
 #!/bin/sh
 # Tests of tools/add_scripts.sh on files that can't be added, of ./pdregress, ./pdsteps, ./pdexplain and ./pdrecord called
 # through links, in a copy whose programs say their names, and of tools/record.sh, in a copy whose programs stand in; and
-# whether tools/random_lists.py makes the rows that are stored. Prints
-# a line for each, and `N passed, M failed` last.
+# whether tools/random_lists.py makes the rows that are stored. Prints a line for each, and `N passed, M failed` last.
 set -eu
 top=$(cd "$(dirname "$0")/../.." && pwd)
 work=$(mktemp -d)
