@@ -8,6 +8,7 @@ from pathlib import Path
 from typing import TYPE_CHECKING
 
 from pdsuite.asked import refused
+from pdsuite.checking import Checking
 from pdsuite.commands.choice import scripts_of
 from pdsuite.explain import Explainer
 from pdsuite.faults import Cut
@@ -96,13 +97,17 @@ def _run(
     """Runs the scripts by whoever is given, reports what came of them, and answers the exit status."""
     drawing = None if wish.html is None else _drawing(wish.html, screen)
     report = Report(scripts, form, screen)
+    checking = Checking(stop, screen.note)
     texts: dict[int, Text] = {}
     ended: Stopped | Cut | None = None
     try:
         with closing(mapper(runs_of(scripts))) as steps:
             heard = steps if drawing is None else _kept(steps, texts)
-            ended = _take(heard, report, screen, wish.fail_fast)
+            ended = _take(heard, report, checking, screen, wish.fail_fast)
         totals = report.close(time.monotonic() - begin)
+        if ended is None:
+            for line in checking.lines():
+                say(line)
     finally:
         # Also where nothing can be shown any more.
         if wish.junit is not None:
@@ -116,7 +121,9 @@ def _run(
     return 2 if drawing is not None and drawing.has_failed else totals.status()
 
 
-def _take(steps: Iterable[Step], report: Report, screen: Screen, fail_fast: bool) -> Stopped | Cut | None:
+def _take(
+    steps: Iterable[Step], report: Report, checking: Checking, screen: Screen, fail_fast: bool
+) -> Stopped | Cut | None:
     """Reports each step, up to the last one or the one where it is to end; what ended it early, if anything did."""
     try:
         for step in steps:
@@ -124,6 +131,7 @@ def _take(steps: Iterable[Step], report: Report, screen: Screen, fail_fast: bool
                 screen.note(str(step))
                 continue
             report.take(step.outcomes)
+            checking.take(step)
             if fail_fast and not all(map(_passes, step.outcomes)):
                 break
     except (Stopped, Cut) as ended:
