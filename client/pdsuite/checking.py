@@ -44,6 +44,6 @@ class Checking:
 
     def _compared(self, outcome: Outcome, text: Text) -> list[Compared]:
         script = text.octets.decode("utf-8", "surrogateescape")
-        recording = self._recorder.record(outcome.path, text.octets, outcome.settings)
+        recording = self._recorder.record(outcome.path, text.octets, outcome.settings).text
         mss = {**DEFAULTS, **dict(outcome.settings)}["mss"]
         return compare(script, recording, outcome.row.line, mss if isinstance(mss, int) else 0)

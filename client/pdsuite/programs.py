@@ -144,10 +144,10 @@ class Program:
         self._finish(commands, longest)
         return self._said
 
-    def record(self, text: bytes, longest: int) -> bytes:
-        """What the program writes of this text, which is all of its input, up to its end."""
+    def record(self, text: bytes, longest: int) -> tuple[bytes, str]:
+        """What the program writes of this text, which is all of its input, and the last line that it says."""
         self._finish(text, longest)
-        return bytes(self._got[1:])
+        return bytes(self._got[1:]), self._last_line()
 
     def _finish(self, commands: bytes, longest: int) -> None:
         """Writes the last of the input, and reads what the program writes until it has ended."""

@@ -1,6 +1,7 @@
 """Has pdrecord record a script, with the sender's state after each event."""
 
 from collections.abc import Callable
+from dataclasses import dataclass
 from pathlib import Path
 
 from pdsuite.faults import Fault
@@ -13,6 +14,14 @@ from pdsuite.stop import Stop
 _LONGEST = 8 << 20
 
 
+@dataclass(frozen=True, slots=True)
+class Recording:
+    """What was recorded, with its trace; or nothing, and why."""
+
+    text: str
+    fault: str = ""
+
+
 class Recorder:
     """Records scripts; `note` is told, once, that the program isn't there, and of each script on which it ends."""
 
@@ -20,27 +29,28 @@ class Recorder:
         self._stop = stop
         self._note = note
         self._program: Path | None = None
-        self.fault = ""
+        self._fault = ""
 
-    def record(self, path: str, text: bytes, settings: Settings) -> str:
-        """The recording of a script with its trace, or nothing where the program refuses it or can't be run."""
+    def record(self, path: str, text: bytes, settings: Settings) -> Recording:
+        """The recording of a script, or why there is none: the program refuses it, ends on it, or isn't there."""
         program = self._located()
         if program is None:
-            return ""
+            return Recording("", self._fault)
         try:
             with Program(_words(program, settings), self._stop) as started:
-                return started.record(text, _LONGEST).decode("utf-8", "surrogateescape")
+                octets, said = started.record(text, _LONGEST)
         except Ended as end:
             self._note(f"pdsuite: {end}; {shown_path(Path(path))} isn't recorded")
-            return ""
+            return Recording("", str(end))
+        return Recording(octets.decode("utf-8", "surrogateescape"), said)
 
     def _located(self) -> Path | None:
         """The program; that it isn't there is told once."""
-        if self._program is None and not self.fault:
+        if self._program is None and not self._fault:
             try:
                 self._program = locate(RECORD)
             except Fault as fault:
-                self.fault = str(fault)
+                self._fault = str(fault)
                 self._note(f"pdsuite: {fault}; nothing is recorded")
         return self._program
 

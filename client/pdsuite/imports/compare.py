@@ -5,19 +5,17 @@ from collections.abc import Iterator, Mapping, Sequence
 from dataclasses import dataclass
 
 from pdsuite.imports.assertions import Assertion, assertion_in
-from pdsuite.imports.items import Call, Packet
 from pdsuite.imports.packets import LEAST_SMSS, smss_of
 from pdsuite.imports.reading import read
+from pdsuite.trace import Event, events_in
 
-_STATE = re.compile(r"^//= at ([0-9]+\.[0-9]{6}) ([A-Z0-9-]+(?: [A-Za-z]+:[A-Za-z0-9.]+)+)$", re.MULTILINE)
 _LINE = re.compile(r"^.*$", re.MULTILINE)
 
 
 @dataclass(frozen=True, slots=True)
 class State:
-    """The sender after an event: the moment, its facts by their names, and whether it repairs what an expiry lost."""
+    """The sender after an event: its facts by their names, and whether it repairs what an expiry lost."""
 
-    moment: str
     facts: Mapping[str, str]
     is_lossy: bool = False
 
@@ -86,30 +84,26 @@ def _beside(line: int, assertion: Assertion, state: State, smss: int) -> Compare
 
 def _inputs(recording: str) -> Iterator[_Input]:
     """The inputs of a recording, with the state after each."""
-    items = [it for it in read(recording).items if isinstance(it.what, Packet | Call)]
-    states = _states(recording)
-    if len(items) != len(states):
-        return
-    acts = [number for number, it in enumerate(items) if not isinstance(it.what, Packet) or it.what.is_inbound]
-    for number, after in zip(acts, [*acts[1:], len(items)]):
-        moment = states[number].moment
-        expires = any(it.moment != moment for it in states[number + 1 : after])
-        yield _Input(items[number].end, states[number], expires)
+    events = events_in(recording)
+    lossy = list(_losses(events))
+    acts = [number for number, it in enumerate(events) if it.is_input]
+    for number, after in zip(acts, [*acts[1:], len(events)]):
+        event = events[number]
+        expires = any(it.moment != event.moment for it in events[number + 1 : after])
+        yield _Input(event.end, State(event.facts, lossy[number]), expires)
 
 
-def _states(recording: str) -> Sequence[State]:
-    """The states after the events, one after another; a moment that no input has is that of an expiry."""
-    states: list[State] = []
-    items = [it for it in read(recording).items if isinstance(it.what, Packet | Call)]
+def _losses(events: Sequence[Event]) -> Iterator[bool]:
+    """Whether the sender repairs what an expiry lost, after each event; a moment that no input has is an expiry's."""
     lost: int | None = None
-    moment = ""
-    for item, found in zip(items, _STATE.finditer(recording)):
-        facts = dict(it.split(":", 1) for it in found[2].split(" ")[1:])
-        if not isinstance(item.what, Packet) or item.what.is_inbound:
-            moment = found[1]
-        elif found[1] != moment and "cwnd" in facts:
-            lost = int(facts["top"])
-        if lost is not None and int(facts.get("una", lost)) >= lost:
+    moment = 0
+    for event in events:
+        top = event.number("top")
+        if event.is_input:
+            moment = event.moment
+        elif event.moment != moment and "cwnd" in event.facts:
+            lost = top
+        una = event.number("una")
+        if lost is not None and (una is None or una >= lost):
             lost = None
-        states.append(State(found[1], facts, lost is not None))
-    return states
+        yield lost is not None
