@@ -15,6 +15,7 @@ from pdsuite.faults import Cut
 from pdsuite.files import write
 from pdsuite.here import here
 from pdsuite.packages import need
+from pdsuite.page.plots import Plots
 from pdsuite.programs import EXPLAIN, REGRESS, Program, digest, locate
 from pdsuite.report import Report
 from pdsuite.reports.form import Form
@@ -42,6 +43,7 @@ class Wish:
     fail_fast: bool
     junit: Path | None
     html: Path | None
+    plots: Plots
 
 
 def run(wish: Wish, form: Form, screen: Screen) -> int:
@@ -62,11 +64,11 @@ def run(wish: Wish, form: Form, screen: Screen) -> int:
             return stopped.status
 
 
-def _drawing(folder: Path, screen: Screen) -> "Drawing":
+def _drawing(folder: Path, plots: Plots, screen: Screen) -> "Drawing":
     # Only who asks for a page pays for what draws it.
     from pdsuite.page.drawing import Drawing
 
-    return Drawing(folder, screen.note)
+    return Drawing(folder, plots, screen.note)
 
 
 def _kept(steps: Iterable[Step], texts: dict[int, Text]) -> Iterator[Step]:
@@ -95,7 +97,7 @@ def _run(
     mapper: Mapper, scripts: Sequence[Script], wish: Wish, form: Form, screen: Screen, begin: float, stop: Stop
 ) -> int:
     """Runs the scripts by whoever is given, reports what came of them, and answers the exit status."""
-    drawing = None if wish.html is None else _drawing(wish.html, screen)
+    drawing = None if wish.html is None else _drawing(wish.html, wish.plots, screen)
     report = Report(scripts, form, screen)
     checking = Checking(stop, screen.note)
     texts: dict[int, Text] = {}
@@ -159,7 +161,7 @@ def _draw(drawing: "Drawing", report: Report, texts: dict[int, Text], screen: Sc
     try:
         with drawing:
             drawing.follow(entries)
-            drawing.finish(stop, lambda done, count: screen.advance(done, count, "pages"))
+            drawing.finish(stop, lambda done, count: screen.advance(done, count, "pages drawn"))
     except Stopped as stopped:
         return stopped
     finally:

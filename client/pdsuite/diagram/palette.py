@@ -39,6 +39,11 @@ DARK = {
 }
 
 
-def variables(colors: dict[str, str]) -> str:
-    """The colours as CSS variables."""
-    return "".join(f"--diagram-{name}:{color};" for name, color in colors.items())
+def rules(selector: str) -> str:
+    """CSS that gives an element the colours as variables, dark ones where the reader prefers them."""
+    light, dark = (_block(selector, it) for it in (LIGHT, DARK))
+    return f"{light}\n@media screen and (prefers-color-scheme: dark) {{ {dark} }}"
+
+
+def _block(selector: str, colors: dict[str, str]) -> str:
+    return f"{selector} {{ {' '.join(f'--diagram-{name}: {color};' for name, color in colors.items())} }}"

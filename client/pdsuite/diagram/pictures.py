@@ -7,7 +7,7 @@ from html import escape
 
 import matplotlib
 
-from pdsuite.diagram.palette import DARK, LIGHT, variables
+from pdsuite.diagram.palette import LIGHT, rules
 from pdsuite.diagram.plot import NARROW, SETTINGS, WIDE, Size, figure_of
 from pdsuite.diagram.strokes import Strokes
 
@@ -26,9 +26,8 @@ _TITLE = "@title@"
 _LONGEST_TITLE = 120
 _NAMESPACES = 'xmlns="http://www.w3.org/2000/svg" xmlns:xlink="http://www.w3.org/1999/xlink"'
 _STYLE = (
-    f"svg{{{variables(LIGHT)}background:var(--diagram-card);"
-    "stroke-linejoin:round;font-family:'DejaVu Sans',system-ui,sans-serif}"
-    f"@media(prefers-color-scheme:dark){{svg{{{variables(DARK)}}}}}"
+    f"{rules('svg')}\nsvg {{ background: var(--diagram-card); stroke-linejoin: round;"
+    " font-family: 'DejaVu Sans', system-ui, sans-serif }"
 )
 
 

@@ -199,14 +199,14 @@ class _Picture:
         """Segments without octets, flags of those that leave, and what arrives."""
         strokes = self.strokes
         empty = [it for it in strokes.segments if it.kind is Kind.EMPTY and it.flag is Flag.NONE]
-        self._points("empty", [(it.at, it.start, it.is_later) for it in empty], "|", 7, "segment without octets")
+        self._points("empty", [(it.at, it.start, it.is_later) for it in empty], "|", 9, "segment without octets")
         twice = [it for it in strokes.arrivals if it.is_duplicate]
         self._points("ack", [(it.at, it.octet, it.is_later) for it in twice], TICKDOWN, 8, "duplicate ACK")
         for flag, marker in _MARKERS.items():
             for kind, role in _KINDS.items():
                 sent = [it for it in strokes.segments if it.flag is flag and it.kind is kind]
                 again = " again" if kind is Kind.AGAIN else ""
-                self._points(role, _places(sent), marker, 7, f"{flag.value} sent{again}")
+                self._points(role, _places(sent, 7 * self.octet), marker, 7, f"{flag.value} sent{again}")
             came = [it for it in strokes.arrivals if it.flag is flag]
             # Just below what is acknowledged, since what leaves at the same moment lies there.
             below = [(it.at, it.octet - 10 * self.octet, it.is_later) for it in came]
@@ -391,8 +391,8 @@ def _runs(steps: Sequence[Step], end: float) -> Iterable[tuple[list[float], list
             xs, ys = [], []
 
 
-def _places(segments: Sequence[Segment]) -> list[tuple[int, float, bool]]:
-    return [(it.at, it.start if it.flag is Flag.SYN else it.end, it.is_later) for it in segments]
+def _places(segments: Sequence[Segment], above: float) -> list[tuple[int, float, bool]]:
+    return [(it.at, it.start if it.flag is Flag.SYN else it.end + above, it.is_later) for it in segments]
 
 
 def _box(left: float, right: float, low: float, high: float) -> list[tuple[float, float]]:
