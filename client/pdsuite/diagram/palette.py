@@ -31,7 +31,7 @@ DARK = {
     "edge": "#e0b64d",
     "sack": "#d7a5f4",
     "expected": "#e6e6e4",
-    "span": "#332b12",
+    "span": "#3d3417",
     "cwnd": "#4fd0e0",
     "ssthresh": "#ff8cc0",
     "flight": "#a3a9b3",

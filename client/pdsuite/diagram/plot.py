@@ -386,9 +386,11 @@ def _runs(steps: Sequence[Step], end: float) -> Iterable[tuple[list[float], list
         ys.append(step.value)
         if after is None or after.value is None or after.is_later is not step.is_later:
             xs.append(end if after is None else after.at)
-            ys.append(step.value if after is None or after.value is None else after.value)
+            ys.append(step.value)
             yield xs, ys, step.is_later
-            xs, ys = [], []
+            # What goes on paler begins where this ends.
+            goes_on = after is not None and after.value is not None
+            xs, ys = (xs[-1:], ys[-1:]) if goes_on else ([], [])
 
 
 def _places(segments: Sequence[Segment], above: float) -> list[tuple[int, float, bool]]:
