@@ -315,7 +315,8 @@ def test_a_diagram_stands_in_the_page_in_the_size_and_the_colours_of_its_reader(
         assert drawn.run("return document.documentElement.scrollWidth") == width
         fills.append(drawn.run(FILLS))
     assert fills == [["rgb(31, 95, 174)", "rgb(212, 56, 13)"], ["rgb(118, 176, 255)", "rgb(255, 138, 102)"]]
-    texts = drawn.texts(f".diagram svg.{name} text") or [it.text for it in drawn.all(f"svg.{name} text")]
+    texts = drawn.run(f"return [...document.querySelectorAll('svg.{name} text')].map((it) => it.textContent)")
+    assert isinstance(texts, list)
     assert {"timeout, RTO 1 s", "timeout, RTO 2 s", "segment sent again", "cwnd"} <= set(texts)
 
 
