@@ -4,8 +4,8 @@ import os
 from pathlib import Path
 
 import pytest
-from pdsuite.page.links import file_of, plot_files
 
+from pdsuite.page.links import file_of, plot_files
 from tests.helpers import PASSES, TOP, Call, write
 from tests.test_page import octets_in
 

@@ -13,7 +13,7 @@ from matplotlib.ticker import FuncFormatter, MaxNLocator
 
 from pdsuite.diagram.labels import Label, Placed, labels_of, placed
 from pdsuite.diagram.palette import LIGHT
-from pdsuite.diagram.strokes import Flag, Kind, Segment, Step, Strokes
+from pdsuite.diagram.strokes import Expected, Flag, Kind, Segment, Step, Strokes
 
 # What a picture is of besides its strokes: the same octets for the same strokes, and no text that is more than a text.
 SETTINGS = {
@@ -236,40 +236,28 @@ class _Picture:
 
     def _draw_failure(self) -> None:
         failure = self.strokes.failure
-        if failure is None:
-            return
-        if failure.actual is not None:
-            it = failure.actual
-            role = _KINDS[it.kind]
-            box = _box(it.at - 4 * self.unit, it.at + 4 * self.unit, *_at_least(it.start, it.end, 3 * self.octet))
-            self.octets.add_collection(
-                PolyCollection([box], facecolors=LIGHT[role], edgecolors="none", zorder=4, gid=role), autolim=False
-            )
-            words = {Kind.AGAIN: "packet sent (again), and not expected so"}.get(
-                it.kind, "packet sent, and not expected so"
-            )
-            self.legend.append((Patch(facecolor=LIGHT[role], linewidth=0), words))
-        if failure.expected is not None:
-            wanted = failure.expected
-            box = _box(
-                wanted.first - 7 * self.unit,
-                wanted.last + 7 * self.unit,
-                *_at_least(wanted.start, wanted.end, 6 * self.octet),
-            )
-            style = {"edgecolor": LIGHT["expected"], "linewidth": 1.6, "linestyle": (0, (3, 1.5))}
-            self.octets.add_collection(
-                PolyCollection(
-                    [box],
-                    facecolors="none",
-                    edgecolors=LIGHT["expected"],
-                    linewidths=1.6,
-                    linestyles=[(0, (3, 1.5))],
-                    zorder=6,
-                    gid="expected",
-                ),
-                autolim=False,
-            )
-            self.legend.append((Patch(facecolor="none", **style), f"packet expected by line {failure.line}"))
+        if failure is not None and failure.actual is not None:
+            self._draw_actual(failure.actual)
+        if failure is not None and failure.expected is not None:
+            self._draw_expected(failure.expected, failure.line)
+
+    def _draw_actual(self, it: Segment) -> None:
+        """The packet that was sent in the place of the expected one, as a wide bar."""
+        role = _KINDS[it.kind]
+        box = _box(it.at - 4 * self.unit, it.at + 4 * self.unit, *_at_least(it.start, it.end, 3 * self.octet))
+        bar = PolyCollection([box], facecolors=LIGHT[role], edgecolors="none", zorder=4, gid=role)
+        self.octets.add_collection(bar, autolim=False)
+        again = " again" if it.kind is Kind.AGAIN else ""
+        self.legend.append((Patch(facecolor=LIGHT[role], linewidth=0), f"packet sent{again}, but not expected so"))
+
+    def _draw_expected(self, it: Expected, line: int) -> None:
+        """The packet that the failing line expects, as an outline as wide as its time."""
+        octets = _at_least(it.start, it.end, 6 * self.octet)
+        box = _box(it.first - 7 * self.unit, it.last + 7 * self.unit, *octets)
+        style = {"facecolor": "none", "edgecolor": LIGHT["expected"], "linewidth": 1.6, "linestyle": (0, (3, 1.5))}
+        outline = PolyCollection([box], zorder=6, gid="expected", **style)
+        self.octets.add_collection(outline, autolim=False)
+        self.legend.append((Patch(**style), f"packet expected by line {line}"))
 
     # ---- windows
 
