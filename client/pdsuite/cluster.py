@@ -155,7 +155,7 @@ class _Cluster:
         if isinstance(answer, str):
             self._give_up(task, answer)
             return None
-        return list(parcels.steps_of(task.run, answer, self._note))
+        return list(parcels.steps_of(task.run, task.parcel, answer, self._note))
 
     def _send(self, task: _Task) -> None:
         """Sends a task to the workers that may be used, if there are any."""

@@ -41,14 +41,14 @@ def find_with_folders(paths: Iterable[Path], only: str | None, stop: Stop) -> Fi
     found = sorted(_all(paths, folders, stop), key=lambda it: os.fsencode(it.path))
     first: dict[tuple[str, str], Found] = {}
     for it in found:
-        if it.fault or only is None or _is_meant(it, only):
+        if it.fault or only is None or fits(it.path, only):
             first.setdefault((it.folder, it.name), it)
     return Finding(list(first.values()), folders)
 
 
-def _is_meant(found: Found, only: str) -> bool:
-    """Whether the pattern fits the path, or the last name in it."""
-    return fnmatchcase(found.path, only) or fnmatchcase(os.path.basename(found.path), only)
+def fits(path: str, pattern: str) -> bool:
+    """Whether a pattern fits a path, or the last name in it."""
+    return fnmatchcase(path, pattern) or fnmatchcase(os.path.basename(path), pattern)
 
 
 def _all(paths: Iterable[Path], looked: set[str], stop: Stop) -> Iterator[Found]:

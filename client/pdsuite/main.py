@@ -15,6 +15,7 @@ from pdsuite.commands.list import list_scripts
 from pdsuite.commands.run import Wish, run
 from pdsuite.faults import Fault, why
 from pdsuite.octets import shown
+from pdsuite.page.plots import MOST, Plots
 from pdsuite.reports.as_json import Json
 from pdsuite.reports.form import Form
 from pdsuite.reports.github import Github
@@ -84,10 +85,28 @@ _html = click.option(
 )
 
 
+def _plots(command: Command) -> Command:
+    """The words that say of which scripts the page has diagrams."""
+    for option in (
+        click.option("--plots", metavar="N", type=click.IntRange(0), help=f"Draw the first N that fail, not {MOST}."),
+        click.option("--plot", metavar="PATTERN", help="Draw scripts whose path or name fits, as files too."),
+    ):
+        command = option(command)
+    return command
+
+
+def _wanted(html: Path | None, plot: str | None, plots: int | None) -> Plots:
+    """The diagrams that are asked for."""
+    if html is None and (plot is not None or plots is not None):
+        raise click.UsageError("--plot and --plots draw into the page of --html FOLDER")
+    return Plots(plot, MOST if plots is None else plots)
+
+
 @pdsuite.command(name="run")
 @_choice
 @_workers
 @_html
+@_plots
 @click.option("--scheduler", metavar="ADDRESS", help="Run scripts on the cluster of this Dask scheduler.")
 @click.option("--fail-fast", is_flag=True, help="Stop at the first piece that doesn't pass.")
 @click.option(
@@ -107,6 +126,8 @@ def run_command(
     no_color: bool,
     workers: int | None,
     html: Path | None,
+    plot: str | None,
+    plots: int | None,
     scheduler: str | None,
     fail_fast: bool,
     junit: Path | None,
@@ -118,7 +139,7 @@ def run_command(
         raise click.UsageError("--workers is of this machine, and --scheduler runs scripts elsewhere")
     if scheduler is not None and html is not None:
         raise click.UsageError("--html draws what ran on this machine, and --scheduler runs scripts elsewhere")
-    wish = Wish(paths, only, settings, _threads(workers), scheduler, fail_fast, junit, html)
+    wish = Wish(paths, only, settings, _threads(workers), scheduler, fail_fast, junit, html, _wanted(html, plot, plots))
     with Screen(wants_color() and not no_color, progress=form is None) as screen:
         return run(wish, _form(form, verbose), screen)
 
@@ -127,6 +148,7 @@ def run_command(
 @_choice
 @_workers
 @_html
+@_plots
 @click.option("-v", "--verbose", is_flag=True, help="At first a line for each script.")
 def watch_command(
     paths: tuple[Path, ...],
@@ -135,15 +157,18 @@ def watch_command(
     no_color: bool,
     workers: int | None,
     html: Path | None,
+    plot: str | None,
+    plots: int | None,
     verbose: bool,
 ) -> int:
     """Watches files and folders, and shows at once what each change did."""
     # Only who watches pays for what reports changes.
     from pdsuite.commands.watch import Wish, watch
 
+    wish = Wish(paths, only, settings, _threads(workers), verbose, html, _wanted(html, plot, plots))
     gc.enable()  # this may go on for days
     with Screen(wants_color() and not no_color, progress=False) as screen:
-        return watch(Wish(paths, only, settings, _threads(workers), verbose, html), screen)
+        return watch(wish, screen)
 
 
 @pdsuite.command(name="list")

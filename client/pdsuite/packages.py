@@ -7,6 +7,13 @@ from pdsuite.faults import Fault
 
 def need(module: str) -> None:
     """Raises a fault that names the package of a module, where that isn't installed."""
-    if find_spec(module) is None:
-        package = f"python3-{module}"
-        raise Fault(f"{package} isn't installed: apt-get install --no-install-recommends {package}")
+    if said := missing(module):
+        raise Fault(said)
+
+
+def missing(module: str) -> str:
+    """The words that name the package of a module, where that isn't installed."""
+    if find_spec(module) is not None:
+        return ""
+    package = f"python3-{module}"
+    return f"{package} isn't installed: apt-get install --no-install-recommends {package}"

@@ -59,14 +59,18 @@ def work(parcel: Parcel, programs: Programs) -> Answer:
     return answer
 
 
-def steps_of(run: Run, answer: list[str | list[PlainRow]], note: Callable[[str], None]) -> Iterator[Step]:
+def steps_of(
+    run: Run, parcel: Parcel, answer: list[str | list[PlainRow]], note: Callable[[str], None]
+) -> Iterator[Step]:
     """The steps that an answer tells of a run; `note` hears what was said on the way."""
-    scripts = chain.from_iterable(run.pieces)
+    sent = zip(chain.from_iterable(run.pieces), (text for piece in parcel[1] for _, text in piece))
     for it in answer:
         if isinstance(it, str):
             note(it)
-        else:
-            yield Settled([(script, _outcome(script, row)) for script, row in zip(islice(scripts, len(it)), it)])
+            continue
+        piece = list(islice(sent, len(it)))
+        texts = {script.index: text_of(text) for script, text in piece if isinstance(text, bytes)}
+        yield Settled([(script, _outcome(script, row)) for (script, _), row in zip(piece, it)], texts)
 
 
 def _plain_text(script: Script) -> bytes | str:

@@ -25,6 +25,7 @@ FOLDER = "PDSUITE_PROGRAMS"
 PACKED = TOP / "version"
 REGRESS = "pdregress"
 EXPLAIN = "pdexplain"
+RECORD = "pdrecord"
 
 _PIPE = 1 << 20
 _READ = 1 << 18
@@ -140,6 +141,16 @@ class Program:
 
     def finish(self, commands: bytes, longest: int) -> bytes:
         """What the program says on standard error of these commands. It is asked nothing after them, and ends."""
+        self._finish(commands, longest)
+        return self._said
+
+    def record(self, text: bytes, longest: int) -> tuple[bytes, str]:
+        """What the program writes of this text, which is all of its input, and the last line that it says."""
+        self._finish(text, longest)
+        return bytes(self._got[1:]), self._last_line()
+
+    def _finish(self, commands: bytes, longest: int) -> None:
+        """Writes the last of the input, and reads what the program writes until it has ended."""
         self._kept = longest + 1
         self._is_last = True
         self._send(commands)
@@ -152,7 +163,6 @@ class Program:
         status = self._kill()
         if status not in _REGULAR:
             raise Ended((self._last_line() if status > 0 else "") or self._end())
-        return self._said
 
     def fileno(self) -> int:
         """What can be read once a program that nobody asks has something to say, or has ended."""

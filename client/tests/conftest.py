@@ -9,6 +9,8 @@ from pathlib import Path
 
 import pytest
 
+from pdsuite.faults import Fault
+from pdsuite.programs import RECORD, locate
 from pdsuite.stop import Stop
 from pdsuite.watcher import Watcher
 from tests.helpers import TOP, Call, Called
@@ -43,6 +45,19 @@ def programs(tmp_path_factory: pytest.TempPathFactory) -> Path:
     folder.chmod(0o755)  # Another user runs them too.
     for name in ("pdregress", "pdexplain"):
         (folder / name).symlink_to(_program(name))
+    return folder
+
+
+@pytest.fixture(scope="session")
+def recording_programs(programs: Path, tmp_path_factory: pytest.TempPathFactory) -> Path:
+    """A folder with the built programs and pdrecord; where that isn't built, what asks for it is skipped."""
+    try:
+        recorder = locate(RECORD)
+    except Fault as fault:
+        pytest.skip(f"needs the built program: {fault}")
+    folder = tmp_path_factory.mktemp("recording_programs")
+    for program in (*programs.iterdir(), recorder):
+        (folder / program.name).symlink_to(program.resolve())
     return folder
 
 

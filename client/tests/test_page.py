@@ -6,6 +6,7 @@ from pathlib import Path
 
 import pytest
 
+from pdsuite.page.diagrams import undrawn
 from pdsuite.page.links import file_of, is_file
 from pdsuite.page.packets import Mark, Packet, columns
 from pdsuite.page.sheets import Entry, Fact, Refused, Sheet, row_of, sheet_of
@@ -74,7 +75,7 @@ def sheet(verdict: Verdict, text: bytes, cause: Cause, number: int = 1, word: st
     """The page of a script."""
     row = Row(verdict, number, word)
     named = text_of(text).line(number) if row.line else None
-    return sheet_of(Entry(Outcome("a.pkt", (), row, named), text_of(text)), cause)
+    return sheet_of(Entry(Outcome("a.pkt", (), row, named), text_of(text)), cause, undrawn(row))
 
 
 def test_what_the_program_tells_of_a_missing_packet() -> None:
@@ -133,7 +134,10 @@ def test_the_table_names_the_rule_and_the_reason_of_an_error() -> None:
 
 def test_settings_stand_on_the_page() -> None:
     entry = Entry(Outcome("a", (("initial_window", "rfc6928"), ("sack", False)), Row(Verdict.PASS, 0)), text_of(b""))
-    assert sheet_of(entry, None).settings == (Fact("initial_window", '"rfc6928"'), Fact("sack", "false"))
+    assert sheet_of(entry, None, undrawn(entry.outcome.row)).settings == (
+        Fact("initial_window", '"rfc6928"'),
+        Fact("sack", "false"),
+    )
 
 
 @pytest.mark.parametrize("said", [b"[1]\n", b"{}\n", b"\xff\n", b'{"name": 1, "line": 2}\n', b"[" * 100_000 + b"\n"])

@@ -1,6 +1,7 @@
 """The page in a browser: filter, links, marks, keyboard, colours, widths, and scripts that would be HTML."""
 
 import os
+import shutil
 import subprocess
 from collections.abc import Iterator
 from dataclasses import dataclass
@@ -280,3 +281,55 @@ def test_a_thousand_scripts_are_filtered_at_once(many: Browser) -> None:
     assert many.texts("#scripts tbody th") == ["in/s0907.pkt"]
     files = {it.name for it in (many.folder / "scripts").iterdir()}
     assert files == {file_of(f"in/s{number:04}.pkt") for number in range(1_024)}
+
+
+@pytest.fixture(scope="module")
+def drawn(driver: webdriver.Chrome, stand_in: Path, tmp_path_factory: pytest.TempPathFactory) -> Browser:
+    """The page of scripts with a diagram, whose recordings are there already."""
+    top = tmp_path_factory.mktemp("drawn")
+    programs = top / "programs"
+    shutil.copytree(stand_in, programs)
+    recording = TOP / "client/tests/recordings/timeout.txt"
+    (programs / "pdrecord").write_text(f"#!/bin/sh\ncat >/dev/null\ncat {recording}\n")
+    (programs / "pdrecord").chmod(0o755)
+    write(top / "in", seq=b"row fail 1 seq\n", fail=b"row fail 1 seq\n")
+    return Browser(driver, make(top, programs))
+
+
+# The colours in which bars are filled, of segments and of those that are sent again; of the picture that is seen.
+FILLS = """
+const svg = [...document.querySelectorAll(".diagram svg")].find((it) => it.checkVisibility());
+return ["new", "again"].map((name) => getComputedStyle(svg.querySelector(`g.${name} path, g.${name} use`)).fill);
+"""
+
+
+@pytest.mark.parametrize(("width", "name"), [(360, "narrow"), (1_600, "wide")])
+def test_a_diagram_stands_in_the_page_in_the_size_and_the_colours_of_its_reader(
+    width: int, name: str, drawn: Browser
+) -> None:
+    fills = []
+    for scheme in ("light", "dark"):
+        drawn.look(f"scripts/{file_of('in/seq.pkt')}", width=width, scheme=scheme)
+        seen = [it.get_attribute("class") for it in drawn.all(".diagram svg") if it.is_displayed()]
+        assert seen == [name]
+        assert drawn.run("return document.documentElement.scrollWidth") == width
+        fills.append(drawn.run(FILLS))
+    assert fills == [["rgb(31, 95, 174)", "rgb(212, 56, 13)"], ["rgb(118, 176, 255)", "rgb(255, 138, 102)"]]
+    texts = drawn.run(f"return [...document.querySelectorAll('svg.{name} text')].map((it) => it.textContent)")
+    assert isinstance(texts, list)
+    assert {"timeout, RTO 1 s", "timeout, RTO 2 s", "segment sent again", "cwnd"} <= set(texts)
+
+
+# Texts of the picture that is seen, of which one lies over another.
+OVERLAPS = """
+const svg = [...document.querySelectorAll(".diagram svg")].find((it) => it.checkVisibility());
+const boxes = [...svg.querySelectorAll("text")].map((it) => [it.textContent, it.getBoundingClientRect()]);
+const apart = (a, b) => a.right <= b.left || b.right <= a.left || a.bottom <= b.top + 2 || b.bottom <= a.top + 2;
+return boxes.flatMap(([one, a], i) => boxes.slice(i + 1).filter(([, b]) => !apart(a, b)).map(([two]) => [one, two]));
+"""
+
+
+@pytest.mark.parametrize("width", [360, 1_600])
+def test_no_text_of_a_diagram_lies_over_another(width: int, drawn: Browser) -> None:
+    drawn.look(f"scripts/{file_of('in/seq.pkt')}", width=width)
+    assert drawn.run(OVERLAPS) == []

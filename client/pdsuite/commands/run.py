@@ -8,12 +8,14 @@ from pathlib import Path
 from typing import TYPE_CHECKING
 
 from pdsuite.asked import refused
+from pdsuite.checking import Checking
 from pdsuite.commands.choice import scripts_of
 from pdsuite.explain import Explainer
 from pdsuite.faults import Cut
 from pdsuite.files import write
 from pdsuite.here import here
 from pdsuite.packages import need
+from pdsuite.page.plots import Plots
 from pdsuite.programs import EXPLAIN, REGRESS, Program, digest, locate
 from pdsuite.report import Report
 from pdsuite.reports.form import Form
@@ -41,6 +43,7 @@ class Wish:
     fail_fast: bool
     junit: Path | None
     html: Path | None
+    plots: Plots
 
 
 def run(wish: Wish, form: Form, screen: Screen) -> int:
@@ -61,11 +64,11 @@ def run(wish: Wish, form: Form, screen: Screen) -> int:
             return stopped.status
 
 
-def _drawing(folder: Path, screen: Screen) -> "Drawing":
+def _drawing(folder: Path, plots: Plots, screen: Screen) -> "Drawing":
     # Only who asks for a page pays for what draws it.
     from pdsuite.page.drawing import Drawing
 
-    return Drawing(folder, screen.note)
+    return Drawing(folder, plots, screen.note)
 
 
 def _kept(steps: Iterable[Step], texts: dict[int, Text]) -> Iterator[Step]:
@@ -94,15 +97,19 @@ def _run(
     mapper: Mapper, scripts: Sequence[Script], wish: Wish, form: Form, screen: Screen, begin: float, stop: Stop
 ) -> int:
     """Runs the scripts by whoever is given, reports what came of them, and answers the exit status."""
-    drawing = None if wish.html is None else _drawing(wish.html, screen)
+    drawing = None if wish.html is None else _drawing(wish.html, wish.plots, screen)
     report = Report(scripts, form, screen)
+    checking = Checking(stop, screen.note)
     texts: dict[int, Text] = {}
     ended: Stopped | Cut | None = None
     try:
         with closing(mapper(runs_of(scripts))) as steps:
             heard = steps if drawing is None else _kept(steps, texts)
-            ended = _take(heard, report, screen, wish.fail_fast)
+            ended = _take(heard, report, checking, screen, wish.fail_fast)
         totals = report.close(time.monotonic() - begin)
+        if ended is None:
+            for line in checking.lines():
+                say(line)
     finally:
         # Also where nothing can be shown any more.
         if wish.junit is not None:
@@ -116,7 +123,9 @@ def _run(
     return 2 if drawing is not None and drawing.has_failed else totals.status()
 
 
-def _take(steps: Iterable[Step], report: Report, screen: Screen, fail_fast: bool) -> Stopped | Cut | None:
+def _take(
+    steps: Iterable[Step], report: Report, checking: Checking, screen: Screen, fail_fast: bool
+) -> Stopped | Cut | None:
     """Reports each step, up to the last one or the one where it is to end; what ended it early, if anything did."""
     try:
         for step in steps:
@@ -124,6 +133,7 @@ def _take(steps: Iterable[Step], report: Report, screen: Screen, fail_fast: bool
                 screen.note(str(step))
                 continue
             report.take(step.outcomes)
+            checking.take(step)
             if fail_fast and not all(map(_passes, step.outcomes)):
                 break
     except (Stopped, Cut) as ended:
@@ -151,7 +161,7 @@ def _draw(drawing: "Drawing", report: Report, texts: dict[int, Text], screen: Sc
     try:
         with drawing:
             drawing.follow(entries)
-            drawing.finish(stop, lambda done, count: screen.advance(done, count, "pages"))
+            drawing.finish(stop, lambda done, count: screen.advance(done, count, "pages drawn"))
     except Stopped as stopped:
         return stopped
     finally:

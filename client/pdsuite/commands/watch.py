@@ -16,6 +16,7 @@ from pdsuite.fleet import Fleet
 from pdsuite.folders import Choice, Folders
 from pdsuite.layers import Layers
 from pdsuite.news import Outcomes, changed_blocks, changed_rows, first_report, foot, totals_of
+from pdsuite.page.plots import Plots
 from pdsuite.programs import EXPLAIN, REGRESS, Program, locate
 from pdsuite.rows import Outcome, Row, Verdict
 from pdsuite.runs import RUN, Script, runs_of
@@ -44,6 +45,7 @@ class Wish:
     workers: int
     every: bool
     html: Path | None
+    plots: Plots
 
 
 class View:
@@ -125,7 +127,7 @@ def watch(wish: Wish, screen: Screen) -> int:
             layers = Layers(option, ask, screen.note)
             start = start_with(program, wish.workers, RUN, stop)
             with (
-                _drawing(wish.html, screen) as drawing,
+                _drawing(wish, screen) as drawing,
                 Watcher() as watcher,
                 Fleet(start, screen.note, view.tell) as fleet,
             ):
@@ -135,13 +137,13 @@ def watch(wish: Wish, screen: Screen) -> int:
             return stopped.status if view.status is None else view.status
 
 
-def _drawing(folder: Path | None, screen: Screen) -> "AbstractContextManager[Drawing | None]":
+def _drawing(wish: Wish, screen: Screen) -> "AbstractContextManager[Drawing | None]":
     """The page, if one is asked for."""
-    if folder is None:
+    if wish.html is None:
         return nullcontext()
     from pdsuite.page.drawing import Drawing
 
-    return Drawing(folder, screen.note)
+    return Drawing(wish.html, wish.plots, screen.note)
 
 
 def _follow(

@@ -1,5 +1,6 @@
 """A process that draws: it reads its job on standard input, and says on standard output which pages stand."""
 
+import logging
 import pickle
 import sys
 
@@ -14,6 +15,7 @@ FAILED = 2
 
 def main() -> int:
     """Does one job, and answers the exit status."""
+    logging.disable()  # what counts is said here
     with Stop() as stop:
         job: Job = pickle.load(sys.stdin.buffer)
         try:

@@ -3,11 +3,15 @@
 import os
 import select
 from collections.abc import Callable, Sequence
+from dataclasses import replace
 from pathlib import Path
 
+from pdsuite.packages import need
 from pdsuite.page.drawer import FAILED, FAULT
 from pdsuite.page.folder import prepare
 from pdsuite.page.jobs import Job
+from pdsuite.page.links import plot_files
+from pdsuite.page.plots import Plot, Plots, plots_of
 from pdsuite.page.sheets import Entry, row_of
 from pdsuite.programs import Worker
 from pdsuite.stop import Stop
@@ -20,8 +24,11 @@ _SHARE = 128
 class Drawing:
     """The page in a folder, and the processes that draw it; `note` is told why one has to end."""
 
-    def __init__(self, folder: Path, note: Callable[[str], None]) -> None:
+    def __init__(self, folder: Path, plots: Plots, note: Callable[[str], None]) -> None:
+        if plots.pattern is not None:
+            need("matplotlib")
         prepare(folder)
+        self._plots = plots
         self.has_failed = False
         self._folder = folder.absolute()
         self._note = note
@@ -49,7 +56,8 @@ class Drawing:
 
     def follow(self, entries: Sequence[Entry]) -> None:
         """Has the page drawn of these scripts, as soon as nothing else is drawn."""
-        self._waiting = entries
+        plots = plots_of((it.outcome for it in entries), self._plots)
+        self._waiting = [replace(it, plot=plot) for it, plot in zip(entries, plots)]
         self.look()
 
     def look(self) -> None:
@@ -74,11 +82,14 @@ class Drawing:
         paths = {it.outcome.path for it in entries}
         self._drawn = {path: it for path, it in self._drawn.items() if path in paths}
         changed = [it for it in entries if self._drawn.get(it.outcome.path) != it]
-        count = max(1, min(len(os.sched_getaffinity(0)), len(changed) // _SHARE))
+        changed.sort(key=lambda it: it.plot is not Plot.NONE)  # what takes longest comes last, and to all
+        diagrams = sum(it.plot is not Plot.NONE for it in changed)
+        count = max(1, min(len(os.sched_getaffinity(0)), max(len(changed) // _SHARE, diagrams)))
         rows = tuple(row_of(it.outcome) for it in entries)
+        plots = tuple(name for it in entries if it.plot is Plot.FILES for name in plot_files(it.outcome.path))
         for number in range(count):
             share = tuple(changed[number::count])
-            job = Job(self._folder, rows if number == 0 else None, share)
+            job = Job(self._folder, rows if number == 0 else None, plots, share)
             self._workers[Worker(_DRAWER, job)] = share
 
     def _hear(self, worker: Worker, entries: Sequence[Entry]) -> None:

@@ -6,7 +6,7 @@ from pathlib import Path
 from pdsuite.faults import Fault, why
 from pdsuite.files import write
 from pdsuite.octets import shown_path
-from pdsuite.page.links import FOLDER, is_file
+from pdsuite.page.links import FOLDER, PLOTS, is_file, is_plot
 from pdsuite.page.render import GENERATOR, STATIC, static
 
 TABLE = "index.html"
@@ -19,31 +19,35 @@ def prepare(folder: Path) -> None:
     try:
         if folder.exists() and (other := _other(folder)):
             raise Fault(f"{shown_path(folder)}: holds {shown_path(other)}, which is no part of a page")
-        (folder / FOLDER).mkdir(parents=True, exist_ok=True)
+        for name in (FOLDER, PLOTS):
+            (folder / name).mkdir(parents=True, exist_ok=True)
     except OSError as error:
         raise Fault(f"{shown_path(folder)}: {why(error)}") from error
     for name in STATIC:
         write(folder / name, static(name))
 
 
-def sweep(folder: Path, files: Iterable[str]) -> None:
-    """Takes away the pages of scripts that aren't among these."""
-    stay = set(files)
-    for path in (folder / FOLDER).iterdir():
-        if is_file(path.name) and path.name not in stay:
-            path.unlink(missing_ok=True)
+def sweep(folder: Path, files: Iterable[str], plots: Iterable[str]) -> None:
+    """Takes away the pages of scripts, and the files of diagrams, that aren't among these."""
+    for name, is_ours, stay in ((FOLDER, is_file, set(files)), (PLOTS, is_plot, set(plots))):
+        for path in (folder / name).iterdir():
+            if is_ours(path.name) and path.name not in stay:
+                path.unlink(missing_ok=True)
 
 
 def _other(folder: Path) -> str | None:
     """The first name in the folder that no page has; hidden names don't count."""
     for name in _names(folder):
-        if name not in (TABLE, FOLDER, *STATIC):
+        if name not in (TABLE, FOLDER, PLOTS, *STATIC):
             return name
-    table, scripts = folder / TABLE, folder / FOLDER
+    table = folder / TABLE
     if table.exists() and _MARK not in table.read_bytes()[:_HEAD]:
         return TABLE
-    names = _names(scripts) if scripts.exists() else []
-    return next((f"{FOLDER}/{name}" for name in names if not is_file(name)), None)
+    for part, is_ours in ((FOLDER, is_file), (PLOTS, is_plot)):
+        for name in _names(folder / part) if (folder / part).exists() else []:
+            if not is_ours(name):
+                return f"{part}/{name}"
+    return None
 
 
 def _names(folder: Path) -> list[str]:

@@ -6,12 +6,14 @@ from pathlib import Path
 
 from pdsuite.explain import CAUSES, Asker
 from pdsuite.files import write
+from pdsuite.page.diagrams import diagram_of
 from pdsuite.page.folder import TABLE, sweep
 from pdsuite.page.links import FOLDER
 from pdsuite.page.render import script_page, table_page
 from pdsuite.page.sheets import Entry, Row, sheet_of
 from pdsuite.programs import EXPLAIN, locate
 from pdsuite.protocol import Cause
+from pdsuite.recorder import Recorder
 from pdsuite.runs import Script, runs_of
 from pdsuite.settle import Settled
 from pdsuite.stop import Stop
@@ -19,10 +21,14 @@ from pdsuite.stop import Stop
 
 @dataclass(frozen=True)
 class Job:
-    """The folder, the rows of the table if that is to be written, and the scripts whose pages are."""
+    """The folder, the rows of the table if that is to be written, and the scripts whose pages are.
+
+    With the table the names come that files of diagrams may have, since all others are taken away.
+    """
 
     folder: Path
     rows: tuple[Row, ...] | None
+    plots: tuple[str, ...]
     entries: tuple[Entry, ...]
 
 
@@ -30,16 +36,17 @@ def carry_out(job: Job, stop: Stop, done: Callable[[int], None]) -> None:
     """Does a job. `done` is told the place of each script whose page stands."""
     if job.rows is not None:
         write(job.folder / TABLE, table_page(job.rows))
-        sweep(job.folder, (it.file for it in job.rows))
+        sweep(job.folder, (it.file for it in job.rows), job.plots)
     scripts = [Script(place, it.outcome.path, it.outcome.settings) for place, it in enumerate(job.entries)]
     # Where it tells nothing of a script, that has been said when its row was shown.
     asker = Asker(locate(EXPLAIN), CAUSES, stop, lambda line: None)
+    recorder = Recorder(stop, lambda line: None)
     for run in runs_of(scripts):
         for piece in run.pieces:
             told = asker.told(_settled(piece, job.entries))
             for script in piece:
                 stop.check()
-                _write_page(job, script.index, told.get(script.index))
+                _write_page(job, script.index, told.get(script.index), recorder)
                 done(script.index)
 
 
@@ -48,6 +55,8 @@ def _settled(piece: Sequence[Script], entries: Sequence[Entry]) -> Settled:
     return Settled([(it, entries[it.index].outcome) for it in piece], texts)
 
 
-def _write_page(job: Job, place: int, cause: Cause | None) -> None:
-    sheet = sheet_of(job.entries[place], cause)
+def _write_page(job: Job, place: int, cause: Cause | None, recorder: Recorder) -> None:
+    entry = job.entries[place]
+    diagram = diagram_of(entry.outcome, entry.text, entry.plot, cause, recorder, job.folder)
+    sheet = sheet_of(entry, cause, diagram)
     write(job.folder / FOLDER / sheet.row.file, script_page(sheet))

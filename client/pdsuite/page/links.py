@@ -7,10 +7,12 @@ import re
 from pdsuite.octets import shown_path
 
 FOLDER = "scripts"
+PLOTS = "plots"
 _LONGEST = 80
 _DIGITS = 16
 _OTHER = re.compile(r"[^A-Za-z0-9.-]+")
 _NAME = re.compile(rf"[A-Za-z0-9._-]+-[0-9a-f]{{{_DIGITS}}}\.html")
+_PLOT = re.compile(rf"[A-Za-z0-9._-]+-[0-9a-f]{{{_DIGITS}}}\.(svg|png)")
 
 
 def file_of(path: str) -> str:
@@ -23,3 +25,14 @@ def file_of(path: str) -> str:
 def is_file(name: str) -> bool:
     """Whether a file's name is that of a script's page."""
     return _NAME.fullmatch(name) is not None
+
+
+def plot_files(path: str) -> tuple[str, str]:
+    """The names of the files with a script's diagram."""
+    stem = file_of(path).removesuffix(".html")
+    return f"{stem}.svg", f"{stem}.png"
+
+
+def is_plot(name: str) -> bool:
+    """Whether a file's name is that of a script's diagram."""
+    return _PLOT.fullmatch(name) is not None

@@ -6,7 +6,8 @@ from pathlib import Path
 
 from jinja2 import Environment, FileSystemLoader, StrictUndefined
 
-from pdsuite.page.links import FOLDER
+from pdsuite.diagram.palette import rules
+from pdsuite.page.links import FOLDER, PLOTS
 from pdsuite.page.sheets import Row, Sheet
 from pdsuite.rows import Totals, Verdict
 
@@ -14,12 +15,14 @@ _HERE = Path(__file__).parent
 # Stands in each page, and tells whose it is.
 GENERATOR = "pdsuite"
 # What all pages use, beside the table.
-STATIC = ("page.css", "page.js")
+_STYLE = "page.css"
+STATIC = (_STYLE, "page.js")
 
 
 def static(name: str) -> bytes:
     """A file that all pages use."""
-    return (_HERE / "static" / name).read_bytes()
+    octets = (_HERE / "static" / name).read_bytes()
+    return octets + f"\n/* The colours of diagrams. */\n{rules(':root')}\n".encode() if name == _STYLE else octets
 
 
 def table_page(rows: Sequence[Row]) -> bytes:
@@ -31,7 +34,7 @@ def table_page(rows: Sequence[Row]) -> bytes:
 
 def script_page(sheet: Sheet) -> bytes:
     """The page of a script."""
-    return _filled("script.html", sheet=sheet, row=sheet.row)
+    return _filled("script.html", sheet=sheet, row=sheet.row, plots=PLOTS)
 
 
 def _filled(name: str, **values: object) -> bytes:

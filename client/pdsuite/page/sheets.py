@@ -5,8 +5,10 @@ from dataclasses import dataclass
 
 from pdsuite.block import block
 from pdsuite.octets import shown, shown_path
+from pdsuite.page.diagrams import Diagram
 from pdsuite.page.links import file_of
 from pdsuite.page.packets import Mark, Packet, Part, columns
+from pdsuite.page.plots import Plot
 from pdsuite.protocol import Cause
 from pdsuite.rows import Outcome, Verdict
 from pdsuite.settings import shown_value
@@ -57,10 +59,11 @@ _STATE = {
 
 @dataclass(frozen=True, slots=True)
 class Entry:
-    """A script for the page: what came of it, and its text where it was run."""
+    """A script for the page: what came of it, its text where it was run, and whether its diagram is drawn."""
 
     outcome: Outcome
     text: Text | None = None
+    plot: Plot = Plot.NONE
 
 
 @dataclass(frozen=True, slots=True)
@@ -119,6 +122,7 @@ class Sheet:
     more_untaken: int
     state: tuple[Fact, ...]
     below: tuple[str, ...]  # what is told in lines, where nothing is told by keys
+    diagram: Diagram
 
     @property
     def marks(self) -> list[Mark]:
@@ -141,7 +145,7 @@ def row_of(outcome: Outcome) -> Row:
     )
 
 
-def sheet_of(entry: Entry, cause: Cause | None) -> Sheet:
+def sheet_of(entry: Entry, cause: Cause | None, diagram: Diagram) -> Sheet:
     """The page of a script, with what the program tells of it."""
     outcome, told = entry.outcome, cause or {}
     return Sheet(
@@ -157,6 +161,7 @@ def sheet_of(entry: Entry, cause: Cause | None) -> Sheet:
         more_untaken=_number(told, "more_untaken_packets"),
         state=tuple(_state(told)),
         below=() if told else tuple(block(outcome)),
+        diagram=diagram,
     )
 
 

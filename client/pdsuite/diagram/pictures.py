@@ -1,0 +1,72 @@
+"""Pictures of strokes as octets: for a page, and as files. The same strokes give the same octets."""
+
+import io
+import re
+import warnings
+from html import escape
+
+import matplotlib
+
+from pdsuite.diagram.palette import LIGHT, rules
+from pdsuite.diagram.plot import NARROW, SETTINGS, WIDE, Size, figure_of
+from pdsuite.diagram.strokes import Strokes
+
+_DPI = 144
+_WORDS = "Time-sequence diagram: octets over time, and below it the windows over the same time"
+# What matplotlib writes before and around a picture.
+_HEAD = re.compile(r"^.*?(?=<svg )|<metadata>.*?</metadata>\s*|<defs>\s*<style.*?</style>\s*</defs>\s*", re.DOTALL)
+_SIZE = re.compile(r'^<svg [^>]*?viewBox="([^"]*)"[^>]*>')
+_FONT = re.compile(r"font: ([\d.]+)px [^;\"]*")
+_NUMBERED = re.compile(r' id="[A-Za-z0-9.]*_[0-9]+"')
+_COLOR = re.compile("|".join(map(re.escape, LIGHT.values())))
+_NAMES = {color: name for name, color in LIGHT.items()}
+_CLASS = re.compile(rf'id="({"|".join(LIGHT)}|legend)"')
+# Stands for a title until all else is done.
+_TITLE = "@title@"
+_LONGEST_TITLE = 120
+_NAMESPACES = 'xmlns="http://www.w3.org/2000/svg" xmlns:xlink="http://www.w3.org/1999/xlink"'
+_STYLE = (
+    f"{rules('svg')}\nsvg {{ background: var(--diagram-card); stroke-linejoin: round;"
+    " font-family: 'DejaVu Sans', system-ui, sans-serif }"
+)
+
+
+def for_page(strokes: Strokes) -> str:
+    """Two pictures for a page, of which it shows the one that fits: for wide and for narrow windows."""
+    return _svg(strokes, WIDE, "wide") + _svg(strokes, NARROW, "narrow")
+
+
+def svg_file(strokes: Strokes, title: str) -> bytes:
+    """A picture as a file of its own, dark where the reader prefers it."""
+    first, rest = _svg(strokes, WIDE, "wide", _TITLE).split(">", 1)
+    text = f"{first} {_NAMESPACES}><style>{_STYLE}</style>{rest}"
+    return text.replace(_TITLE, escape(_cut(title))).encode("utf-8", "replace")
+
+
+def png_file(strokes: Strokes, title: str) -> bytes:
+    """A picture as dots, on white."""
+    return _saved(strokes, WIDE, _cut(title), "png", dpi=_DPI, facecolor="white", metadata={"Software": None})
+
+
+def _svg(strokes: Strokes, size: Size, name: str, title: str = "") -> str:
+    """A picture as SVG that stands in another text: with classes, and colours by variables."""
+    text = _HEAD.sub("", _saved(strokes, size, title, "svg", metadata={"Date": None}).decode())
+    text = _SIZE.sub(rf'<svg class="{name}" role="img" aria-label="{_WORDS}" viewBox="\1">', text)
+    text = _CLASS.sub(r'class="\1"', _NUMBERED.sub("", text))
+    text = _COLOR.sub(lambda it: f"var(--diagram-{_NAMES[it[0]]})", text)
+    return _FONT.sub(r"font-size: \1px", text)
+
+
+def _saved(strokes: Strokes, size: Size, title: str, form: str, **words: object) -> bytes:
+    octets = io.BytesIO()
+    # Neither the user's own settings nor letters that a font hasn't make a difference.
+    with matplotlib.rc_context(), warnings.catch_warnings():
+        warnings.simplefilter("ignore")
+        matplotlib.rcdefaults()
+        matplotlib.rcParams.update(SETTINGS)
+        figure_of(strokes, size, title).savefig(octets, format=form, **words)
+    return octets.getvalue()
+
+
+def _cut(title: str) -> str:
+    return title if len(title) <= _LONGEST_TITLE else f"...{title[3 - _LONGEST_TITLE:]}"

@@ -1,0 +1,364 @@
+"""From a recording to the strokes of a time-sequence diagram, all as values: nothing is drawn here.
+
+Moments are in microseconds after the first packet, octets are sequence numbers as scripts have them.
+"""
+
+from collections.abc import Callable, Iterator, Sequence
+from dataclasses import dataclass
+from enum import Enum
+
+from pdsuite.diagram.failing import Failing
+from pdsuite.imports.items import Packet
+from pdsuite.trace import Event
+
+
+class Kind(Enum):
+    """What a segment that leaves has."""
+
+    NEW = "new"  # octets that weren't sent before
+    AGAIN = "again"  # octets that were
+    EMPTY = "empty"  # none: an acknowledgment or a reset
+
+
+class Flag(Enum):
+    """A flag that is marked."""
+
+    NONE = ""
+    SYN = "SYN"
+    FIN = "FIN"
+    RST = "RST"
+
+
+@dataclass(frozen=True, slots=True)
+class Segment:
+    """A segment that leaves, from its first octet to the number after its last; SYN and FIN count as one octet."""
+
+    at: int
+    start: int
+    end: int
+    kind: Kind
+    flag: Flag = Flag.NONE
+    is_later: bool = False  # after the failing line
+
+
+@dataclass(frozen=True, slots=True)
+class Arrival:
+    """A segment of the peer's that arrives, at the octet that it acknowledges."""
+
+    at: int
+    octet: int
+    flag: Flag = Flag.NONE
+    is_duplicate: bool = False
+    is_later: bool = False
+
+
+@dataclass(frozen=True, slots=True)
+class Block:
+    """A SACK block, at the moment at which it arrives."""
+
+    at: int
+    start: int
+    end: int
+    is_later: bool = False
+
+
+@dataclass(frozen=True, slots=True)
+class Step:
+    """A stair: a number from a moment on, or None where there is none from there on."""
+
+    at: int
+    value: int | None
+    is_later: bool = False
+
+
+@dataclass(frozen=True, slots=True)
+class Note:
+    """Words for what happens at a moment."""
+
+    at: int
+    words: str
+    is_later: bool = False
+
+
+@dataclass(frozen=True, slots=True)
+class Span:
+    """The time of a recovery from a loss."""
+
+    begin: int
+    end: int
+    is_later: bool = False
+
+
+@dataclass(frozen=True, slots=True)
+class Expected:
+    """The packet that a failing line expects: the moments between which it was awaited, and its octets."""
+
+    first: int
+    last: int
+    start: int
+    end: int
+
+
+@dataclass(frozen=True, slots=True)
+class Failure:
+    """A failing line: when it fails, the packet that it expects, and the one that was sent in its place."""
+
+    line: int
+    at: int
+    expected: Expected | None = None
+    actual: Segment | None = None
+
+
+@dataclass(frozen=True)
+class Strokes:
+    """All strokes of a diagram, each kind in the order of time."""
+
+    end: int
+    segments: tuple[Segment, ...]
+    arrivals: tuple[Arrival, ...]
+    blocks: tuple[Block, ...]
+    acknowledged: tuple[Step, ...]
+    edge: tuple[Step, ...]
+    cwnd: tuple[Step, ...]
+    ssthresh: tuple[Step, ...]
+    flight_size: tuple[Step, ...]
+    pipe: tuple[Step, ...]
+    spans: tuple[Span, ...]
+    notes: tuple[Note, ...]
+    failure: Failure | None = None
+
+    @property
+    def has_later(self) -> bool:
+        """Whether anything happens after the failing line."""
+        return any(it.is_later for it in self.segments) or any(it.is_later for it in self.arrivals)
+
+
+# The initial slow start threshold, as high as can be (RFC 5681, section 3.1); it says nothing.
+_NO_THRESHOLD = 1 << 30
+_RECOVERY = {"RFC6675": "loss: SACK recovery", "RFC5681": "loss: fast recovery"}
+
+
+@dataclass(frozen=True, slots=True)
+class _Moment:
+    """An event at its moment after the first packet, and whether it comes after the failing line."""
+
+    at: int
+    event: Event
+    is_later: bool
+
+
+def strokes_of(events: Sequence[Event], failing: Failing | None = None) -> Strokes | None:
+    """The strokes of a recording, or None where it has no packet."""
+    first = next((it.moment for it in events if isinstance(it.what, Packet)), None)
+    if first is None:
+        return None
+    moments = [
+        _Moment(it.moment - first, it, is_later)
+        for it, is_later in zip(events, _later(events, failing))
+        if it.moment >= first
+    ]
+    failure = None if failing is None else _failure(failing, moments, first)
+    ends = [moments[-1].at]
+    if failure is not None and failure.expected is not None:
+        ends.append(failure.expected.last)
+    return Strokes(
+        end=max(ends),
+        segments=tuple(_segments(moments, failing)),
+        arrivals=tuple(_arrivals(moments)),
+        blocks=tuple(_blocks(moments)),
+        acknowledged=_stairs(moments, lambda it: it.number("una")),
+        edge=_stairs(moments, _edge),
+        cwnd=_stairs(moments, lambda it: it.number("cwnd")),
+        ssthresh=_stairs(moments, _threshold),
+        flight_size=_stairs(moments, _flight_size),
+        pipe=_stairs(moments, lambda it: it.number("pipe")),
+        spans=tuple(_spans(moments)),
+        notes=tuple(sorted((*_timeouts(moments), *_losses(moments), *_ends(moments)), key=lambda it: it.at)),
+        failure=failure,
+    )
+
+
+def _later(events: Sequence[Event], failing: Failing | None) -> Iterator[bool]:
+    """Of each event, whether it comes after the failing line: it belongs to a later input, or to an expiry after it."""
+    inputs = packets = 0
+    is_past = False
+    for event in events:
+        if failing is None:
+            yield False
+        elif event.is_input:
+            is_past = inputs >= failing.inputs
+            inputs += 1
+            yield is_past
+        else:
+            is_met = packets < failing.packets + (failing.actual is not None)
+            packets += 1
+            yield not is_met and (is_past or (failing.moment is not None and event.moment > failing.moment))
+
+
+# ---- octets
+
+
+def _sent(moments: Sequence[_Moment]) -> Iterator[Segment]:
+    """All segments that leave."""
+    top = 0
+    for it in moments:
+        packet = it.event.what
+        if isinstance(packet, Packet) and not packet.is_inbound:
+            start, end = _extent(packet)
+            kind = Kind.EMPTY if start == end else Kind.AGAIN if start < top else Kind.NEW
+            top = max(top, end)
+            yield Segment(it.at, start, end, kind, _flag(packet), it.is_later)
+
+
+def _segments(moments: Sequence[_Moment], failing: Failing | None) -> Iterator[Segment]:
+    """The segments that leave, but for the one on which the script fails."""
+    for number, segment in enumerate(_sent(moments)):
+        if failing is None or failing.actual is None or number != failing.packets:
+            yield segment
+
+
+def _extent(packet: Packet) -> tuple[int, int]:
+    """The first octet and the number after the last one; SYN and FIN count as one octet each (RFC 9293)."""
+    return packet.start, packet.end + len({"S", "F"} & set(packet.flags))
+
+
+def _flag(packet: Packet) -> Flag:
+    return next((it for it in (Flag.RST, Flag.SYN, Flag.FIN) if it.value[0] in packet.flags), Flag.NONE)
+
+
+def _arrivals(moments: Sequence[_Moment]) -> Iterator[Arrival]:
+    before: Event | None = None
+    for it in moments:
+        packet = it.event.what
+        if isinstance(packet, Packet) and packet.is_inbound:
+            octet = packet.ack if packet.ack is not None else it.event.number("una") or 0
+            yield Arrival(it.at, octet, _flag(packet), _is_duplicate(packet, before, it.event), it.is_later)
+        before = it.event
+
+
+def _is_duplicate(packet: Packet, before: Event | None, after: Event) -> bool:
+    """Whether an ACK acknowledges nothing new while octets are outstanding, with the same window (RFC 5681)."""
+    if before is None or packet.flags != ".":
+        return False
+    is_outstanding = (before.number("FlightSize") or 0) > 0
+    return is_outstanding and packet.ack == before.number("una") and before.number("rwnd") == after.number("rwnd")
+
+
+def _blocks(moments: Sequence[_Moment]) -> Iterator[Block]:
+    for it in moments:
+        packet = it.event.what
+        if isinstance(packet, Packet) and packet.is_inbound:
+            for option in packet.options:
+                if option.name == "sack":
+                    edges = option.numbers
+                    yield from (Block(it.at, *pair, it.is_later) for pair in zip(edges[::2], edges[1::2]))
+
+
+# ---- stairs
+
+
+def _stairs(moments: Sequence[_Moment], value_of: Callable[[Event], int | None]) -> tuple[Step, ...]:
+    """A value after each event, where it isn't what it was before; of one moment the last counts."""
+    steps: list[Step] = []
+    for it in moments:
+        step = Step(it.at, value_of(it.event), it.is_later)
+        if steps and (steps[-1].value, steps[-1].is_later) == (step.value, step.is_later):
+            continue
+        if not steps and step.value is None:
+            continue
+        if steps and (steps[-1].at, steps[-1].is_later) == (step.at, step.is_later):
+            steps.pop()
+        steps.append(step)
+    return tuple(steps)
+
+
+def _edge(event: Event) -> int | None:
+    """The number after the last octet that the peer's window lets leave."""
+    una, window = event.number("una"), event.number("rwnd")
+    return None if una is None or window is None else una + window
+
+
+def _threshold(event: Event) -> int | None:
+    value = event.number("ssthresh")
+    return None if value is None or value >= _NO_THRESHOLD else value
+
+
+def _flight_size(event: Event) -> int | None:
+    """Once the connection is established, and where no pipe counts in its place."""
+    return event.number("FlightSize") if "cwnd" in event.facts and "pipe" not in event.facts else None
+
+
+# ---- what has a name
+
+
+def _timeouts(moments: Sequence[_Moment]) -> Iterator[Note]:
+    """The expiries of the retransmission timer: a packet leaves at a moment that neither an input nor another has."""
+    last: _Moment | None = None
+    for it in moments:
+        if not it.event.is_input and (last is None or it.at > last.at):
+            rto = "" if last is None else last.event.facts.get("RTO", "")
+            yield Note(it.at, f"timeout, RTO {_seconds(rto)}" if rto else "timeout", it.is_later)
+        last = it
+
+
+def _losses(moments: Sequence[_Moment]) -> Iterator[Note]:
+    for begin, _ in _recoveries(moments):
+        yield Note(begin.at, _RECOVERY[begin.event.facts["recovery"]], begin.is_later)
+
+
+def _spans(moments: Sequence[_Moment]) -> Iterator[Span]:
+    for begin, end in _recoveries(moments):
+        yield Span(begin.at, end.at, begin.is_later)
+
+
+def _recoveries(moments: Sequence[_Moment]) -> Iterator[tuple[_Moment, _Moment]]:
+    """Where recoveries begin and end."""
+    begin: _Moment | None = None
+    for it in moments:
+        is_in = it.event.facts.get("recovery") in _RECOVERY
+        if is_in and begin is None:
+            begin = it
+        elif begin is not None and not is_in:
+            yield begin, it
+            begin = None
+    if begin is not None:
+        yield begin, moments[-1]
+
+
+def _ends(moments: Sequence[_Moment]) -> Iterator[Note]:
+    """Where an RST has ended the connection."""
+    found = next((it for it in moments if it.event.facts.get("connection") == "reset"), None)
+    if found is not None:
+        yield Note(found.at, "reset", found.is_later)
+
+
+def _seconds(text: str) -> str:
+    """Seconds without the zeros at their end."""
+    return f"{text.rstrip('0').rstrip('.')} s"
+
+
+# ---- the failing line
+
+
+def _failure(failing: Failing, moments: Sequence[_Moment], first: int) -> Failure:
+    done = [it.at for it in moments if not it.is_later]
+    at = max(done, default=0) if failing.moment is None else max(0, failing.moment - first)
+    return Failure(failing.line, at, _expected(failing, at, first), _actual(failing, moments, at))
+
+
+def _expected(failing: Failing, at: int, first: int) -> Expected | None:
+    awaited = failing.expected
+    if awaited is None:
+        return None
+    begin = at if awaited.first is None else max(0, awaited.first - first)
+    end = begin if awaited.last is None else max(begin, awaited.last - first)
+    return Expected(begin, end, *_extent(awaited.packet))
+
+
+def _actual(failing: Failing, moments: Sequence[_Moment], at: int) -> Segment | None:
+    if failing.actual is None:
+        return None
+    sent = list(_sent(moments))[failing.packets : failing.packets + 1]
+    start, end = _extent(failing.actual)
+    kind = sent[0].kind if sent else Kind.NEW
+    return Segment(at, start, end, kind, _flag(failing.actual))

@@ -1,0 +1,99 @@
+"""A script's diagram for its page, or the words why there is none; and its files, where these are asked for."""
+
+from collections.abc import Iterator
+from dataclasses import dataclass
+from pathlib import Path
+
+from pdsuite.diagram.failing import Failing, failing_of
+from pdsuite.diagram.strokes import Strokes, strokes_of
+from pdsuite.files import write
+from pdsuite.octets import shown_path
+from pdsuite.packages import missing
+from pdsuite.page.links import PLOTS, plot_files
+from pdsuite.page.plots import Plot
+from pdsuite.protocol import Cause
+from pdsuite.recorder import Recorder
+from pdsuite.rows import Outcome, Row, Verdict
+from pdsuite.text import Text
+from pdsuite.trace import events_in
+
+
+@dataclass(frozen=True, slots=True)
+class Diagram:
+    """A picture as SVG, and words below it; without a picture the words say why there is none."""
+
+    svg: str
+    words: tuple[str, ...]
+    files: tuple[str, ...] = ()
+
+
+_UNDRAWN = {
+    Verdict.PASS: "It isn't drawn, since it passes: --plot PATTERN draws the scripts whose path or name fits.",
+    Verdict.FAIL: "It isn't drawn, since others fail before it: --plots N draws the first N scripts that fail, and "
+    "--plot PATTERN those whose path or name fits.",
+}
+_NO_RECORDING = {
+    Verdict.SYNTAX: "There is no recording: the text is no script.",
+    Verdict.UNSUPPORTED: "There is no recording: the sender doesn't run the script.",
+    Verdict.LIMIT: "There is no recording: the script is over a limit.",
+    Verdict.ERROR: "There is no recording: the script wasn't run.",
+    Verdict.NOT_RUN: "There is no recording: the script wasn't run.",
+}
+_RECORDED = "What the sender does with the inputs of the script, as pdrecord records it."
+
+
+def undrawn(row: Row) -> Diagram:
+    """The words of a script that isn't drawn."""
+    return Diagram("", (_NO_RECORDING.get(row.verdict) or _UNDRAWN[row.verdict],))
+
+
+def diagram_of(
+    outcome: Outcome, text: Text | None, plot: Plot, cause: Cause | None, recorder: Recorder, folder: Path
+) -> Diagram:
+    """The diagram of a script, where one is to be drawn; its files are written into the folder of the page."""
+    row = outcome.row
+    if plot is Plot.NONE or text is None or row.verdict in _NO_RECORDING:
+        return undrawn(row)
+    if said := missing("matplotlib"):
+        return Diagram("", (f"It isn't drawn: {said}",))
+    recording = recorder.record(outcome.path, text.octets, outcome.settings)
+    if not recording.text:
+        return Diagram("", (f"There is no recording: {recording.fault or 'pdrecord writes nothing'}",))
+    strokes = strokes_of(events_in(recording.text), _failing(text, row, cause))
+    if strokes is None:
+        return Diagram("", ("There is nothing to draw: no packet comes or leaves.",))
+    # Only who draws pays for what draws.
+    from pdsuite.diagram.pictures import for_page
+
+    files = _write_files(folder, outcome.path, strokes) if plot is Plot.FILES else ()
+    return Diagram(for_page(strokes), tuple(_words(strokes)), files)
+
+
+def _failing(text: Text, row: Row, cause: Cause | None) -> Failing | None:
+    if row.verdict is not Verdict.FAIL or row.line is None:
+        return None
+    return failing_of(text.octets.decode("utf-8", "surrogateescape"), row.line, cause or {})
+
+
+def _words(strokes: Strokes) -> Iterator[str]:
+    yield _RECORDED
+    failure = strokes.failure
+    if failure is None:
+        return
+    if failure.expected is not None and failure.actual is not None:
+        yield f"Line {failure.line} expects the packet that is outlined; the filled one was sent."
+    elif failure.expected is not None:
+        yield f"Line {failure.line} expects the packet that is outlined; none was sent in time."
+    if strokes.has_later:
+        yield f"Pale is what comes after line {failure.line}: what the sender would do next."
+
+
+def _write_files(folder: Path, path: str, strokes: Strokes) -> tuple[str, ...]:
+    """Writes the picture as files, and answers their names."""
+    from pdsuite.diagram.pictures import png_file, svg_file
+
+    names = plot_files(path)
+    title = shown_path(path)
+    for name, octets in zip(names, (svg_file(strokes, title), png_file(strokes, title))):
+        write(folder / PLOTS / name, octets)
+    return names
