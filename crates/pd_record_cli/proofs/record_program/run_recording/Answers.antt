@@ -14,9 +14,8 @@ use Rattle.pd_record_cli.proofs.record_program.run_recording.Goals as goal
 pub returns-in-Err-clause-taken : goal.returns-in-Err-clause-taken
 returns-in-Err-clause-taken g c = λ free.
     let words = map g.S.AsStr.text c.args.words.now in
-    let memory = wanted (word_faults pdrecord words) (kind_of c.in-Err.error ≡ kind.OutOfMemory) c.in-Err.ensures.refused free in
-    (
+    let memory = wanted (word_faults pdrecord words) (kind_of c.in-Err.error ≡ kind.OutOfMemory) c.in-Err.ensures.refused free in (
       Err (Serving OutOfMemory),
       memory_comes (settings_in (settings_text pdrecord words)) (asks_trace words) (g.R.Read.remaining c.args.reader.now),
-      (c.refuse.ensures.status, c.refuse.ensures.memory memory, appends_none (g.W.Write.contents c.args.out.now))
+      (c.refuse.ensures.status, c.refuse.ensures.memory memory, appends_none (g.W.Write.contents c.args.out.now)),
     )
