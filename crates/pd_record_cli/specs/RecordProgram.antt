@@ -6,7 +6,7 @@ use Rattle.pd_run.specs.declared.verdicts.Verdict.{Verdict}
 use Rattle.pd_run.specs.declared.verdicts.Verdict.TheVariants.{Pass, Fail, Syntax, Unsupported, Limit}
 use Rattle.pd_record.specs.Recording.{IsRecording, Refuses, recording_of}
 use Rattle.pd_record.specs.declared.refusals.NotRecorded.{NotRecorded}
-use Rattle.pd_record.specs.declared.refusals.NotRecorded.TheVariants as not
+use Rattle.pd_record.specs.declared.refusals.NotRecorded.TheVariants as unrecorded
 use Rattle.pd_cli.specs.Program.{settings_in, Says}
 use Rattle.pd_cli.specs.ProgramFaults.{fault_line}
 use Rattle.pd_cli.specs.Report.{verdict_text}
@@ -34,12 +34,12 @@ at_line line (Limit old) = Limit line
 
 -- these words tell a refusal, a verdict with some line
 abbrev pub Tells : NotRecorded → List ℕ → Type 0
-Tells (not.Stopped verdict) why = (line : ℕ) × (why ≡ verdict_text (at_line line verdict))
-Tells not.TooLarge why = why ≡ codes "2 TooLarge"
-Tells not.TooManyEvents why = why ≡ codes "21 TooManyEvents"
-Tells not.TooLongGap why = why ≡ codes "22 TooLongGap"
-Tells not.Differs why = ⊥
-Tells not.OutOfMemory why = ⊥
+Tells (unrecorded.Stopped verdict) why = (line : ℕ) × (why ≡ verdict_text (at_line line verdict))
+Tells unrecorded.TooLarge why = why ≡ codes "2 TooLarge"
+Tells unrecorded.TooManyEvents why = why ≡ codes "21 TooManyEvents"
+Tells unrecorded.TooLongGap why = why ≡ codes "22 TooLongGap"
+Tells unrecorded.Differs why = ⊥
+Tells unrecorded.OutOfMemory why = ⊥
 
 -- this comes of a refusal: the line that tells it
 abbrev pub IsRefused : NotRecorded → Outcome → Type 0
@@ -49,7 +49,7 @@ IsRefused refusal (Refused line) = (why : List ℕ) × Tells refusal why × (lin
 -- this comes of a script under settings: the octets of its recording, or the line that tells why there is none; it is too large
 -- where its lines are over the limits of a text
 abbrev pub IsOutcome : Settings → Bool → Option (List (List ℕ)) → Outcome → Type 0
-IsOutcome settings trace None outcome = IsRefused not.TooLarge outcome
+IsOutcome settings trace None outcome = IsRefused unrecorded.TooLarge outcome
 IsOutcome settings trace (Some text) (Recorded octets) =
     (recording : List (List ℕ)) × (count : ℕ) × IsRecording text settings recording count × IsWritten trace recording octets.items
 IsOutcome settings trace (Some text) (Refused line) =
