@@ -3,3 +3,4 @@ pub mod RuleLemmas
 pub mod StopIsThere
 pub mod ShownLemmas
 pub mod InputLemmas
+pub mod PastedLemmas
