@@ -1,4 +1,7 @@
-//! Workers that run beside whoever asks.
+//! Threads that run beside whoever asks: workers, or tasks of their own.
+ghost use Rattle.std.specs.Thread.{IsSync};
+
+use crate::stories::faults::StoryFault;
 use pd_desk::{Desk, DeskFault, Gate};
 use pd_seat::Seat;
 use std::alloc::Global;
@@ -6,11 +9,12 @@ use std::sync::Wait;
 use std::thread;
 use std::thread::Threads;
 
-/// What is done beside the workers.
+/// What is done beside threads.
 pub trait Beside {
     type Output;
 
-    fn run(self) -> Self::Output;
+    fn run<R: Threads + Wait + Sync>(self, rt: &R) -> Self::Output
+        requires { IsSync R.row };
 }
 
 /// The workers' seats when all have left, how they left, and what was said beside them.
@@ -40,7 +44,7 @@ pub fn run_beside<
         let Ok(workers) = scope.spawn(move || work_at_all(desk, rt, alloc, gate, seats)) else {
             return None;
         };
-        let said = beside.run();
+        let said = beside.run(rt);
         desk.shut(rt);
         let (seats, left) = workers.join(rt);
         Some(Pooled { seats, left, said })
@@ -56,4 +60,49 @@ fn work_at_all<R: Threads + Wait + Sync, G: Gate + Sync>(
 ) -> (Vec<Seat>, Result<(), DeskFault>) {
     let left = desk.pool(rt, alloc, seats.as_mut_slice(), gate);
     (seats, left)
+}
+
+/// Work for a thread at a seat.
+pub trait Task {
+    fn run(self) -> Played;
+}
+
+/// The seat, if it comes back, and what was said there.
+#[derive(Drop)]
+pub struct Played {
+    pub seat: Option<Seat>,
+    pub said: Result<String, StoryFault>,
+}
+
+/// Runs each of these tasks in a thread of its own, and does this beside them: what was said at their seats, and what was
+/// said beside them. None where a thread can't be made.
+pub fn run_among<
+    R: Threads + Wait + Sync,
+    T: Task + Send + Drop,
+    B: Beside<Output = A> + Drop,
+    A: Drop,
+>(
+    rt: &R,
+    alloc: Global,
+    tasks: Vec<T>,
+    beside: B,
+) -> Option<(Vec<Played>, A)> {
+    let count = tasks.len();
+    thread::scope(thread::scope_env(), rt, |scope| -> Option<(Vec<Played>, A)> {
+        let Ok(mut handles) = Vec::with_capacity(alloc, count) else {
+            return None;
+        };
+        for task in tasks {
+            let Ok(handle) = scope.spawn(move || task.run()) else {
+                return None;
+            };
+            let _ = handles.push(handle);
+        }
+        let said = beside.run(rt);
+        let mut played = Vec::new(alloc);
+        for handle in handles {
+            let _ = played.push(handle.join(rt));
+        }
+        Some((played, said))
+    })
 }

@@ -10,8 +10,7 @@ use std::thread::Threads;
 
 /// Serves these octets at a seat.
 #[derive(Drop)]
-struct Serving<'a, R> {
-    rt: &'a R,
+struct Serving<'a> {
     alloc: Global,
     desk: &'a Desk,
     seat: &'a mut Seat,
@@ -19,12 +18,11 @@ struct Serving<'a, R> {
     seed: u64,
 }
 
-impl<'a, R: Wait> Beside for Serving<'a, R> {
+impl<'a> Beside for Serving<'a> {
     type Output = Served;
 
-    fn run(self) -> Served {
+    fn run<R: Threads + Wait + Sync>(self, rt: &R) -> Served {
         let Serving {
-            rt,
             alloc,
             desk,
             seat,
@@ -47,7 +45,6 @@ pub fn serve_seated<R: Threads + Wait + Sync>(
     octets: &[u8],
 ) -> Option<Pooled<Served>> {
     let task = Serving {
-        rt,
         alloc,
         desk,
         seat,
