@@ -115,6 +115,7 @@ fn play<'x, 'y, R: Threads + Wait + Sync>(
 ) -> Result<Option<(Vec<Seat>, String)>, StoryFault> {
     let players = at_seats(rt, alloc, desk, stage, seats, lists)?;
     let director = Director {
+        rt,
         alloc,
         desk,
         stage,

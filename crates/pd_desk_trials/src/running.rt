@@ -1,6 +1,4 @@
 //! Threads that run beside whoever asks: workers, or tasks of their own.
-ghost use Rattle.std.specs.Thread.{IsSync};
-
 use crate::stories::faults::StoryFault;
 use pd_desk::{Desk, DeskFault, Gate};
 use pd_seat::Seat;
@@ -13,8 +11,7 @@ use std::thread::Threads;
 pub trait Beside {
     type Output;
 
-    fn run<R: Threads + Wait + Sync>(self, rt: &R) -> Self::Output
-        requires { IsSync R.row };
+    fn run(self) -> Self::Output;
 }
 
 /// The workers' seats when all have left, how they left, and what was said beside them.
@@ -44,7 +41,7 @@ pub fn run_beside<
         let Ok(workers) = scope.spawn(move || work_at_all(desk, rt, alloc, gate, seats)) else {
             return None;
         };
-        let said = beside.run(rt);
+        let said = beside.run();
         desk.shut(rt);
         let (seats, left) = workers.join(rt);
         Some(Pooled { seats, left, said })
@@ -76,33 +73,35 @@ pub struct Played {
 
 /// Runs each of these tasks in a thread of its own, and does this beside them: what was said at their seats, and what was
 /// said beside them. None where a thread can't be made.
-pub fn run_among<
-    R: Threads + Wait + Sync,
-    T: Task + Send + Drop,
-    B: Beside<Output = A> + Drop,
-    A: Drop,
->(
+pub fn run_among<R: Threads + Wait, T: Task + Send + Drop, B: Beside<Output = A> + Drop, A: Drop>(
     rt: &R,
     alloc: Global,
     tasks: Vec<T>,
     beside: B,
 ) -> Option<(Vec<Played>, A)> {
     let count = tasks.len();
-    thread::scope(thread::scope_env(), rt, |scope| -> Option<(Vec<Played>, A)> {
-        let Ok(mut handles) = Vec::with_capacity(alloc, count) else {
-            return None;
-        };
-        for task in tasks {
-            let Ok(handle) = scope.spawn(move || task.run()) else {
+    thread::scope(
+        thread::scope_env(),
+        rt,
+        |scope| -> Option<(Vec<Played>, A)> {
+            let Ok(mut handles) = Vec::with_capacity(alloc, count) else {
                 return None;
             };
-            let _ = handles.push(handle);
-        }
-        let said = beside.run(rt);
-        let mut played = Vec::new(alloc);
-        for handle in handles {
-            let _ = played.push(handle.join(rt));
-        }
-        Some((played, said))
-    })
+            for task in tasks {
+                let started = scope.spawn(move || task.run());
+                if started.is_err() {
+                    return None;
+                }
+                let _ = handles.push(started.ok());
+            }
+            let said = beside.run();
+            let mut played = Vec::new(alloc);
+            for handle in handles {
+                if let Some(handle) = handle {
+                    let _ = played.push(handle.join(rt));
+                }
+            }
+            Some((played, said))
+        },
+    )
 }

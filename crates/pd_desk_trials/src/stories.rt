@@ -6,6 +6,7 @@ mod counts;
 pub mod faults;
 mod gates;
 mod jobs;
+mod settling;
 mod story;
 pub mod table;
 mod waiters;

@@ -48,12 +48,13 @@ impl<'a, R: Wait> Player<'a, R> {
         };
         let mut said = None;
         for call in self.calls.split("; ") {
-            if !self.stage.stand(self.rt, self.me, Place::new(Spot::Here, 0, said)) {
+            if !self
+                .stage
+                .stand(self.rt, self.me, Place::new(Spot::Here, 0, said))
+            {
                 return table.seats.pop();
             }
-            said = table
-                .act_at(self.rt, self.desk, 0, Words::new(call))
-                .ok();
+            said = table.act_at(self.rt, self.desk, 0, Words::new(call)).ok();
         }
         self.stage
             .put(self.rt, self.me, Place::new(Spot::Gone, 0, said));

@@ -10,7 +10,8 @@ use std::thread::Threads;
 
 /// Serves these octets at a seat.
 #[derive(Drop)]
-struct Serving<'a> {
+struct Serving<'a, R> {
+    rt: &'a R,
     alloc: Global,
     desk: &'a Desk,
     seat: &'a mut Seat,
@@ -18,11 +19,12 @@ struct Serving<'a> {
     seed: u64,
 }
 
-impl<'a> Beside for Serving<'a> {
+impl<'a, R: Wait> Beside for Serving<'a, R> {
     type Output = Served;
 
-    fn run<R: Threads + Wait + Sync>(self, rt: &R) -> Served {
+    fn run(self) -> Served {
         let Serving {
+            rt,
             alloc,
             desk,
             seat,
@@ -45,6 +47,7 @@ pub fn serve_seated<R: Threads + Wait + Sync>(
     octets: &[u8],
 ) -> Option<Pooled<Served>> {
     let task = Serving {
+        rt,
         alloc,
         desk,
         seat,

@@ -13,7 +13,8 @@ use std::thread::Threads;
 
 /// Calls to be made beside threads that wait.
 #[derive(Drop)]
-struct Calls<'a, 'b> {
+struct Calls<'a, 'b, R> {
+    rt: &'a R,
     desk: &'a Desk,
     progress: &'a Progress,
     table: &'b mut Table,
@@ -23,13 +24,14 @@ struct Calls<'a, 'b> {
     others: u64,
 }
 
-impl<'a, 'b> Beside for Calls<'a, 'b> {
+impl<'a, 'b, R: Wait> Beside for Calls<'a, 'b, R> {
     type Output = Result<String, StoryFault>;
 
     /// Makes the calls, and when all but the workers have ended shuts the desk. Those that aren't woken within the turns are
     /// set free.
-    fn run<R: Threads + Wait + Sync>(self, rt: &R) -> Result<String, StoryFault> {
+    fn run(self) -> Result<String, StoryFault> {
         let Calls {
+            rt,
             desk,
             progress,
             table,
@@ -68,6 +70,7 @@ impl Table {
             workers = workers.wrapping_add(u64::from(waiter.way.is_work()));
         }
         let calls = Calls {
+            rt,
             desk,
             progress: &progress,
             table: &mut *self,
@@ -141,12 +144,7 @@ impl Table {
     }
 
     /// Makes calls that are parted by `; `, and gives their answers so.
-    fn act_all<R: Threads + Wait + Sync>(
-        &mut self,
-        rt: &R,
-        desk: &Desk,
-        calls: &str,
-    ) -> Result<String, StoryFault> {
+    fn act_all<R: Wait>(&mut self, rt: &R, desk: &Desk, calls: &str) -> Result<String, StoryFault> {
         let mut text = owned(self.alloc, "")?;
         for call in calls.split("; ") {
             if !text.is_empty() {

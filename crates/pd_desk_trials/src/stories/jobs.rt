@@ -155,7 +155,13 @@ impl Table {
         if how != "noted" {
             return Ok(left);
         }
-        let pieces = [left.as_str(), ", steps ", before.as_str(), " to ", after.as_str()];
+        let pieces = [
+            left.as_str(),
+            ", steps ",
+            before.as_str(),
+            " to ",
+            after.as_str(),
+        ];
         Ok(joined(alloc, &pieces)?)
     }
 }

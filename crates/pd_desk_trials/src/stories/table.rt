@@ -65,6 +65,8 @@ impl Table {
         let mut words = Words::new(call);
         match words.word() {
             "beside" => self.answer_beside(rt, desk, words),
+            "settle-beside" => self.settle_beside(rt, desk),
+            "first-of-pool" => self.first_of_pool(rt, desk),
             "leave" => {
                 take_along(&mut self.seats, &mut self.away, words.number()?)?;
                 Ok(owned(self.alloc, "ok")?)
@@ -79,19 +81,13 @@ impl Table {
     }
 
     /// Makes a call that may be made beside others.
-    pub fn act<R: Threads + Wait + Sync>(
-        &mut self,
-        rt: &R,
-        desk: &Desk,
-        call: &str,
-    ) -> Result<String, StoryFault> {
+    pub fn act<R: Wait>(&mut self, rt: &R, desk: &Desk, call: &str) -> Result<String, StoryFault> {
         let mut words = Words::new(call);
         match words.word() {
             "seat" => {
                 let index = words.number()?;
                 self.act_at(rt, desk, index, words)
             }
-            "pool" => self.pool(rt, desk, words.word() == "first"),
             "shut" => {
                 desk.shut(rt);
                 Ok(owned(self.alloc, "ok")?)
@@ -100,26 +96,24 @@ impl Table {
         }
     }
 
-    /// Runs a worker at each seat that is here, and tells how the pool ends. Where one worker isn't let in and the other
-    /// finds a full history, and the fault of the first in the order of the seats is asked for, it tells whether it is that.
-    fn pool<R: Threads + Wait + Sync>(
+    /// Runs a worker at each seat that is here, of which one isn't let in and another finds a full history, and tells
+    /// whether the pool ends with the fault of the first in the order of the seats.
+    fn first_of_pool<R: Threads + Wait + Sync>(
         &mut self,
         rt: &R,
         desk: &Desk,
-        is_first_asked: bool,
     ) -> Result<String, StoryFault> {
         let left = desk.pool(rt, self.alloc, self.seats.as_mut_slice(), &OpenGate);
         let is_in = match self.seats.get(0) {
             Some(seat) => !seat.acts().is_empty(),
             None => false,
         };
-        let said = match left {
-            Ok(()) => "ok",
-            Err(DeskFault::HistoryFull) if is_first_asked && is_in => "the first",
-            Err(DeskFault::NoWorkers) if is_first_asked && !is_in => "the first",
-            Err(fault) => fault.text(),
+        let is_first = match left {
+            Err(DeskFault::HistoryFull) => is_in,
+            Err(DeskFault::NoWorkers) => !is_in,
+            _ => false,
         };
-        Ok(owned(self.alloc, said)?)
+        Ok(owned(self.alloc, if is_first { "yes" } else { "no" })?)
     }
 
     /// How many steps the job of this number took.
