@@ -1,16 +1,14 @@
 //! Two workers that overlap: one is held at job 1 until the other has begun job 2, and an edit comes once job 1 has begun.
 use crate::saying::print;
 use crate::serving::{Served, served_beside};
+use crate::turns::await_count;
 use pd_desk::Gate;
 use std::alloc::Global;
+use std::io;
 use std::io::Read;
 use std::sync::Wait;
-use std::sync::atomic::{AtomicBool, Ordering};
+use std::sync::atomic::{AtomicU64, Ordering};
 use std::thread::Threads;
-use std::{io, thread};
-
-/// How often a thread looks for what it waits for, and yields: some seconds.
-const TURNS: u64 = 10_000_000;
 
 /// What comes before job 1 is begun.
 const ADD: &[u8] = b"add a 9
@@ -42,7 +40,7 @@ total 1 pass 0 fail 1 syntax 0 unsupported 0 limit 0 pending 0
 pub fn try_overlap(rt: &(impl Print + AllocGlobal + Threads + Wait + Sync)) -> io::Result<bool> {
     let gate = HeldGate::new();
     let served = served_held(rt, rt.alloc(), &gate);
-    let is_late = gate.was_late.load(Ordering::SeqCst);
+    let is_late = gate.late.load(Ordering::SeqCst) != 0;
     let is_served = served.octets.as_slice() == WANTED && served.passes.is_some();
     let said = if is_late {
         "job 2 didn't begin while job 1 was held\n"
@@ -64,50 +62,40 @@ fn served_held<R: Threads + Wait + Sync>(rt: &R, alloc: Global, gate: &HeldGate)
     served_beside(rt, alloc, &mut reader, 2, gate)
 }
 
-/// Waits until this is so; whether it is within the turns.
-fn await_flag(flag: &AtomicBool) -> bool {
-    for _turn in 0..TURNS {
-        if flag.load(Ordering::SeqCst) {
-            return true;
-        }
-        thread::yield_now();
-    }
-    false
-}
-
 /// Holds job 1 until job 2 has begun.
 #[derive(Drop)]
 struct HeldGate {
-    first_begun: AtomicBool,
-    second_begun: AtomicBool,
-    was_late: AtomicBool,
+    /// How many jobs have begun: the first, and others.
+    first: AtomicU64,
+    others: AtomicU64,
+    /// How many waits came to no end within the turns.
+    late: AtomicU64,
 }
 
 impl HeldGate {
     fn new() -> HeldGate {
         HeldGate {
-            first_begun: AtomicBool::new(false),
-            second_begun: AtomicBool::new(false),
-            was_late: AtomicBool::new(false),
+            first: AtomicU64::new(0),
+            others: AtomicU64::new(0),
+            late: AtomicU64::new(0),
         }
     }
 
-    /// Waits until this is so, and notes where it isn't within the turns.
-    fn await_or_note(&self, flag: &AtomicBool) {
-        if !await_flag(flag) {
-            self.was_late.store(true, Ordering::SeqCst);
+    /// Waits until such a job has begun, and notes where none has within the turns.
+    fn await_or_note(&self, begun: &AtomicU64) {
+        if !await_count(begun, 1) {
+            self.late.fetch_add(1, Ordering::SeqCst);
         }
     }
 }
 
 impl Gate for HeldGate {
     fn before(&self, job: u64) {
-        match job {
-            1 => {
-                self.first_begun.store(true, Ordering::SeqCst);
-                self.await_or_note(&self.second_begun);
-            }
-            _ => self.second_begun.store(true, Ordering::SeqCst),
+        if job == 1 {
+            self.first.fetch_add(1, Ordering::SeqCst);
+            self.await_or_note(&self.others);
+        } else {
+            self.others.fetch_add(1, Ordering::SeqCst);
         }
     }
 
@@ -125,7 +113,7 @@ struct HeldReader<'a> {
 impl<'a> Read for HeldReader<'a> {
     fn read(&mut self, buf: &mut [u8]) -> io::Result<usize> {
         if self.now.is_empty() {
-            self.gate.await_or_note(&self.gate.first_begun);
+            self.gate.await_or_note(&self.gate.first);
             self.now = self.later;
             self.later = b"";
         }

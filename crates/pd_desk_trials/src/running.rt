@@ -1,4 +1,5 @@
-//! Workers that run beside whoever asks.
+//! Threads that run beside whoever asks: workers, or tasks of their own.
+use crate::stories::faults::StoryFault;
 use pd_desk::{Desk, DeskFault, Gate};
 use pd_seat::Seat;
 use std::alloc::Global;
@@ -6,7 +7,7 @@ use std::sync::Wait;
 use std::thread;
 use std::thread::Threads;
 
-/// What is done beside the workers.
+/// What is done beside threads.
 pub trait Beside {
     type Output;
 
@@ -56,4 +57,51 @@ fn work_at_all<R: Threads + Wait + Sync, G: Gate + Sync>(
 ) -> (Vec<Seat>, Result<(), DeskFault>) {
     let left = desk.pool(rt, alloc, seats.as_mut_slice(), gate);
     (seats, left)
+}
+
+/// Work for a thread at a seat.
+pub trait Task {
+    fn run(self) -> Played;
+}
+
+/// The seat, if it comes back, and what was said there.
+#[derive(Drop)]
+pub struct Played {
+    pub seat: Option<Seat>,
+    pub said: Result<String, StoryFault>,
+}
+
+/// Runs each of these tasks in a thread of its own, and does this beside them: what was said at their seats, and what was
+/// said beside them. None where a thread can't be made.
+pub fn run_among<R: Threads + Wait, T: Task + Send + Drop, B: Beside<Output = A> + Drop, A: Drop>(
+    rt: &R,
+    alloc: Global,
+    tasks: Vec<T>,
+    beside: B,
+) -> Option<(Vec<Played>, A)> {
+    let count = tasks.len();
+    thread::scope(
+        thread::scope_env(),
+        rt,
+        |scope| -> Option<(Vec<Played>, A)> {
+            let Ok(mut handles) = Vec::with_capacity(alloc, count) else {
+                return None;
+            };
+            for task in tasks {
+                let started = scope.spawn(move || task.run());
+                if started.is_err() {
+                    return None;
+                }
+                let _ = handles.push(started.ok());
+            }
+            let said = beside.run();
+            let mut played = Vec::new(alloc);
+            for handle in handles {
+                if let Some(handle) = handle {
+                    let _ = played.push(handle.join(rt));
+                }
+            }
+            Some((played, said))
+        },
+    )
 }

@@ -4,15 +4,14 @@ mod comparing;
 mod delays;
 mod dice;
 mod inputs;
-mod replay;
 mod seated;
 
 use self::comparing::{Difference, is_served, must};
 use self::delays::{Delays, SlowReader};
 use self::dice::Dice;
 use self::inputs::{Input, random_input};
-use self::replay::made_again;
 use self::seated::serve_seated;
+use crate::replay::made_again;
 use crate::saying::{decimal, print};
 use crate::serving::{CACHE, Served, served_alone, served_beside};
 use pd_book::Book;

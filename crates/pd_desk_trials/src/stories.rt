@@ -1,14 +1,16 @@
 //! Stories of a desk: rows of calls with the answers that are wanted, parted by ` or ` where there may be several, the
 //! first of which is given where no call found want of memory. A line that begins `# ` or `== ` is a title.
-mod calls;
+mod beside;
+pub mod calls;
 mod counts;
-mod faults;
+pub mod faults;
+mod gates;
 mod jobs;
 mod settling;
-mod short_stepper;
-mod shutting_gate;
 mod story;
-mod words;
+pub mod table;
+mod waiters;
+pub mod words;
 
 use self::counts::Counts;
 use self::faults::{REFUSED, StoryFault};

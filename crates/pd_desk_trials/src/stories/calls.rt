@@ -1,62 +1,57 @@
 //! The calls of a seat.
 use crate::saying::{owned, recorded, shown};
 use crate::stories::faults::StoryFault;
-use crate::stories::story::{Story, Written};
+use crate::stories::table::{Table, Written};
 use crate::stories::words::Words;
 use crate::texts::{edit, name, text};
 use pd_book::BookFault;
-use pd_desk::Desk;
+use pd_desk::{Desk, DeskFault};
 use pd_seat::Seat;
+use pd_settings::Value;
 use pd_text::{LineEdit, Lines};
 use std::alloc::{AllocError, Global};
 use std::sync::Wait;
 
-impl Story {
-    /// Makes the call of a seat.
-    pub fn answer_of_seat<R: Wait>(
+impl Table {
+    /// Makes the call of a seat that is here.
+    pub fn act_at<R: Wait>(
         &mut self,
         rt: &R,
+        desk: &Desk,
+        index: usize,
         mut words: Words<'_>,
     ) -> Result<String, StoryFault> {
-        let index = words.number()?;
+        let alloc = self.alloc;
         let word = words.word();
-        let (Some(desk), Some(seat)) = (&self.desk, self.seats.get_mut(index)) else {
+        let Some(seat) = self.seats.get_mut(index) else {
             return Err(StoryFault::Missing);
         };
         match word {
-            "add" => add(rt, self.alloc, desk, seat, words, self.texts.as_slice()),
+            "add" => {
+                let name = name(alloc, words.word().as_bytes())?;
+                let lines = written(alloc, self.texts.as_slice(), words.word())?;
+                Ok(changed(alloc, desk.add(rt, seat, name, lines))?)
+            }
             "edit" => {
-                let name = name(self.alloc, words.word().as_bytes())?;
-                let change = change(self.alloc, words)?;
-                Ok(changed(self.alloc, desk.edit(rt, seat, &name, &change))?)
+                let name = name(alloc, words.word().as_bytes())?;
+                let change = change(alloc, words)?;
+                Ok(changed(alloc, desk.edit(rt, seat, &name, &change))?)
             }
             "remove" => {
-                let name = name(self.alloc, words.word().as_bytes())?;
-                Ok(changed(self.alloc, desk.remove(rt, seat, &name))?)
+                let name = name(alloc, words.word().as_bytes())?;
+                Ok(changed(alloc, desk.remove(rt, seat, &name))?)
             }
             "set" => {
                 let key = words.word().as_bytes();
-                Ok(changed(self.alloc, desk.set(rt, seat, key, words.value()))?)
+                Ok(changed(alloc, desk.set(rt, seat, key, words.value()))?)
             }
-            "acts" => Ok(recorded(self.alloc, seat.acts())?),
-            "show" => show(rt, self.alloc, desk, seat),
-            "settle" => settle(rt, self.alloc, desk, seat),
-            _ => self.answer_of_jobs(rt, index, word, words),
+            "fill" => fill(rt, alloc, desk, seat, words.number()?),
+            "acts" => Ok(recorded(alloc, seat.acts())?),
+            "show" => show(rt, alloc, desk, seat),
+            "settle" => settle(rt, alloc, desk, seat),
+            _ => self.act_on_jobs(rt, desk, index, word, words),
         }
     }
-}
-
-fn add<R: Wait>(
-    rt: &R,
-    alloc: Global,
-    desk: &Desk,
-    seat: &mut Seat,
-    mut words: Words<'_>,
-    texts: &[Written],
-) -> Result<String, StoryFault> {
-    let name = name(alloc, words.word().as_bytes())?;
-    let lines = written(alloc, texts, words.word())?;
-    Ok(changed(alloc, desk.add(rt, seat, name, lines))?)
 }
 
 /// The text that was written under this word.
@@ -84,7 +79,25 @@ fn changed(alloc: Global, answer: Result<(), BookFault>) -> Result<String, Alloc
     }
 }
 
-fn show<R: Wait>(
+/// Makes so many acts that change nothing: `ok`, or the first refusal.
+fn fill<R: Wait>(
+    rt: &R,
+    alloc: Global,
+    desk: &Desk,
+    seat: &mut Seat,
+    count: usize,
+) -> Result<String, StoryFault> {
+    for _act in 0..count {
+        let answer = desk.set(rt, seat, b"nagle", Value::Truth(true));
+        if answer.is_err() {
+            return Ok(changed(alloc, answer)?);
+        }
+    }
+    Ok(owned(alloc, "ok")?)
+}
+
+/// The rows of the report, or the fault.
+pub fn show<R: Wait>(
     rt: &R,
     alloc: Global,
     desk: &Desk,
@@ -96,7 +109,8 @@ fn show<R: Wait>(
     }
 }
 
-fn settle<R: Wait>(
+/// The rows of the report that a settling shows, or the fault.
+pub fn settle<R: Wait>(
     rt: &R,
     alloc: Global,
     desk: &Desk,
@@ -104,6 +118,7 @@ fn settle<R: Wait>(
 ) -> Result<String, StoryFault> {
     match desk.settle(rt, seat) {
         Ok(report) => Ok(shown(alloc, &report)?),
+        Err(DeskFault::OutOfMemory) => Err(StoryFault::Refused),
         Err(fault) => Ok(owned(alloc, fault.text())?),
     }
 }

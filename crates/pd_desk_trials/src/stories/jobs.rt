@@ -1,35 +1,43 @@
 //! Jobs of a story: started, ended and worked off by hand.
-use crate::saying::{owned, started};
+use crate::saying::{decimal, joined, owned, started};
 use crate::stories::faults::StoryFault;
-use crate::stories::short_stepper::ShortStepper;
-use crate::stories::shutting_gate::ShuttingGate;
-use crate::stories::story::{Ran, Story};
+use crate::stories::gates::StoryGate;
+use crate::stories::table::{Ran, Table};
 use crate::stories::words::Words;
+use crate::watched::{Short, Unwatched, work};
 use pd_book::{FinishFault, Job, Ruling, run_job};
-use pd_desk::OpenGate;
-use pd_run::Plain;
+use pd_desk::{Desk, OpenGate};
+use pd_run::{Plain, Stepper};
 use std::sync::Wait;
+use std::sync::atomic::Ordering;
 
-impl Story {
+impl Table {
     /// Starts, finishes or abandons a job of a seat, or works at the seat.
-    pub fn answer_of_jobs<R: Wait>(
+    pub fn act_on_jobs<R: Wait>(
         &mut self,
         rt: &R,
+        desk: &Desk,
         index: usize,
         word: &str,
         mut words: Words<'_>,
     ) -> Result<String, StoryFault> {
         match word {
-            "start" => self.start(rt, index),
-            "finish" => self.finish(rt, index, words.number()?),
-            "abandon" => self.abandon(rt, index, words.number()?),
-            "work" => self.work(rt, index, words.word()),
+            "start" => self.start(rt, desk, index),
+            "finish" => self.finish(rt, desk, index, words.number()?),
+            "abandon" => self.abandon(rt, desk, index, words.number()?),
+            "work" => self.work(rt, desk, index, words.word()),
             _ => Err(StoryFault::NoSuchCall),
         }
     }
 
-    fn start<R: Wait>(&mut self, rt: &R, index: usize) -> Result<String, StoryFault> {
-        let (Some(desk), Some(seat)) = (&self.desk, self.seats.get_mut(index)) else {
+    /// Starts a job, runs it and keeps its result.
+    pub fn start<R: Wait>(
+        &mut self,
+        rt: &R,
+        desk: &Desk,
+        index: usize,
+    ) -> Result<String, StoryFault> {
+        let Some(seat) = self.seats.get_mut(index) else {
             return Err(StoryFault::Missing);
         };
         match desk.start(rt, seat) {
@@ -45,23 +53,26 @@ impl Story {
     /// Runs a job that this seat started, and keeps its result.
     fn keep(&mut self, job: Job, seat: usize) -> Result<String, StoryFault> {
         let said = started(self.alloc, &job)?;
-        let Ok(done) = run_job(self.alloc, job, &mut Plain::new()) else {
+        let mut stepper = Plain::new();
+        let Ok(done) = run_job(self.alloc, job, &mut stepper) else {
             return Err(StoryFault::OutOfMemory);
         };
-        match self.results.push(Ran { done, seat }) {
+        let steps = stepper.count();
+        match self.results.push(Ran { done, seat, steps }) {
             Ok(()) => Ok(said),
             Err(_) => Err(StoryFault::OutOfMemory),
         }
     }
 
     /// Finishes the job of this number with its result.
-    fn finish<R: Wait>(
+    pub fn finish<R: Wait>(
         &mut self,
         rt: &R,
+        desk: &Desk,
         index: usize,
         number: usize,
     ) -> Result<String, StoryFault> {
-        let (Some(desk), Some(seat)) = (&self.desk, self.seats.get_mut(index)) else {
+        let Some(seat) = self.seats.get_mut(index) else {
             return Err(StoryFault::Missing);
         };
         let Some(ran) = self.results.get(number.wrapping_sub(1)) else {
@@ -78,10 +89,11 @@ impl Story {
     fn abandon<R: Wait>(
         &mut self,
         rt: &R,
+        desk: &Desk,
         index: usize,
         number: usize,
     ) -> Result<String, StoryFault> {
-        let (Some(desk), Some(seat)) = (&self.desk, self.seats.get_mut(index)) else {
+        let Some(seat) = self.seats.get_mut(index) else {
             return Err(StoryFault::Missing);
         };
         let is_own = match self.results.get(number.wrapping_sub(1)) {
@@ -95,28 +107,62 @@ impl Story {
         Ok(owned(self.alloc, said)?)
     }
 
-    /// Works at a seat in this thread, with a stepper that finds no memory, up to the first job, or until the desk is shut.
-    fn work<R: Wait>(&mut self, rt: &R, index: usize, how: &str) -> Result<String, StoryFault> {
-        let (Some(desk), Some(seat)) = (&self.desk, self.seats.get_mut(index)) else {
+    /// Works at a seat in this thread: until the desk is shut, with steps that find no memory, or by the gate of stories.
+    fn work<R: Wait>(
+        &mut self,
+        rt: &R,
+        desk: &Desk,
+        index: usize,
+        how: &str,
+    ) -> Result<String, StoryFault> {
+        let Some(seat) = self.seats.get_mut(index) else {
             return Err(StoryFault::Missing);
         };
         let alloc = self.alloc;
-        let left = match how {
-            "short" => {
-                let mut stepper = ShortStepper::new(alloc);
-                desk.work(rt, alloc, seat, &mut stepper, &OpenGate)
-            }
-            "once" => {
-                let gate = ShuttingGate { rt, desk };
-                desk.work(rt, alloc, seat, &mut Plain::new(), &gate)
-            }
-            _ => desk.work(rt, alloc, seat, &mut Plain::new(), &OpenGate),
+        match how {
+            "plain" => Ok(work(rt, alloc, desk, seat, &Unwatched, &OpenGate)?),
+            "short" => Ok(work(rt, alloc, desk, seat, &Short, &OpenGate)?),
+            _ => self.work_by_gate(rt, desk, index, how),
+        }
+    }
+
+    /// Works up to the first job, or to the second where the last seat that left gives up the first; where it is asked for,
+    /// tells how many steps were taken before the last job and after it.
+    fn work_by_gate<R: Wait>(
+        &mut self,
+        rt: &R,
+        desk: &Desk,
+        index: usize,
+        how: &str,
+    ) -> Result<String, StoryFault> {
+        let alloc = self.alloc;
+        let robber = if how == "robbed" {
+            self.away.pop()
+        } else {
+            None
         };
-        let said = match left {
-            Ok(()) => "left",
-            Err(fault) => fault.text(),
+        let Some(seat) = self.seats.get_mut(index) else {
+            return Err(StoryFault::Missing);
         };
-        Ok(owned(alloc, said)?)
+        let gate = StoryGate::new(rt, desk, robber);
+        let left = work(rt, alloc, desk, seat, &gate, &gate)?;
+        let before = decimal(alloc, gate.before.load(Ordering::SeqCst))?;
+        let after = decimal(alloc, gate.after.load(Ordering::SeqCst))?;
+        let StoryGate { robber, .. } = gate;
+        if let Some(seat) = robber.into_inner() {
+            self.away.push(seat).or(Err(StoryFault::OutOfMemory))?;
+        }
+        if how != "noted" {
+            return Ok(left);
+        }
+        let pieces = [
+            left.as_str(),
+            ", steps ",
+            before.as_str(),
+            " to ",
+            after.as_str(),
+        ];
+        Ok(joined(alloc, &pieces)?)
     }
 }
 

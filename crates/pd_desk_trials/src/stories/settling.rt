@@ -2,7 +2,7 @@
 use crate::running::{Beside, Pooled, run_beside};
 use crate::saying::{joined, owned, shown};
 use crate::stories::faults::StoryFault;
-use crate::stories::story::Story;
+use crate::stories::table::Table;
 use pd_book::Report;
 use pd_desk::{Desk, DeskFault, OpenGate};
 use pd_seat::Seat;
@@ -28,13 +28,14 @@ impl<'a, R: Wait> Beside for Settling<'a, R> {
     }
 }
 
-impl Story {
+impl Table {
     /// Settles at the first seat that is away, while a worker runs at each seat that is here; then shuts the desk.
     pub fn settle_beside<R: Threads + Wait + Sync>(
         &mut self,
         rt: &R,
+        desk: &Desk,
     ) -> Result<String, StoryFault> {
-        let (Some(desk), Some(seat)) = (&self.desk, self.away.get_mut(0)) else {
+        let Some(seat) = self.away.get_mut(0) else {
             return Err(StoryFault::Missing);
         };
         let seats = mem::replace(&mut self.seats, Vec::new(self.alloc));

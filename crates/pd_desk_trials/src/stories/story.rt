@@ -1,41 +1,23 @@
-//! A desk, its seats and the results of its jobs, as a story tells of them.
+//! A desk and those at it, as a story tells of them.
 use crate::saying::{decimal, joined, owned, recorded};
 use crate::stories::faults::StoryFault;
+use crate::stories::table::Table;
 use crate::stories::words::Words;
 use crate::texts::text;
-use pd_book::Done;
 use pd_desk::Desk;
-use pd_seat::{CloseFault, Seat};
+use pd_seat::CloseFault;
 use pd_settings::Settings;
 use std::alloc::Global;
 use std::mem;
 use std::sync::Wait;
 use std::thread::Threads;
 
-/// A desk, the seats that are here and those that are away, the texts that were written, and a result of each job that
-/// was started by hand: that of the first first.
+/// A desk, and those at it.
 #[derive(Drop)]
 pub struct Story {
-    pub alloc: Global,
-    pub desk: Option<Desk>,
-    pub seats: Vec<Seat>,
-    pub away: Vec<Seat>,
-    pub texts: Vec<Written>,
-    pub results: Vec<Ran>,
-}
-
-/// The result of a job, and the number of the seat that started it.
-#[derive(Drop)]
-pub struct Ran {
-    pub done: Done,
-    pub seat: usize,
-}
-
-/// A text under a word of the story: its lines, parted by ` | `.
-#[derive(Drop)]
-pub struct Written {
-    pub word: String,
-    pub lines: String,
+    alloc: Global,
+    desk: Option<Desk>,
+    table: Table,
 }
 
 impl Story {
@@ -43,10 +25,7 @@ impl Story {
         Story {
             alloc,
             desk: None,
-            seats: Vec::new(alloc),
-            away: Vec::new(alloc),
-            texts: Vec::new(alloc),
-            results: Vec::new(alloc),
+            table: Table::new(alloc),
         }
     }
 
@@ -59,69 +38,42 @@ impl Story {
         let mut words = Words::new(call);
         match words.word() {
             "text" => self.write(words),
-            "desk" => self.open(words.number()?, words.number()?),
-            "seat" => self.answer_of_seat(rt, words),
-            "settle-beside" => self.settle_beside(rt),
-            "shut" => self.shut(rt),
-            "leave" => self.leave(words.number()?),
-            "call-back" => self.call_back(words.number()?),
+            "desk" => self.open(words),
             "close" => self.close(),
-            _ => Err(StoryFault::NoSuchCall),
+            _ => match &self.desk {
+                Some(desk) => self.table.answer(rt, desk, call),
+                None => Err(StoryFault::Missing),
+            },
         }
     }
 
-    /// Keeps a text under a name.
+    /// Keeps a text under a word.
     fn write(&mut self, mut words: Words<'_>) -> Result<String, StoryFault> {
-        let word = owned(self.alloc, words.word())?;
-        let lines = owned(self.alloc, words.rest())?;
-        let count = text(self.alloc, lines.as_str())?.len();
+        let word = words.word();
+        let lines = words.rest();
+        let count = text(self.alloc, lines)?.len();
         let count = decimal(self.alloc, count as u64)?;
-        let written = Written { word, lines };
-        self.texts.push(written).or(Err(StoryFault::OutOfMemory))?;
+        self.table.write(word, lines)?;
         Ok(joined(self.alloc, &[count.as_str(), " lines"])?)
     }
 
-    /// Opens a desk for so many workers, with so many seats.
-    fn open(&mut self, workers: usize, seats: usize) -> Result<String, StoryFault> {
+    /// Opens a desk for so many workers, with so many seats, and one setting that is none of the defaults if it is named.
+    fn open(&mut self, mut words: Words<'_>) -> Result<String, StoryFault> {
+        let workers = words.number()?;
+        let seats = words.number()?;
         if seats == 0 {
             return Err(StoryFault::NotANumber);
         }
-        let opened = Desk::open(self.alloc, 64, Settings::new(), workers, seats);
+        let key = words.word().as_bytes();
+        let settings = Settings::new()
+            .with(key, words.value())
+            .unwrap_or(Settings::new());
+        let opened = Desk::open(self.alloc, 64, settings, workers, seats);
         let (desk, seats) = opened.or(Err(StoryFault::Refused))?;
         self.desk = Some(desk);
-        self.seats = seats;
-        self.away = Vec::new(self.alloc);
-        self.results = Vec::new(self.alloc);
-        Ok(owned(self.alloc, "ok")?)
-    }
-
-    fn shut<R: Wait>(&mut self, rt: &R) -> Result<String, StoryFault> {
-        let Some(desk) = &self.desk else {
-            return Err(StoryFault::Missing);
-        };
-        desk.shut(rt);
-        Ok(owned(self.alloc, "ok")?)
-    }
-
-    /// Lets the last seats leave, so many.
-    fn leave(&mut self, count: usize) -> Result<String, StoryFault> {
-        for _seat in 0..count {
-            let Some(seat) = self.seats.pop() else {
-                return Err(StoryFault::Missing);
-            };
-            self.away.push(seat).or(Err(StoryFault::OutOfMemory))?;
-        }
-        Ok(owned(self.alloc, "ok")?)
-    }
-
-    /// Calls back the seats that left, so many, the last that left first.
-    fn call_back(&mut self, count: usize) -> Result<String, StoryFault> {
-        for _seat in 0..count {
-            let Some(seat) = self.away.pop() else {
-                return Err(StoryFault::Missing);
-            };
-            self.seats.push(seat).or(Err(StoryFault::OutOfMemory))?;
-        }
+        self.table.seats = seats;
+        self.table.away = Vec::new(self.alloc);
+        self.table.results = Vec::new(self.alloc);
         Ok(owned(self.alloc, "ok")?)
     }
 
@@ -130,7 +82,7 @@ impl Story {
         let Some(desk) = self.desk.take() else {
             return Err(StoryFault::Missing);
         };
-        let seats = mem::replace(&mut self.seats, Vec::new(self.alloc));
+        let seats = mem::replace(&mut self.table.seats, Vec::new(self.alloc));
         match desk.close(seats) {
             Ok(book) => Ok(recorded(self.alloc, book.history())?),
             Err(fault) => self.not_closed(fault),
@@ -143,7 +95,7 @@ impl Story {
         match fault {
             CloseFault::MissingSeat(desk, seats) => {
                 self.desk = Some(desk);
-                self.seats = seats;
+                self.table.seats = seats;
             }
             CloseFault::Differs(_book) => {}
         }
