@@ -133,7 +133,8 @@ impl Desk {
         reply
     }
 
-    /// Hands out the job of the first script that waits; `None` where none waits.
+    /// Hands out the job of the first script that waits; `None` where none waits. It wakes nobody, since nobody waits for a
+    /// start.
     ///
     /// # Errors
     /// Those of `Held::start`.
@@ -144,9 +145,7 @@ impl Desk {
         ensures given { IfOk result (λ given. IfSome given (λ job. IsHandedOut job.task)) }
         ensures refuses { OnErr result (seat.new ≡ seat.old) }
     {
-        let reply = self.room.lock(rt).held.start(seat);
-        self.moved.notify_all();
-        reply
+        self.room.lock(rt).held.start(seat)
     }
 
     /// Takes the result of an outstanding job. It wakes the others where no verdict is awaited any more, since it gives no

@@ -1,7 +1,7 @@
 //! A book under one lock, its seats, and the workers that run its jobs.
 //!
-//! Each call of a seat takes the lock and makes its call on what callers share once; all but `show` wake those that
-//! wait, `finish` only where nothing is awaited any more. Jobs are run, and tracks freed, outside the lock.
+//! Each call of a seat takes the lock and makes its call on what callers share once; all but `show` and `start` wake those
+//! that wait, `finish` only where nothing is awaited any more. Jobs are run, and tracks freed, outside the lock.
 #![tactic(auto)]
 
 mod crew;

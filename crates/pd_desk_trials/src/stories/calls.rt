@@ -88,7 +88,7 @@ fn fill<R: Wait>(
     count: usize,
 ) -> Result<String, StoryFault> {
     for _act in 0..count {
-        let answer = desk.set(rt, seat, b"nagle", Value::Truth(true));
+        let answer = desk.set(rt, seat, b"mss", Value::Number(1460));
         if answer.is_err() {
             return Ok(changed(alloc, answer)?);
         }

@@ -8,6 +8,7 @@ use crate::turns::{await_count, give_turns};
 use crate::watched::{Unwatched, Watch, work};
 use pd_desk::{Desk, OpenGate};
 use pd_seat::Seat;
+use pd_text::Name;
 use std::alloc::{AllocError, Global};
 use std::sync::Wait;
 use std::sync::atomic::{AtomicU64, Ordering};
@@ -26,6 +27,8 @@ pub enum Way {
     SettleOften,
     /// Adds, edits and removes a script of its own, and starts and gives up jobs, over and over.
     Change,
+    /// Adds and removes a script of its own, over and over.
+    ComeAndGo,
     /// Works.
     Work,
     /// Works, and after its first step waits for another worker's.
@@ -40,6 +43,7 @@ impl Way {
             b'l' => Some(Way::SettleLast),
             b'o' => Some(Way::SettleOften),
             b'c' => Some(Way::Change),
+            b'a' => Some(Way::ComeAndGo),
             b'w' => Some(Way::Work),
             b'm' => Some(Way::Meet),
             _ => None,
@@ -52,7 +56,7 @@ impl Way {
     }
 
     pub fn is_change(self) -> bool {
-        matches!(self, Way::Change)
+        matches!(self, Way::Change | Way::ComeAndGo)
     }
 }
 
@@ -172,7 +176,7 @@ fn play<R: Wait>(
             said
         }
         Way::SettleOften => settle_often(rt, alloc, desk, seat, progress),
-        Way::Change => change_often(rt, alloc, desk, seat),
+        Way::Change | Way::ComeAndGo => change_often(rt, alloc, desk, seat, way),
         Way::Work => Ok(work(rt, alloc, desk, seat, &Unwatched, &OpenGate)?),
         Way::Meet => Ok(work(rt, alloc, desk, seat, progress, &OpenGate)?),
     }
@@ -203,32 +207,49 @@ fn change_often<R: Wait>(
     alloc: Global,
     desk: &Desk,
     seat: &mut Seat,
+    way: Way,
 ) -> Result<String, StoryFault> {
     let own = decimal(alloc, seat.number() as u64)?;
     for _change in 0..CHANGES {
-        if !is_changed(rt, alloc, desk, seat, own.as_bytes())? {
+        if !is_changed(rt, alloc, desk, seat, own.as_bytes(), way)? {
             return Ok(owned(alloc, "refused")?);
         }
     }
     Ok(owned(alloc, "changed")?)
 }
 
-/// Adds, edits and removes a script, and starts and gives up a job between; whether nothing is refused.
+/// Adds a script, edits it where that is its way, and removes it; whether nothing is refused.
 fn is_changed<R: Wait>(
     rt: &R,
     alloc: Global,
     desk: &Desk,
     seat: &mut Seat,
     own: &[u8],
+    way: Way,
 ) -> Result<bool, StoryFault> {
     let lines = text(alloc, "0 socket(..., SOCK_STREAM, IPPROTO_TCP) = 3")?;
-    let change = edit(alloc, 1, 1, b"+0 listen(3, 1) = 0")?;
     let is_added = desk.add(rt, seat, name(alloc, own)?, lines).is_ok();
     let script = name(alloc, own)?;
-    let is_edited = desk.edit(rt, seat, &script, &change).is_ok();
+    let is_edited = match way {
+        Way::Change => is_edited(rt, alloc, desk, seat, &script)?,
+        _ => true,
+    };
+    Ok(is_added && is_edited && desk.remove(rt, seat, &script).is_ok())
+}
+
+/// Edits a script, and starts and gives up a job; whether nothing is refused.
+fn is_edited<R: Wait>(
+    rt: &R,
+    alloc: Global,
+    desk: &Desk,
+    seat: &mut Seat,
+    script: &Name,
+) -> Result<bool, StoryFault> {
+    let change = edit(alloc, 1, 1, b"+0 listen(3, 1) = 0")?;
+    let is_edited = desk.edit(rt, seat, script, &change).is_ok();
     let is_ended = match desk.start(rt, seat) {
         Ok(Some(job)) => desk.abandon(rt, seat, job.number()).is_ok(),
         _ => true,
     };
-    Ok(is_added && is_edited && is_ended && desk.remove(rt, seat, &script).is_ok())
+    Ok(is_edited && is_ended)
 }

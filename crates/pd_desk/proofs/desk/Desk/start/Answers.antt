@@ -7,8 +7,8 @@ use Rattle.pd_desk.proofs.desk.Desk.start.Goals as goal
 
 pub returns-clause-given : goal.returns-clause-given
 returns-clause-given g c =
-    handed_out c.deref_mut.result.now.held.book.story c.start-reply.new.self.book.story c.start-reply.result c.start-reply.ensures.gives c.start-reply.ensures.legal
+    handed_out c.deref_mut.result.now.held.book.story c.start.new.self.book.story c.start.result c.start.ensures.gives c.start.ensures.legal
 
 pub returns-clause-gives : goal.returns-clause-gives
 returns-clause-gives g c =
-    after_some OutOfMemory c.start-reply.result (λ before after. GivesStart before c.start-reply.result after) c.deref_mut.result.now.held.book.story c.start-reply.new.self.book.story c.start-reply.ensures.legal c.start-reply.ensures.gives
+    after_some OutOfMemory c.start.result (λ before after. GivesStart before c.start.result after) c.deref_mut.result.now.held.book.story c.start.new.self.book.story c.start.ensures.legal c.start.ensures.gives
