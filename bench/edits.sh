@@ -4,6 +4,8 @@
 # report themselves cost is taken off. Tells nanoseconds, and where valgrind is there instructions, which don't vary with
 # the load. An edit in the last line is to cost at most a fifth. The edit puts a space behind the line or takes it away.
 # Then what an edit in the last line costs more for each further event that is kept: from scripts of 181 and of 541 events.
+# Last, a script that grows by an event a settle to 4,096: each of the last ten settles may cost 1.5 times what one costs
+# after an edit of the last line of the same script, added whole. The status tells whether it does.
 #
 #   bench/edits.sh [TURNS]      2,000 turns if nothing is said, a tenth of them for instructions
 . "$(dirname "$0")/program.sh"
@@ -69,11 +71,39 @@ last() { # turns, segments
     echo $(($(instructions "$work/settled") - $(instructions "$work/shown")))
 }
 
+# A script that begins with so many calls, and grows by one a settle to so many.
+growing() { # from, to
+    awk -v from="$1" -v to="$2" 'BEGIN {
+        print "add script1", from
+        for (line = 1; line <= from; line++) print "+0 close(9)=-1"
+        print "settle"
+        for (line = from + 1; line <= to; line++) {
+            print "edit script1", line, 0, 1
+            print "+0 close(9)=-1"
+            print "settle"
+        }
+    }'
+}
+
+# What a settle of each of these ten costs, in instructions.
+each_of_ten() { # the input with them, the input without
+    echo $((($(instructions "$1") - $(instructions "$2")) / 10))
+}
+
 measure "$turns" ns nanoseconds
 if command -v valgrind >/dev/null; then
     turns=$(((turns + 9) / 10))
     measure "$turns" instructions instructions
     awk -v turns="$turns" -v short="$(last "$turns" 58)" -v long="$(last "$turns" 178)" 'BEGIN {
         printf "a kept event costs %.0f instructions\n", (long - short) / turns / 360
+    }'
+    growing 1 4096 >"$work/grown"
+    growing 1 4086 >"$work/growing"
+    growing 4096 4096 >"$work/script"
+    edits 10 4096 settle >"$work/edited"
+    edits 0 4096 settle >"$work/whole"
+    awk -v grown="$(each_of_ten "$work/grown" "$work/growing")" -v whole="$(each_of_ten "$work/edited" "$work/whole")" 'BEGIN {
+        printf "an event more after 4,096 settles %d instructions, an edit of the last of 4,096 events %d: %.2f times\n", grown, whole, grown / whole
+        exit grown > 1.5 * whole
     }'
 fi

@@ -13,50 +13,108 @@ mod worked;
 use crate::copied::is_copied;
 use crate::counts::Counts;
 use crate::dice::Dice;
-use crate::trial::Trial;
-use crate::worked::is_worked;
+use crate::trial::{Difference, Mix, Trial};
+use crate::worked::{are_kept, is_worked};
 use std::alloc::{AllocError, Global};
 use std::io;
 
-const LISTS: u64 = 1_000;
+/// Random lists of calls: how many, and of how many calls.
+#[derive(Clone, Copy)]
+struct Lists {
+    seed: u64,
+    lists: u64,
+    calls: u32,
+    mix: Mix,
+}
+
+const SHORT: Lists = Lists {
+    seed: 20_261_122,
+    lists: 1_000,
+    calls: 30,
+    mix: Mix {
+        acks: 3,
+        expiries: 4,
+        block: 150,
+        written: 1_000_000,
+    },
+};
+
+/// Lists in which runs of SACKed octets gather.
+const LONG: Lists = Lists {
+    seed: 20_261_125,
+    lists: 4,
+    calls: 250,
+    mix: Mix {
+        acks: 200,
+        expiries: 100,
+        block: 6,
+        written: 2_000,
+    },
+};
+
+/// What came of random lists: how many differ, and the most runs of SACKed octets that stood at once.
+#[derive(Clone, Copy)]
+struct Made {
+    differing: u64,
+    runs: u64,
+}
 
 fn main(rt: HostRuntime) -> io::Result<()> {
     let mut counts = Counts::new(rt.alloc());
-    make_lists(rt.alloc(), &mut counts)?;
-    let is_right = is_worked(rt.alloc())?;
+    make_all(rt.alloc(), &mut counts)?;
+    counts.print(&rt)
+}
+
+fn make_all(alloc: Global, counts: &mut Counts) -> Result<(), AllocError> {
+    let made = make_lists(alloc, &SHORT, counts)?;
+    counts.note("lists of thirty calls", SHORT.lists)?;
+    counts.note("lists that differ", made.differing)?;
+    let is_right = is_worked(alloc)?;
     counts.note(
         "right scoreboards that were worked out by hand",
         u64::from(is_right),
     )?;
-    let is_same = is_copied(rt.alloc())?;
+    let is_same = is_copied(alloc)?;
     counts.note("right copies of a packet", u64::from(is_same))?;
-    counts.print(&rt)
+    let are_right = u64::from(are_kept(alloc, 20)?) + u64::from(are_kept(alloc, 200)?);
+    counts.note("right scoreboards of 20 and of 200 runs", are_right)?;
+    let mut others = Counts::new(alloc);
+    let made = make_lists(alloc, &LONG, &mut others)?;
+    counts.note("lists of 250 calls", LONG.lists)?;
+    counts.note("of these lists differ", made.differing)?;
+    counts.note("most runs of SACKed octets at once", made.runs)
 }
 
 /// Makes the lists; counts what happens and how many differ, and notes in which list what differs first.
-fn make_lists(alloc: Global, counts: &mut Counts) -> Result<(), AllocError> {
-    let mut dice = Dice::new(20_261_122);
-    let mut differing = 0u64;
-    for list in 1..=LISTS {
-        if let Some(difference) = make_list(alloc, &mut dice, counts)? {
+fn make_lists(alloc: Global, lists: &Lists, counts: &mut Counts) -> Result<Made, AllocError> {
+    let mut dice = Dice::new(lists.seed);
+    let mut made = Made {
+        differing: 0,
+        runs: 0,
+    };
+    for list in 1..=lists.lists {
+        let mut trial = Trial::new(alloc, lists.mix, &mut dice);
+        let difference = make_list(lists.calls, &mut trial, &mut dice, counts)?;
+        made.runs = made.runs.max(trial.most_runs);
+        if let Some(difference) = difference {
             counts.note(difference, list)?;
-            differing = differing.wrapping_add(1);
+            made.differing = made.differing.wrapping_add(1);
         }
     }
-    counts.note("lists of thirty calls", LISTS)?;
-    counts.note("lists that differ", differing)
+    Ok(made)
 }
 
 /// Makes one list of calls, and tells what differed first.
 fn make_list(
-    alloc: Global,
+    calls: u32,
+    trial: &mut Trial,
     dice: &mut Dice,
     counts: &mut Counts,
-) -> Result<Option<&'static str>, AllocError> {
-    let mut trial = Trial::new(alloc, dice);
-    for _call in 0..30 {
-        if let Some(difference) = trial.make(dice, counts)? {
-            return Ok(Some(difference));
+) -> Result<Difference, AllocError> {
+    for _call in 0..calls {
+        let difference = trial.make(dice, counts)?;
+        if difference.is_some() {
+            return Ok(difference);
         }
     }
     Ok(None)

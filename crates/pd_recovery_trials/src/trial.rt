@@ -14,13 +14,29 @@ use std::alloc::{AllocError, Global};
 /// What differed, if something did.
 pub type Difference = Option<&'static str>;
 
+/// How often a random call takes SACKed octets away, and how long blocks are.
+#[derive(Clone, Copy)]
+pub struct Mix {
+    /// Once in so many ACKs new octets are acknowledged.
+    pub acks: u32,
+    /// Once in so many chances the timer expires.
+    pub expiries: u32,
+    /// How many octets a block has at most.
+    pub block: u32,
+    /// Once so many octets are queued no more are.
+    pub written: u32,
+}
+
 #[derive(Drop)]
 pub struct Trial {
+    mix: Mix,
     board: Board,
     window: Cong,
     plain_board: PlainBoard,
     plain_window: PlainWindow,
     is_sack_agreed: bool,
+    /// The most runs of SACKed octets that stood at once.
+    pub most_runs: u64,
 }
 
 /// The settings with a threshold of slow start that small windows come to.
@@ -56,16 +72,18 @@ fn rule(sent: NextSegment) -> &'static str {
 }
 
 impl Trial {
-    pub fn new(alloc: Global, dice: &mut Dice) -> Trial {
+    pub fn new(alloc: Global, mix: Mix, dice: &mut Dice) -> Trial {
         let smss = dice.between(64, 100) as u16;
         let settings = settings(dice);
         let is_resent = dice.is_once_in(8);
         Trial {
+            mix,
             board: Board::new(alloc, smss),
             window: Cong::new(&settings, smss, is_resent),
             plain_board: PlainBoard::new(alloc, u32::from(smss)),
             plain_window: PlainWindow::new(settings.initial_ssthresh, u32::from(smss), is_resent),
             is_sack_agreed: !dice.is_once_in(3),
+            most_runs: 0,
         }
     }
 
@@ -74,7 +92,7 @@ impl Trial {
         match dice.below(12) {
             0 | 1 => self.write(dice),
             2 | 3 | 4 => self.send(dice)?,
-            5 if dice.is_once_in(4) => self.expire(counts)?,
+            5 if dice.is_once_in(self.mix.expiries) => self.expire(counts)?,
             6 => self.skip(),
             _ => {
                 let difference = self.acknowledge(dice, counts)?;
@@ -84,12 +102,13 @@ impl Trial {
             }
         }
         self.board = self.board.copy()?;
+        self.most_runs = self.most_runs.max(self.board.runs().len() as u64);
         Ok(self.compare(dice))
     }
 
     fn write(&mut self, dice: &mut Dice) {
         let count = dice.between(1, 400);
-        if self.board.end() < 1_000_000 {
+        if self.board.end() < self.mix.written.min(1_000_000) {
             self.board.write(count);
             self.plain_board.write(count);
         }
@@ -134,7 +153,7 @@ impl Trial {
         counts: &mut Counts,
     ) -> Result<Difference, AllocError> {
         let una = self.board.una();
-        let number = if dice.is_once_in(3) {
+        let number = if dice.is_once_in(self.mix.acks) {
             dice.between(una, self.board.top())
         } else {
             una
@@ -199,7 +218,7 @@ impl Trial {
         };
         for _block in 0..blocks {
             let end = dice.between(0, self.board.top());
-            let start = end.saturating_sub(dice.between(0, 150));
+            let start = end.saturating_sub(dice.between(0, self.mix.block));
             let is_new = self.board.mark(Span { start, end })?;
             if is_new != self.plain_board.mark(Span { start, end })? {
                 return Ok(None);

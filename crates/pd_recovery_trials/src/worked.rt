@@ -1,4 +1,4 @@
-//! A scoreboard whose answers were worked out by hand.
+//! Scoreboards whose answers were worked out by hand.
 use pd_board::Board;
 use pd_seg::Span;
 use std::alloc::{AllocError, Global};
@@ -20,6 +20,52 @@ pub fn is_worked(alloc: Global) -> Result<bool, AllocError> {
     acknowledge(&mut board, 1_501);
     let cut = board.runs() == [span(1_501, 2_401), span(2_500, 3_101)].as_slice();
     Ok(apart && joined && lost && cut)
+}
+
+/// Whether each of so many runs, ten octets behind a gap of ten, is kept where they are told from the last to the first:
+/// all gaps but the last two are lost, and a block over all runs leaves one.
+pub fn are_kept(alloc: Global, runs: u32) -> Result<bool, AllocError> {
+    let mut board = board_of(alloc, runs)?;
+    let top = board.top();
+    let mut kept = 0u32;
+    for run in board.runs() {
+        if *run != run_of(kept) {
+            return Ok(false);
+        }
+        kept = kept.saturating_add(1);
+    }
+    let lost = runs.saturating_sub(2);
+    let is_lost_alone = board.next_lost(first_of(lost)).is_none()
+        && board.next_lost(first_of(lost.saturating_sub(1))).is_some()
+        && board.next_hole(first_of(lost)) == Some(first_of(lost));
+    let octets = runs.saturating_mul(10);
+    let is_counted = board.pipe(0) == 20 && board.pipe(top) == octets.saturating_add(20);
+    mark(&mut board, 0, top)?;
+    let is_one = board.runs() == [span(1, top)].as_slice() && board.rescue().is_none();
+    Ok(kept == runs && is_lost_alone && is_counted && is_one)
+}
+
+fn board_of(alloc: Global, runs: u32) -> Result<Board, AllocError> {
+    let mut board = Board::new(alloc, 1_000);
+    board.write(runs.saturating_mul(20).min(100_000));
+    board.sent(board.end())?;
+    acknowledge(&mut board, 1);
+    for back in 1..=runs {
+        let run = run_of(runs.saturating_sub(back));
+        mark(&mut board, run.start, run.end)?;
+    }
+    Ok(board)
+}
+
+/// The first octet of a gap, from gap 0 on.
+fn first_of(gap: u32) -> u32 {
+    gap.saturating_mul(20).saturating_add(1)
+}
+
+/// The run behind a gap.
+fn run_of(gap: u32) -> Span {
+    let first = first_of(gap);
+    span(first.saturating_add(10), first.saturating_add(20))
 }
 
 fn span(start: u32, end: u32) -> Span {

@@ -7,3 +7,4 @@ pub mod OnTheWay
 pub mod Taken
 pub mod ReadOn
 pub mod Counted
+pub mod Chained

@@ -46,7 +46,7 @@ header_was : (text : List (List ℕ)) → (reading_of text).header ≡ header_in
 unfolding reading_of reading_in
 header_was text = refl
 
-events_were : (text : List (List ℕ)) → (reading_of text).events ≡ (decided_in 4096 (behind_header (items text first_place))).events
+pub events_were : (text : List (List ℕ)) → (reading_of text).events ≡ (decided_in 4096 (behind_header (items text first_place))).events
 unfolding reading_of reading_in
 events_were text = refl
 

@@ -1,7 +1,8 @@
 //! Laws of readings.
-ghost use Rattle.pd_reparse.specs.Laws.{ReadingsAreScripts, FirstEventsStay, FirstEventsOfScriptsStay};
+ghost use Rattle.pd_reparse.specs.Laws.{ReadingsAreScripts, FirstEventsStay, FirstEventsOfScriptsStay, EventsAreChained};
 
 use pd_lex::first_lines;
+use pd_script::items_stand_there;
 
 /// A law, and no work: without what decided its events, the reading of a text is what the text is
 /// parsed as.
@@ -16,4 +17,12 @@ pub fn first_events()
     ensures scripts { FirstEventsOfScriptsStay }
 {
     first_lines();
+}
+
+/// A law, and no work: the events that a text is read as stand one after the other, each spelled in
+/// the grammar's words from the place where the one before ended.
+pub fn events_are_chained()
+    ensures { EventsAreChained }
+{
+    items_stand_there();
 }

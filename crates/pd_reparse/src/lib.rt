@@ -10,6 +10,6 @@ mod steps;
 
 pub use decided::Decided;
 pub use kept::Reread;
-pub use laws::{first_events, readings};
+pub use laws::{events_are_chained, first_events, readings};
 pub use reading::Reading;
 pub use rereading::{read, reread};

@@ -86,7 +86,9 @@ impl<T: Drop> SharedList<T> {
     {
         (self.blocks.as_slice(), self.rest.as_slice())
     }
+}
 
+impl<T: Copied + Drop> SharedList<T> {
     /// Puts an item behind the others.
     ///
     /// # Errors
@@ -105,7 +107,9 @@ impl<T: Drop> SharedList<T> {
         Ok(())
     }
 
-    /// Puts all items into blocks, so that lists of the first of them share them.
+    /// Puts all items into blocks, so that lists of the first of them share them. The items that stand behind the blocks
+    /// become one block with as many of the last ones as have no more items than stand behind them, and room: so a list
+    /// that grows little by little has few blocks, and few of its items are copied.
     ///
     /// # Errors
     /// As for `push`.
@@ -115,19 +119,23 @@ impl<T: Drop> SharedList<T> {
         if self.rest.is_empty() {
             return Ok(());
         }
-        self.blocks.reserve(1)?;
         let alloc = *self.rest.allocator();
-        let mut items = mem::replace(&mut self.rest, Vec::new(alloc));
-        let count = self.count;
-        self.count -= items.len();
+        let SharedList {
+            mut blocks,
+            rest,
+            count,
+        } = mem::replace(self, SharedList::new(alloc));
+        let mut items = gather(alloc, &mut blocks, rest)?;
         items.shrink_to_fit();
-        self.blocks.push_reserved(Block::new(alloc, items)?);
-        self.count = count;
+        blocks.push(Block::new(alloc, items)?)?;
+        *self = SharedList {
+            blocks,
+            rest: Vec::new(alloc),
+            count,
+        };
         Ok(())
     }
-}
 
-impl<T: Copied + Drop> SharedList<T> {
     /// The first items: all blocks of them but the last are shared, and the last where that pays.
     ///
     /// # Errors
@@ -204,6 +212,30 @@ fn share<T: Copied + Drop>(
         return Ok(Vec::new(alloc));
     }
     copies(alloc, block.as_slice(), count)
+}
+
+/// Takes away the last blocks that become one with the items after them, and gives all these items. Each has no more items
+/// than stand after it, and room for them.
+fn gather<T: Copied + Drop>(
+    alloc: Global,
+    blocks: &mut Vec<Block<T>>,
+    rest: Vec<T>,
+) -> Result<Vec<T>, AllocError>
+    ensures { IfOk result (λ items. items_in blocks.new.items ++ items.items ≡ items_in blocks.old.items ++ rest.items) }
+{
+    let mut items = rest;
+    for i in (0..blocks.len()).rev() {
+        let block = &blocks[i];
+        let most = items.len().min(BLOCK.saturating_sub(items.len()));
+        if most < block.len() {
+            break;
+        }
+        let mut more = copies(alloc, block.as_slice(), block.len())?;
+        more.append(&mut items)?;
+        items = more;
+        blocks.truncate(i);
+    }
+    Ok(items)
 }
 
 /// Copies of the first items.

@@ -15,10 +15,18 @@ const OPENING: &str =
 /// The names of the states that a script goes through, and whether it stops before its end.
 pub fn states_of(alloc: Global, script: &str) -> Result<String, AllocError> {
     let mut written = String::new(alloc);
-    if script.starts_with('+') {
+    if !script.starts_with('0') {
         written.push_str(OPENING)?;
     }
-    written.push_str(script)?;
+    match script.strip_prefix("1025 times ") {
+        None => written.push_str(script)?,
+        Some(event) => {
+            for _time in 0..1_025 {
+                written.push_str(event)?;
+                written.push(' ')?;
+            }
+        }
+    }
     match text(alloc, written.as_str()) {
         Ok(lines) => run(alloc, &lines),
         Err(TextFault::OutOfMemory) => Err(AllocError),
@@ -29,9 +37,14 @@ pub fn states_of(alloc: Global, script: &str) -> Result<String, AllocError> {
 fn run(alloc: Global, lines: &Lines) -> Result<String, AllocError> {
     let mut watching = Watching::new(alloc);
     let verdict = run_with(alloc, lines, &Settings::new(), &mut watching)?;
+    let is_copied = watching.is_copied;
     let mut states = watching.states();
     if !matches!(verdict, Verdict::Pass(_)) {
-        states.push_str(" stops")?;
+        states.push_str(if is_copied {
+            " stops"
+        } else {
+            " stops, but not its copy"
+        })?;
     }
     Ok(states)
 }

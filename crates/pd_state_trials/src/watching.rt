@@ -7,12 +7,14 @@ use pd_settings::Settings;
 use std::alloc::{AllocError, Global};
 
 /// The stepper of the product, and the names of the states so far, each where it differs from the one before. A run goes
-/// on with a copy behind each event.
+/// on with a copy behind each event, and where it stops a copy is tried too.
 #[derive(Drop)]
 pub struct Watching {
     steps: Plain,
     last: &'static str,
     states: String,
+    /// Whether a copy of a run that stopped behaved as the run itself.
+    pub is_copied: bool,
 }
 
 impl Watching {
@@ -23,6 +25,7 @@ impl Watching {
             steps: Plain::new(),
             last: "",
             states: String::new(alloc),
+            is_copied: true,
         }
     }
 
@@ -60,6 +63,8 @@ impl Stepper for Watching {
             let copy = state.copy()?;
             *state = copy;
             self.note(state.conn_state())?;
+        } else {
+            self.is_copied = is_copied(state)?;
         }
         Ok(end)
     }
@@ -67,6 +72,18 @@ impl Stepper for Watching {
     fn count(&self) -> u64 {
         self.steps.count()
     }
+}
+
+/// Whether a copy of the run has halted as the run has, and a copy of its sender answers that.
+fn is_copied(state: &RunState) -> Result<bool, AllocError> {
+    let halted = state.host().ended();
+    let is_alike = state.copy()?.host().ended() == halted;
+    let mut sender = state.host().copy()?;
+    let answer = match sender.advance(0) {
+        Ok(()) => None,
+        Err(ending) => Some(ending),
+    };
+    Ok(is_alike && answer == halted)
 }
 
 fn name(state: ConnState) -> &'static str {
