@@ -1,5 +1,5 @@
 -- How far a recording comes.
-use Rattle.std.proofs.Common.{◌≡◌, ℕ, ◌+◌, ◌-◌, ◌*◌, ◌^◌, ◌<◌, ◌≤◌, max, Bool, true, false, nat_le, nat_lt, if◌then◌else◌, Option, Some, None, List, [], ◌∷◌, ◌++◌, refl, arith}
+use Rattle.std.proofs.Common.{◌≡◌, ℕ, ◌+◌, ◌-◌, ◌<◌, ◌≤◌, max, Bool, true, false, nat_le, nat_lt, if◌then◌else◌, Option, Some, None, List, [], ◌∷◌, ◌++◌, refl, arith}
 use Rattle.std.specs.List.{AllByRecursion, list_any}
 use Rattle.std.specs.Prelude.{IfSome}
 use Rattle.std.proofs.lemmas.Bool.{leb-false, ltb-false}
@@ -12,7 +12,6 @@ use Rattle.pd_run.specs.Limits.{is_long, written_times}
 use Rattle.pd_run.specs.Step.{Running}
 use Rattle.pd_run.specs.Times.{moment_of, base_after}
 use Rattle.pd_record.specs.Tape.{Tape, Sound, IsReached, refusal_at, with_unmet}
-use Rattle.pd_record.specs.declared.refusals.NotRecorded.{NotRecorded}
 use Rattle.pd_record.specs.declared.refusals.NotRecorded.TheVariants.{TooManyEvents, TooLongGap}
 
 -- what isn't refused is no 4,097th event, and comes at most 3,600 seconds after the one before

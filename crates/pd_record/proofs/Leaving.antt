@@ -1,7 +1,7 @@
 -- The packets that leave, one by one.
-use Rattle.std.proofs.Common.{◌≡◌, ℕ, suc, nat_le, List, [], ◌∷◌, ◌++◌, Option, Some, None, Result, Ok, Err, refl, ap, subst, sym, ◌∙◌}
+use Rattle.std.proofs.Common.{◌≡◌, ℕ, suc, nat_le, List, [], ◌∷◌, ◌++◌, Option, Some, None, Ok, Err, refl, ap, ◌∙◌}
 use Rattle.pd_seg.specs.declared.segments.Sent.{Sent}
-use Rattle.pd_record.specs.Tape.{Tape, Answers, then_do, leaves_next, departs, with_unmet, comes, comes_on}
+use Rattle.pd_record.specs.Tape.{Tape, then_do, leaves_next, departs, with_unmet, comes, comes_on}
 use Rattle.pd_record.specs.declared.refusals.NotRecorded.{NotRecorded}
 use Rattle.pd_record.specs.declared.refusals.NotRecorded.TheVariants.{TooManyEvents}
 use Rattle.pd_record.specs.declared.tape.Recorded.{Recorded}

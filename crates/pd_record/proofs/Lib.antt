@@ -4,4 +4,9 @@ pub mod Found
 pub mod Rulings
 pub mod Bounds
 pub mod Leaving
+pub mod Leaves
+pub mod Passing
+pub mod Lines
+pub mod Again
 pub mod Whole
+pub mod Right

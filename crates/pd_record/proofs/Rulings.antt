@@ -1,5 +1,5 @@
 -- The checks of a step are told by the reason why any run stops at its event.
-use Rattle.std.proofs.Common.{◌≡◌, ℕ, ◌&&◌, length, Bool, true, false, not, if◌then◌else◌, slice_get, Option, Some, None, option_map, Result, Ok, Err, refl}
+use Rattle.std.proofs.Common.{◌≡◌, ◌&&◌, Bool, true, false, not, if◌then◌else◌, slice_get, Option, Some, None, option_map, Result, Ok, Err, refl}
 use Rattle.std.specs.Prelude.{⊤}
 use Rattle.pd_script.specs.declared.packets.Packet.{Packet}
 use Rattle.pd_script.specs.declared.calls.Call.{Call}

@@ -5,7 +5,6 @@ use Rattle.pd_settings.specs.declared.fields.Settings.{Settings}
 use Rattle.pd_script.specs.Script.{script_of}
 use Rattle.pd_script.specs.declared.parsing.Parsed.{Parsed}
 use Rattle.pd_script.specs.declared.script_events.Event.{Event}
-use Rattle.pd_script.specs.declared.script_header.HeaderItem.{HeaderItem}
 use Rattle.pd_run.specs.Run.{verdict_in}
 use Rattle.pd_record.specs.Recording.{Tracked, records, tracks_of, recording_in, recording_of, events_of, IsRight, IsRecording, Refuses}
 use Rattle.pd_record.specs.Scripts.{IsRead, events_placed}

@@ -3,7 +3,6 @@ use Rattle.std.specs.Prelude.{◌≡◌, ◌≢◌, ℕ, zero, suc, ◌+◌, ◌
 use Rattle.std.specs.List.{AllByRecursion}
 use Rattle.pd_settings.specs.declared.fields.Settings.{Settings}
 use Rattle.pd_script.specs.declared.calls.Call.{Call}
-use Rattle.pd_script.specs.declared.calls.Outcome.{Outcome}
 use Rattle.pd_script.specs.declared.packets.Packet.{Packet}
 use Rattle.pd_script.specs.declared.script_events.Action.{Action}
 use Rattle.pd_script.specs.declared.script_events.Action.TheVariants.{Inbound, Outbound, Call as Calls}
@@ -60,13 +59,14 @@ abbrev pub then_do : {A B : Type 0} → (A → Answers B) → Answers A → Answ
 then_do next (Ok x) = next x
 then_do next (Err refusal) = Err refusal
 
+-- a tape on which nothing was recorded
+abbrev pub blank_from : Result Running Verdict → Answers Tape
+blank_from (Ok r) = Ok (record { run = r; count = 0; base = 0; unmet = [] })
+blank_from (Err v) = Err (Stopped v)
+
 -- before the first event
 abbrev pub begun : List HeaderItem → Settings → Answers Tape
-begun header settings = from (start_of header settings)
-  where
-    from : Result Running Verdict → Answers Tape
-    from (Ok r) = Ok (record { run = r; count = 0; base = 0; unmet = [] })
-    from (Err v) = Err (Stopped v)
+begun header settings = blank_from (start_of header settings)
 
 -- ---- one event of the recording
 
@@ -85,13 +85,14 @@ unless answer (Some refusal) = Err refusal
 abbrev pub event_at : Tape → ℕ → ℕ → Action → Event
 event_at t line at action = record { line = line; time = Relative (at - t.run.base); until = None; action = action }
 
+-- the tape after a step
+abbrev pub gone_to : Tape → Result Running Verdict → Answers Tape
+gone_to t (Ok r) = Ok (record t { run = r; count = t.count + 1 })
+gone_to t (Err v) = Err (Stopped v)
+
 -- the tape after the step of an event
 abbrev pub stepped : Tape → Event → Answers Tape
-stepped t e = after (step t.run e)
-  where
-    after : Result Running Verdict → Answers Tape
-    after (Ok r) = Ok (record t { run = r; count = t.count + 1 })
-    after (Err v) = Err (Stopped v)
+stepped t e = gone_to t (step t.run e)
 
 -- an event of the recording, with the sender after its step
 abbrev pub recorded_as : ℕ → Event → Tape → Recorded
@@ -109,14 +110,15 @@ abbrev pub oldest_of : Result State Halt → Option Sent
 oldest_of (Ok s) = slice_get s.endpoint.outbox 0
 oldest_of (Err halt) = None
 
+-- the packet that stands untaken, else what the next expiry sends, if one may come
+abbrev pub or_expired : State → Option Sent → Option ℕ → Option Sent
+or_expired s (Some sent) due = Some sent
+or_expired s None None = None
+or_expired s None (Some at) = oldest_of (advanced at s)
+
 -- the packet that leaves next: the oldest that stands untaken, else what the next expiry sends, if one may come
 abbrev pub next_packet : State → Option ℕ → Option Sent
-next_packet s due = from (slice_get s.endpoint.outbox 0) due
-  where
-    from : Option Sent → Option ℕ → Option Sent
-    from (Some sent) due = Some sent
-    from None None = None
-    from None (Some at) = oldest_of (advanced at s)
+next_packet s due = or_expired s (slice_get s.endpoint.outbox 0) due
 
 -- the moment of an expiry that may come
 abbrev pub due_where : (ℕ → Bool) → Option ℕ → Option ℕ
@@ -210,14 +212,15 @@ meets t e (Some sent) =
     then_do (λ x. Ok (based_after e.time (Some sent.at) x.0, record { before = []; own = Some (record { recorded = x.1; reply = None }) }))
     (departs t e.line sent)
 
--- an expected packet meets the oldest that none has met: one that was recorded before, else the one that leaves next, by an
--- expiry within reach
+-- an expected packet meets the oldest of those that were recorded and that none has met; without one the packet that leaves
+-- next, by an expiry within reach
+abbrev pub meets_oldest : Tape → Event → List ℕ → Answers (Tape × Took)
+meets_oldest t e (at ∷ others) = Ok (based_after e.time (Some at) (record t { unmet = others }), record { before = []; own = None })
+meets_oldest t e [] = meets t e (leaves_next (is_in_reach (moments_of t.base e.time) (tolerance_of t.run)) t.run)
+
+-- an expected packet meets the oldest that none has met
 abbrev pub expects : Tape → Event → Answers (Tape × Took)
-expects t e = oldest t.unmet
-  where
-    oldest : List ℕ → Answers (Tape × Took)
-    oldest (at ∷ others) = Ok (based_after e.time (Some at) (record t { unmet = others }), record { before = []; own = None })
-    oldest [] = meets t e (leaves_next (is_in_reach (moments_of t.base e.time) (tolerance_of t.run)) t.run)
+expects t e = meets_oldest t e t.unmet
 
 -- ---- events of the script
 

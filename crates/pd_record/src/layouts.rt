@@ -1,4 +1,5 @@
 //! How a script stands in its text: the octets of its parts, with the comments and blank lines around them.
+use crate::alone::{Parts, parts_alone};
 use crate::extents::{Extent, end_of, is_before};
 use crate::gaps::{Piece, put_gap};
 use pd_lex::{Lexed, Place, Token, TokenKind, next_token};
@@ -21,13 +22,26 @@ pub struct Layout {
     pub trail: Vec<Piece>,
 }
 
+impl Layout {
+    /// With these parts, and no comment within the part or after it.
+    fn of(alloc: Global, lead: Vec<Piece>, parts: Parts) -> Layout {
+        Layout {
+            lead,
+            own: parts.own,
+            note: parts.note,
+            noted: Vec::new(alloc),
+            trail: Vec::new(alloc),
+        }
+    }
+}
+
 /// Reads the parts of a text one after the other.
 #[derive(Drop)]
 pub struct LayoutReader<'a> {
     lines: &'a Lines,
-    /// Where the last part ends.
-    place: Place,
-    /// What stands before the next part.
+    /// Where the next part begins.
+    next: Place,
+    /// What stands before it.
     lead: Vec<Piece>,
 }
 
@@ -65,34 +79,29 @@ impl<'a> LayoutReader<'a> {
     /// # Errors
     /// `AllocError` where a growth is refused.
     pub fn new(alloc: Global, lines: &'a Lines) -> Result<LayoutReader<'a>, AllocError> {
-        let first = Place::first();
+        let gap = gap_after(lines, Place::first());
         let mut lead = Vec::new(alloc);
-        put_gap(&mut lead, lines, gap_after(lines, first))?;
+        put_gap(&mut lead, lines, gap)?;
         Ok(LayoutReader {
             lines,
-            place: first,
+            next: gap.to,
             lead,
         })
     }
 
-    /// Reads the next part, which ends before a place.
+    /// Reads the next part, which is an event; the place is that of the token after it, or the end of the text.
     ///
     /// # Errors
     /// `AllocError` where a growth is refused.
-    pub fn read_part(&mut self, alloc: Global, until: Place) -> Result<Layout, AllocError> {
-        let lead = replace(&mut self.lead, Vec::new(alloc));
-        let mut draft = Draft::new(alloc, lead, self.place);
-        for _ in 0..MAX_OCTETS {
-            match next_token(self.lines, self.place) {
-                Lexed::Token(token) if is_before(token.from, until) => {
-                    draft.take(self.lines, &token)?;
-                    self.place = token.to;
-                }
-                _ => break,
+    pub fn read_event(&mut self, alloc: Global, until: Place) -> Result<Layout, AllocError> {
+        match parts_alone(self.lines, self.next, until) {
+            Some(parts) => {
+                self.next = until;
+                let lead = replace(&mut self.lead, Vec::new(alloc));
+                Ok(Layout::of(alloc, lead, parts))
             }
+            None => self.read_part(alloc, until),
         }
-        self.read_gap(&mut draft.layout)?;
-        Ok(draft.layout)
     }
 
     /// Reads the next part, which is a header item.
@@ -100,11 +109,33 @@ impl<'a> LayoutReader<'a> {
     /// # Errors
     /// `AllocError` where a growth is refused.
     pub fn read_item(&mut self, alloc: Global) -> Result<Layout, AllocError> {
-        let after = match next_token(self.lines, self.place) {
-            Lexed::Token(token) => token.to,
-            Lexed::End | Lexed::Bad(_) => self.place,
+        let after = match next_token(self.lines, self.next) {
+            Lexed::Token(token) => gap_after(self.lines, token.to).to,
+            Lexed::End | Lexed::Bad(_) => self.next,
         };
         self.read_part(alloc, after)
+    }
+
+    /// Reads the tokens of the next part, which stand before a place, that of the token after them.
+    fn read_part(&mut self, alloc: Global, until: Place) -> Result<Layout, AllocError> {
+        let lead = replace(&mut self.lead, Vec::new(alloc));
+        let mut place = replace(&mut self.next, until);
+        let mut draft = Draft::new(alloc, lead, place);
+        for _ in 0..MAX_OCTETS {
+            match next_token(self.lines, place) {
+                Lexed::Token(token) if is_before(token.from, until) => {
+                    draft.take(self.lines, &token)?;
+                    place = token.to;
+                }
+                _ => break,
+            }
+        }
+        let gap = Extent {
+            from: place,
+            to: until,
+        };
+        self.read_gap(&mut draft.layout, gap)?;
+        Ok(draft.layout)
     }
 
     /// What stands after the last part.
@@ -113,8 +144,7 @@ impl<'a> LayoutReader<'a> {
     }
 
     /// Reads what stands after a part: what begins in its line stays there, where no further token stands in that line.
-    fn read_gap(&mut self, part: &mut Layout) -> Result<(), AllocError> {
-        let gap = gap_after(self.lines, self.place);
+    fn read_gap(&mut self, part: &mut Layout, gap: Extent) -> Result<(), AllocError> {
         let is_last = gap.to.line > gap.from.line;
         let mut pieces = Vec::new(*self.lead.allocator());
         put_gap(&mut pieces, self.lines, gap)?;
@@ -145,14 +175,12 @@ impl Draft {
             from: place,
             to: place,
         };
+        let parts = Parts {
+            own: nothing,
+            note: None,
+        };
         Draft {
-            layout: Layout {
-                lead,
-                own: nothing,
-                note: None,
-                noted: Vec::new(alloc),
-                trail: Vec::new(alloc),
-            },
+            layout: Layout::of(alloc, lead, parts),
             reading: Reading::Nothing,
             depth: 0,
             to: place,

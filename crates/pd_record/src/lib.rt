@@ -1,6 +1,7 @@
 //! Recordings: a script's inputs with all that the sender answers and puts out, as a script that passes.
 #![tactic(auto)]
 
+mod alone;
 mod extents;
 mod gaps;
 mod layouts;
@@ -16,7 +17,6 @@ mod same_packets;
 mod sameness;
 mod scripts;
 mod tape;
-mod times;
 mod traces;
 mod tracks;
 mod transcripts;

@@ -11,10 +11,12 @@ use crate::outcomes::outcome_of;
 use crate::probes::{answer_of, next_packet};
 use crate::refusals::NotRecorded;
 use crate::tape::{Own, Recorded, Reply, Standing, Take};
-use crate::times::{base_after, is_backwards, is_in_reach, moment_of};
 use pd_match::{Kind, check_call};
 use pd_print::sent_packet;
-use pd_run::{Plain, RunState, StepEnd, Stepper, Verdict, Why, runs_are_bounded};
+use pd_run::{
+    Plain, RunState, StepEnd, Stepper, Verdict, Why, base_after, is_backwards, is_in_reach,
+    moment_of, moments_of, runs_are_bounded,
+};
 use pd_script::{Action, Call, Event, Header, MAX_EVENTS, Packet, Time};
 use pd_seg::{Answer, Sent};
 use pd_settings::Settings;
@@ -236,8 +238,9 @@ impl Recorder {
         requires short { list_any is_long (written_times event.now.time) ≡ false }
         ensures { IfOk result (λ sent. sent ≡ leaves_next (is_in_reach (moments_of self.now.base event.now.time) (tolerance_of self.now.run)) self.now.run) }
     {
+        let moments = moments_of(self.base, event.time);
         let due = match self.run.host().deadline() {
-            Some(due) if is_in_reach(self.base, event.time, self.run.tolerance(), due) => Some(due),
+            Some(due) if is_in_reach(moments, self.run.tolerance(), due) => Some(due),
             _ => None,
         };
         next_packet(self.run.host(), due)

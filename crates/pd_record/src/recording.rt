@@ -1,7 +1,8 @@
 //! Records scripts.
-ghost use Rattle.std.specs.Prelude.{◌≡◌, ◌≢◌, IfErr, IfOk, IsOk, IsTrue};
+ghost use Rattle.std.specs.Prelude.{◌≡◌, ◌≢◌, IfErr, IfOk, IsOk, IsTrue, length};
 ghost use Rattle.pd_script.specs.Script.{script_of};
-ghost use Rattle.pd_record.specs.Recording.{IsRecording, IsRight, Refuses, recording_of};
+ghost use Rattle.pd_record.specs.Recording.{IsRecording, Refuses, recording_of};
+ghost use Rattle.pd_record.specs.Sameness.{IsReadAs};
 ghost use Rattle.pd_record.specs.Tape.{Finds};
 
 use crate::recordings::Recording;
@@ -10,22 +11,28 @@ use crate::sameness::same_script;
 use crate::scripts::read_script;
 use crate::tracks::{events_of, record_script};
 use crate::transcripts::write_tracks;
-use pd_run::{Verdict, run_all};
+use pd_host::advances_are_lawful;
+use pd_run::{run_all, runs_are_bounded};
 use pd_script::{Event, Header};
 use pd_settings::Settings;
 use pd_text::Lines;
 use std::alloc::{AllocError, Global};
 
-/// Records a script under settings. The recording is read and run before it is answered.
+/// Records a script under settings. The recording is read again before it is answered.
 ///
 /// # Errors
 /// `Stopped` where the text is no script, or its run doesn't begin or stops at an event for another reason than what the event
 /// expects; `TooManyEvents`, `TooLongGap` and `TooLarge` where the recording would be over these limits; `OutOfMemory`; and
-/// `Differs` where the text isn't read and run as what was recorded, which is a fault of this program.
+/// `Differs` where the text isn't read as what was recorded, which is a fault of this program.
 pub fn record(alloc: Global, lines: &Lines, settings: &Settings) -> Result<Recording, NotRecorded>
     ensures recorded { IfOk result (λ recording. IsRecording lines.now settings.now recording.lines recording.events) }
+
+    // Recording it gives the same events.
+    ensures again { IfOk result (λ recording. IsRecording recording.lines settings.now recording.lines recording.events) }
     ensures refused { IfErr result (λ refusal. Refuses (recording_of lines.now settings.now) refusal) }
 {
+    runs_are_bounded();
+    advances_are_lawful();
     let Some(script) = read_script(alloc, lines)? else {
         let verdict = run_all(alloc, lines, settings)?;
         return Err(NotRecorded::Stopped(verdict));
@@ -38,34 +45,24 @@ pub fn record(alloc: Global, lines: &Lines, settings: &Settings) -> Result<Recor
         Err(NotRecorded::TooLarge) => return Err(NotRecorded::TooLarge),
         Err(_) => return Err(NotRecorded::OutOfMemory),
     };
-    if is_right(
-        alloc,
-        &recording,
-        &script.header,
-        events.as_slice(),
-        settings,
-    )? {
+    if is_right(alloc, &recording, &script.header, events.as_slice())? {
         Ok(recording)
     } else {
         Err(NotRecorded::Differs)
     }
 }
 
-/// Whether a recording is read as it was recorded, and passes.
+/// Whether a recording is read as it was recorded. Then it passes, since each recorded event was a step of the recorder's run.
 fn is_right(
     alloc: Global,
     recording: &Recording,
     header: &Header,
     events: &[Event],
-    settings: &Settings,
 ) -> Result<bool, AllocError>
-    ensures { IfOk result (λ right. IsTrue right → IsRight header.now.items events.now settings.now recording.now.lines recording.now.events) }
+    ensures { IfOk result (λ right. IsTrue right → IsReadAs header.now.items events.now recording.now.lines × (recording.now.events ≡ length events.now)) }
 {
-    if recording.events != events.len() || !same_script(alloc, &recording.lines, header, events)? {
+    if recording.events != events.len() {
         return Ok(false);
     }
-    match run_all(alloc, &recording.lines, settings)? {
-        Verdict::Pass(passed) => Ok(passed == recording.events),
-        _ => Ok(false),
-    }
+    same_script(alloc, &recording.lines, header, events)
 }

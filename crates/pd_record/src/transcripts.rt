@@ -25,7 +25,7 @@ pub fn write_tracks(
         writer.put_item(&layouts.read_item(alloc)?)?;
     }
     for (placed, take) in script.events.iter().zip(tracks.takes.iter()) {
-        let layout = layouts.read_part(alloc, placed.after)?;
+        let layout = layouts.read_event(alloc, placed.after)?;
         write_take(&mut writer, &layout, take)?;
     }
     write_all(&mut writer, tracks.rest.as_slice())?;

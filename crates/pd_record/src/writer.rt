@@ -187,9 +187,7 @@ impl<'a> Writer<'a> {
 
     /// Ends a line.
     fn end_line(&mut self) -> Result<(), NotRecorded> {
-        for line in self.line.split(|octet| *octet == b'\n') {
-            push_line(&mut self.list, line)?;
-        }
+        push_lines(&mut self.list, self.line.as_slice())?;
         self.line.clear();
         if self.list.octets() > MAX_OCTETS {
             return Err(NotRecorded::TooLarge);
@@ -198,10 +196,15 @@ impl<'a> Writer<'a> {
     }
 }
 
-/// Adds a line, of which none has a newline.
-fn push_line(list: &mut LineList, line: &[u8]) -> Result<(), AllocError> {
-    if is_line(line) {
-        list.push(line)?;
+/// Adds a line, or several that newlines part.
+fn push_lines(list: &mut LineList, octets: &[u8]) -> Result<(), AllocError> {
+    if is_line(octets) {
+        return list.push(octets);
+    }
+    for line in octets.split(|octet| *octet == b'\n') {
+        if is_line(line) {
+            list.push(line)?;
+        }
     }
     Ok(())
 }

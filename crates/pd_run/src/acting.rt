@@ -18,6 +18,7 @@ use pd_seg::Answer;
 ///
 /// # Errors
 /// Why the host has ended, here or before.
+#[inline(always)]
 pub fn arrive(host: &mut Host, packet: &Packet, at: u64) -> Result<(), Ending>
     requires fits { is_packet_over packet.now ≡ false }
     requires early { at < 2 ^ 62 }

@@ -21,5 +21,6 @@ pub use run_state::RunState;
 pub use running::{run_all, run_with};
 pub use stepping::{Plain, StepEnd, Stepper};
 pub use stops::{Stopped, find_stop};
+pub use times::{base_after, is_backwards, is_in_reach, moment_of, moments_of};
 pub use verdicts::Verdict;
 pub use whys::Why;

@@ -13,7 +13,7 @@ pub fn is_single(time: Time) -> bool
     matches!(time, Time::Absolute(_) | Time::Relative(_))
 }
 
-/// The moment of a single time.
+/// The moment of a time that is one, from a base, both in microseconds since the start of the run; the base for any other.
 pub fn moment_of(base: u64, time: Time) -> u64
     requires base { base < 2 ^ 61 }
     requires short { list_any is_long (written_times time) ≡ false }
@@ -26,7 +26,7 @@ pub fn moment_of(base: u64, time: Time) -> u64
     }
 }
 
-/// The first and the last moment of a time; `None` for `*`.
+/// The first and the last moment of a time, from a base, in microseconds since the start of the run; `None` for `*`.
 pub fn moments_of(base: u64, time: Time) -> Option<(u64, u64)>
     requires base { base < 2 ^ 61 }
     requires short { list_any is_long (written_times time) ≡ false }
@@ -52,7 +52,8 @@ pub fn is_backwards(base: u64, time: Time) -> bool
     }
 }
 
-/// Whether a packet that leaves at a moment may still come in time.
+/// Whether a packet that leaves at a moment may still come in time: no later than the last moment and the tolerance, in
+/// microseconds. `None` is any time.
 pub fn is_in_reach(moments: Option<(u64, u64)>, tolerance: u64, at: u64) -> bool
     ensures { result ≡ is_in_reach moments tolerance at }
 {
@@ -62,7 +63,8 @@ pub fn is_in_reach(moments: Option<(u64, u64)>, tolerance: u64, at: u64) -> bool
     }
 }
 
-/// The base after a packet that left at a moment.
+/// The base after an expected packet with a time that met one which left at a moment: the time's moment where it is one, else
+/// the later of the base and that moment.
 pub fn base_after(base: u64, time: Time, at: u64) -> u64
     requires base { base < 2 ^ 61 }
     requires short { list_any is_long (written_times time) ≡ false }

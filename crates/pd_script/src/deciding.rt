@@ -80,6 +80,7 @@ impl<'a> Cursor<'a> {
     ///
     /// # Errors
     /// `AllocError` where a growth is refused.
+    #[inline(always)]
     #[tactic(auto, unfolding(crate::specs::Next::next_in))]
     pub fn next_event(&mut self, alloc: Global) -> Result<NextEvent, AllocError>
         ensures next { IfOk result (λ next. next ≡ next_in self.old) }

@@ -1,6 +1,5 @@
 -- Each turn records the packet that leaves next, until none does.
-use Rattle.std.proofs.Common.{◌≡◌, ◌≢◌, suc, ◌+◌, ◌-◌, Option, Some, None, nat_le, rules, sym, ap, subst, ◌∙◌, arith}
-use Rattle.pd_seg.specs.declared.segments.Sent.{Sent}
+use Rattle.std.proofs.Common.{◌≡◌, ◌≢◌, ◌+◌, ◌-◌, Some, None, nat_le, sym, ap, subst, ◌∙◌, arith}
 use Rattle.pd_record.specs.Tape.{Tape, Sound, leaves_next, left_by}
 use Rattle.pd_record.specs.declared.refusals.NotRecorded.TheVariants.{OutOfMemory}
 use Rattle.pd_record.proofs.Bounds.{unmet_sound}

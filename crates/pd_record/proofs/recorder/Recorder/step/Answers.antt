@@ -1,5 +1,5 @@
 -- The run goes on, one event further.
-use Rattle.std.proofs.Common.{◌≡◌, ◌+◌, ◌<◌, Ok, subst, sym, arith}
+use Rattle.std.proofs.Common.{◌≡◌, ◌<◌, Ok, subst, sym, arith}
 use Rattle.pd_run.specs.Step.{step, Steps}
 use Rattle.pd_run.specs.declared.stepping.StepEnd.TheVariants.{Go}
 use Rattle.pd_run.proofs.Steps.{tells}

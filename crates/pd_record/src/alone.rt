@@ -1,0 +1,141 @@
+//! Events that stand alone on their lines, without comments: their parts by octets, as their tokens would tell them.
+use crate::extents::Extent;
+use pd_lex::Place;
+use pd_text::Lines;
+
+/// The parts of an event that stands alone on its line.
+#[derive(Clone, Copy)]
+pub struct Parts {
+    /// The octets of a call up to `=`; none for a packet.
+    pub own: Extent,
+    /// The note of a call.
+    pub note: Option<Extent>,
+}
+
+/// What of an event was read last.
+#[derive(Clone, Copy)]
+enum Reading {
+    /// Its time.
+    Time,
+    /// A packet.
+    Packet,
+    /// A call up to its equals sign.
+    Call,
+    /// The equals sign, or the result after it.
+    Result,
+    /// A note.
+    Note,
+}
+
+/// The parts of an event while its line is read, as places of the line.
+#[derive(Clone, Copy)]
+struct Draft {
+    reading: Reading,
+    /// How many brackets are open.
+    depth: usize,
+    /// Whether a blank stands before the next octet.
+    is_apart: bool,
+    /// Where the own octets of a call begin and end.
+    from: usize,
+    to: usize,
+    /// Where its note begins.
+    note: usize,
+    /// Where its last token ends.
+    end: usize,
+}
+
+/// The parts of the event that begins at a place, where the next one begins at the start of the next line, and nothing in the
+/// line could be a comment, a text in quotes or code. Without an answer the tokens have to be read.
+pub fn parts_alone(lines: &Lines, from: Place, until: Place) -> Option<Parts> {
+    if until.at != 0 || from.line.saturating_add(1) != until.line {
+        return None;
+    }
+    let line = lines.line(from.line)?;
+    let mut draft = Draft {
+        reading: Reading::Time,
+        depth: 0,
+        is_apart: true,
+        from: from.at,
+        to: from.at,
+        note: from.at,
+        end: from.at,
+    };
+    for at in from.at..line.len() {
+        match line[at] {
+            b'/' | b'"' | b'`' | b'%' => return None,
+            b' ' | b'\t' | b'\r' => draft.is_apart = true,
+            octet => {
+                if !draft.read(octet, at) {
+                    return None;
+                }
+            }
+        }
+    }
+    Some(draft.parts(from.line))
+}
+
+impl Draft {
+    /// Reads an octet that is no blank; false where it may stand in the middle of a token that begins a call.
+    fn read(&mut self, octet: u8, at: usize) -> bool {
+        let is_apart = self.is_apart;
+        self.is_apart = false;
+        self.end = at.saturating_add(1);
+        match self.reading {
+            Reading::Time => return self.read_in_time(octet, at, is_apart),
+            Reading::Call => self.read_in_call(octet, at),
+            Reading::Result => {
+                if octet == b'(' {
+                    self.reading = Reading::Note;
+                    self.note = at;
+                }
+            }
+            Reading::Packet | Reading::Note => {}
+        }
+        true
+    }
+
+    /// Reads an octet of a time, or the one after it.
+    fn read_in_time(&mut self, octet: u8, at: usize, is_apart: bool) -> bool {
+        if matches!(octet, b'<' | b'>') {
+            self.reading = Reading::Packet;
+        } else if octet == b'_' || octet.is_ascii_alphabetic() {
+            self.reading = Reading::Call;
+            self.from = at;
+            return is_apart;
+        }
+        true
+    }
+
+    /// Reads an octet of a call before its result.
+    fn read_in_call(&mut self, octet: u8, at: usize) {
+        match octet {
+            b'(' | b'[' | b'{' => self.depth = self.depth.saturating_add(1),
+            b')' | b']' | b'}' => self.depth = self.depth.saturating_sub(1),
+            b'=' if self.depth == 0 => {
+                self.reading = Reading::Result;
+                self.to = at.saturating_add(1);
+            }
+            _ => {}
+        }
+    }
+
+    /// The parts, in a line.
+    fn parts(&self, line: usize) -> Parts {
+        let note = match self.reading {
+            Reading::Note => Some(extent(line, self.note, self.end)),
+            _ => None,
+        };
+        Parts {
+            own: extent(line, self.from, self.to),
+            note,
+        }
+    }
+}
+
+/// From a place of a line up to another.
+fn extent(line: usize, from: usize, to: usize) -> Extent {
+    Extent {
+        from: Place { line, at: from },
+        to: Place { line, at: to },
+    }
+}
