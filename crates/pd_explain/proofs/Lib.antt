@@ -3,3 +3,5 @@ pub mod RuleLemmas
 pub mod StopIsThere
 pub mod ShownLemmas
 pub mod InputLemmas
+pub mod PastedLemmas
+pub mod WindowLemmas

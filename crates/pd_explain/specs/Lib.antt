@@ -4,5 +4,7 @@ pub mod Senders
 pub mod Failures
 pub mod Explained
 pub mod Causes
+pub mod Pasted
 pub mod Shown
+pub mod Windows
 pub mod Rules
