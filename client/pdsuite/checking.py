@@ -2,15 +2,18 @@
 
 from collections import Counter
 from collections.abc import Callable, Iterator
+from typing import TYPE_CHECKING
 
 from pdsuite.defaults import DEFAULTS
-from pdsuite.imports.compare import Compared, compare
 from pdsuite.octets import shown_path
 from pdsuite.recorder import Recorder
 from pdsuite.rows import Outcome
 from pdsuite.settle import Settled
 from pdsuite.stop import Stop
 from pdsuite.text import Text
+
+if TYPE_CHECKING:
+    from pdsuite.imports.compare import Compared
 
 _MARK = b"// asserts "
 
@@ -24,10 +27,10 @@ class Checking:
 
     def take(self, step: Settled) -> None:
         """Keeps the scripts of a piece that have assertions."""
-        for script, outcome in step.outcomes:
-            text = step.texts.get(script.index)
-            if text is not None and _MARK in text.octets:
-                self._asserting[script.index] = outcome, text
+        texts = {index: it for index, it in step.texts.items() if it.octets.find(_MARK) >= 0}
+        if texts:
+            asserting = [it for it in step.outcomes if it[0].index in texts]
+            self._asserting.update((script.index, (outcome, texts[script.index])) for script, outcome in asserting)
 
     def lines(self) -> Iterator[str]:
         """A line for each assertion that doesn't hold, in the order of paths, and their count."""
@@ -42,7 +45,10 @@ class Checking:
                 f" not compared {counts[None]}"
             )
 
-    def _compared(self, outcome: Outcome, text: Text) -> list[Compared]:
+    def _compared(self, outcome: Outcome, text: Text) -> list["Compared"]:
+        # Only who has assertions pays for what reads scripts.
+        from pdsuite.imports.compare import compare
+
         script = text.octets.decode("utf-8", "surrogateescape")
         recording = self._recorder.record(outcome.path, text.octets, outcome.settings).text
         mss = {**DEFAULTS, **dict(outcome.settings)}["mss"]

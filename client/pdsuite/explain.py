@@ -59,8 +59,7 @@ class Asker(Generic[T]):
             return self._ask(asked, texts)
         except (Ended, Unexpected) as end:
             if len(asked) == 1:
-                place = shown_path(asked[0][0].path)
-                self._note(f"pdsuite: {end}; nothing is told of {place}")
+                self._note(f"pdsuite: {end}; nothing is told of {shown_path(asked[0][0].path)}")
                 return {}
         return {index: told for one in asked for index, told in self._told([one], texts).items()}
 
@@ -90,6 +89,8 @@ class Explainer:
     def explain(self, step: Settled) -> list[tuple[Script, Outcome]]:
         """The outcomes of a piece, each that doesn't pass with what is told of it."""
         blocks = self._asker.told(step)
+        if not blocks:
+            return step.outcomes
         return [(script, _with(outcome, blocks.get(script.index))) for script, outcome in step.outcomes]
 
 

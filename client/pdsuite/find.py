@@ -12,11 +12,13 @@ from pdsuite.stop import Stop
 SUFFIX = ".pkt"
 
 
-@dataclass(frozen=True, slots=True)
+# There may be a hundred thousand of these and of what comes of them: so a text is no Path, and nothing is frozen, which
+# makes it take three times as long to make.
+@dataclass(slots=True)
 class Found:
     """A script's file, or something that can't be looked at."""
 
-    path: str  # as people see it; no Path, since there may be a hundred thousand
+    path: str  # as people see it
     folder: str  # where the file really lies, without links
     name: str
     fault: str = ""  # why it can't be looked at

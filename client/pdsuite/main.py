@@ -10,7 +10,6 @@ from typing import TypeVar
 
 import click
 
-from pdsuite.commands.import_ import import_scripts
 from pdsuite.commands.list import list_scripts
 from pdsuite.commands.run import Wish, run
 from pdsuite.faults import Fault, why
@@ -186,6 +185,9 @@ def list_command(paths: tuple[Path, ...], only: str | None, settings: str, no_co
 @click.argument("target", metavar="TO", type=_Place())
 def import_command(source: Path, target: Path, keep: bool, no_color: bool) -> int:
     """Brings scripts of the kernel's self-tests over into a new folder, and runs nothing."""
+    # Only who imports pays for what reads the kernel's scripts.
+    from pdsuite.commands.import_ import import_scripts
+
     with Screen(wants_color() and not no_color, progress=False) as screen:
         return import_scripts(source, target, keep, screen)
 

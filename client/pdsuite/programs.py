@@ -187,8 +187,10 @@ class Program:
         return answer
 
     def _send(self, commands: bytes) -> None:
+        """Writes as much of the commands as the pipe takes; the rest is written while answers are read."""
         self._unsent += commands
-        if not self._is_open(self._in):
+        self._write()
+        if self._unsent and not self._is_open(self._in):
             self._selector.register(self._in, selectors.EVENT_WRITE)
 
     def _work(self, seconds: float | None) -> bool:
@@ -213,7 +215,8 @@ class Program:
             # Whoever reads no more has ended, or is about to answer.
             self._unsent = b""
         if not self._unsent:
-            self._selector.unregister(self._in)
+            if self._is_open(self._in):
+                self._selector.unregister(self._in)
             if self._is_last and self._process.stdin is not None:
                 self._process.stdin.close()
 

@@ -18,7 +18,7 @@ LONGEST_BLOCK = 65_536
 LONGEST_CAUSE = 1 << 20
 _SHOWN = 80
 
-_ROW = re.compile(rb"(\S+) (?:(pass|syntax|unsupported|limit) (\d{1,6})|fail (\d{1,6}) ([a-z]+))")
+_ROW = re.compile(rb"(pass|syntax|unsupported|limit) (\d{1,6})|fail (\d{1,6}) ([a-z]+)")
 _BLOCK = re.compile(rb"(s\d{1,4}):(\d{1,6}): (.*)")
 _INDENT = b"  "
 _TOTAL = re.compile(rb"total (\d+) pass \d+ fail \d+ syntax \d+ unsupported \d+ limit \d+ pending 0")
@@ -75,7 +75,8 @@ def rows_in(answer: bytes, before: bytes, names: Sequence[bytes], count: int) ->
     if not answer.startswith(before):
         raise Unexpected(_first_other(answer, before))
     lines = answer[len(before) :].split(b"\n")
-    rows = [_row(line, name) for line, name in zip(lines, names)]
+    known: dict[bytes, Row] = {}
+    rows = [_row(line, name, known) for line, name in zip(lines, names)]
     last = lines[len(names)] if len(lines) > len(names) else b""
     total = _TOTAL.fullmatch(last)
     if total is None or int(total[1]) != count or lines[len(names) + 1 :] != [b""]:
@@ -123,13 +124,23 @@ def before_total(answer: bytes) -> bytes:
     return answer[: answer.rindex(b"total ")]
 
 
-def _row(line: bytes, name: bytes) -> Row:
-    found = _ROW.fullmatch(line)
-    if found is None or found[1] != name:
+def _row(line: bytes, name: bytes, known: dict[bytes, Row]) -> Row:
+    """The row of this name in a line. `known` has what words were read as before, since many rows are equal."""
+    said, _, words = line.partition(b" ")
+    if words not in known:
+        known[words] = _read_row(words, line)
+    if said != name:
         raise Unexpected(_quoted(line))
-    if found[5] is not None:
-        return Row(Verdict.FAIL, int(found[4]), found[5].decode())
-    return Row(_VERDICTS[found[2]], int(found[3]))
+    return known[words]
+
+
+def _read_row(words: bytes, line: bytes) -> Row:
+    found = _ROW.fullmatch(words)
+    if found is None:
+        raise Unexpected(_quoted(line))
+    if found[4] is not None:
+        return Row(Verdict.FAIL, int(found[3]), found[4].decode())
+    return Row(_VERDICTS[found[1]], int(found[2]))
 
 
 def _first_other(answer: bytes, before: bytes) -> str:

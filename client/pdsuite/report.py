@@ -1,6 +1,6 @@
 """A report while it grows: outcomes come run by run, and are shown in the order of paths."""
 
-from collections.abc import Iterable, Sequence
+from collections.abc import Iterable, Iterator, Sequence
 
 from rich.text import Text
 
@@ -24,11 +24,9 @@ class Report:
 
     def take(self, outcomes: Iterable[tuple[Script, Outcome]]) -> None:
         """Shows outcomes, as soon as all before them were shown."""
-        self._waiting.update((script.index, outcome) for script, outcome in outcomes)
-        ready: list[Outcome] = []
-        while (index := len(self.outcomes) + len(ready)) in self._waiting:
-            ready.append(self._waiting.pop(index))
-        self._show(ready)
+        for script, outcome in outcomes:
+            self._waiting[script.index] = outcome
+        self._show(list(self._ready()))
         done = len(self.outcomes) + len(self._waiting)
         self._screen.advance(done, len(self._scripts))
 
@@ -43,6 +41,13 @@ class Report:
         totals = Totals.of(it.row.verdict for it in self.outcomes)
         self._screen.show(self._form.foot(totals, seconds))
         return totals
+
+    def _ready(self) -> Iterator[Outcome]:
+        """The outcomes that wait for none before them."""
+        index = len(self.outcomes)
+        while (outcome := self._waiting.pop(index, None)) is not None:
+            yield outcome
+            index += 1
 
     def _show(self, outcomes: Sequence[Outcome]) -> None:
         text = Text()

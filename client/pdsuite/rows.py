@@ -3,12 +3,12 @@
 from collections import Counter
 from collections.abc import Iterable
 from dataclasses import dataclass
-from enum import Enum
+from enum import StrEnum
 
 from pdsuite.settings import Settings
 
 
-class Verdict(Enum):
+class Verdict(StrEnum):
     """What came of a script: as the program says it, or why the program couldn't say."""
 
     PASS = "pass"
@@ -34,7 +34,7 @@ class Row:
     @property
     def line(self) -> int | None:
         """The line of the script that the row is about."""
-        return self.number if self.verdict in _WITH_LINE else None
+        return None if self.verdict in _WITHOUT_LINE else self.number
 
     def __str__(self) -> str:
         """The verdict in the words of the program's row, without name and line."""
@@ -46,10 +46,10 @@ class Row:
         return f"{verdict} {self.word}" if self.word else verdict
 
 
-_WITH_LINE = (Verdict.FAIL, Verdict.SYNTAX, Verdict.UNSUPPORTED, Verdict.LIMIT)
+_WITHOUT_LINE = (Verdict.PASS, Verdict.ERROR, Verdict.NOT_RUN)
 
 
-@dataclass(frozen=True, slots=True)
+@dataclass(slots=True)
 class Outcome:
     """A script's path and settings, its row, the line of its text that the row names, and why it is so.
 

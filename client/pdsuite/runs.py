@@ -13,7 +13,7 @@ PIECE = 64
 T = TypeVar("T")
 
 
-@dataclass(frozen=True, slots=True)
+@dataclass(slots=True)
 class Script:
     """A script to run: its place in the order of paths, its file, its settings, and why it can't be run."""
 

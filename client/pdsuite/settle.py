@@ -94,18 +94,17 @@ def _settle_pieces(program: Program, left: deque[Piece], load_text: Load) -> Ite
     count = 0
     while left:
         loaded = [(script, load_text(script)) for script in left[0]]
-        texts = [it for _, it in loaded if isinstance(it, Text)]
+        texts = {script.index: it for script, it in loaded if isinstance(it, Text)}
         rows: Iterator[Row] = iter(())
         if texts:
             names = [name_of(count + number) for number in range(len(texts))]
             count += len(texts)
-            commands = b"".join(map(add, names, texts)) + SETTLE
+            commands = b"".join(map(add, names, texts.values())) + SETTLE
             answer = program.ask(commands, LONGEST_LINE * (count + 2))
             rows = iter(_rows(answer, before, names, count))
             before = before_total(answer)
         left.popleft()
-        ran = {script.index: text for script, text in loaded if isinstance(text, Text)}
-        yield Settled([_outcome(script, text, rows) for script, text in loaded], ran)
+        yield Settled([_outcome(script, text, rows) for script, text in loaded], texts)
 
 
 def _rows(answer: bytes, before: bytes, names: list[bytes], count: int) -> list[Row]:

@@ -56,11 +56,12 @@ class Suite:
 
     def settings(self, script: Found) -> Settings:
         """The settings of a script."""
-        if script.folder not in self._known:
+        known = self._known.get(script.folder)
+        if known is None:
             layer = self._layer(script.folder)
-            tables = {} if layer is None else layer.tables
-            self._known[script.folder] = self._merged(script.folder, {}), tables
-        common, tables = self._known[script.folder]
+            known = self._merged(script.folder, {}), {} if layer is None else layer.tables
+            self._known[script.folder] = known
+        common, tables = known
         own = tables.get(script.name)
         return common if own is None else self._merged(script.folder, own)
 

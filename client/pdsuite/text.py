@@ -9,13 +9,14 @@ LINES = 4_096
 OCTETS = 65_536
 # A carriage return before the end of a line doesn't count.
 LONGEST_FILE = OCTETS + LINES
+_FLAGS = os.O_RDONLY | os.O_NONBLOCK | os.O_CLOEXEC
 
 
 class Unfit(Exception):
     """Why a file can't be a script."""
 
 
-@dataclass(frozen=True, slots=True)
+@dataclass(slots=True)
 class Text:
     """A script's text as it is given to the program: each line has its newline."""
 
@@ -31,7 +32,7 @@ class Text:
 
 def text_of(octets: bytes) -> Text:
     """The text of a file with these octets, where the program takes it."""
-    if octets and not octets.endswith(b"\n"):
+    if octets[-1:] not in (b"", b"\n"):
         octets += b"\n"
     lines = octets.count(b"\n")
     if lines > LINES:
@@ -49,7 +50,7 @@ def read_text(path: str) -> Text:
 def read_file(path: str | Path, most: int) -> bytes:
     """The first octets of a file, at most so many; only of a regular one, since others can block."""
     try:
-        descriptor = os.open(path, os.O_RDONLY | os.O_NONBLOCK | os.O_CLOEXEC)
+        descriptor = os.open(path, _FLAGS)
     except (OSError, ValueError) as error:
         raise Unfit(getattr(error, "strerror", None) or str(error)) from error
     try:

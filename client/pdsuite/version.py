@@ -2,15 +2,23 @@
 
 from collections.abc import Iterator
 
+from pdsuite.faults import Fault
 from pdsuite.octets import shown_path
-from pdsuite.programs import EXPLAIN, REGRESS, commit, digest, locate
-
-PROGRAMS = (REGRESS, EXPLAIN)
+from pdsuite.programs import EXPLAIN, RECORD, REGRESS, commit, digest, locate
+from pdsuite.screen import say
 
 
 def version() -> Iterator[str]:
-    """The commit of the client, and each program with its SHA-256."""
+    """The commit of the client, and each program with its SHA-256. That pdrecord isn't there is said, and no fault."""
     yield f"pdsuite {commit()}"
-    for name in PROGRAMS:
-        path = locate(name)
-        yield f"{name} {digest(path)} {shown_path(path)}"
+    yield _program(REGRESS)
+    yield _program(EXPLAIN)
+    try:
+        yield _program(RECORD)
+    except Fault as fault:
+        say(f"pdsuite: {fault}; nothing is recorded")
+
+
+def _program(name: str) -> str:
+    path = locate(name)
+    return f"{name} {digest(path)} {shown_path(path)}"

@@ -166,7 +166,7 @@ def test_all_programs_run_where_nothing_else_is(root: Path, package: Path) -> No
     assert [it.removeprefix("/usr/share/doc/pdregress/examples/scripts/") for it in done.rows] == expected_rows()
     version, *digests = in_root(root, "pdsuite", "--version").out.splitlines()
     assert version.split()[1] == package.name.split("_")[1]
-    for name, line in zip(("pdregress", "pdexplain"), digests):
+    for name, line in zip(("pdregress", "pdexplain", "pdrecord"), digests, strict=True):
         digest = hashlib.sha256((root / "usr/bin" / name).read_bytes()).hexdigest()
         assert line == f"{name} {digest} /usr/bin/{name}"
 

@@ -1,6 +1,7 @@
 """Diagrams on the page: which scripts have one, what stands where there is none, and their files."""
 
 import os
+import signal
 from pathlib import Path
 
 import pytest
@@ -8,6 +9,7 @@ import pytest
 from pdsuite.page.links import file_of, plot_files
 from tests.helpers import PASSES, TOP, Call, write
 from tests.test_page import octets_in
+from tests.watching import Watching
 
 RECORDINGS = Path(__file__).with_name("recordings")
 ROW = b"row fail 1 seq\n"
@@ -106,6 +108,29 @@ def test_diagrams_are_asked_for_with_a_page(
     called = call(recorder, command, *words, "in")
     assert called.status == 2
     assert "--plot and --plots draw into the page of --html FOLDER" in called.err
+
+
+def test_watch_draws_what_is_to_be_drawn_after_each_save(recorder: Path, tmp_path: Path) -> None:
+    write(tmp_path / "in", a=PASSES, b=ROW)
+    files = [tmp_path / "out/plots" / name for name in plot_files("in/c.pkt")]
+
+    def await_page(name: str, words: str) -> None:
+        """Waits until the page of a script has these words."""
+        path = tmp_path / "out/scripts" / file_of(f"in/{name}.pkt")
+        watching._await(lambda: path.exists() and words in path.read_text(), words)
+
+    with Watching(tmp_path, recorder, "--html", "out", "--plots", "1", "--plot", "c.pkt", "in") as watching:
+        await_page("a", "since it passes: --plot PATTERN draws")
+        await_page("b", '<svg class="wide"')
+        write(tmp_path / "in", a=ROW, c=PASSES)
+        await_page("a", '<svg class="wide"')
+        await_page("b", "others fail before it: --plots N draws")
+        await_page("c", '<svg class="wide"')
+        assert all(path.exists() for path in files)
+        (tmp_path / "in/c.pkt").unlink()
+        watching._await(lambda: not any(path.exists() for path in files), "the pictures of what went to go")
+        assert watching.err == ""
+        assert watching.ends(signal.SIGINT).status == 1
 
 
 def test_a_built_program_records_what_is_drawn(recording_programs: Path, tmp_path: Path, call: Call) -> None:

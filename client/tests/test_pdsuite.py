@@ -101,15 +101,21 @@ def test_another_folder_of_programs_has_to_hold_one(tmp_path: Path, call: Call) 
     assert (called.status, called.err) == (2, said)
 
 
-def test_the_version_names_commit_and_programs(stand_in: Path, call: Call) -> None:
-    called = call(stand_in, "--version")
+@pytest.mark.parametrize("more", [[], ["pdrecord"]])
+def test_the_version_names_commit_and_programs(more: list[str], tmp_path: Path, call: Call) -> None:
+    programs = [tmp_path / name for name in ("pdregress", "pdexplain", *more)]
+    for path in programs:
+        path.write_text(f"#!/bin/true {path.name}\n")
+        path.chmod(0o755)
+    called = call(tmp_path, "--version")
     first, *others = called.out.splitlines()
     head = subprocess.run(["git", "-C", TOP, "rev-parse", "HEAD"], capture_output=True, text=True).stdout.strip()
-    paths = [stand_in / "pdregress", stand_in / "pdexplain"]
-    said = subprocess.run(["sha256sum", *paths], capture_output=True, text=True).stdout.splitlines()
+    said = subprocess.run(["sha256sum", *programs], capture_output=True, text=True).stdout.splitlines()
     assert called.status == 0
     assert first in (f"pdsuite {head}", f"pdsuite {head}-dirty", "pdsuite unknown")
-    assert others == [f"{path.name} {line.split()[0]} {path}" for path, line in zip(paths, said)]
+    assert others == [f"{path.name} {line.split()[0]} {path}" for path, line in zip(programs, said)]
+    lost = f"pdsuite: {tmp_path}/pdrecord: no program (PDSUITE_PROGRAMS names the folder); nothing is recorded\n"
+    assert called.err == ("" if more else lost)
 
 
 @pytest.mark.parametrize(

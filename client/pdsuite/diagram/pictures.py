@@ -7,8 +7,9 @@ from html import escape
 
 import matplotlib
 
+from pdsuite.diagram.canvas import NARROW, SETTINGS, WIDE, Size
 from pdsuite.diagram.palette import LIGHT, rules
-from pdsuite.diagram.plot import NARROW, SETTINGS, WIDE, Size, figure_of
+from pdsuite.diagram.plot import figure_of
 from pdsuite.diagram.strokes import Strokes
 
 _DPI = 144
