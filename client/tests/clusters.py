@@ -9,6 +9,8 @@ from contextlib import suppress
 from dataclasses import dataclass, field
 from pathlib import Path
 
+from tests.helpers import HANGS
+
 _PYTHON = [sys.executable, "-I", "-m"]
 _HOST = ["--host", "127.0.0.1", "--no-dashboard", "--dashboard-address", "127.0.0.1:0"]
 
@@ -55,7 +57,7 @@ class LocalCluster:
 
     def _said(self, name: str, what: str) -> str:
         """The word after these in a log, once they stand there."""
-        until = time.monotonic() + 30
+        until = time.monotonic() + HANGS
         while True:
             log = (self.folder / name).read_text()
             if len(parts := log.split(what, 1)) == 2 and "\n" in parts[1]:

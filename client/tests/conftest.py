@@ -13,7 +13,7 @@ from pdsuite.faults import Fault
 from pdsuite.programs import RECORD, locate
 from pdsuite.stop import Stop
 from pdsuite.watcher import Watcher
-from tests.helpers import TOP, Call, Called
+from tests.helpers import HANGS, TOP, Call, Called
 from tests.site import Site
 
 STAND_IN = Path(__file__).with_name("stand_in.py")
@@ -79,7 +79,9 @@ def call(tmp_path: Path) -> Call:
         environment.pop("PDSUITE_PROGRAMS", None)
         if folder is not None:
             environment["PDSUITE_PROGRAMS"] = str(folder)
-        done = subprocess.run([TOP / "pdsuite", *words], cwd=tmp_path, env=environment, capture_output=True, timeout=60)
+        done = subprocess.run(
+            [TOP / "pdsuite", *words], cwd=tmp_path, env=environment, capture_output=True, timeout=HANGS
+        )
         return Called(done.returncode, done.stdout.decode(), done.stderr.decode())
 
     return called

@@ -11,6 +11,8 @@ from pathlib import Path
 TOP = Path(__file__).resolve().parents[2]
 PASSES = b"0 socket(..., SOCK_STREAM, IPPROTO_TCP) = 3\n"
 FAILS = b"0 socket(..., SOCK_STREAM, IPPROTO_TCP) = 4\n"
+# The seconds after which a test gives up what hangs: long, so that a busy machine fails none.
+HANGS = 300.0
 TOTALS = ("pass", "fail", "syntax", "unsupported", "limit", "error", "not run")
 
 
@@ -76,5 +78,5 @@ def is_alive(number: int) -> bool:
 def ends(process: "subprocess.Popen[bytes]", number: signal.Signals) -> tuple[int, str, str]:
     """The status and the outputs of a process that is sent a signal."""
     process.send_signal(number)
-    out, err = process.communicate(timeout=30)
+    out, err = process.communicate(timeout=HANGS)
     return process.returncode, out.decode(), err.decode()

@@ -6,6 +6,7 @@ import shutil
 import signal
 import socket
 import subprocess
+import sys
 import time
 from collections.abc import Callable, Iterator
 from pathlib import Path
@@ -15,12 +16,21 @@ import pytest
 from pdsuite.faults import Fault
 from pdsuite.packages import need
 from tests.clusters import LocalCluster
-from tests.helpers import FAILS, PASSES, TOP, Call, ends, write
+from tests.helpers import FAILS, HANGS, PASSES, TOP, Call, ends, write
 
 pytest.importorskip("distributed", reason="python3-distributed isn't installed")
 
 _SECONDS = re.compile(r' in [0-9.]+ s$|"seconds": [0-9.]+|time="[0-9.]+"', re.MULTILINE)
 Add = Callable[..., LocalCluster]
+
+# pdsuite, but for how long it waits for a worker: on a busy machine a nanny takes its time.
+_PATIENT = f"""
+import sys
+sys.path.insert(0, {str(TOP / "client")!r})
+from pdsuite import cluster, main
+cluster._PATIENCE = {HANGS}
+sys.exit(main.main())
+"""
 
 
 @pytest.fixture
@@ -57,12 +67,18 @@ def popen(address: str, programs: Path, folder: Path, *words: str) -> "subproces
     """A call of pdsuite beside a scheduler that isn't waited for."""
     command = [str(TOP / "pdsuite"), "run", "--scheduler", address, *words]
     environment = {**os.environ, "PDSUITE_PROGRAMS": str(programs)}
-    return subprocess.Popen(command, cwd=folder, env=environment, stdout=subprocess.PIPE, stderr=subprocess.PIPE)
+    return subprocess.Popen(command, 0, cwd=folder, env=environment, stdout=subprocess.PIPE, stderr=subprocess.PIPE)
+
+
+def first_row(process: "subprocess.Popen[bytes]") -> bytes:
+    """The first line that is printed: the answer of the run that holds it is here."""
+    assert process.stdout is not None
+    return process.stdout.readline()
 
 
 def wait_for(mark: Path) -> None:
     """Waits until a program that stalls says so."""
-    until = time.monotonic() + 30
+    until = time.monotonic() + HANGS
     while not mark.exists() or not mark.read_text():
         assert time.monotonic() < until
         time.sleep(0.01)
@@ -136,13 +152,14 @@ def test_a_worker_that_ends_in_the_midst_has_its_runs_done_elsewhere(
     assert there.totals == {"pass": 1_188, "fail": 12}
 
 
-def test_a_worker_that_its_nanny_starts_again_is_used_again(
-    started: Add, stand_in: Path, tmp_path: Path, call: Call
-) -> None:
+def test_a_worker_that_its_nanny_starts_again_is_used_again(started: Add, stand_in: Path, tmp_path: Path) -> None:
     write(tmp_path, a=f"orphan {tmp_path}/mark".encode(), b=PASSES)
     cluster = started(stand_in, more=("--nanny",))
-    there = call(stand_in, "run", "--scheduler", cluster.address, ".")
-    assert (there.status, there.err, there.totals) == (0, "", {"pass": 2})
+    words = [sys.executable, "-I", "-c", _PATIENT, "run", "--scheduler", cluster.address, "."]
+    environment = {**os.environ, "PDSUITE_PROGRAMS": str(stand_in)}
+    there = subprocess.run(words, cwd=tmp_path, env=environment, capture_output=True, text=True, timeout=HANGS)
+    assert (there.returncode, there.stderr) == (0, "")
+    assert there.stdout.startswith("total 2 pass 2 ")
     assert (tmp_path / "mark").exists()
 
 
@@ -201,11 +218,10 @@ def test_a_scheduler_that_goes_away_is_said_with_what_is_settled(
     cluster = started(stand_in)
     process = popen(cluster.address, stand_in, suite, "--junit", "out.xml", ".")
     wait_for(tmp_path / "mark")
-    time.sleep(0.5)  # until the answer of the first run is here
+    assert first_row(process) == b"s0003.pkt:1: fail seq\n"
     cluster.scheduler.send_signal(number)
-    out, err = process.communicate(timeout=30)
+    out, err = process.communicate(timeout=HANGS)
     assert (process.returncode, err.decode()) == (2, f"pdsuite: {cluster.address}: the scheduler went away\n")
-    assert out.startswith(b"s0003.pkt:1: fail seq\n")
     assert b"total 513 pass 511 fail 1 syntax 0 unsupported 0 limit 0 error 0 not run 1 in " in out
     assert (suite / "out.xml").read_bytes().count(b"<testcase ") == 513
 
@@ -213,14 +229,14 @@ def test_a_scheduler_that_goes_away_is_said_with_what_is_settled(
 def test_a_signal_shows_what_is_settled(started: Add, stand_in: Path, tmp_path: Path) -> None:
     suite = tmp_path / "suite"
     for script in range(512):
-        write(suite, **{f"s{script:04}": PASSES})
+        write(suite, **{f"s{script:04}": b"row fail 1 seq\n" if script == 3 else PASSES})
     write(suite, t=f"stall {tmp_path}/mark".encode())
     process = popen(started(stand_in).address, stand_in, suite, ".")
     wait_for(tmp_path / "mark")
-    time.sleep(0.5)
+    assert first_row(process) == b"s0003.pkt:1: fail seq\n"
     status, out, err = ends(process, signal.SIGINT)
     assert (status, err) == (130, "")
-    assert out.startswith("total 513 pass 512 ") and " not run 1 in " in out
+    assert "total 513 pass 511 fail 1 " in out and " not run 1 in " in out
 
 
 def test_a_scheduler_that_is_not_reached_is_a_fault_with_its_address(stand_in: Path, tmp_path: Path) -> None:
@@ -230,7 +246,7 @@ def test_a_scheduler_that_is_not_reached_is_a_fault_with_its_address(stand_in: P
     places = [f"127.0.0.1:{it.getsockname()[1]}" for it in (silent, closed)]
     closed.close()
     for process, place in [(popen(place, stand_in, tmp_path, "."), place) for place in places]:
-        out, err = process.communicate(timeout=60)
+        out, err = process.communicate(timeout=HANGS)
         assert (process.returncode, out) == (2, b"")
         assert err.startswith(f"pdsuite: {place}: no scheduler is reached within 10 s: ".encode())
         assert err.count(b"\n") == 1

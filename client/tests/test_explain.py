@@ -9,7 +9,7 @@ from pathlib import Path
 
 import pytest
 
-from tests.helpers import PASSES, TOP, Call, ends, is_alive, write
+from tests.helpers import HANGS, PASSES, TOP, Call, ends, is_alive, write
 
 BLOCK = b"script packet: x\nactual packet: y\n"
 BELOW = ["  script packet: x", "  actual packet: y"]
@@ -114,7 +114,7 @@ def test_a_signal_ends_it_too_and_the_rows_are_shown(stand_in: Path, tmp_path: P
     process = subprocess.Popen(
         [TOP / "pdsuite", "run", "."], cwd=tmp_path, env=environment, stdout=subprocess.PIPE, stderr=subprocess.PIPE
     )
-    until = time.monotonic() + 30
+    until = time.monotonic() + HANGS
     while not (tmp_path / "mark").exists() or not (tmp_path / "mark").read_text():
         assert time.monotonic() < until and process.poll() is None
         time.sleep(0.01)

@@ -10,7 +10,7 @@ from pathlib import Path
 
 import pytest
 
-from tests.helpers import TOP, Called
+from tests.helpers import HANGS, TOP, Called
 from tests.test_run import expected_rows
 
 PROVED = (TOP / "packaging/programs.txt").read_text().split()
@@ -99,7 +99,7 @@ def package(tmp_path_factory: pytest.TempPathFactory) -> Path:
         if shutil.which(tool) is None:
             pytest.skip(f"{tool} isn't installed")
     said = subprocess.run(
-        [TOP / "tools/package.sh", tmp_path_factory.mktemp("package")], capture_output=True, text=True, timeout=200
+        [TOP / "tools/package.sh", tmp_path_factory.mktemp("package")], capture_output=True, text=True, timeout=HANGS
     )
     assert said.returncode == 0, said.stderr
     return Path(said.stdout.splitlines()[-1])
@@ -130,7 +130,7 @@ def root(package: Path, tmp_path_factory: pytest.TempPathFactory) -> Iterator[Pa
         pytest.skip("needs root, to change the root folder")
     folder = tmp_path_factory.mktemp("root") / "root"
     made = subprocess.run(
-        ["mmdebstrap", "--variant=apt", "bookworm", folder], capture_output=True, text=True, timeout=250
+        ["mmdebstrap", "--variant=apt", "bookworm", folder], capture_output=True, text=True, timeout=HANGS
     )
     if made.returncode:
         pytest.skip(f"no root was made: {made.stderr.splitlines()[-1:]}")

@@ -15,7 +15,7 @@ from selenium.webdriver.common.keys import Keys
 from selenium.webdriver.remote.webelement import WebElement
 
 from pdsuite.page.links import file_of
-from tests.helpers import FAILS, PASSES, TOP, write
+from tests.helpers import FAILS, HANGS, PASSES, TOP, write
 
 WORDS = ("--headless=new", "--no-sandbox", "--disable-gpu", "--disable-dev-shm-usage", "--hide-scrollbars")
 OPENING = (TOP / "examples/send.txt").read_bytes().split(b"\n", 1)[1].rsplit(b"\n", 2)[0] + b"\n"
@@ -82,7 +82,7 @@ def make(top: Path, programs: Path) -> Path:
     """Makes the page of the scripts in a folder, which stands beside them."""
     environment = {**os.environ, "PDSUITE_PROGRAMS": str(programs)}
     words: list[str | Path] = [TOP / "pdsuite", "run", "--html", "out", "in"]
-    done = subprocess.run(words, cwd=top, env=environment, capture_output=True, timeout=60)
+    done = subprocess.run(words, cwd=top, env=environment, capture_output=True, timeout=HANGS)
     assert (done.returncode, done.stderr) == (1, b"")
     return top / "out"
 

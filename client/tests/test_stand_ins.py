@@ -8,7 +8,7 @@ from pathlib import Path
 
 import pytest
 
-from tests.helpers import PASSES, TOP, Call, ends, is_alive, write
+from tests.helpers import HANGS, PASSES, TOP, Call, ends, is_alive, write
 
 REASONS = {
     b"crash": "pdregress was ended by SIGSEGV",
@@ -119,7 +119,7 @@ def start(stand_in: Path, folder: Path, *words: str) -> "subprocess.Popen[bytes]
         stdout=subprocess.PIPE,
         stderr=subprocess.PIPE,
     )
-    until = time.monotonic() + 30
+    until = time.monotonic() + HANGS
     while not (folder / "mark").exists() or not (folder / "mark").read_text():
         assert time.monotonic() < until and process.poll() is None
         time.sleep(0.01)
@@ -150,6 +150,6 @@ def test_a_reader_that_goes_away_ends_it_without_a_traceback(tmp_path: Path, sta
     process.stdout.close()
     process.stdout = None
     process.send_signal(signal.SIGTERM)
-    _, err = process.communicate(timeout=30)
+    _, err = process.communicate(timeout=HANGS)
     assert (process.returncode, err) == (2, b"")
     assert not is_alive(int((tmp_path / "mark").read_text()))

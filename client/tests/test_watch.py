@@ -13,9 +13,9 @@ from pathlib import Path
 
 import pytest
 
-from tests.helpers import FAILS, PASSES, TOP, Call, is_alive, write
+from tests.helpers import FAILS, HANGS, PASSES, TOP, Call, is_alive, write
 from tests.test_random_changes import act
-from tests.watching import PATIENCE, Watching
+from tests.watching import Watching
 
 ROW = "a.pkt:1: fail result\n"
 BLOCK = f"""\
@@ -326,7 +326,7 @@ def test_a_terminal_has_a_last_line_that_tells_what_passes_and_what_is_running(s
     def await_shown(words: bytes) -> None:
         nonlocal shown
         while words not in shown:
-            assert select.select([near], [], [], PATIENCE)[0], f"{words!r} didn't come, but {shown!r}"
+            assert select.select([near], [], [], HANGS)[0], f"{words!r} didn't come, but {shown!r}"
             shown += os.read(near, 65_536)
         shown = shown[shown.index(words) + len(words) :]
 

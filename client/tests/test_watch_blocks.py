@@ -8,7 +8,7 @@ from pathlib import Path
 
 import pytest
 
-from tests.helpers import PASSES, Call, is_alive, write
+from tests.helpers import HANGS, PASSES, Call, is_alive, write
 from tests.watching import Watching
 
 BLOCK = b"script packet: x\nactual packet: y\n"
@@ -82,7 +82,7 @@ def test_another_block_of_the_same_row_is_shown_alone_and_an_equal_one_is_not(co
         watching.await_out("total ", 2)
         calls.unlink()
         write(tmp_path / "suite", a=b"row  fail 3 seq\n" + BLOCK.replace(b"x", b"z"))
-        until = time.monotonic() + 30
+        until = time.monotonic() + HANGS
         while not calls.exists():
             assert time.monotonic() < until
             time.sleep(0.01)

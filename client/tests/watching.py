@@ -9,9 +9,7 @@ from collections.abc import Callable
 from pathlib import Path
 from typing import IO
 
-from tests.helpers import TOP, Called, Replay
-
-PATIENCE = 60.0
+from tests.helpers import HANGS, TOP, Called, Replay
 
 
 class Watching:
@@ -91,13 +89,13 @@ class Watching:
     def ends(self, number: signal.Signals) -> Called:
         """What it came to, once it was sent a signal."""
         self._process.send_signal(number)
-        status = self._process.wait(PATIENCE)
+        status = self._process.wait(HANGS)
         for reader in self._readers:
             reader.join()
         return Called(status, self.out, self.err)
 
     def _await(self, happened: Callable[[], bool], what: str) -> None:
-        until = time.monotonic() + PATIENCE
+        until = time.monotonic() + HANGS
         while not happened():
             assert self._process.poll() is None, f"it ended: {self.err}"
             assert time.monotonic() < until, f"{what!r} didn't come, but {self.out[-2_000:]!r} and {self.err!r}"
