@@ -5,6 +5,7 @@ use Rattle.pd_seg.specs.declared.answers.Answer.TheVariants.{Number, Error}
 use Rattle.pd_seg.specs.declared.answers.Errno.TheVariants.{Eagain, Epipe}
 use Rattle.pd_settings.specs.Uses.{Agree}
 use Rattle.pd_settings.specs.declared.fields.Settings.{Settings}
+use Rattle.pd_settings.specs.declared.keys.Key.TheVariants.{Sndbuf}
 use Rattle.pd_settings.specs.declared.use_set.UseSet.{UseSet}
 use Rattle.pd_host.specs.Calls.{Reply, answered, with_listener, with_stored, with_answer, socket_reply, bind_reply, listen_reply, accept_reply, handed_out, no_delay_reply, free_of, with_queued, write_uses, queued, written_on, write_reply, closed_stream, closed_on, close_reply, operated, on_open, opened, reply_to, requested, is_pending, is_waiting, stream_of, with_stream}
 use Rattle.pd_host.specs.Requests.{request_of}
@@ -26,6 +27,7 @@ use Rattle.pd_host.specs.declared.streams.Stream.TheVariants as stream
 use Rattle.pd_host.proofs.CallsBehind.{queued_sends}
 use Rattle.pd_host.proofs.Outcomes.{came, mapped, either_mapped}
 use Rattle.pd_host.proofs.Rebound.{again, ordinary_again}
+use Rattle.pd_host.proofs.SameValues.{number_of}
 
 -- a state and an answer, with other settings held
 abbrev rebound_with : Settings → State × Answer → State × Answer
@@ -105,7 +107,7 @@ wrote_again b false true now n c s t a h agree = refl
 wrote_again b false false now n c s t a h agree =
     let u : State = record s { uses = write_uses s.uses } in
     let uses : t.uses ≡ write_uses s.uses = queued_uses now n (free_of s.settings.sndbuf c) c u t a h in
-    let same : b.sndbuf ≡ s.settings.sndbuf = sym (agree.sndbuf (ap (λ (x : UseSet). x.sndbuf) uses)) in
+    let same : b.sndbuf ≡ s.settings.sndbuf = sym (number_of (agree Sndbuf (ap (λ (x : UseSet). x.sndbuf) uses))) in
     ap (λ (x : ℕ). queued now n (free_of x c) c (rebound b u)) same ∙ queued_again b now n (free_of s.settings.sndbuf c) c u
 
 written_again : (b : Settings) (now n : ℕ) (o : Option ControlBlock) (s t : State) (a : Answer)

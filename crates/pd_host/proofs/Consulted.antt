@@ -6,6 +6,7 @@ use Rattle.pd_recover.specs.Congestion as congestion
 use Rattle.pd_settings.specs.Uses.{Agree}
 use Rattle.pd_settings.specs.declared.fields.Settings.{Settings}
 use Rattle.pd_settings.specs.declared.initial_window.InitialWindow.{InitialWindow}
+use Rattle.pd_settings.specs.declared.keys.Key.TheVariants.{Mss, Sack, Wscale, RcvWnd, InitialSsthresh, InitialWindow as Rule, MinRtoUs, MaxRtoUs, GranularityUs, Nagle}
 use Rattle.pd_settings.specs.declared.use_set.UseSet.{UseSet}
 use Rattle.pd_seg.specs.declared.segments.Segment.{Segment}
 use Rattle.pd_seg.specs.declared.segments.Sent.{Sent}
@@ -28,6 +29,7 @@ use Rattle.pd_host.specs.declared.streams.Stream.TheVariants.{Waiting}
 use Rattle.pd_host.proofs.Finishes.{finished_leaves}
 use Rattle.pd_host.proofs.Outcomes.{came, either_mapped}
 use Rattle.pd_host.proofs.Rebound.{again, taken_again}
+use Rattle.pd_host.proofs.SameValues.{number_of, truth_of, rule_of}
 
 -- the endpoint's rules know no settings
 beside_again : (b : Settings) (s : State) (r : Result Endpoint Halt) → beside (rebound b s) r ≡ again b (beside s r)
@@ -78,35 +80,16 @@ opening true segment now s t b h agree =
     let c : ControlBlock = begun now s.settings segment in
     let uses : t.uses ≡ syn_uses s.uses = syn_consults (nat_lt (length s.endpoint.outbox) 1024) _ (record s.endpoint { connection = Some c }) s t h in
     let same : begun now b segment ≡ c =
-    begun_same s.settings b now segment (agree.mss (ap (λ (u : UseSet). u.mss) uses)) (agree.sack (ap (λ (u : UseSet). u.sack) uses)) (agree.wscale (ap (λ (u : UseSet). u.wscale) uses)) (agree.rcv_wnd (ap (λ (u : UseSet). u.rcv_wnd) uses)) (agree.min_rto_us (ap (λ (u : UseSet). u.min_rto_us) uses)) (agree.max_rto_us (ap (λ (u : UseSet). u.max_rto_us) uses)) in
+    begun_same s.settings b now segment (number_of (agree Mss (ap (λ (u : UseSet). u.mss) uses))) (truth_of (agree Sack (ap (λ (u : UseSet). u.sack) uses))) (number_of (agree Wscale (ap (λ (u : UseSet). u.wscale) uses))) (number_of (agree RcvWnd (ap (λ (u : UseSet). u.rcv_wnd) uses))) (number_of (agree MinRtoUs (ap (λ (u : UseSet). u.min_rto_us) uses))) (number_of (agree MaxRtoUs (ap (λ (u : UseSet). u.max_rto_us) uses))) in
     ap (λ (x : ControlBlock). answered_syn now x (rebound b s)) same
     ∙ beside_again b (record s { uses = syn_uses s.uses }) (put_out now (syn_ack_of c) (record s.endpoint { connection = Some c }))
 opening false segment now s t b h agree = refl
 
 -- the establishment depends on four settings alone
-abbrev established_so : Bool → ℕ → InitialWindow → ℕ → ℕ → Segment → ControlBlock → ControlBlock
-established_so nagle granularity rule threshold now segment c = record (with_timer_settled (with_sample now granularity 1 (syn_acked c))) {
-  widest = max c.widest (window_in c segment);
-  established = Some (record {
-    rwnd = window_in c segment;
-    wl1 = segment.start;
-    wl2 = segment.ack;
-    nagle = nagle;
-    granularity_us = granularity;
-    congestion = congestion.begun rule threshold c.board.smss c.resent;
-    stream = Waiting;
-    peer_fin = Awaited;
-  });
-}
-
 established_same : (a b : Settings) (now : ℕ) (segment : Segment) (c : ControlBlock)
     → a.nagle ≡ b.nagle → a.granularity_us ≡ b.granularity_us → a.initial_window ≡ b.initial_window → a.initial_ssthresh ≡ b.initial_ssthresh
     → established_by now b segment c ≡ established_by now a segment c
-established_same a b now segment c n g r i =
-    ap (λ (x : Bool). established_so x b.granularity_us b.initial_window b.initial_ssthresh now segment c) (sym n)
-    ∙ ap (λ (x : ℕ). established_so a.nagle x b.initial_window b.initial_ssthresh now segment c) (sym g)
-    ∙ ap (λ (x : InitialWindow). established_so a.nagle a.granularity_us x b.initial_ssthresh now segment c) (sym r)
-    ∙ ap (λ (x : ℕ). established_so a.nagle a.granularity_us a.initial_window x now segment c) (sym i)
+established_same a b now segment c n g r i = cc
 
 by_ruling : (r : Option Ruling) (segment : Segment) (now : ℕ) (s t : State) (c : ControlBlock) (b : Settings)
     → ruled now segment c s r ≡ Ok t
@@ -121,7 +104,7 @@ by_ruling (Some WithoutAck) segment now s t c b h agree = refl
 by_ruling (Some FirstAck) segment now s t c b h agree =
     let uses : t.uses ≡ establishment_uses s.uses = cc in
     let same : established_by now b segment c ≡ established_by now s.settings segment c =
-    established_same s.settings b now segment c (agree.nagle (ap (λ (u : UseSet). u.nagle) uses)) (agree.granularity_us (ap (λ (u : UseSet). u.granularity_us) uses)) (agree.initial_window (ap (λ (u : UseSet). u.initial_window) uses)) (agree.initial_ssthresh (ap (λ (u : UseSet). u.initial_ssthresh) uses)) in
+    established_same s.settings b now segment c (truth_of (agree Nagle (ap (λ (u : UseSet). u.nagle) uses))) (number_of (agree GranularityUs (ap (λ (u : UseSet). u.granularity_us) uses))) (rule_of (agree Rule (ap (λ (u : UseSet). u.initial_window) uses))) (number_of (agree InitialSsthresh (ap (λ (u : UseSet). u.initial_ssthresh) uses))) in
     ap (λ (x : ControlBlock). Ok (record s {
       settings = b;
       uses = establishment_uses s.uses;

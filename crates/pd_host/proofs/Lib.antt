@@ -47,6 +47,7 @@ pub mod Repeats
 pub mod Room
 pub mod Rules
 pub mod Runs
+pub mod SameValues
 pub mod Sendables
 pub mod SendingKept
 pub mod Sends

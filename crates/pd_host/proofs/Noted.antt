@@ -1,6 +1,7 @@
 -- Settings stay as they are, and what was consulted stays noted.
 use Rattle.std.proofs.Common.{◌≡◌, ℕ, ◌==◌, min, Bool, not, ◌&&◌, if◌then◌else◌, Option, None, Some, is_some, option_map, Result, Ok, Err, refl, sym, subst, ◌∙◌}
 use Rattle.pd_settings.specs.Uses.{Includes}
+use Rattle.pd_settings.specs.declared.keys.Key.TheVariants.{Mss}
 use Rattle.pd_settings.specs.declared.use_set.UseSet.{UseSet}
 use Rattle.pd_seg.specs.declared.answers.Answer.{Answer}
 use Rattle.pd_seg.specs.declared.answers.Answer.TheVariants.{Number, Error}
@@ -41,68 +42,19 @@ use Rattle.pd_host.proofs.Taken.{taken_sends}
 -- What is noted
 
 all_of : (uses : UseSet) → Includes uses uses
-all_of uses = record {
-  mss = λ e. e;
-  sack = λ e. e;
-  wscale = λ e. e;
-  sndbuf = λ e. e;
-  rcv_wnd = λ e. e;
-  initial_ssthresh = λ e. e;
-  initial_window = λ e. e;
-  min_rto_us = λ e. e;
-  max_rto_us = λ e. e;
-  granularity_us = λ e. e;
-  nagle = λ e. e;
-  tolerance_us = λ e. e;
-}
+all_of uses key e = e
 
 more_by_syn : (uses : UseSet) → Includes (syn_uses uses) uses
-more_by_syn uses = record {
-  mss = λ e. refl;
-  sack = λ e. refl;
-  wscale = λ e. refl;
-  sndbuf = λ e. e;
-  rcv_wnd = λ e. refl;
-  initial_ssthresh = λ e. e;
-  initial_window = λ e. e;
-  min_rto_us = λ e. refl;
-  max_rto_us = λ e. refl;
-  granularity_us = λ e. e;
-  nagle = λ e. e;
-  tolerance_us = λ e. e;
-}
+more_by_syn uses Mss e = cc
+more_by_syn uses _ e = cc
 
 more_by_establishment : (uses : UseSet) → Includes (establishment_uses uses) uses
-more_by_establishment uses = record {
-  mss = λ e. e;
-  sack = λ e. e;
-  wscale = λ e. e;
-  sndbuf = λ e. e;
-  rcv_wnd = λ e. e;
-  initial_ssthresh = λ e. refl;
-  initial_window = λ e. refl;
-  min_rto_us = λ e. e;
-  max_rto_us = λ e. e;
-  granularity_us = λ e. refl;
-  nagle = λ e. refl;
-  tolerance_us = λ e. e;
-}
+more_by_establishment uses Mss e = cc
+more_by_establishment uses _ e = cc
 
 more_by_write : (uses : UseSet) → Includes (write_uses uses) uses
-more_by_write uses = record {
-  mss = λ e. e;
-  sack = λ e. e;
-  wscale = λ e. e;
-  sndbuf = λ e. refl;
-  rcv_wnd = λ e. e;
-  initial_ssthresh = λ e. e;
-  initial_window = λ e. e;
-  min_rto_us = λ e. e;
-  max_rto_us = λ e. e;
-  granularity_us = λ e. e;
-  nagle = λ e. e;
-  tolerance_us = λ e. e;
-}
+more_by_write uses Mss e = cc
+more_by_write uses _ e = cc
 
 same_notes : (s t : State) → t.settings ≡ s.settings → t.uses ≡ s.uses → Notes s t
 same_notes s t settings uses = record {

@@ -1,8 +1,11 @@
 -- Only consulted settings matter to a run.
-use Rattle.std.proofs.Common.{◌≡◌, ℕ, zero, suc, ◌==◌, Bool, true, false, not, ◌||◌, if◌then◌else◌, Option, Some, None, is_none, unwrap_or, List, [], ◌∷◌, length, take, map, slice_get, find, Result, Ok, Err, refl, sym, ap, subst, ◌∙◌}
-use Rattle.pd_settings.specs.Uses.{Agree, Includes}
+use Rattle.std.proofs.Common.{◌≡◌, ℕ, zero, suc, ◌==◌, Bool, true, false, not, ◌||◌, if◌then◌else◌, Option, Some, None, is_none, unwrap_or, List, [], ◌∷◌, length, take, map, slice_get, find, Result, Ok, Err, refl, sym, ap, subst, ◌∙◌, ◌⊎◌, inl, inr}
+use Rattle.pd_settings.specs.Uses.{Agree, Includes, has}
 use Rattle.pd_settings.specs.declared.fields.Settings.{Settings}
+use Rattle.pd_settings.specs.declared.keys.Key.{Key}
+use Rattle.pd_settings.specs.declared.keys.Key.TheVariants.{ToleranceUs}
 use Rattle.pd_settings.specs.declared.use_set.UseSet.{UseSet}
+use Rattle.pd_settings.specs.declared.values.Value.TheVariants.{Number}
 use Rattle.pd_script.specs.Script.{script_of}
 use Rattle.pd_script.specs.declared.calls.Call.{Call}
 use Rattle.pd_script.specs.declared.packets.Packet.{Packet}
@@ -39,52 +42,13 @@ use Rattle.pd_run.proofs.Bounds.{given, agreed, both, in_reach, step_performs}
 -- Sets of settings
 
 pub includes_itself : (u : UseSet) → Includes u u
-includes_itself u = record {
-  mss = λ e. e;
-  sack = λ e. e;
-  wscale = λ e. e;
-  sndbuf = λ e. e;
-  rcv_wnd = λ e. e;
-  initial_ssthresh = λ e. e;
-  initial_window = λ e. e;
-  min_rto_us = λ e. e;
-  max_rto_us = λ e. e;
-  granularity_us = λ e. e;
-  nagle = λ e. e;
-  tolerance_us = λ e. e;
-}
+includes_itself u key e = e
 
 pub includes_too : (u v w : UseSet) → Includes u v → Includes v w → Includes u w
-includes_too u v w a b = record {
-  mss = λ e. a.mss (b.mss e);
-  sack = λ e. a.sack (b.sack e);
-  wscale = λ e. a.wscale (b.wscale e);
-  sndbuf = λ e. a.sndbuf (b.sndbuf e);
-  rcv_wnd = λ e. a.rcv_wnd (b.rcv_wnd e);
-  initial_ssthresh = λ e. a.initial_ssthresh (b.initial_ssthresh e);
-  initial_window = λ e. a.initial_window (b.initial_window e);
-  min_rto_us = λ e. a.min_rto_us (b.min_rto_us e);
-  max_rto_us = λ e. a.max_rto_us (b.max_rto_us e);
-  granularity_us = λ e. a.granularity_us (b.granularity_us e);
-  nagle = λ e. a.nagle (b.nagle e);
-  tolerance_us = λ e. a.tolerance_us (b.tolerance_us e);
-}
+includes_too u v w a b key e = a key (b key e)
 
 pub agree_on_fewer : (more fewer : UseSet) (a b : Settings) → Includes more fewer → Agree more a b → Agree fewer a b
-agree_on_fewer more fewer a b i h = record {
-  mss = λ e. h.mss (i.mss e);
-  sack = λ e. h.sack (i.sack e);
-  wscale = λ e. h.wscale (i.wscale e);
-  sndbuf = λ e. h.sndbuf (i.sndbuf e);
-  rcv_wnd = λ e. h.rcv_wnd (i.rcv_wnd e);
-  initial_ssthresh = λ e. h.initial_ssthresh (i.initial_ssthresh e);
-  initial_window = λ e. h.initial_window (i.initial_window e);
-  min_rto_us = λ e. h.min_rto_us (i.min_rto_us e);
-  max_rto_us = λ e. h.max_rto_us (i.max_rto_us e);
-  granularity_us = λ e. h.granularity_us (i.granularity_us e);
-  nagle = λ e. h.nagle (i.nagle e);
-  tolerance_us = λ e. h.tolerance_us (i.tolerance_us e);
-}
+agree_on_fewer more fewer a b i h key e = h key (i key e)
 
 or_first : (a b : Bool) → a ≡ true → (a || b) ≡ true
 or_first true b h = refl
@@ -99,21 +63,32 @@ or_more true b c d first last h = or_first c d (first refl)
 or_more false b c d first last h = or_last c d (last h)
 
 -- what the sender noted is part of what the run consulted
+-- a set, and the tolerance where that was consulted
+abbrev with_tolerance : UseSet → Bool → UseSet
+with_tolerance u compared = record u { tolerance_us = u.tolerance_us || compared }
+
+with_more : (u : UseSet) (compared : Bool) → Includes (with_tolerance u compared) u
+with_more u compared ToleranceUs e = or_first u.tolerance_us compared e
+with_more u compared _ e = e
+
+-- what the sender noted is part of what the run consulted
 host_uses : (r : Running) → Includes (uses_of r) r.host.state.uses
-host_uses r = record {
-  mss = λ e. e;
-  sack = λ e. e;
-  wscale = λ e. e;
-  sndbuf = λ e. e;
-  rcv_wnd = λ e. e;
-  initial_ssthresh = λ e. e;
-  initial_window = λ e. e;
-  min_rto_us = λ e. e;
-  max_rto_us = λ e. e;
-  granularity_us = λ e. e;
-  nagle = λ e. e;
-  tolerance_us = λ e. or_first r.host.state.uses.tolerance_us r.compared e;
-}
+host_uses r = with_more r.host.state.uses r.compared
+
+-- with the tolerance, a set has no other setting more
+elsewhere : (u : UseSet) (compared : Bool) (key : Key) → (has (with_tolerance u compared) key ≡ has u key) ⊎ (key ≡ ToleranceUs)
+elsewhere u compared ToleranceUs = inr refl
+elsewhere u compared _ = inl refl
+
+-- what both have more of, they have more of together
+more_together : (u v : UseSet) (a b : Bool) → Includes v u → (a ≡ true → b ≡ true) → Includes (with_tolerance v b) (with_tolerance u a)
+more_together u v a b h more key e = go (elsewhere u a key)
+  where
+    go : (has (with_tolerance u a) key ≡ has u key) ⊎ (key ≡ ToleranceUs) → has (with_tolerance v b) key ≡ true
+    go (inl same) = with_more v b key (h key (sym same ∙ e))
+    go (inr is) =
+        subst (λ (k : Key). has (with_tolerance u a) k ≡ true → has (with_tolerance v b) k ≡ true) (sym is)
+        (or_more u.tolerance_us a v.tolerance_us b (h ToleranceUs) more) e
 
 -- What a step keeps
 
@@ -213,20 +188,7 @@ leaves_of r n s host written more k =
     record {
       settings = settings;
       written = k.written ∙ written;
-      uses = record {
-        mss = uses.mss;
-        sack = uses.sack;
-        wscale = uses.wscale;
-        sndbuf = uses.sndbuf;
-        rcv_wnd = uses.rcv_wnd;
-        initial_ssthresh = uses.initial_ssthresh;
-        initial_window = uses.initial_window;
-        min_rto_us = uses.min_rto_us;
-        max_rto_us = uses.max_rto_us;
-        granularity_us = uses.granularity_us;
-        nagle = uses.nagle;
-        tolerance_us = or_more r.host.state.uses.tolerance_us r.compared s.host.state.uses.tolerance_us s.compared uses.tolerance_us (λ e. compared ∙ more e);
-      };
+      uses = more_together r.host.state.uses s.host.state.uses r.compared s.compared uses (λ e. compared ∙ more e);
     }
 
 performed_leaves : InputsOnlyUse → (r s : Running) (e : Event) (action : Action) → performed r e action ≡ Ok s → Leaves r s
@@ -366,13 +328,16 @@ leaves_again laws r s e p b same h =
     ∙ taken_again came.0 s e p b (slice_get came.0.host.state.endpoint.outbox 0)
     (same_later b r came.0 (awaited_keeps laws r came.0 e empty came.1) same) came.2
 
+number_of : {a b : ℕ} → Number a ≡ Number b → a ≡ b
+number_of e = cc
+
 -- an expected packet consulted the tolerance, unless the header sets it
 consulted : InputsOnlyUse → (r s : Running) (e : Event) (p : Packet) (b : Settings) → leaves (noted r) e p ≡ Ok s
     → Agree (uses_of s) r.host.state.settings b → SameTolerance b (noted r)
 consulted laws r s e p b h agree =
     let k : Keeps (noted r) s = leaves_keeps laws (noted r) s e p h in
     by_writing r.written r.host.state.settings.tolerance_us b.tolerance_us
-    (λ none. agree.tolerance_us (or_last s.host.state.uses.tolerance_us s.compared (k.compared ∙ or_last r.compared (is_none r.written) none)))
+    (λ none. number_of (agree ToleranceUs (or_last s.host.state.uses.tolerance_us s.compared (k.compared ∙ or_last r.compared (is_none r.written) none))))
 
 performed_again : InputsOnlyUse → (r s : Running) (e : Event) (action : Action) (b : Settings) → performed r e action ≡ Ok s
     → Agree (uses_of s) r.host.state.settings b → performed (rebound_run b r) e action ≡ again b s

@@ -2,7 +2,6 @@
 pub mod Changes
 pub mod Names
 pub mod Overlays
-pub mod SameFields
 pub mod Taken
 pub mod ByName
 pub mod Agreements

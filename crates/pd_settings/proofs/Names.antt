@@ -4,7 +4,7 @@ use Rattle.std.specs.Prelude.{find}
 use Rattle.std.specs.Str.{bytes_eq}
 use Rattle.std.proofs.lemmas.Slice.Eq.{bytes_eq-Decides}
 use Rattle.pd_settings.specs.declared.keys.Key.{Key}
-use Rattle.pd_settings.specs.declared.keys.Key.TheVariants.{Mss, Sack, Wscale, Sndbuf, RcvWnd, InitialSsthresh, InitialWindow, MinRtoUs, MaxRtoUs, GranularityUs, Nagle, ToleranceUs}
+use Rattle.pd_settings.specs.declared.keys.Key.TheVariants.{Mss}
 use Rattle.pd_settings.specs.Keys.{name_of, all_keys, key_named}
 
 -- what is found passes the test
@@ -21,17 +21,7 @@ named-is name key e = (bytes_eq-Decides (name_of key) name).0 (find-passes (λ k
 
 pub named-name_of : (key : Key) → key_named (name_of key) ≡ Some key
 named-name_of Mss = refl
-named-name_of Sack = refl
-named-name_of Wscale = refl
-named-name_of Sndbuf = refl
-named-name_of RcvWnd = refl
-named-name_of InitialSsthresh = refl
-named-name_of InitialWindow = refl
-named-name_of MinRtoUs = refl
-named-name_of MaxRtoUs = refl
-named-name_of GranularityUs = refl
-named-name_of Nagle = refl
-named-name_of ToleranceUs = refl
+named-name_of _ = refl
 
 -- where a name is one key's, another key with that name is the same key
 pub same_key : (name : List ℕ) (one other : Key) → key_named name ≡ Some one → name ≡ name_of other → one ≡ other

@@ -1,10 +1,32 @@
 -- Which settings were consulted, and when two agree on those.
-use Rattle.std.specs.Prelude.{◌≡◌, ℕ, ◌==◌, Bool, true, false, not, ◌&&◌, ◌||◌}
+use Rattle.std.specs.Prelude.{◌≡◌, ◌==◌, Bool, true, false, not, ◌||◌}
 use Rattle.std.specs.Bool.{beq}
+use Rattle.std.specs.List.{list_all}
 use Rattle.pd_settings.specs.declared.fields.Settings.{Settings}
-use Rattle.pd_settings.specs.declared.initial_window.InitialWindow.{InitialWindow}
+use Rattle.pd_settings.specs.declared.initial_window.InitialWindow.{InitialWindow as Window}
 use Rattle.pd_settings.specs.declared.initial_window.InitialWindow.TheVariants.{Rfc5681, Rfc6928}
+use Rattle.pd_settings.specs.declared.keys.Key.{Key}
+use Rattle.pd_settings.specs.declared.keys.Key.TheVariants.{Mss, Sack, Wscale, Sndbuf, RcvWnd, InitialSsthresh, InitialWindow, MinRtoUs, MaxRtoUs, GranularityUs, Nagle, ToleranceUs}
 use Rattle.pd_settings.specs.declared.use_set.UseSet.{UseSet}
+use Rattle.pd_settings.specs.declared.values.Value.{Value}
+use Rattle.pd_settings.specs.declared.values.Value.TheVariants.{Number, Truth, Word, Other}
+use Rattle.pd_settings.specs.Keys.{all_keys}
+use Rattle.pd_settings.specs.Settings.{value_at}
+
+-- a set has the setting of a key
+abbrev pub has : UseSet → Key → Bool
+has uses Mss = uses.mss
+has uses Sack = uses.sack
+has uses Wscale = uses.wscale
+has uses Sndbuf = uses.sndbuf
+has uses RcvWnd = uses.rcv_wnd
+has uses InitialSsthresh = uses.initial_ssthresh
+has uses InitialWindow = uses.initial_window
+has uses MinRtoUs = uses.min_rto_us
+has uses MaxRtoUs = uses.max_rto_us
+has uses GranularityUs = uses.granularity_us
+has uses Nagle = uses.nagle
+has uses ToleranceUs = uses.tolerance_us
 
 -- no setting was consulted
 abbrev pub no_uses : UseSet
@@ -23,66 +45,32 @@ no_uses = record {
   tolerance_us = false;
 }
 
--- two settings are equal on the fields of a set
-pub record Agree (uses : UseSet) (a b : Settings) : Type 0 where
-  pub mss : uses.mss ≡ true → a.mss ≡ b.mss
-  pub sack : uses.sack ≡ true → a.sack ≡ b.sack
-  pub wscale : uses.wscale ≡ true → a.wscale ≡ b.wscale
-  pub sndbuf : uses.sndbuf ≡ true → a.sndbuf ≡ b.sndbuf
-  pub rcv_wnd : uses.rcv_wnd ≡ true → a.rcv_wnd ≡ b.rcv_wnd
-  pub initial_ssthresh : uses.initial_ssthresh ≡ true → a.initial_ssthresh ≡ b.initial_ssthresh
-  pub initial_window : uses.initial_window ≡ true → a.initial_window ≡ b.initial_window
-  pub min_rto_us : uses.min_rto_us ≡ true → a.min_rto_us ≡ b.min_rto_us
-  pub max_rto_us : uses.max_rto_us ≡ true → a.max_rto_us ≡ b.max_rto_us
-  pub granularity_us : uses.granularity_us ≡ true → a.granularity_us ≡ b.granularity_us
-  pub nagle : uses.nagle ≡ true → a.nagle ≡ b.nagle
-  pub tolerance_us : uses.tolerance_us ≡ true → a.tolerance_us ≡ b.tolerance_us
+-- two settings are equal at the keys of a set
+abbrev pub Agree : UseSet → Settings → Settings → Type 0
+Agree uses a b = (key : Key) → has uses key ≡ true → value_at a key ≡ value_at b key
 
--- a set has every field of another
-pub record Includes (more fewer : UseSet) : Type 0 where
-  pub mss : fewer.mss ≡ true → more.mss ≡ true
-  pub sack : fewer.sack ≡ true → more.sack ≡ true
-  pub wscale : fewer.wscale ≡ true → more.wscale ≡ true
-  pub sndbuf : fewer.sndbuf ≡ true → more.sndbuf ≡ true
-  pub rcv_wnd : fewer.rcv_wnd ≡ true → more.rcv_wnd ≡ true
-  pub initial_ssthresh : fewer.initial_ssthresh ≡ true → more.initial_ssthresh ≡ true
-  pub initial_window : fewer.initial_window ≡ true → more.initial_window ≡ true
-  pub min_rto_us : fewer.min_rto_us ≡ true → more.min_rto_us ≡ true
-  pub max_rto_us : fewer.max_rto_us ≡ true → more.max_rto_us ≡ true
-  pub granularity_us : fewer.granularity_us ≡ true → more.granularity_us ≡ true
-  pub nagle : fewer.nagle ≡ true → more.nagle ≡ true
-  pub tolerance_us : fewer.tolerance_us ≡ true → more.tolerance_us ≡ true
+-- a set has every setting of another
+abbrev pub Includes : UseSet → UseSet → Type 0
+Includes more fewer = (key : Key) → has fewer key ≡ true → has more key ≡ true
 
 -- two rules for the initial window are the same
-abbrev pub is_same_window : InitialWindow → InitialWindow → Bool
+abbrev pub is_same_window : Window → Window → Bool
 is_same_window Rfc5681 Rfc5681 = true
 is_same_window Rfc6928 Rfc6928 = true
 is_same_window _ _ = false
 
--- two numbers are equal, or weren't consulted
-abbrev pub same_numbers : Bool → ℕ → ℕ → Bool
-same_numbers used a b = not used || a == b
+-- two values are
+abbrev pub is_same_value : Value → Value → Bool
+is_same_value (Number a) (Number b) = a == b
+is_same_value (Truth a) (Truth b) = beq a b
+is_same_value (Word a) (Word b) = is_same_window a b
+is_same_value Other Other = true
+is_same_value _ _ = false
 
--- two truth values are
-abbrev pub same_truths : Bool → Bool → Bool → Bool
-same_truths used a b = not used || beq a b
+-- two settings are equal at a key, or the set doesn't have it
+abbrev pub agrees_at : UseSet → Settings → Settings → Key → Bool
+agrees_at uses a b key = not (has uses key) || is_same_value (value_at a key) (value_at b key)
 
--- two rules for the initial window are
-abbrev pub same_windows : Bool → InitialWindow → InitialWindow → Bool
-same_windows used a b = not used || is_same_window a b
-
--- whether two settings are equal on the fields of a set
+-- whether two settings are equal at the keys of a set
 abbrev pub agrees : UseSet → Settings → Settings → Bool
-agrees uses a b =
-    same_numbers uses.mss a.mss b.mss
-    && same_truths uses.sack a.sack b.sack
-    && same_numbers uses.wscale a.wscale b.wscale
-    && same_numbers uses.sndbuf a.sndbuf b.sndbuf
-    && same_numbers uses.rcv_wnd a.rcv_wnd b.rcv_wnd
-    && same_numbers uses.initial_ssthresh a.initial_ssthresh b.initial_ssthresh
-    && same_windows uses.initial_window a.initial_window b.initial_window
-    && same_numbers uses.min_rto_us a.min_rto_us b.min_rto_us
-    && same_numbers uses.max_rto_us a.max_rto_us b.max_rto_us
-    && same_numbers uses.granularity_us a.granularity_us b.granularity_us
-    && same_truths uses.nagle a.nagle b.nagle
-    && same_numbers uses.tolerance_us a.tolerance_us b.tolerance_us
+agrees uses a b = list_all (agrees_at uses a b) all_keys

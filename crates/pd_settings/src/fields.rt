@@ -61,7 +61,7 @@ macro_rules! with_field {
 
 impl Settings {
     ghost use Rattle.pd_settings.specs.Change.{IsChanged, IsRefused};
-    ghost use Rattle.pd_settings.specs.Settings.{ChangesOnly, defaults, replaced, with_value};
+    ghost use Rattle.pd_settings.specs.Settings.{ChangesOnly, defaults, replaced, value_at, with_value};
     ghost use Rattle.pd_settings.specs.Table.{AreAccepted, IsFirstFault, IsOverlay, from_table_of, overlaid};
     ghost use Rattle.toml.specs.View.{table_view};
 
@@ -90,6 +90,26 @@ impl Settings {
         ensures { IsTrue result ↔ (self.now ≡ other.now) }
     {
         self == other
+    }
+
+    /// The value at a key.
+    pub fn value_at(&self, key: Key) -> Value
+        ensures { result ≡ value_at self.now key }
+    {
+        match key {
+            Key::Mss => Value::Number(u64::from(self.mss)),
+            Key::Sack => Value::Truth(self.sack),
+            Key::Wscale => Value::Number(u64::from(self.wscale)),
+            Key::Sndbuf => Value::Number(u64::from(self.sndbuf)),
+            Key::RcvWnd => Value::Number(u64::from(self.rcv_wnd)),
+            Key::InitialSsthresh => Value::Number(u64::from(self.initial_ssthresh)),
+            Key::InitialWindow => Value::Word(self.initial_window),
+            Key::MinRtoUs => Value::Number(self.min_rto_us),
+            Key::MaxRtoUs => Value::Number(self.max_rto_us),
+            Key::GranularityUs => Value::Number(self.granularity_us),
+            Key::Nagle => Value::Truth(self.nagle),
+            Key::ToleranceUs => Value::Number(self.tolerance_us),
+        }
     }
 
     /// The settings with the key's field replaced by the value; None where the key doesn't take the value.

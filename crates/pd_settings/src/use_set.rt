@@ -1,6 +1,8 @@
 //! Which settings were consulted.
 ghost use Rattle.std.specs.Prelude.{◌≡◌};
-ghost use Rattle.pd_settings.specs.Uses.{no_uses};
+ghost use Rattle.pd_settings.specs.Uses.{has, no_uses};
+
+use crate::keys::Key;
 
 /// Whether each of the settings was consulted so far.
 #[derive(Clone, Copy, PartialEq, Eq)]
@@ -49,6 +51,26 @@ impl UseSet {
             granularity_us: false,
             nagle: false,
             tolerance_us: false,
+        }
+    }
+
+    /// Whether a setting is among them.
+    pub fn has(&self, key: Key) -> bool
+        ensures { result ≡ has self.now key }
+    {
+        match key {
+            Key::Mss => self.mss,
+            Key::Sack => self.sack,
+            Key::Wscale => self.wscale,
+            Key::Sndbuf => self.sndbuf,
+            Key::RcvWnd => self.rcv_wnd,
+            Key::InitialSsthresh => self.initial_ssthresh,
+            Key::InitialWindow => self.initial_window,
+            Key::MinRtoUs => self.min_rto_us,
+            Key::MaxRtoUs => self.max_rto_us,
+            Key::GranularityUs => self.granularity_us,
+            Key::Nagle => self.nagle,
+            Key::ToleranceUs => self.tolerance_us,
         }
     }
 }

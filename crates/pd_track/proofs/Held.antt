@@ -1,6 +1,7 @@
 -- The settings held in kept states.
 use Rattle.std.proofs.Common.{◌≡◌, ℕ, zero, suc, ◌+◌, ◌*◌, refl, sym, ap, subst, ◌∙◌, ◌⊎◌, inl, inr, List, [], ◌∷◌, ◌++◌, map, take, slice_get, Option, None, Some, Result, Ok, Err}
 use Rattle.std.specs.List.{AllByRecursion}
+use Rattle.pd_settings.specs.Settings.{value_at}
 use Rattle.pd_settings.specs.Uses.{Agree, Includes}
 use Rattle.pd_settings.specs.declared.fields.Settings.{Settings}
 use Rattle.pd_settings.specs.declared.use_set.UseSet.{UseSet}
@@ -47,36 +48,10 @@ all_at P (s ∷ rs) (suc n) r h is = all_at P rs n r h.1 is
 -- Sets of settings
 
 agree_equal : (u : UseSet) (a b : Settings) → a ≡ b → Agree u a b
-agree_equal u a b h = record {
-  mss = λ e. ap (λ (s : Settings). s.mss) h;
-  sack = λ e. ap (λ (s : Settings). s.sack) h;
-  wscale = λ e. ap (λ (s : Settings). s.wscale) h;
-  sndbuf = λ e. ap (λ (s : Settings). s.sndbuf) h;
-  rcv_wnd = λ e. ap (λ (s : Settings). s.rcv_wnd) h;
-  initial_ssthresh = λ e. ap (λ (s : Settings). s.initial_ssthresh) h;
-  initial_window = λ e. ap (λ (s : Settings). s.initial_window) h;
-  min_rto_us = λ e. ap (λ (s : Settings). s.min_rto_us) h;
-  max_rto_us = λ e. ap (λ (s : Settings). s.max_rto_us) h;
-  granularity_us = λ e. ap (λ (s : Settings). s.granularity_us) h;
-  nagle = λ e. ap (λ (s : Settings). s.nagle) h;
-  tolerance_us = λ e. ap (λ (s : Settings). s.tolerance_us) h;
-}
+agree_equal u a b h key e = ap (λ (s : Settings). value_at s key) h
 
 agree_across : (u : UseSet) (a b c : Settings) → Agree u a b → Agree u a c → Agree u b c
-agree_across u a b c h k = record {
-  mss = λ e. sym (h.mss e) ∙ k.mss e;
-  sack = λ e. sym (h.sack e) ∙ k.sack e;
-  wscale = λ e. sym (h.wscale e) ∙ k.wscale e;
-  sndbuf = λ e. sym (h.sndbuf e) ∙ k.sndbuf e;
-  rcv_wnd = λ e. sym (h.rcv_wnd e) ∙ k.rcv_wnd e;
-  initial_ssthresh = λ e. sym (h.initial_ssthresh e) ∙ k.initial_ssthresh e;
-  initial_window = λ e. sym (h.initial_window e) ∙ k.initial_window e;
-  min_rto_us = λ e. sym (h.min_rto_us e) ∙ k.min_rto_us e;
-  max_rto_us = λ e. sym (h.max_rto_us e) ∙ k.max_rto_us e;
-  granularity_us = λ e. sym (h.granularity_us e) ∙ k.granularity_us e;
-  nagle = λ e. sym (h.nagle e) ∙ k.nagle e;
-  tolerance_us = λ e. sym (h.tolerance_us e) ∙ k.tolerance_us e;
-}
+agree_across u a b c h k key e = sym (h key e) ∙ k key e
 
 -- Runs
 

@@ -2,7 +2,7 @@
 use Rattle.std.proofs.Common.{refl}
 use Rattle.pd_settings.specs.declared.keys.Key.TheVariants.{Mss, Wscale, Sndbuf, RcvWnd, InitialSsthresh, MinRtoUs, MaxRtoUs, GranularityUs, ToleranceUs}
 use Rattle.pd_settings.specs.Keys.{domain_of}
-use Rattle.pd_settings.proofs.SameFields.{same_fields}
+use Rattle.pd_settings.proofs.Changes.{same_fields}
 use Rattle.pd_settings.proofs.Taken.{taken-inside}
 use Rattle.pd_settings.proofs.fields.Settings.replace_number.Goals as goal
 

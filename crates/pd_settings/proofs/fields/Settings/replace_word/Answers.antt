@@ -1,6 +1,6 @@
 -- The key's branch gives the replaced settings.
 use Rattle.std.proofs.Common.{ap, Some, refl}
-use Rattle.pd_settings.proofs.SameFields.{same_fields}
+use Rattle.pd_settings.proofs.Changes.{same_fields}
 use Rattle.pd_settings.proofs.fields.Settings.replace_word.Goals as goal
 
 pub returns-in-InitialWindow : goal.returns-in-InitialWindow
