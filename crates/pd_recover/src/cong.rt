@@ -1,5 +1,8 @@
 //! The congestion window and what loss recovery keeps.
 ghost use Rattle.std.specs.Prelude.{◌≡◌, ◌<◌, ◌≤◌, ◌^◌};
+ghost use Rattle.pd_settings.specs.Keys.{Takes, domain_of};
+ghost use Rattle.pd_settings.specs.declared.keys.Key.TheVariants.{InitialSsthresh};
+ghost use Rattle.pd_settings.specs.declared.values.Value.TheVariants.{Number};
 ghost use Rattle.pd_recover.specs.Congestion.{IsCongestion, first_segments, window_by, first_window, begun, timed_out, entered_to, with_limited};
 
 mod acks;
@@ -105,7 +108,7 @@ impl Cong {
         ensures value { result ≡ begun settings.now.initial_window settings.now.initial_ssthresh smss resent }
         ensures known { IsCongestion result }
     {
-        let _ranges = *settings;
+        have_range(settings);
         Cong {
             cwnd: first_window(settings.initial_window, smss, resent),
             ssthresh: settings.initial_ssthresh,
@@ -193,4 +196,11 @@ impl Cong {
     {
         self.limited = (self.limited + octets).min(MAX_OCTETS);
     }
+}
+
+/// A fact of settings: the slow start threshold is in its range.
+fn have_range(settings: &Settings)
+    ensures { Takes (domain_of InitialSsthresh) (Number settings.now.initial_ssthresh) }
+{
+    let _range = *settings;
 }

@@ -1,5 +1,8 @@
 //! The timer: its timeout, and the moment of the next expiry while it runs.
 ghost use Rattle.std.specs.Prelude.{◌≡◌, ◌<◌, ◌^◌};
+ghost use Rattle.pd_settings.specs.Keys.{Takes, domain_of};
+ghost use Rattle.pd_settings.specs.declared.keys.Key.TheVariants.{MinRtoUs, MaxRtoUs};
+ghost use Rattle.pd_settings.specs.declared.values.Value.TheVariants.{Number};
 ghost use Rattle.pd_timer.specs.Timer.{IsTimer, initial, clamped, sampled, started, restarted, stopped, backed_off, reinitialized};
 
 use crate::estimate::Estimate;
@@ -49,6 +52,14 @@ impl Clone for Rto {
 
 impl Copy for Rto {}
 
+/// A fact of settings: the bounds of timeouts are in their ranges.
+fn have_ranges(settings: &Settings)
+    ensures least { Takes (domain_of MinRtoUs) (Number settings.now.min_rto_us) }
+    ensures greatest { Takes (domain_of MaxRtoUs) (Number settings.now.max_rto_us) }
+{
+    let _ranges = *settings;
+}
+
 /// A timeout within its bounds, in microseconds (RFC 6298, sections 2.4 and 2.5).
 fn clamp(timeout_us: u128, min_rto_us: u64, max_rto_us: u64) -> u64
     ensures { result ≡ clamped min_rto_us max_rto_us timeout_us }
@@ -65,7 +76,7 @@ impl Rto {
         ensures value { result ≡ initial settings.now.min_rto_us settings.now.max_rto_us }
         ensures known { IsTimer result }
     {
-        let _ranges = *settings;
+        have_ranges(settings);
         Rto {
             estimate: None,
             rto: clamp(
