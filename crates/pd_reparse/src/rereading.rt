@@ -11,7 +11,7 @@ use crate::steps::Step;
 use pd_lex::{Place, first_lines};
 use pd_script::{EventReader, Header, MAX_EVENTS, NextEvent, items_stand_there, read_header};
 use pd_shared::SharedList;
-use pd_text::Lines;
+use pd_text::{Lines, have_lines};
 use std::alloc::{AllocError, Global};
 
 /// Reads a text.
@@ -51,8 +51,7 @@ pub fn reread(
         let reading = read(alloc, lines)?;
         return Ok(Reread { reading, kept });
     }
-    // A look at a line tells that no line holds a newline.
-    let _ = lines.line(1);
+    have_lines(lines);
     let header = old.header().copy()?;
     let events = old.first_events(kept)?;
     let place = old.place_behind(kept);

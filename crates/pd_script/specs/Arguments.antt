@@ -2,7 +2,8 @@
 use Rattle.std.specs.Prelude.{◌≡◌, ℕ, ◌&&◌, Bool, true, false, List, [], ◌∷◌, ◌++◌, Some, if◌then◌else◌, ⊤}
 use Rattle.pd_lex.specs.Tokens.{Item}
 use Rattle.pd_script.specs.Items.{is_any_int, is_word, is_symbol, text_of}
-use Rattle.pd_script.specs.Values.{sign, capped_number, constant_named}
+use Rattle.pd_lex.specs.Numbers.{capped_number}
+use Rattle.pd_script.specs.Values.{sign, constant_named}
 use Rattle.pd_script.specs.Brackets.{pairs_after}
 use Rattle.pd_script.specs.declared.calls.Argument.{Argument}
 use Rattle.pd_script.specs.declared.calls.Argument.TheVariants as arguments

@@ -42,10 +42,6 @@ six_decimals text = take 6 (drop (whole_len text + 1) text ++ replicate 6 (sign 
 unfoldable pub microseconds : List ℕ → ℕ
 microseconds text = number (whole_digits text ++ six_decimals text)
 
--- a number in digits, where one above the greatest of 64 bits stands as that
-abbrev pub capped_number : List ℕ → ℕ
-capped_number text = min (number text) (2 ^ 64 - 1)
-
 -- the name of a call
 abbrev pub function_name : Function → List ℕ
 function_name functions.Socket = codes "socket"

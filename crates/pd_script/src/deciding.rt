@@ -7,7 +7,7 @@ use crate::cursor::Cursor;
 use crate::script_events::Event;
 use crate::stops::Stop;
 use pd_lex::{Place, items_behind_tokens};
-use pd_text::Lines;
+use pd_text::{Lines, have_lines};
 use std::alloc::{AllocError, Global};
 use std::marker::Model;
 
@@ -123,8 +123,7 @@ pub fn next_event(alloc: Global, lines: &Lines, place: Place) -> Result<NextEven
 {
     // The law of tokens does no work: that what is left stands at its place rests on it.
     items_behind_tokens();
-    // A look at a line tells that no line holds a newline.
-    let _ = lines.line(1);
+    have_lines(lines);
     let next = Cursor::at(lines, place).next_event(alloc)?;
     Ok(next)
 }

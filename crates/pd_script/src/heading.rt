@@ -9,7 +9,7 @@ ghost use Rattle.pd_script.specs.Cursor.{shown};
 
 use crate::script_header::{Header, HeaderItem, HeaderKind};
 use pd_lex::{Lexed, Place, Token, TokenKind, next_token};
-use pd_text::Lines;
+use pd_text::{Lines, have_lines};
 use std::alloc::{AllocError, Global};
 
 /// The header item that a token is.
@@ -32,8 +32,7 @@ fn next_header_item(lines: &Lines, place: Place) -> Option<(HeaderItem, Place)>
     ensures some { IfSome result (λ found. IsItemAt lines.now place found.0 found.1) }
     ensures none { IfNone result (next_is is_header (items lines.now place) ≡ false) }
 {
-    // A look at a line tells that no line holds a newline.
-    let _ = lines.line(1);
+    have_lines(lines);
     match next_token(lines, place) {
         Lexed::Token(token) => match header_item(&token) {
             Some(item) => Some((item, token.to)),

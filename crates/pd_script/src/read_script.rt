@@ -13,7 +13,7 @@ use crate::heading::read_header;
 use crate::parsing::{Found, Parsed};
 use crate::script_events::Events;
 use pd_lex::{first_lines, longest_pieces};
-use pd_text::Lines;
+use pd_text::{Lines, have_lines};
 use std::alloc::{AllocError, Global};
 
 /// The greatest number of events of a script.
@@ -75,8 +75,7 @@ pub fn parse(alloc: Global, lines: &Lines) -> Result<Parsed, AllocError>
     longest_pieces();
     first_lines();
     let parsed = read(alloc, lines)?;
-    // A look at a line tells that no line holds a newline.
-    let _ = lines.line(1);
+    have_lines(lines);
     Ok(parsed)
 }
 

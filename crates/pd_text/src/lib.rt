@@ -3,6 +3,7 @@
 
 mod faults;
 mod line_edit;
+mod line_facts;
 mod line_list;
 mod room;
 mod script_lines;
@@ -11,6 +12,7 @@ mod shared_text;
 
 pub use faults::TextFault;
 pub use line_edit::LineEdit;
+pub use line_facts::have_lines;
 pub use line_list::LineList;
 pub use room::{MAX_LINES, MAX_OCTETS};
 pub use script_lines::Lines;
