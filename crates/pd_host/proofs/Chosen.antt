@@ -16,7 +16,7 @@ use Rattle.pd_recover.proofs.Chosen.{AllOf, one_of, either_of, map_of, allowed_o
 use Rattle.pd_recover.proofs.Found.{least, greatest}
 use Rattle.pd_seg.specs.declared.sack_blocks.Span.{Span}
 use Rattle.pd_host.specs.ControlBlock.{ControlBlock}
-use Rattle.pd_host.specs.Sending.{window_edge, unsent, sendable, new_segment, leaves_now, next_new, next_again, next_segment}
+use Rattle.pd_host.specs.Sending.{window_edge, usable, unsent, sendable, new_segment, leaves_now, next_new, next_again, next_segment}
 use Rattle.pd_host.specs.SendingLaws.{IsInPeersWindow}
 use Rattle.pd_host.specs.declared.established.Established.{Established}
 
@@ -120,22 +120,51 @@ ordinary_flow c e order =
       le_both segment.end (window_edge c e) (c.board.una + e.rwnd) w.1 (within_rwnd c e),
     ))
 
+-- octets that weren't sent are queued
+abbrev IsQueuedIfNew : Scoreboard → Span → Type 0
+IsQueuedIfNew s segment = s.top ≤ segment.start → segment.start < segment.end → segment.end ≤ s.end
+
+none_new : (start end top last : ℕ) → end ≤ top → top ≤ start → start < end → end ≤ last
+none_new start end top last below above some = absurd (omega (arith, below, above, some))
+
+unsent_end : (next end usable smss : ℕ) → next < next + min (min (end - next) usable) smss → next + min (min (end - next) usable) smss ≤ end
+unsent_end next end usable smss some = omega (arith, some)
+
+pub ordinary_queued : (c : ControlBlock) (e : Established) → AllOf (IsQueuedIfNew c.board) (next_segment c e)
+ordinary_queued c e =
+    branch_of (IsQueuedIfNew c.board) (nat_lt c.board.next c.board.top) (next_again c e) (next_new c e)
+    (λ _ segment h above some.
+    none_new segment.start segment.end c.board.top c.board.end
+    (subst (λ (x : Span). x.end ≤ c.board.top) (sym (again_within c e segment h).0) (run_end c.board c.board.next)) above some)
+    (λ _.
+    allowed_of (IsQueuedIfNew c.board) (nat_lt 0 (sendable c e) && leaves_now c e) (Some (new_segment c e)) (λ _.
+    one_of (IsQueuedIfNew c.board) (new_segment c e) (λ _ some. unsent_end c.board.next c.board.end (usable c e) c.board.smss some)))
+
 -- Loss recovery
 
-pub new_octets_flow : (smss una top end rwnd : ℕ) → AllOf (λ (segment : Span). (segment.start ≡ top) × (segment.end ≤ una + rwnd)) (new_octets smss una top end rwnd)
+queued_end : (top end smss : ℕ) → top < top + min smss (end - top) → top + min smss (end - top) ≤ end
+queued_end top end smss some = omega (arith, some)
+
+-- new octets begin at top, lie in the peer's window, and are queued
+pub new_octets_flow : (smss una top end rwnd : ℕ) → AllOf (λ (segment : Span). (segment.start ≡ top) × (segment.end ≤ una + rwnd) × (segment.end ≤ end)) (new_octets smss una top end rwnd)
 new_octets_flow smss una top end rwnd =
-    let P : Span → Type 0 = λ segment. (segment.start ≡ top) × (segment.end ≤ una + rwnd) in
+    let P : Span → Type 0 = λ segment. (segment.start ≡ top) × (segment.end ≤ una + rwnd) × (segment.end ≤ end) in
     let to : ℕ = top + min smss (end - top) in
     let segment : Span = record { start = top; end = to } in
     allowed_of P (nat_lt top to && nat_le to (una + rwnd)) (Some segment) (λ t.
-    one_of P segment (refl, is_within to (una + rwnd) (second_of_two (nat_lt top to) (nat_le to (una + rwnd)) t)))
+    one_of P segment (
+      refl,
+      is_within to (una + rwnd) (second_of_two (nat_lt top to) (nat_le to (una + rwnd)) t),
+      queued_end top end smss (is_above top to (first_of_two (nat_lt top to) (nat_le to (una + rwnd)) t)),
+    ))
 
-data_flow : (rwnd : ℕ) (s : Scoreboard) → AllOf (λ (segment : Span). (segment.start ≡ s.top) × (segment.end ≤ s.una + rwnd)) (new_data rwnd s)
+data_flow : (rwnd : ℕ) (s : Scoreboard) → AllOf (λ (segment : Span). (segment.start ≡ s.top) × (segment.end ≤ s.una + rwnd) × (segment.end ≤ s.end)) (new_data rwnd s)
 data_flow rwnd s = new_octets_flow s.smss s.una s.top s.end rwnd
 
--- where a segment stands that NextSeg gives: new octets at top, in the peer's window, and others among those that were sent
+-- where a segment stands that NextSeg gives: new octets at top, in the peer's window and queued, and others among those that
+-- were sent
 abbrev pub Stands : ℕ → Scoreboard → NextSegment → Type 0
-Stands rwnd s (New segment) = (segment.start ≡ s.top) × (segment.end ≤ s.una + rwnd)
+Stands rwnd s (New segment) = (segment.start ≡ s.top) × (segment.end ≤ s.una + rwnd) × (segment.end ≤ s.end)
 Stands rwnd s (Lost segment) = segment.end ≤ s.top
 Stands rwnd s (Hole segment) = segment.end ≤ s.top
 Stands rwnd s (Rescue segment) = segment.end ≤ s.top
@@ -154,7 +183,7 @@ pub step_c_stands : (rwnd pipe : ℕ) (s : Scoreboard) (w : Congestion) → AllO
 step_c_stands rwnd pipe s w = allowed_of (Stands rwnd s) (has_room pipe s w) (next_seg rwnd s w) (λ _. recovery_stands rwnd s w)
 
 stands_in_window : (rwnd : ℕ) (s : Scoreboard) (sent : NextSegment) → Stands rwnd s sent → IsInPeersWindow s rwnd (segment_of sent)
-stands_in_window rwnd s (New segment) h = λ _. h
+stands_in_window rwnd s (New segment) h = λ _. (h.0, h.1)
 stands_in_window rwnd s (Lost segment) h = sent_before s rwnd segment h
 stands_in_window rwnd s (Hole segment) h = sent_before s rwnd segment h
 stands_in_window rwnd s (Rescue segment) h = sent_before s rwnd segment h
@@ -164,7 +193,13 @@ step_c_flow rwnd pipe s w sent e = stands_in_window rwnd s sent (step_c_stands r
 
 pub limited_flow : (rwnd pipe : ℕ) (s : Scoreboard) (w : Congestion) → AllOf (IsInPeersWindow s rwnd) (limited_segment rwnd pipe s w)
 limited_flow rwnd pipe s w =
-    allowed_of (IsInPeersWindow s rwnd) (has_room pipe s w) (new_data rwnd s) (λ _ segment e _. data_flow rwnd s segment e)
+    allowed_of (IsInPeersWindow s rwnd) (has_room pipe s w) (new_data rwnd s)
+    (λ _ segment e _. let flow = data_flow rwnd s segment e in (flow.0, flow.1))
+
+-- and sends what is queued
+pub limited_queued : (rwnd pipe : ℕ) (s : Scoreboard) (w : Congestion) → AllOf (λ (segment : Span). segment.end ≤ s.end) (limited_segment rwnd pipe s w)
+limited_queued rwnd pipe s w =
+    allowed_of (λ (segment : Span). segment.end ≤ s.end) (has_room pipe s w) (new_data rwnd s) (λ _ segment e. (data_flow rwnd s segment e).2)
 
 -- limited transmit has room for a full segment
 pub limited_room : (rwnd pipe : ℕ) (s : Scoreboard) (w : Congestion) → AllOf (λ _. s.smss ≤ w.cwnd - pipe) (limited_segment rwnd pipe s w)

@@ -16,9 +16,9 @@ chosen P false x y first second = second
 lesser : (a b : ℕ) → min a b ≤ b
 lesser a b = omega arith
 
--- a new segment begins at top and ends in the peer's window; what is sent again was sent
+-- a new segment begins at top, ends in the peer's window and is queued; what is sent again was sent
 abbrev pub IsAllowed : Ack → Then → Type 0
-IsAllowed ack (NewSegment segment) = (segment.start ≡ ack.top) × (segment.end ≤ ack.una + ack.rwnd)
+IsAllowed ack (NewSegment segment) = (segment.start ≡ ack.top) × (segment.end ≤ ack.una + ack.rwnd) × (segment.end ≤ ack.end)
 IsAllowed ack (FastRetransmit segment) = segment.end ≤ ack.top
 IsAllowed ack _ = Unit {0}
 
@@ -75,4 +75,6 @@ what_follows ack w = told_limits ack ack.sack (renewed ack w)
 
 pub duplicate_flow : (ack : Ack) (w : Congestion) (segment : Span) → (acked ack w).1 ≡ NewSegment segment
     → (segment.start ≡ ack.top) × (segment.end ≤ ack.una + ack.rwnd)
-duplicate_flow ack w segment h = subst (IsAllowed ack) h (what_follows ack w)
+duplicate_flow ack w segment h =
+    let allowed : IsAllowed ack (NewSegment segment) = subst (IsAllowed ack) h (what_follows ack w) in
+    (allowed.0, allowed.1)

@@ -15,7 +15,7 @@ use Rattle.pd_host.specs.Timing.{clocked, timed_after}
 use Rattle.pd_host.specs.declared.established.Established.{Established}
 use Rattle.pd_host.specs.declared.halts.Halt.TheVariants.{Limit}
 use Rattle.pd_host.specs.declared.sender_state.State.{State}
-use Rattle.pd_host.proofs.Chosen.{Stands, ordinary_end, step_c_stands, limited_flow, run_end}
+use Rattle.pd_host.proofs.Chosen.{Stands, ordinary_end, ordinary_queued, step_c_stands, limited_flow, limited_queued, run_end}
 use Rattle.pd_host.proofs.Outcomes.{Leaves, kept, either, then_leaves}
 use Rattle.pd_host.proofs.SentOn.{still, sender_leaves, finds, sends, c_finds, c_sends, c_still, limited_finds, limited_sends, counted_still, entered_still}
 
@@ -27,6 +27,7 @@ pub record IsSending (now : ℕ) (segment : Span) (c d : ControlBlock) : Type 0 
   pub high : c.board.top ≤ d.board.top
   pub within : segment.end ≤ d.board.top
   pub allowed : c.board.top < segment.end → segment.end ≤ window_end c c.established
+  pub queued : c.board.top ≤ segment.start → segment.start < segment.end → segment.end ≤ c.board.end
 
 -- a connection is left as it is, but for the sending place and what recovery has sent
 pub record IsMoved (c d : ControlBlock) : Type 0 where
@@ -53,19 +54,24 @@ same a = omega arith
 sent_before : (a b edge : ℕ) → a ≤ b → b < a → a ≤ edge
 sent_before a b edge le lt = absurd (omega (arith, le, lt))
 
+none_new : (start end top last : ℕ) → end ≤ top → top ≤ start → start < end → end ≤ last
+none_new start end top last below above some = absurd (omega (arith, below, above, some))
+
 -- One segment
 
 -- new octets
 new_octets : (now : ℕ) (segment : Span) (c d : ControlBlock) → still d ≡ still c
     → d.timed ≡ timed_after now segment c.board.top c.timed → d.board.top ≡ max c.board.top segment.end
-    → (c.board.top < segment.end → segment.end ≤ window_end c c.established) → IsSending now segment c d
-new_octets now segment c d stays timed top allowed = record {
+    → (c.board.top < segment.end → segment.end ≤ window_end c c.established)
+    → (c.board.top ≤ segment.start → segment.start < segment.end → segment.end ≤ c.board.end) → IsSending now segment c d
+new_octets now segment c d stays timed top allowed queued = record {
   stays = stays;
   timed = timed;
   low = subst (λ (n : ℕ). n ≤ max c.board.top segment.end) (sym top) (same (max c.board.top segment.end));
   high = subst (λ (n : ℕ). c.board.top ≤ n) (sym top) (greater c.board.top segment.end).0;
   within = subst (λ (n : ℕ). segment.end ≤ n) (sym top) (greater c.board.top segment.end).1;
   allowed = allowed;
+  queued = queued;
 }
 
 -- octets again
@@ -79,6 +85,7 @@ old_octets now segment c d stays timed top below = record {
   high = subst (λ (n : ℕ). c.board.top ≤ n) (sym top) (same c.board.top);
   within = subst (λ (n : ℕ). segment.end ≤ n) (sym top) below;
   allowed = sent_before segment.end c.board.top (window_end c c.established) below;
+  queued = none_new segment.start segment.end c.board.top c.board.end below;
 }
 
 -- what ordinary sending finds ends in the peer's window
@@ -86,10 +93,17 @@ found_end : (c : ControlBlock) (o : Option Established) (segment : Span) → fou
 found_end c None segment h = absurd cc
 found_end c (Some e) segment h = ordinary_end c e segment h
 
+-- and among what is queued
+found_queued : (c : ControlBlock) (o : Option Established) (segment : Span) → found_on c o ≡ Some segment
+    → c.board.top ≤ segment.start → segment.start < segment.end → segment.end ≤ c.board.end
+found_queued c None segment h = absurd cc
+found_queued c (Some e) segment h = ordinary_queued c e segment h
+
 ordinary_sending : (now : ℕ) (segment : Span) (c : ControlBlock) → found_on c c.established ≡ Some segment
     → IsSending now segment c (past_sacked (sent_on now segment c))
 ordinary_sending now segment c h =
     new_octets now segment c (past_sacked (sent_on now segment c)) refl refl refl (λ _. found_end c c.established segment h)
+    (found_queued c c.established segment h)
 
 -- what is noted leaves the rest
 abbrev bare : ControlBlock → ControlBlock
@@ -109,13 +123,13 @@ entered_bare segment c (Some e) = refl
 
 -- where what step C finds stands
 abbrev StandsOn : ControlBlock → Option Established → NextSegment → Type 0
-StandsOn c o (New segment) = segment.end ≤ window_end c o
+StandsOn c o (New segment) = (segment.end ≤ window_end c o) × (segment.end ≤ c.board.end)
 StandsOn c o (Lost segment) = segment.end ≤ c.board.top
 StandsOn c o (Hole segment) = segment.end ≤ c.board.top
 StandsOn c o (Rescue segment) = segment.end ≤ c.board.top
 
 on_board : (c : ControlBlock) (e : Established) (sent : NextSegment) → Stands e.rwnd c.board sent → StandsOn c (Some e) sent
-on_board c e (New segment) h = h.1
+on_board c e (New segment) h = (h.1, h.2)
 on_board c e (Lost segment) h = h
 on_board c e (Hole segment) h = h
 on_board c e (Rescue segment) h = h
@@ -142,7 +156,7 @@ c_sending now (New segment) c h =
     let left : bare (c_left now (New segment) c) ≡ bare (sent_on now segment c) =
     noted_bare (New segment) (sent_on now segment c) c.established in
     new_octets now segment c (c_left now (New segment) c) (c_still now (New segment) c)
-    (ap (λ (x : ControlBlock). x.timed) left) (ap (λ (x : ControlBlock). x.board.top) left) (λ _. h)
+    (ap (λ (x : ControlBlock). x.timed) left) (ap (λ (x : ControlBlock). x.board.top) left) (λ _. h.0) (λ _ _. h.1)
 c_sending now (Lost segment) c h = c_old now (Lost segment) c refl h
 c_sending now (Hole segment) c h = c_old now (Hole segment) c refl h
 c_sending now (Rescue segment) c h = c_old now (Rescue segment) c refl h
@@ -153,6 +167,11 @@ limited_end : (n : ℕ) (c : ControlBlock) (o : Option Established) (segment : S
 limited_end n c None segment h = absurd cc
 limited_end n c (Some e) segment h = λ new. (limited_flow e.rwnd n c.board e.congestion segment h new).1
 
+-- and among what is queued
+limited_last : (n : ℕ) (c : ControlBlock) (o : Option Established) (segment : Span) → limited_on n c o ≡ Some segment → segment.end ≤ c.board.end
+limited_last n c None segment h = absurd cc
+limited_last n c (Some e) segment h = limited_queued e.rwnd n c.board e.congestion segment h
+
 limited_sending : (now n : ℕ) (segment : Span) (c : ControlBlock) → limited_on n c c.established ≡ Some segment
     → IsSending now segment c (counted_on (octets_of segment) (sent_on now segment c) c.established)
 limited_sending now n segment c h =
@@ -161,7 +180,7 @@ limited_sending now n segment c h =
     new_octets now segment c (counted_on (octets_of segment) (sent_on now segment c) c.established)
     (counted_still (octets_of segment) (sent_on now segment c) c.established refl)
     (ap (λ (x : ControlBlock). x.timed) left) (ap (λ (x : ControlBlock). x.board.top) left)
-    (limited_end n c c.established segment h)
+    (limited_end n c c.established segment h) (λ _ _. limited_last n c c.established segment h)
 
 entry_sending : (now : ℕ) (segment : Span) (c : ControlBlock) → segment.end ≤ c.board.top
     → IsSending now segment c (entered_on segment (clocked now segment c) c.established)
@@ -183,7 +202,7 @@ entry_moved segment c = record {
 
 -- a segment that an ACK names stands there
 abbrev pub IsNamed : ControlBlock → Then → Type 0
-IsNamed c (NewSegment segment) = segment.end ≤ window_end c c.established
+IsNamed c (NewSegment segment) = (segment.end ≤ window_end c c.established) × (segment.end ≤ c.board.end)
 IsNamed c (FastRetransmit segment) = segment.end ≤ c.board.top
 IsNamed c _ = Unit {0}
 
@@ -251,7 +270,7 @@ module _ (now : ℕ) (R : State → State → Type 0) (rules : Goes now R) where
       then_leaves (R s) (R s) (step_c now) (entry now c s) (entry_goes c s e) (λ t so_far. step_c_goes s t so_far)
   led_to_goes c s LimitedTransmit e h = limited_goes s s (rules.none s)
   led_to_goes c s (NewSegment segment) e h =
-      put_goes segment c (sent_on now segment c) s e (new_octets now segment c (sent_on now segment c) refl refl refl (λ _. h))
+      put_goes segment c (sent_on now segment c) s e (new_octets now segment c (sent_on now segment c) refl refl refl (λ _. h.0) (λ _ _. h.1))
   led_to_goes c s (FastRetransmit segment) e h =
       then_leaves (R s) (R s) (ordinary now) (put_segment now segment c (clocked now segment c) s)
       (put_goes segment c (clocked now segment c) s e (old_octets now segment c (clocked now segment c) refl refl refl h))

@@ -1,5 +1,5 @@
 -- Each octet that is put out was sent before, or lies in the peer's window.
-use Rattle.std.proofs.Common.{◌≡◌, ℕ, ◌+◌, ◌-◌, ◌<◌, ◌≤◌, min, max, nat_lt, Bool, true, false, if◌then◌else◌, List, [], ◌∷◌, ◌++◌, Option, None, Some, Ok, Err, length, refl, sym, subst, ap, ◌∙◌, append_assoc, append-nil, arith}
+use Rattle.std.proofs.Common.{◌≡◌, ℕ, ◌+◌, ◌-◌, ◌<◌, ◌≤◌, ◌&&◌, min, max, nat_lt, nat_le, Bool, true, false, if◌then◌else◌, List, [], ◌∷◌, ◌++◌, Option, None, Some, Ok, Err, length, refl, sym, subst, ap, ◌∙◌, append_assoc, append-nil, arith}
 use Rattle.std.specs.List.{AllByRecursion}
 use Rattle.std.proofs.lemmas.Bool.Decides.{nat_tests}
 use Rattle.pd_recover.specs.declared.feedback.Ack.{Ack}
@@ -71,6 +71,34 @@ fin_end x end n h k = omega (arith, h, k)
 
 shorter : (a b : ℕ) → min a b ≤ a
 shorter a b = omega arith
+
+-- a segment of octets that are queued keeps them all in its packet
+last_octet : (x end n : ℕ) → n < end → end ≤ x → x ≤ end → min x (end - 1) + 1 ≡ x
+last_octet x end n h k l = omega (arith, h, k, l)
+
+whole : (x end : ℕ) → x ≤ end → min x end ≡ x
+whole x end h = omega (arith, h)
+
+not_last : (fin : Bool) (start x end : ℕ) → (fin && (nat_lt start end && nat_le end x)) ≡ false → start < x → x ≤ end
+    → min x (if fin then end - 1 else end) ≡ x
+not_last true start x end e some h =
+    let from : nat_lt start end ≡ true = grind (arith, nat_tests, some, h) in
+    let to : nat_le end x ≡ false = subst (λ (b : Bool). (b && nat_le end x) ≡ false) from e in
+    let below : x < end = grind (arith, nat_tests, to) in
+    omega (arith, below)
+not_last false start x end e some h = whole x end h
+
+exact_end : (b : Bool) (c : ControlBlock) (segment : Span) → covers_fin c segment ≡ b → segment.start < segment.end → segment.end ≤ c.board.end
+    → (if b then min segment.end (data_end c) + 1 else min segment.end (data_end c)) ≡ segment.end
+exact_end true c segment e some h =
+    let covered = fin_covered c segment e in
+    let last : data_end c ≡ c.board.end - 1 = ap (λ (x : Bool). if x then c.board.end - 1 else c.board.end) covered.0 in
+    subst (λ (n : ℕ). min segment.end n + 1 ≡ segment.end) (sym last) (last_octet segment.end c.board.end segment.start covered.1 covered.2 h)
+exact_end false c segment e some h = not_last c.fin segment.start segment.end c.board.end e some h
+
+pub packet_is : (c : ControlBlock) (segment : Span) → segment.start < segment.end → segment.end ≤ c.board.end
+    → end_with_fin (data_of c segment) ≡ segment.end
+packet_is c segment some h = exact_end (covers_fin c segment) c segment refl some h
 
 data_ends : (b : Bool) (c : ControlBlock) (segment : Span) → covers_fin c segment ≡ b
     → (if b then min segment.end (data_end c) + 1 else min segment.end (data_end c)) ≤ segment.end
@@ -207,14 +235,15 @@ answered_out now segment s empty = one_out (nat_lt (length s.endpoint.outbox) 10
 -- what an ACK names stands where the connection that it left says
 
 named : (ack : Ack) (c : ControlBlock) (next : Then) → ack.una + ack.rwnd ≡ window_end c c.established → ack.top ≡ c.board.top
-    → IsAllowed ack next → IsNamed c next
-named ack c Ordinary window top h = tt
-named ack c StepC window top h = tt
-named ack c Entry window top h = tt
-named ack c LimitedTransmit window top h = tt
-named ack c (NewSegment segment) window top h = subst (λ (n : ℕ). segment.end ≤ n) window h.1
-named ack c (FastRetransmit segment) window top h = subst (λ (n : ℕ). segment.end ≤ n) top h
-named ack c Nothing window top h = tt
+    → ack.end ≡ c.board.end → IsAllowed ack next → IsNamed c next
+named ack c Ordinary window top end h = tt
+named ack c StepC window top end h = tt
+named ack c Entry window top end h = tt
+named ack c LimitedTransmit window top end h = tt
+named ack c (NewSegment segment) window top end h =
+    (subst (λ (n : ℕ). segment.end ≤ n) window h.1, subst (λ (n : ℕ). segment.end ≤ n) end h.2)
+named ack c (FastRetransmit segment) window top end h = subst (λ (n : ℕ). segment.end ≤ n) top h
+named ack c Nothing window top end h = tt
 
 answer_named : (segment : Segment) (n : ℕ) (fresh : Bool) (before : Established) (c : ControlBlock) (o : Option Established)
     → IsNamed (answering segment n fresh before c o).0 (answering segment n fresh before c o).1
@@ -222,7 +251,7 @@ answer_named segment n fresh before c None = tt
 answer_named segment n fresh before c (Some e) =
     let ack : Ack = ack_of_segment segment n fresh before e c in
     let step : ControlBlock × Then = answering segment n fresh before c (Some e) in
-    named ack step.0 step.1 refl refl (what_follows ack e.congestion)
+    named ack step.0 step.1 refl refl refl (what_follows ack e.congestion)
 
 pub taking_named : (now : ℕ) (segment : Segment) (c : ControlBlock) (o : Option Established)
     → IsNamed (taking now segment c o).0 (taking now segment c o).1

@@ -18,7 +18,7 @@ use Rattle.pd_host.specs.Handshake.{is_opening, begun, answered_syn, syn_uses, s
 use Rattle.pd_host.specs.Packets.{data_of, ack_of, refusal_of, syn_ack_of}
 use Rattle.pd_host.specs.Sender.{beside, with_outbox}
 use Rattle.pd_host.specs.Sending.{places_left, with_block, with_segment}
-use Rattle.pd_host.specs.SendingLaws.{sent_in, timed_in, end_with_fin, LiesBelow, touches, AreApart, IsSentOnce, TimesNew, MeasuresWhatIsSentOnce}
+use Rattle.pd_host.specs.SendingLaws.{sent_in, timed_in, end_with_flags, touches, AreApart, IsSentOnce, TimesNew, MeasuresWhatIsSentOnce}
 use Rattle.pd_host.specs.Timing.{overlaps, timed_after, is_measured, measured, with_sample, with_timer_moved}
 use Rattle.pd_host.specs.declared.established.Established.{Established}
 use Rattle.pd_host.specs.declared.halts.Halt.TheVariants.{Limit, Unsupported}
@@ -30,7 +30,7 @@ use Rattle.pd_host.proofs.Advances.{expiry_finds, expiry_sends}
 use Rattle.pd_host.proofs.CallsGo.{IsQuiet, called_goes}
 use Rattle.pd_host.proofs.Finishes.{after_fin, passed_leaves}
 use Rattle.pd_host.proofs.Goes.{IsSending, IsMoved, Goes, led_to_goes}
-use Rattle.pd_host.proofs.InWindow.{packet_ends, lifted, both_lists, taking_named, taking_top}
+use Rattle.pd_host.proofs.InWindow.{packet_ends, packet_is, taking_named, taking_top}
 use Rattle.pd_host.proofs.Outcomes.{Leaves, came, leaves_too, either, kept}
 
 -- Tests
@@ -78,10 +78,25 @@ apart_both : (x : Timing) (a b : List Sent) → AreApart x a → AreApart x b �
 apart_both x [] b first second = second
 apart_both x (p ∷ a) b first second = (first.0, apart_both x a b first.1 second)
 
-apart_below : (x : Timing) (packets : List Sent) → AllByRecursion (LiesBelow x.segment.start) packets → AreApart x packets
+-- the octets of a packet lie below a number, if it has any
+abbrev IsBelow : ℕ → Sent → Type 0
+IsBelow edge p = p.segment.start < end_with_flags p.segment → end_with_flags p.segment ≤ edge
+
+abbrev AllBelow : ℕ → List Sent → Type 0
+AllBelow edge packets = AllByRecursion (IsBelow edge) packets
+
+lifted : (m n : ℕ) → m ≤ n → (packets : List Sent) → AllBelow m packets → AllBelow n packets
+lifted m n le [] h = tt
+lifted m n le (p ∷ packets) h = (λ lt. lower (end_with_flags p.segment) m n (h.0 lt) le, lifted m n le packets h.1)
+
+both_lists : (n : ℕ) (a b : List Sent) → AllBelow n a → AllBelow n b → AllBelow n (a ++ b)
+both_lists n [] b first second = second
+both_lists n (p ∷ a) b first second = (first.0, both_lists n a b first.1 second)
+
+apart_below : (x : Timing) (packets : List Sent) → AllBelow x.segment.start packets → AreApart x packets
 apart_below x [] h = tt
 apart_below x (p ∷ packets) h = (
-  below_apart (nat_lt p.segment.start (end_with_fin p.segment)) p.segment.start (end_with_fin p.segment) x.segment.start x.segment.end refl h.0,
+  below_apart (nat_lt p.segment.start (end_with_flags p.segment)) p.segment.start (end_with_flags p.segment) x.segment.start x.segment.end refl h.0,
   apart_below x packets h.1,
 )
 
@@ -93,12 +108,13 @@ once_before top x a b apart h = record {
   after = h.after ++ b;
   order = ap (λ (l : List Sent). l ++ b) h.order ∙ append_assoc h.before (h.packet ∷ h.after) b;
   start = h.start;
+  end = h.end;
   moment = h.moment;
   apart_before = h.apart_before;
   apart_after = apart_both x h.after b h.apart_after apart;
 }
 
-once_after : (top next : ℕ) (x : Timing) (a b : List Sent) → top ≤ next → AllByRecursion (LiesBelow next) a → IsSentOnce next x b → IsSentOnce top x (a ++ b)
+once_after : (top next : ℕ) (x : Timing) (a b : List Sent) → top ≤ next → AllBelow next a → IsSentOnce next x b → IsSentOnce top x (a ++ b)
 once_after top next x a b le below h = record {
   above = lower top next x.segment.start le h.above;
   before = a ++ h.before;
@@ -106,6 +122,7 @@ once_after top next x a b le below h = record {
   after = h.after;
   order = ap (λ (l : List Sent). a ++ l) h.order ∙ sym (append_assoc a h.before (h.packet ∷ h.after));
   start = h.start;
+  end = h.end;
   moment = h.moment;
   apart_before = apart_both x a h.before (apart_below x a (lifted next x.segment.start h.above a below)) h.apart_before;
   apart_after = h.apart_after;
@@ -120,7 +137,7 @@ record IsTimed (s t : State) : Type 0 where
   pub packets : List Sent
   pub outbox : t.endpoint.outbox ≡ s.endpoint.outbox ++ packets
   pub high : sent_in s.endpoint.connection ≤ sent_in t.endpoint.connection
-  pub below : AllByRecursion (LiesBelow (sent_in t.endpoint.connection)) packets
+  pub below : AllBelow (sent_in t.endpoint.connection) packets
   pub origin : (x : Timing) → timed_in t.endpoint.connection ≡ Some x → Origin s x packets
 
 same : (n : ℕ) → n ≤ n
@@ -141,7 +158,7 @@ from_first r x a b apart (inl h) = inl (h.0, apart_both x a b h.1 apart)
 from_first r x a b apart (inr h) = inr (once_before (sent_in r.endpoint.connection) x a b apart h)
 
 from_both : (r s : State) (x : Timing) (a b : List Sent) → sent_in r.endpoint.connection ≤ sent_in s.endpoint.connection
-    → AllByRecursion (LiesBelow (sent_in s.endpoint.connection)) a
+    → AllBelow (sent_in s.endpoint.connection) a
     → (timed_in s.endpoint.connection ≡ Some x → Origin r x a) → Origin s x b → Origin r x (a ++ b)
 from_both r s x a b high below first (inl h) = from_first r x a b h.1 (first h.0)
 from_both r s x a b high below first (inr h) = inr (once_after (sent_in r.endpoint.connection) (sent_in s.endpoint.connection) x a b high below h)
@@ -170,10 +187,14 @@ moved c d s e h = record {
 nothing : (x : Timing) → None ≡ Some x → ⊥
 nothing x e = cc
 
-newly_timed : (b : Bool) (now : ℕ) (segment : Span) (c : ControlBlock) (x : Timing) → nat_le c.board.top segment.start ≡ b
+-- octets that weren't sent are queued
+abbrev IsQueuedIfNew : ControlBlock → Span → Type 0
+IsQueuedIfNew c segment = c.board.top ≤ segment.start → segment.start < segment.end → segment.end ≤ c.board.end
+
+newly_timed : (b : Bool) (now : ℕ) (segment : Span) (c : ControlBlock) (x : Timing) → IsQueuedIfNew c segment → nat_le c.board.top segment.start ≡ b
     → (if b then Some (record { segment = segment; sent_at = now }) else None) ≡ Some x
     → IsSentOnce c.board.top x (record { segment = data_of c segment; at = now } ∷ [])
-newly_timed true now segment c x t h =
+newly_timed true now segment c x queued t h =
     let timing : Timing = record { segment = segment; sent_at = now } in
     let packet : Sent = record { segment = data_of c segment; at = now } in
     let is : timing ≡ x = cc in
@@ -184,11 +205,12 @@ newly_timed true now segment c x t h =
       after = [];
       order = refl;
       start = refl;
+      end = λ some. packet_is c segment some (queued (within c.board.top segment.start t) some);
       moment = refl;
       apart_before = tt;
       apart_after = tt;
     })
-newly_timed false now segment c x t h = absurd (nothing x h)
+newly_timed false now segment c x queued t h = absurd (nothing x h)
 
 still_timed : (b : Bool) (now : ℕ) (segment : Span) (c : ControlBlock) (t x : Timing) → overlaps t.segment segment ≡ b
     → (if b then None else Some t) ≡ Some x
@@ -198,16 +220,16 @@ still_timed false now segment c t x o h =
     let packet : Sent = record { segment = data_of c segment; at = now } in
     let is : t ≡ x = cc in
     let apart : touches t packet ≡ false =
-    narrow (nat_lt t.segment.start segment.end) (nat_lt segment.start t.segment.end) segment.start (end_with_fin packet.segment) segment.end t.segment.start t.segment.end
+    narrow (nat_lt t.segment.start segment.end) (nat_lt segment.start t.segment.end) segment.start (end_with_flags packet.segment) segment.end t.segment.start t.segment.end
     refl refl (packet_ends c segment) o in
     (h, (subst (λ (y : Timing). touches y packet ≡ false) is apart, tt))
 
-one_origin : (now : ℕ) (segment : Span) (c : ControlBlock) (o : Option Timing) (x : Timing) → c.timed ≡ o
+one_origin : (now : ℕ) (segment : Span) (c : ControlBlock) (o : Option Timing) (x : Timing) → IsQueuedIfNew c segment → c.timed ≡ o
     → timed_after now segment c.board.top o ≡ Some x
     → ((c.timed ≡ Some x) × AreApart x (record { segment = data_of c segment; at = now } ∷ []))
     ⊎ IsSentOnce c.board.top x (record { segment = data_of c segment; at = now } ∷ [])
-one_origin now segment c None x e h = inr (newly_timed (nat_le c.board.top segment.start) now segment c x refl h)
-one_origin now segment c (Some t) x e h =
+one_origin now segment c None x queued e h = inr (newly_timed (nat_le c.board.top segment.start) now segment c x queued refl h)
+one_origin now segment c (Some t) x queued e h =
     let kept = still_timed (overlaps t.segment segment) now segment c t x refl h in
     inl (e ∙ kept.0, kept.1)
 
@@ -219,10 +241,10 @@ sent now segment c d s e h =
       packets = packet ∷ [];
       outbox = refl;
       high = subst (λ (o : Option ControlBlock). sent_in o ≤ d.board.top) (sym e) h.high;
-      below = (λ lt. lower (end_with_fin packet.segment) segment.end d.board.top (packet_ends c segment) h.within, tt);
+      below = (λ lt. lower (end_with_flags packet.segment) segment.end d.board.top (packet_ends c segment) h.within, tt);
       origin = λ x k.
           subst (λ (o : Option ControlBlock). ((timed_in o ≡ Some x) × AreApart x (packet ∷ [])) ⊎ IsSentOnce (sent_in o) x (packet ∷ [])) (sym e)
-          (one_origin now segment c c.timed x refl (sym h.timed ∙ k));
+          (one_origin now segment c c.timed x h.queued refl (sym h.timed ∙ k));
     }
 
 timed_rules : (now : ℕ) → Goes now IsTimed
@@ -357,6 +379,7 @@ opened_so true now c s e timed =
             after = [];
             order = refl;
             start = refl;
+            end = λ _. refl;
             moment = refl;
             apart_before = tt;
             apart_after = tt;

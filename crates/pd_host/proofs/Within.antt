@@ -1,27 +1,29 @@
--- Ordinary sending puts out nothing that ends beyond the windows.
+-- Ordinary sending puts out nothing that ends beyond the windows, a FIN counted.
 use Rattle.std.proofs.Common.{◌≡◌, ℕ, ◌+◌, ◌≤◌, min, List, [], ◌∷◌, ◌++◌, Option, None, Some, Ok, refl, sym, subst, ap, ◌∙◌, append_assoc, append-nil, arith}
 use Rattle.std.specs.List.{AllByRecursion}
 use Rattle.pd_seg.specs.declared.sack_blocks.Span.{Span}
 use Rattle.pd_seg.specs.declared.segments.Sent.{Sent}
-use Rattle.pd_host.specs.ControlBlock.{ControlBlock, data_end}
+use Rattle.pd_host.specs.ControlBlock.{ControlBlock}
 use Rattle.pd_host.specs.Packets.{data_of}
 use Rattle.pd_host.specs.Sending.{places_left, past_sacked, sent_on, found_on, found, sent_ordinarily, ready, ordinary}
-use Rattle.pd_host.specs.SendingLaws.{edge_on, edge_of}
+use Rattle.pd_host.specs.SendingLaws.{end_with_fin, edge_on, edge_of}
 use Rattle.pd_host.specs.declared.established.Established.{Established}
 use Rattle.pd_host.specs.declared.sender_state.State.{State}
 use Rattle.pd_host.proofs.Chosen.{chosen_within}
+use Rattle.pd_host.proofs.InWindow.{packet_ends}
 use Rattle.pd_host.proofs.Outcomes.{Leaves, came, kept}
 use Rattle.pd_host.proofs.SentOn.{finds, sends}
 
 -- packets were put out that end at this edge at most, which is still that of the connection
 record EndsBelow (edge : ℕ) (s t : State) : Type 0 where
   pub packets : List Sent
-  pub ends : AllByRecursion (λ p. p.segment.end ≤ edge) packets
+  pub ends : AllByRecursion (λ p. end_with_fin p.segment ≤ edge) packets
   pub outbox : t.endpoint.outbox ≡ s.endpoint.outbox ++ packets
   pub stays : edge_of t.endpoint.connection ≡ edge
 
-one_more : (edge : ℕ) (packets : List Sent) (p : Sent) → p.segment.end ≤ edge → AllByRecursion (λ q. q.segment.end ≤ edge) packets
-    → AllByRecursion (λ q. q.segment.end ≤ edge) (packets ++ p ∷ [])
+one_more : (edge : ℕ) (packets : List Sent) (p : Sent) → end_with_fin p.segment ≤ edge
+    → AllByRecursion (λ q. end_with_fin q.segment ≤ edge) packets
+    → AllByRecursion (λ q. end_with_fin q.segment ≤ edge) (packets ++ p ∷ [])
 one_more edge [] p le h = (le, tt)
 one_more edge (q ∷ packets) p le h = (h.0, one_more edge packets p le h.1)
 
@@ -29,8 +31,8 @@ same_edge : (c d : ControlBlock) (o : Option Established) → d.board.una ≡ c.
 same_edge c d None same = refl
 same_edge c d (Some e) same = ap (λ (n : ℕ). n + min e.congestion.cwnd e.rwnd) same
 
-shorter : (a b edge : ℕ) → a ≤ edge → min a b ≤ edge
-shorter a b edge h = omega (arith, h)
+lower : (x m n : ℕ) → x ≤ m → m ≤ n → x ≤ n
+lower x m n h k = omega (arith, h, k)
 
 -- what is found ends below the edge
 found_below : (c : ControlBlock) (o : Option Established) (segment : Span) → found_on c o ≡ Some segment → segment.end ≤ edge_on c o
@@ -46,7 +48,7 @@ one_below edge now segment s t (Some c) e f h =
     let below : segment.end ≤ edge = subst (λ (n : ℕ). segment.end ≤ n) here (found_below c c.established segment f) in
     record {
       packets = h.packets ++ packet ∷ [];
-      ends = one_more edge h.packets packet (shorter segment.end (data_end c) edge below) h.ends;
+      ends = one_more edge h.packets packet (lower (end_with_fin packet.segment) segment.end edge (packet_ends c segment) below) h.ends;
       outbox = ap (λ (l : List Sent). l ++ packet ∷ []) h.outbox ∙ append_assoc s.endpoint.outbox h.packets (packet ∷ []);
       stays = same_edge c (past_sacked (sent_on now segment c)) c.established refl ∙ here;
     }
@@ -70,7 +72,7 @@ all_below now s =
 
 pub ordinary_below : (now : ℕ) (s t : State) → ordinary now s ≡ Ok t
     → (packets : List Sent)
-    × AllByRecursion (λ p. p.segment.end ≤ edge_of s.endpoint.connection) packets
+    × AllByRecursion (λ p. end_with_fin p.segment ≤ edge_of s.endpoint.connection) packets
     × (t.endpoint.outbox ≡ s.endpoint.outbox ++ packets)
 ordinary_below now s t h =
     let below : EndsBelow (edge_of s.endpoint.connection) s t =

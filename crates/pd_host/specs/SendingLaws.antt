@@ -117,7 +117,7 @@ pub record ControlsCongestion : Type 0 where
       (now : ℕ) (s t : State)
       → ordinary now s ≡ Ok t
       → (packets : List Sent)
-      × AllByRecursion (λ p. p.segment.end ≤ edge_of s.endpoint.connection) packets
+      × AllByRecursion (λ p. end_with_fin p.segment ≤ edge_of s.endpoint.connection) packets
       × (t.endpoint.outbox ≡ s.endpoint.outbox ++ packets)
   pub step_c :
       (on_the_way : ℕ) (c : ControlBlock) (e : Established) (sent : NextSegment)
@@ -202,18 +202,22 @@ pub record TimesOnce : Type 0 where
       → (t.segment ≡ segment) × (t.sent_at ≡ now) × (c.board.top ≤ segment.start)
   pub expiry : (at : ℕ) (c : ControlBlock) → (block_expired at c c.established).timed ≡ None
 
+-- the number after the last octet of a segment, a SYN and a FIN counted (RFC 9293, section 3.4)
+abbrev pub end_with_flags : Segment → ℕ
+end_with_flags segment = if segment.flags.syn then end_with_fin segment + 1 else end_with_fin segment
+
 -- a packet has an octet of the timed segment
 abbrev pub touches : Timing → Sent → Bool
 touches x p =
-    let octets : Span = record { start = p.segment.start; end = end_with_fin p.segment } in
+    let octets : Span = record { start = p.segment.start; end = end_with_flags p.segment } in
     nat_lt octets.start octets.end && overlaps x.segment octets
 
 -- no packet has
 abbrev pub AreApart : Timing → List Sent → Type 0
 AreApart x packets = AllByRecursion (λ p. touches x p ≡ false) packets
 
--- the timed segment lies at or above a number and is one of the packets, put out at the moment from which it is timed; no
--- other packet has an octet of it
+-- the timed segment lies at or above a number and is one of the packets, with all its octets, put out at the moment from
+-- which it is timed; no other packet has an octet of it
 pub record IsSentOnce (top : ℕ) (x : Timing) (packets : List Sent) : Type 0 where
   pub above : top ≤ x.segment.start
   pub before : List Sent
@@ -221,6 +225,7 @@ pub record IsSentOnce (top : ℕ) (x : Timing) (packets : List Sent) : Type 0 wh
   pub after : List Sent
   pub order : packets ≡ before ++ packet ∷ after
   pub start : packet.segment.start ≡ x.segment.start
+  pub end : x.segment.start < x.segment.end → end_with_flags packet.segment ≡ x.segment.end
   pub moment : packet.at ≡ x.sent_at
   pub apart_before : AreApart x before
   pub apart_after : AreApart x after
