@@ -13,6 +13,7 @@ use Rattle.pd_host.specs.Arrivals.{ruling_of, ruled, goes_on, with_connection, w
 use Rattle.pd_host.specs.ControlBlock.{ControlBlock}
 use Rattle.pd_host.specs.Handshake.{is_opening, begun, syn_uses}
 use Rattle.pd_host.specs.Packets.{ack_of, refusal_of, syn_ack_of, data_of}
+use Rattle.pd_host.specs.Places.{has_place}
 use Rattle.pd_host.specs.Sender.{beside, with_outbox, put_out}
 use Rattle.pd_host.specs.Sending.{with_block, places_left, sent_on, ordinary}
 use Rattle.pd_host.specs.Timing.{clocked}
@@ -71,7 +72,7 @@ module _ (now : ℕ) (O : List Sent → Type 0) (C D : Settings → ControlBlock
     put_holds : (segment : Span) (before after : ControlBlock) (s : State) → Sends s → D s.settings after
         → Comes Sends (put_segment now segment before after s)
     put_holds segment before after s h d =
-        by_test (Comes Sends) (nat_lt 0 (places_left s)) _ (Err Limit) (λ _. placed now O D more (data_of before segment) after s h d) (λ _. tt)
+        by_test (Comes Sends) (has_place s.endpoint.outbox) _ (Err Limit) (λ _. placed now O D more (data_of before segment) after s h d) (λ _. tt)
 
     entry_holds : (c : ControlBlock) (s : State) → Sends s → D s.settings c → Comes Sends (entry now c s)
     entry_holds c s h d =

@@ -9,6 +9,7 @@ use Rattle.pd_recover.specs.declared.segments.NextSegment.TheVariants.{Lost, New
 use Rattle.pd_seg.specs.declared.sack_blocks.Span.{Span}
 use Rattle.pd_host.specs.Acknowledgments.{OnTheWay, step_c_on, step_c_found, sent_as, noted_on, octets_of, step_c_sent, pipe_of, step_c, limited_on, limited_found, counted_on, limited_sent, limited_transmit, put_segment, entered_on, entry, led_to}
 use Rattle.pd_host.specs.ControlBlock.{ControlBlock}
+use Rattle.pd_host.specs.Places.{has_place}
 use Rattle.pd_host.specs.Sending.{places_left, with_block, past_sacked, sent_on, with_segment, found_on, found, sent_ordinarily, ready, ordinary}
 use Rattle.pd_host.specs.SendingLaws.{window_end}
 use Rattle.pd_host.specs.Timing.{clocked, timed_after}
@@ -252,7 +253,7 @@ module _ (now : ℕ) (R : State → State → Type 0) (rules : Goes now R) where
   put_goes : (segment : Span) (c d : ControlBlock) (s : State) → s.endpoint.connection ≡ Some c → IsSending now segment c d
       → Leaves (R s) (put_segment now segment c d s)
   put_goes segment c d s e h =
-      either (R s) (nat_lt 0 (places_left s)) (Ok (with_segment now segment c d s)) (Err Limit) (rules.sent segment c d s e h) tt
+      either (R s) (has_place s.endpoint.outbox) (Ok (with_segment now segment c d s)) (Err Limit) (rules.sent segment c d s e h) tt
 
   entry_goes : (c : ControlBlock) (s : State) → s.endpoint.connection ≡ Some c → Leaves (R s) (entry now c s)
   entry_goes c s e =

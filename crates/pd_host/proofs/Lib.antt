@@ -33,6 +33,7 @@ pub mod Kept
 pub mod LastOctet
 pub mod Led
 pub mod Moments
+pub mod OneByOne
 pub mod OptionLists
 pub mod Outcomes
 pub mod Passed

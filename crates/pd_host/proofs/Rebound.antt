@@ -10,6 +10,7 @@ use Rattle.pd_settings.specs.declared.fields.Settings.{Settings}
 use Rattle.pd_host.specs.Acknowledgments.{OnTheWay, step_c_sent, sender_of, pipe_of, step_c, limited_sent, limited_transmit, put_segment, entered_on, entry, led_to, taking, taken}
 use Rattle.pd_host.specs.ControlBlock.{ControlBlock}
 use Rattle.pd_host.specs.InputLaws.{rebound}
+use Rattle.pd_host.specs.Places.{has_place}
 use Rattle.pd_host.specs.Sender.{then_on}
 use Rattle.pd_host.specs.Sending.{repeated, places_left, with_block, sent_on, with_segment, sent_ordinarily, ready, sent_until_done, ordinary}
 use Rattle.pd_host.specs.Timing.{clocked}
@@ -74,7 +75,7 @@ limited_again b now s =
 put_again : (b : Settings) (now : ℕ) (segment : Span) (before after : ControlBlock) (s : State)
     → put_segment now segment before after (rebound b s) ≡ again b (put_segment now segment before after s)
 put_again b now segment before after s =
-    either_mapped (rebound b) (nat_lt 0 (places_left s)) (Ok (with_segment now segment before after s)) (Err Limit)
+    either_mapped (rebound b) (has_place s.endpoint.outbox) (Ok (with_segment now segment before after s)) (Err Limit)
     (Ok (with_segment now segment before after (rebound b s))) (Err Limit) refl refl
 
 entry_again : (b : Settings) (now : ℕ) (c : ControlBlock) (s : State) → entry now c (rebound b s) ≡ again b (entry now c s)

@@ -13,6 +13,7 @@ use Rattle.pd_timer.specs.Timer.{initial}
 use Rattle.pd_host.specs.Acknowledgments.{OnTheWay, step_c_found, sent_as, noted_on, octets_of, step_c_sent, sender_of, pipe_of, step_c, limited_found, counted_on, limited_sent, limited_transmit, put_segment, entered_on, entry, led_to}
 use Rattle.pd_host.specs.ControlBlock.{ControlBlock}
 use Rattle.pd_host.specs.Packets.{data_of}
+use Rattle.pd_host.specs.Places.{has_place}
 use Rattle.pd_host.specs.Sending.{places_left, with_block, past_sacked, sent_on, with_segment, found, sent_ordinarily, ready, sent_until_done, ordinary}
 use Rattle.pd_host.specs.Timing.{clocked}
 use Rattle.pd_host.specs.declared.established.Established.{Established}
@@ -214,7 +215,7 @@ limited_transmit_sends now r s h =
 put_sends : (now : ℕ) (segment : Span) (before c : ControlBlock) (s : State) → stills (Some c) ≡ stills s.endpoint.connection
     → Leaves (IsSentOn now s) (put_segment now segment before c s)
 put_sends now segment before c s same =
-    either (IsSentOn now s) (nat_lt 0 (places_left s)) (Ok (with_segment now segment before c s)) (Err Limit)
+    either (IsSentOn now s) (has_place s.endpoint.outbox) (Ok (with_segment now segment before c s)) (Err Limit)
     (one_sent now segment before c s same) tt
 
 pub entered_still : (segment : Span) (c : ControlBlock) (o : Option Established) → c.established ≡ o → still (entered_on segment c o) ≡ still c

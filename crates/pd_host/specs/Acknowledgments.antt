@@ -19,6 +19,7 @@ use Rattle.pd_recover.specs.declared.segments.NextSegment.{NextSegment}
 use Rattle.pd_recover.specs.declared.segments.NextSegment.TheVariants.{New}
 use Rattle.pd_host.specs.ControlBlock.{ControlBlock}
 use Rattle.pd_host.specs.Handshake.{looked_at, window_in, with_window}
+use Rattle.pd_host.specs.Places.{has_place}
 use Rattle.pd_host.specs.Sender.{then_on}
 use Rattle.pd_host.specs.Sending.{IsQueued, repeated, places_left, with_block, with_segment, sent_on, ordinary}
 use Rattle.pd_host.specs.Timing.{clocked, with_sample, with_timer_moved}
@@ -251,7 +252,7 @@ limited_transmit now s = limited_from now (s, pipe_of s.endpoint.connection)
 -- one segment is put out at a moment, where the outbox has a place for it
 abbrev pub put_segment : ℕ → Span → ControlBlock → ControlBlock → State → Result State Halt
 put_segment now segment before after s =
-    if nat_lt 0 (places_left s) then Ok (with_segment now segment before after s) else Err Limit
+    if has_place s.endpoint.outbox then Ok (with_segment now segment before after s) else Err Limit
 
 -- an entry into loss recovery has sent this segment again: HighRxt and RescueRxt are its end (RFC 6675, section 5, step 4.3)
 abbrev pub entered_on : Span → ControlBlock → Option Established → ControlBlock

@@ -1,6 +1,7 @@
 -- The definitions that the contracts cite.
 pub use Rattle.pd_settings.specs.Settings
 pub mod ControlBlock
+pub mod Places
 pub mod Sender
 pub mod Packets
 pub mod Timing

@@ -1,10 +1,11 @@
 -- The sender: what it holds between two inputs, and how a rule changes that or halts.
-use Rattle.std.specs.Prelude.{ℕ, ◌<◌, ◌^◌, nat_lt, List, [], ◌∷◌, ◌++◌, length, drop, Option, Some, None, unwrap_or, Result, Ok, Err, if◌then◌else◌}
+use Rattle.std.specs.Prelude.{ℕ, ◌<◌, ◌^◌, List, [], ◌∷◌, ◌++◌, drop, Option, Some, None, unwrap_or, Result, Ok, Err, if◌then◌else◌}
 use Rattle.pd_settings.specs.Uses.{no_uses}
 use Rattle.pd_settings.specs.declared.fields.Settings.{Settings}
 use Rattle.pd_seg.specs.declared.segments.Segment.{Segment}
 use Rattle.pd_seg.specs.declared.segments.Sent.{Sent}
 use Rattle.pd_host.specs.ControlBlock.{ControlBlock}
+use Rattle.pd_host.specs.Places.{has_place}
 use Rattle.pd_host.specs.declared.endpoint.Endpoint.{Endpoint}
 use Rattle.pd_host.specs.declared.halts.Halt.{Halt}
 use Rattle.pd_host.specs.declared.halts.Halt.TheVariants.{Limit}
@@ -48,12 +49,10 @@ abbrev pub then_on : {A B : Type 0} → (A → Result B Halt) → Result A Halt 
 then_on next (Ok s) = next s
 then_on next (Err halt) = Err halt
 
--- the packets that nobody has taken, with one more: they are at most 1,024 (own profile)
+-- the packets that nobody has taken, with one more, where there is a place for it
 abbrev pub with_packet : ℕ → Segment → List Sent → Result (List Sent) Halt
 with_packet now segment packets =
-    if nat_lt (length packets) 1024
-    then Ok (packets ++ record { segment = segment; at = now } ∷ [])
-    else Err Limit
+    if has_place packets then Ok (packets ++ record { segment = segment; at = now } ∷ []) else Err Limit
 
 -- what comes of the outbox for the whole endpoint
 abbrev pub with_outbox : Endpoint → Result (List Sent) Halt → Result Endpoint Halt

@@ -7,6 +7,7 @@ use Rattle.pd_board.specs.Choice.{run_at}
 use Rattle.pd_board.specs.Scoreboard.{sent_to, skipped}
 use Rattle.pd_host.specs.ControlBlock.{ControlBlock}
 use Rattle.pd_host.specs.Packets.{data_of, covers_fin}
+use Rattle.pd_host.specs.Places.{most_packets, has_place}
 use Rattle.pd_host.specs.Timing.{clocked}
 use Rattle.pd_host.specs.declared.established.Established.{Established}
 use Rattle.pd_host.specs.declared.halts.Halt.{Halt}
@@ -15,9 +16,9 @@ use Rattle.pd_host.specs.declared.sender_state.State.{State}
 
 -- How packets are put out one after the other
 
--- how many packets the outbox still takes: it holds 1,024 (own profile)
+-- how many packets the outbox still takes
 abbrev pub places_left : State → ℕ
-places_left s = 1024 - length s.endpoint.outbox
+places_left s = most_packets - length s.endpoint.outbox
 
 -- a segment is put out at a moment, where the outbox has a place
 abbrev pub with_packet_sent : ℕ → Segment → State → State
@@ -31,15 +32,14 @@ with_block c s = record s { endpoint = record s.endpoint { connection = Some c }
 
 -- what comes next, where the outbox takes one packet more
 abbrev pub with_place : State → State → Result State Halt
-with_place s next = if nat_lt (length s.endpoint.outbox) 1024 then Ok next else Err Limit
+with_place s next = if has_place s.endpoint.outbox then Ok next else Err Limit
 
 -- what was found is done, and the rest follows; where nothing is found, all is done
 abbrev pub on_found : {S X : Type 0} → (S → Result S Halt) → (X → S → S) → S → Option X → Result S Halt
 on_found rest act s None = Ok s
 on_found rest act s (Some x) = rest (act x s)
 
--- what is found is done until nothing more is found, at most n times; each time puts out one packet, so that one more is
--- too many for the outbox
+-- what is found is done until nothing more is found, at most n times; one time more is too many
 abbrev pub repeated : {S X : Type 0} → (S → Option X) → (X → S → S) → ℕ → S → Result S Halt
 repeated find act zero s = if is_some (find s) then Err Limit else Ok s
 repeated find act (suc n) s = on_found (repeated find act n) act s (find s)

@@ -19,10 +19,10 @@ use Rattle.pd_host.specs.Acknowledgments.{OnTheWay, newly_acked, step_c_on, step
 use Rattle.pd_host.specs.Arrivals.{arrived}
 use Rattle.pd_host.specs.Calls.{called, stream_of}
 use Rattle.pd_host.specs.ControlBlock.{ControlBlock, data_end}
-use Rattle.pd_host.specs.Expiries.{deadline_of, due_by, block_expired, expired_by, advanced}
+use Rattle.pd_host.specs.Expiries.{deadline_of, due_by, block_expired, expired_by, expired, advanced}
 use Rattle.pd_host.specs.Packets.{data_of}
 use Rattle.pd_host.specs.Requests.{request_of}
-use Rattle.pd_host.specs.Sending.{repeated, places_left, window_edge, found_on, found, ordinary, is_recovering}
+use Rattle.pd_host.specs.Sending.{repeated, places_left, window_edge, found_on, found, sent_ordinarily, ordinary, is_recovering}
 use Rattle.pd_host.specs.Timing.{overlaps, clocked}
 use Rattle.pd_host.specs.declared.established.Established.{Established}
 use Rattle.pd_host.specs.declared.halts.Halt.{Halt}
@@ -166,6 +166,30 @@ abbrev pub limited_counted : ℕ → State → Result OnTheWay Halt
 limited_counted now s =
     repeated (λ t. limited_found t.1 t.0.endpoint.connection) (λ segment t. limited_sent now segment t.0.endpoint.connection t)
     (places_left s) (s, pipe_of s.endpoint.connection)
+
+-- one packet more stands behind those that nobody has taken
+abbrev pub PutsOutOne : State → State → Type 0
+PutsOutOne s t = (packet : Sent) × (t.endpoint.outbox ≡ s.endpoint.outbox ++ packet ∷ [])
+
+-- each segment that is found, and each expiry that is due, puts out exactly one packet: where the outbox has n places left,
+-- sending and expiries go on at most n times
+pub record SendsOneByOne : Type 0 where
+  pub ordinary :
+      (now : ℕ) (segment : Span) (s : State)
+      → found s.endpoint.connection ≡ Some segment
+      → PutsOutOne s (sent_ordinarily now segment s.endpoint.connection s)
+  pub step_c :
+      (now : ℕ) (sent : NextSegment) (t : OnTheWay)
+      → step_c_found t.1 t.0.endpoint.connection ≡ Some sent
+      → PutsOutOne t.0 (step_c_sent now sent t.0.endpoint.connection t).0
+  pub limited :
+      (now : ℕ) (segment : Span) (t : OnTheWay)
+      → limited_found t.1 t.0.endpoint.connection ≡ Some segment
+      → PutsOutOne t.0 (limited_sent now segment t.0.endpoint.connection t).0
+  pub expiries :
+      (until at : ℕ) (s : State)
+      → due_by until (deadline_of s) ≡ Some at
+      → PutsOutOne s (expired at s.endpoint.connection s)
 
 -- where sending comes to its end, nothing more is found; no expiry is due up to the moment up to which all were performed
 pub record SendsAllThatMay : Type 0 where

@@ -5,7 +5,7 @@ ghost use Rattle.pd_host.specs.Holds.{OpenHoldsSend};
 ghost use Rattle.pd_host.specs.Laws.{StartsUpToDate, AdvancesKeepUp, ArrivalsKeepUp, CallsKeepUp, TakingKeepsUp};
 ghost use Rattle.pd_host.specs.Invariants.{StartsLawful, AdvancesStayLawful, ArrivalsStayLawful, CallsStayLawful, TakingStaysLawful, BoardsAreScoreboards, CallsStayInRange, EndsForGood};
 ghost use Rattle.pd_host.specs.InputLaws.{OutsideIsHarmless, OnlyAnExactRstResets, PutsOutBehind, OnlyUsesMatter, RebindingKeepsUp, CallsPutOutBehind, CallsOnlyUse, AdvancesPutOutBehind, AdvancesUseNone, ArrivalsNote, CallsNote, AdvancesNote};
-ghost use Rattle.pd_host.specs.SendingLaws.{ControlsFlow, StaysInWindow, ControlsCongestion, KeepsToWindow, SendsAllThatMay, TimesOnce, MeasuresWhatIsSentOnce, EndsWithFin, SparesWhatArrived, EndsRecovery};
+ghost use Rattle.pd_host.specs.SendingLaws.{ControlsFlow, StaysInWindow, ControlsCongestion, KeepsToWindow, SendsOneByOne, SendsAllThatMay, TimesOnce, MeasuresWhatIsSentOnce, EndsWithFin, SparesWhatArrived, EndsRecovery};
 
 use pd_recover::recovery_is_lawful;
 use pd_timer::timers_are_lawful;
@@ -48,6 +48,11 @@ pub fn sending_is_lawful()
 {
     recovery_is_lawful();
 }
+
+/// Sending and expiries put out one packet each time that they go on.
+pub fn sending_goes_one_by_one()
+    ensures { SendsOneByOne }
+{}
 
 /// At which moments packets left and the next expiry lies, whatever came in.
 pub fn moments_are_lawful()

@@ -37,7 +37,7 @@ pub use holds::Hold;
 pub use host::Host;
 pub use laws::{
     advances_are_lawful, arrivals_are_lawful, calls_are_lawful, growth_is_lawful, holds_are_lawful,
-    moments_are_lawful, sending_is_lawful, states_are_lawful,
+    moments_are_lawful, sending_goes_one_by_one, sending_is_lawful, states_are_lawful,
 };
 pub use outbox::Outbox;
 pub use requests::{Operation, Request, is_run};

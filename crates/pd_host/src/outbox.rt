@@ -1,6 +1,7 @@
 //! The packets that were put out and not yet taken.
-ghost use Rattle.std.specs.Prelude.{◌≡◌, ◌==◌, [], nat_le, length, option_copied, slice_get, drop, IfOk};
+ghost use Rattle.std.specs.Prelude.{◌≡◌, ◌==◌, [], not, length, option_copied, slice_get, drop, IfOk};
 ghost use Rattle.pd_host.specs.Outcome.{Gives};
+ghost use Rattle.pd_host.specs.Places.{has_place};
 ghost use Rattle.pd_host.specs.Sender.{with_packet};
 
 use crate::halts::{Ending, Halt};
@@ -22,12 +23,13 @@ pub struct Outbox {
 impl Model for Outbox {
     ghost use Rattle.std.specs.Prelude.{List, ◌≤◌, length};
     ghost use Rattle.pd_seg.specs.declared.segments.Sent.{Sent};
+    ghost use Rattle.pd_host.specs.Places.{most_packets};
 
     ghost Value = { List Sent };
 
     ghost view = { λ o. o.packets.items };
 
-    ghost invariant = { λ o. length o.packets.items ≤ 1024 };
+    ghost invariant = { λ o. length o.packets.items ≤ most_packets };
 }
 
 impl Outbox {
@@ -56,7 +58,7 @@ impl Outbox {
 
     /// Whether no further packet may be put out.
     fn is_full(&self) -> bool
-        ensures { result ≡ nat_le 1024 (length self.now) }
+        ensures { result ≡ not (has_place self.now) }
     {
         self.packets.len() >= MAX_PACKETS
     }
