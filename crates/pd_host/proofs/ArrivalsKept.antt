@@ -8,10 +8,10 @@ use Rattle.pd_seg.specs.declared.segments.Sent.{Sent}
 use Rattle.pd_recover.specs.declared.responses.Then.{Then}
 use Rattle.pd_recover.specs.declared.responses.Then.TheVariants.{Ordinary, StepC, Entry, LimitedTransmit, NewSegment, FastRetransmit, Nothing}
 use Rattle.pd_recover.specs.declared.segments.NextSegment.{NextSegment}
-use Rattle.pd_host.specs.Acknowledgments.{OnTheWay, taking, taken, step_c_found, step_c_sent, step_c, sender_of, pipe_of, limited_found, limited_sent, limited_transmit, put_segment, entered_on, entry, led_to}
+use Rattle.pd_host.specs.Acknowledgments.{OnTheWay, taking, taken, step_c_found, step_c_sent, step_c, sender_of, pipe_of, limited_found, limited_sent, transmit_limited, put_segment, entered_on, entry, led_to}
 use Rattle.pd_host.specs.Arrivals.{ruling_of, ruled, goes_on, with_connection, with_peer_fin, finished_on, finished_by, arrived_on, arrived}
 use Rattle.pd_host.specs.ControlBlock.{ControlBlock}
-use Rattle.pd_host.specs.Handshake.{is_opening, begun, syn_uses}
+use Rattle.pd_host.specs.Handshake.{is_opening, block_begun, syn_uses}
 use Rattle.pd_host.specs.Packets.{ack_of, refusal_of, syn_ack_of, data_of}
 use Rattle.pd_host.specs.Places.{has_place}
 use Rattle.pd_host.specs.Sender.{beside, with_outbox, put_out}
@@ -62,7 +62,7 @@ module _ (now : ℕ) (O : List Sent → Type 0) (C D : Settings → ControlBlock
     in_limited None segment t h d e = h
     in_limited (Some c) segment t h d e = placed now O D more _ _ t.0 h ((rules t.0.settings).acks.limited t.1 c segment d e)
 
-    limited_holds : (s : State) → Sends s → Comes Sends (limited_transmit now s)
+    limited_holds : (s : State) → Sends s → Comes Sends (transmit_limited now s)
     limited_holds s h =
         sender_comes Sends _ (repeated_holds (λ (t : OnTheWay). Sends t.0) (λ t. limited_found t.1 t.0.endpoint.connection)
         (λ segment t. limited_sent now segment t.0.endpoint.connection t)
@@ -168,8 +168,8 @@ module _ (now : ℕ) (O : List Sent → Type 0) (C D : Settings → ControlBlock
       opened_holds : (segment : Segment) (s : State) → All s → Comes All (arrived_on now segment s None)
       opened_holds segment s h =
           by_test (Comes All) (is_opening s.endpoint.listener segment) _ (Err Unsupported)
-          (λ e. answers_with (syn_ack_of (begun now s.settings segment)) (record s { uses = syn_uses s.uses })
-          (record s.endpoint { connection = Some (begun now s.settings segment) }) h.packets
+          (λ e. answers_with (syn_ack_of (block_begun now s.settings segment)) (record s { uses = syn_uses s.uses })
+          (record s.endpoint { connection = Some (block_begun now s.settings segment) }) h.packets
           (first s.settings s.endpoint.listener segment e))
           (λ _. tt)
 

@@ -5,7 +5,7 @@ use Rattle.pd_seg.specs.declared.segments.Sent.{Sent}
 use Rattle.pd_host.specs.Arrivals.{ruled, arrived_on, arrived, ruling_of, reset_of, with_peer_fin}
 use Rattle.pd_host.specs.Acknowledgments.{taking, taken}
 use Rattle.pd_host.specs.ControlBlock.{ControlBlock}
-use Rattle.pd_host.specs.Handshake.{is_opening, begun, answered_syn, syn_uses, established_by, establishment_uses}
+use Rattle.pd_host.specs.Handshake.{is_opening, block_begun, answered_syn, syn_uses, established_by, establishment_uses}
 use Rattle.pd_host.specs.InputLaws.{IsBehind, PutsOutBehind}
 use Rattle.pd_host.specs.Packets.{ack_of, refusal_of, syn_ack_of}
 use Rattle.pd_host.specs.Sender.{beside, with_outbox}
@@ -70,8 +70,8 @@ opening now c s =
 
 on_connection : (o : Option ControlBlock) (segment : Segment) (now : ℕ) (s : State) → Leaves (IsBehind now s) (arrived_on now segment s o)
 on_connection None segment now s =
-    either (IsBehind now s) (is_opening s.endpoint.listener segment) (answered_syn now (begun now s.settings segment) s) (Err Unsupported)
-    (opening now (begun now s.settings segment) s) tt
+    either (IsBehind now s) (is_opening s.endpoint.listener segment) (answered_syn now (block_begun now s.settings segment) s) (Err Unsupported)
+    (opening now (block_begun now s.settings segment) s) tt
 on_connection (Some c) segment now s =
     passed_leaves (IsBehind now s) now segment c s (ruling_of c segment) (λ u d e k. fin_behind now s u d k)
     (by_ruling (ruling_of c segment) segment now s c)

@@ -3,7 +3,7 @@ use Rattle.std.proofs.Common.{ℕ, ◌==◌, min, Bool, true, false, not, ◌&&�
 use Rattle.pd_seg.specs.declared.answers.Answer.{Answer}
 use Rattle.pd_seg.specs.declared.answers.Answer.TheVariants.{Number, Error}
 use Rattle.pd_seg.specs.declared.answers.Errno.TheVariants.{Eagain, Epipe}
-use Rattle.pd_host.specs.Calls.{Reply, answered, with_listener, with_stored, with_answer, socket_reply, bind_reply, listen_reply, accept_reply, handed_out, no_delay_reply, free_of, with_queued, write_uses, queued, written_on, write_reply, closed_stream, closed_on, close_reply, operated, on_open, opened, reply_to, requested, called, is_pending, is_waiting, stream_of, with_stream, with_nagle}
+use Rattle.pd_host.specs.Calls.{Reply, answered, with_listener, with_stored, with_answer, socket_reply, bind_reply, listen_reply, accept_reply, handed_out, no_delay_reply, free_of, with_queued, write_uses, queued, written_on, write_reply, closed_stream, closed_on, close_reply, operated, on_open, open_descriptor, reply_to, requested, called, is_pending, is_waiting, stream_of, with_stream, with_nagle}
 use Rattle.pd_host.specs.Requests.{request_of}
 use Rattle.pd_host.specs.ControlBlock.{ControlBlock}
 use Rattle.pd_host.specs.InputLaws.{IsBehind, CallsPutOutBehind}
@@ -125,7 +125,7 @@ open_behind now s o (Some d) = operated_behind now s d o
 
 reply_behind : (now : ℕ) (s : State) (r : Request) → Replies (IsBehind now s) (reply_to now s r)
 reply_behind now s Socket = socket_behind now s s.endpoint.listener
-reply_behind now s (On fd o) = open_behind now s o (opened s.endpoint fd)
+reply_behind now s (On fd o) = open_behind now s o (open_descriptor s.endpoint fd)
 
 requested_behind : (now : ℕ) (s : State) (r : Option Request) → Replies (IsBehind now s) (requested now s r)
 requested_behind now s None = tt

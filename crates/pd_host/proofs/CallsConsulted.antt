@@ -7,7 +7,7 @@ use Rattle.pd_settings.specs.Uses.{Agree}
 use Rattle.pd_settings.specs.declared.fields.Settings.{Settings}
 use Rattle.pd_settings.specs.declared.keys.Key.TheVariants.{Sndbuf}
 use Rattle.pd_settings.specs.declared.use_set.UseSet.{UseSet}
-use Rattle.pd_host.specs.Calls.{Reply, answered, with_listener, with_stored, with_answer, socket_reply, bind_reply, listen_reply, accept_reply, handed_out, no_delay_reply, free_of, with_queued, write_uses, queued, written_on, write_reply, closed_stream, closed_on, close_reply, operated, on_open, opened, reply_to, requested, is_pending, is_waiting, stream_of, with_stream}
+use Rattle.pd_host.specs.Calls.{Reply, answered, with_listener, with_stored, with_answer, socket_reply, bind_reply, listen_reply, accept_reply, handed_out, no_delay_reply, free_of, with_queued, write_uses, queued, written_on, write_reply, closed_stream, closed_on, close_reply, operated, on_open, open_descriptor, reply_to, requested, is_pending, is_waiting, stream_of, with_stream}
 use Rattle.pd_host.specs.Requests.{request_of}
 use Rattle.pd_host.specs.ControlBlock.{ControlBlock}
 use Rattle.pd_host.specs.InputLaws.{CallsOnlyUse, rebound}
@@ -166,7 +166,7 @@ replied_again : (b : Settings) (now : ℕ) (s : State) (r : Request) (t : State)
     → Agree t.uses s.settings b
     → reply_to now (rebound b s) r ≡ reply_again b (reply_to now s r)
 replied_again b now s Socket t a h agree = socket_again b s s.endpoint.listener
-replied_again b now s (On fd o) t a h agree = open_again b now s o (opened s.endpoint fd) t a h agree
+replied_again b now s (On fd o) t a h agree = open_again b now s o (open_descriptor s.endpoint fd) t a h agree
 
 requested_again : (b : Settings) (now : ℕ) (s : State) (r : Option Request) (t : State) (a : Answer)
     → requested now s r ≡ Ok (t, a)

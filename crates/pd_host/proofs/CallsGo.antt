@@ -4,7 +4,7 @@ use Rattle.pd_script.specs.declared.calls.Call.{Call}
 use Rattle.pd_seg.specs.declared.answers.Answer.{Answer}
 use Rattle.pd_seg.specs.declared.answers.Answer.TheVariants.{Number, Error}
 use Rattle.pd_seg.specs.declared.answers.Errno.TheVariants.{Eagain, Epipe}
-use Rattle.pd_host.specs.Calls.{Reply, answered, with_listener, with_stored, with_answer, socket_reply, bind_reply, listen_reply, accept_reply, handed_out, no_delay_reply, free_of, with_queued, write_uses, queued, written_on, write_reply, closed_stream, with_fin, closed_on, close_reply, operated, on_open, opened, reply_to, requested, called, is_pending, is_waiting, stream_of, with_stream, with_nagle}
+use Rattle.pd_host.specs.Calls.{Reply, answered, with_listener, with_stored, with_answer, socket_reply, bind_reply, listen_reply, accept_reply, handed_out, no_delay_reply, free_of, with_queued, write_uses, queued, written_on, write_reply, closed_stream, with_fin, closed_on, close_reply, operated, on_open, open_descriptor, reply_to, requested, called, is_pending, is_waiting, stream_of, with_stream, with_nagle}
 use Rattle.pd_host.specs.ControlBlock.{ControlBlock}
 use Rattle.pd_host.specs.Requests.{request_of}
 use Rattle.pd_host.specs.Sending.{ordinary, ordinary_outside_recovery, is_recovering}
@@ -197,7 +197,7 @@ module _ (now : ℕ) (R : State → State → Type 0) (rules : Goes now R) where
 
   reply_goes : (s : State) (r : Request) → Replies (Went s) (reply_to now s r)
   reply_goes s Socket = socket_goes s s.endpoint.listener
-  reply_goes s (On fd o) = open_goes s o (opened s.endpoint fd)
+  reply_goes s (On fd o) = open_goes s o (open_descriptor s.endpoint fd)
 
   requested_goes : (s : State) (r : Option Request) → Replies (Went s) (requested now s r)
   requested_goes s None = tt

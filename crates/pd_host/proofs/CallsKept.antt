@@ -6,7 +6,7 @@ use Rattle.pd_settings.specs.declared.fields.Settings.{Settings}
 use Rattle.pd_seg.specs.declared.answers.Answer.{Answer}
 use Rattle.pd_seg.specs.declared.answers.Answer.TheVariants.{Number}
 use Rattle.pd_seg.specs.declared.segments.Sent.{Sent}
-use Rattle.pd_host.specs.Calls.{Reply, with_answer, with_listener, with_stored, is_listener_open, is_waiting, is_open, is_stream_open, is_pending, stream_of, opened, socket_reply, bind_reply, listen_reply, handed_out, accept_reply, with_stream, with_nagle, no_delay_reply, free_of, with_queued, write_uses, queued, written_on, write_reply, closed_stream, closed_on, close_reply, operated, on_open, reply_to, requested, called}
+use Rattle.pd_host.specs.Calls.{Reply, with_answer, with_listener, with_stored, is_listener_open, is_waiting, is_open, is_stream_open, is_pending, stream_of, open_descriptor, socket_reply, bind_reply, listen_reply, handed_out, accept_reply, with_stream, with_nagle, no_delay_reply, free_of, with_queued, write_uses, queued, written_on, write_reply, closed_stream, closed_on, close_reply, operated, on_open, reply_to, requested, called}
 use Rattle.pd_host.specs.ControlBlock.{ControlBlock}
 use Rattle.pd_host.specs.Requests.{request_of}
 use Rattle.pd_host.specs.Sending.{is_recovering, ordinary, ordinary_outside_recovery}
@@ -42,7 +42,7 @@ connected_so false true true e = refl
 connected_so false true false e = absurd cc
 connected_so false false is e = absurd cc
 
-pub connected : (e : Endpoint) (fd : ℕ) → opened e fd ≡ Some Connected → is_stream_open e.connection ≡ true
+pub connected : (e : Endpoint) (fd : ℕ) → open_descriptor e fd ≡ Some Connected → is_stream_open e.connection ≡ true
 connected e fd is = connected_so (fd == 3 && is_listener_open e.listener) (fd == 4) (is_stream_open e.connection) is
 
 module _ (now : ℕ) (O : List Sent → Type 0) (C D : Settings → ControlBlock → Type 0) (Q : ControlBlock → Type 0)
@@ -156,7 +156,7 @@ module _ (now : ℕ) (O : List Sent → Type 0) (C D : Settings → ControlBlock
   operated_leaves s d (Write n) q h unclosed = write_leaves s n d q h unclosed
   operated_leaves s d Close q h unclosed = close_leaves s d q h unclosed
 
-  open_leaves : (s : State) (fd : ℕ) (o : Operation) (d : Option Descriptor) → MayCall s → All s → opened s.endpoint fd ≡ d
+  open_leaves : (s : State) (fd : ℕ) (o : Operation) (d : Option Descriptor) → MayCall s → All s → open_descriptor s.endpoint fd ≡ d
       → Leaves All (on_open now s o d)
   open_leaves s fd o None q h is = h
   open_leaves s fd o (Some Listening) q h is = operated_leaves s Listening o q h tt
@@ -164,7 +164,7 @@ module _ (now : ℕ) (O : List Sent → Type 0) (C D : Settings → ControlBlock
 
   reply_leaves : (s : State) (r : Request) → MayCall s → All s → Leaves All (reply_to now s r)
   reply_leaves s Socket q h = socket_leaves s s.endpoint.listener h
-  reply_leaves s (On fd o) q h = open_leaves s fd o (opened s.endpoint fd) q h refl
+  reply_leaves s (On fd o) q h = open_leaves s fd o (open_descriptor s.endpoint fd) q h refl
 
   requested_leaves : (s : State) (r : Option Request) → MayCall s → All s → Leaves All (requested now s r)
   requested_leaves s None q h = tt

@@ -16,7 +16,7 @@ use Rattle.pd_recover.proofs.Chosen.{AllOf, one_of, either_of, map_of, allowed_o
 use Rattle.pd_recover.proofs.Found.{least, greatest}
 use Rattle.pd_seg.specs.declared.sack_blocks.Span.{Span}
 use Rattle.pd_host.specs.ControlBlock.{ControlBlock}
-use Rattle.pd_host.specs.Sending.{window_edge, usable, unsent, sendable, new_segment, leaves_now, next_new, next_again, next_segment}
+use Rattle.pd_host.specs.Sending.{window_edge, usable, unsent, sendable, unsent_segment, leaves_now, next_new, next_again, ordinary_segment}
 use Rattle.pd_host.specs.SendingLaws.{IsInPeersWindow}
 use Rattle.pd_host.specs.declared.established.Established.{Established}
 
@@ -73,8 +73,8 @@ new_end next left edge smss some = omega (arith, some)
 new_within : (c : ControlBlock) (e : Established) → AllOf (λ (segment : Span). (segment.start ≡ c.board.next) × (segment.end ≤ window_edge c e)) (next_new c e)
 new_within c e =
     let P : Span → Type 0 = λ segment. (segment.start ≡ c.board.next) × (segment.end ≤ window_edge c e) in
-    allowed_of P (nat_lt 0 (sendable c e) && leaves_now c e) (Some (new_segment c e)) (λ t.
-    one_of P (new_segment c e)
+    allowed_of P (nat_lt 0 (sendable c e) && leaves_now c e) (Some (unsent_segment c e)) (λ t.
+    one_of P (unsent_segment c e)
     (refl, new_end c.board.next (unsent c) (window_edge c e) c.board.smss (is_above 0 (sendable c e) (first_of_two (nat_lt 0 (sendable c e)) (leaves_now c e) t))))
 
 again_within : (c : ControlBlock) (e : Established) → AllOf (λ (segment : Span). (segment ≡ run_at c.board.next c.board) × (segment.end ≤ window_edge c e)) (next_again c e)
@@ -84,7 +84,7 @@ again_within c e =
     allowed_of P (nat_le segment.end (window_edge c e)) (Some segment) (λ t. one_of P segment (refl, is_within segment.end (window_edge c e) t))
 
 -- nothing is chosen beyond the windows
-pub chosen_within : (c : ControlBlock) (e : Established) → AllOf (λ (segment : Span). segment.end ≤ window_edge c e) (next_segment c e)
+pub chosen_within : (c : ControlBlock) (e : Established) → AllOf (λ (segment : Span). segment.end ≤ window_edge c e) (ordinary_segment c e)
 chosen_within c e =
     branch_of (λ (segment : Span). segment.end ≤ window_edge c e) (nat_lt c.board.next c.board.top) (next_again c e) (next_new c e)
     (λ _ segment h. (again_within c e segment h).1) (λ _ segment h. (new_within c e segment h).1)
@@ -102,14 +102,14 @@ pub in_window : (c : ControlBlock) (e : Established) (segment : Span) → segmen
 in_window c e segment h =
     le_both segment.end (window_edge c e) (c.board.una + e.congestion.cwnd) h (edge_within c.board.una e.congestion.cwnd e.rwnd).0
 
-pub ordinary_end : (c : ControlBlock) (e : Established) → AllOf (λ (segment : Span). segment.end ≤ c.board.una + e.rwnd) (next_segment c e)
+pub ordinary_end : (c : ControlBlock) (e : Established) → AllOf (λ (segment : Span). segment.end ≤ c.board.una + e.rwnd) (ordinary_segment c e)
 ordinary_end c e segment h =
     le_both segment.end (window_edge c e) (c.board.una + e.rwnd) (chosen_within c e segment h) (within_rwnd c e)
 
 same_place : (a next top : ℕ) → a ≡ next → next ≤ top → top ≤ next → a ≡ top
 same_place a next top e le ge = omega (arith, e, le, ge)
 
-pub ordinary_flow : (c : ControlBlock) (e : Established) → c.board.next ≤ c.board.top → AllOf (IsInPeersWindow c.board e.rwnd) (next_segment c e)
+pub ordinary_flow : (c : ControlBlock) (e : Established) → c.board.next ≤ c.board.top → AllOf (IsInPeersWindow c.board e.rwnd) (ordinary_segment c e)
 ordinary_flow c e order =
     branch_of (IsInPeersWindow c.board e.rwnd) (nat_lt c.board.next c.board.top) (next_again c e) (next_new c e)
     (λ _ segment h. sent_before c.board e.rwnd segment
@@ -130,15 +130,15 @@ none_new start end top last below above some = absurd (omega (arith, below, abov
 unsent_end : (next end usable smss : ℕ) → next < next + min (min (end - next) usable) smss → next + min (min (end - next) usable) smss ≤ end
 unsent_end next end usable smss some = omega (arith, some)
 
-pub ordinary_queued : (c : ControlBlock) (e : Established) → AllOf (IsQueuedIfNew c.board) (next_segment c e)
+pub ordinary_queued : (c : ControlBlock) (e : Established) → AllOf (IsQueuedIfNew c.board) (ordinary_segment c e)
 ordinary_queued c e =
     branch_of (IsQueuedIfNew c.board) (nat_lt c.board.next c.board.top) (next_again c e) (next_new c e)
     (λ _ segment h above some.
     none_new segment.start segment.end c.board.top c.board.end
     (subst (λ (x : Span). x.end ≤ c.board.top) (sym (again_within c e segment h).0) (run_end c.board c.board.next)) above some)
     (λ _.
-    allowed_of (IsQueuedIfNew c.board) (nat_lt 0 (sendable c e) && leaves_now c e) (Some (new_segment c e)) (λ _.
-    one_of (IsQueuedIfNew c.board) (new_segment c e) (λ _ some. unsent_end c.board.next c.board.end (usable c e) c.board.smss some)))
+    allowed_of (IsQueuedIfNew c.board) (nat_lt 0 (sendable c e) && leaves_now c e) (Some (unsent_segment c e)) (λ _.
+    one_of (IsQueuedIfNew c.board) (unsent_segment c e) (λ _ some. unsent_end c.board.next c.board.end (usable c e) c.board.smss some)))
 
 -- Loss recovery
 
@@ -220,7 +220,7 @@ above_spared : (s : Scoreboard) (segment : Span) → IsScoreboard s → s.top �
 above_spared s segment known above x from to =
     sure (contains s.sacked x) (λ t. too_high x segment.start s.top above from (known.sacked_sent x t).1)
 
-pub ordinary_spared : SparesSacked → (c : ControlBlock) (e : Established) → IsScoreboard c.board → AllOf (IsSpared c.board) (next_segment c e)
+pub ordinary_spared : SparesSacked → (c : ControlBlock) (e : Established) → IsScoreboard c.board → AllOf (IsSpared c.board) (ordinary_segment c e)
 ordinary_spared spares c e known =
     branch_of (IsSpared c.board) (nat_lt c.board.next c.board.top) (next_again c e) (next_new c e)
     (λ _ segment h. subst (IsSpared c.board) (sym (again_within c e segment h).0) (spares.again c.board c.board.next))

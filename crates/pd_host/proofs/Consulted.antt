@@ -13,7 +13,7 @@ use Rattle.pd_seg.specs.declared.segments.Sent.{Sent}
 use Rattle.pd_timer.specs.Timer.{initial, started}
 use Rattle.pd_host.specs.Arrivals.{ruled, goes_on, finished_on, finished_by, arrived_on, ruling_of, with_connection}
 use Rattle.pd_host.specs.ControlBlock.{ControlBlock}
-use Rattle.pd_host.specs.Handshake.{is_opening, begun, answered_syn, established_by, window_in, syn_acked, syn_octet, syn_uses, establishment_uses, offered_mss, offered_count, offers_sack}
+use Rattle.pd_host.specs.Handshake.{is_opening, block_begun, answered_syn, established_by, window_in, syn_acked, syn_octet, syn_uses, establishment_uses, offered_mss, offered_count, offers_sack}
 use Rattle.pd_host.specs.InputLaws.{OnlyUsesMatter, rebound}
 use Rattle.pd_host.specs.Packets.{syn_ack_of}
 use Rattle.pd_host.specs.Sender.{beside, with_outbox, put_out, then_on}
@@ -55,7 +55,7 @@ begun_with mss sack wscale rcv_wnd least greatest now syn = record {
 
 begun_same : (a b : Settings) (now : ℕ) (syn : Segment)
     → a.mss ≡ b.mss → a.sack ≡ b.sack → a.wscale ≡ b.wscale → a.rcv_wnd ≡ b.rcv_wnd → a.min_rto_us ≡ b.min_rto_us → a.max_rto_us ≡ b.max_rto_us
-    → begun now b syn ≡ begun now a syn
+    → block_begun now b syn ≡ block_begun now a syn
 begun_same a b now syn m k w r least greatest =
     ap (λ (x : ℕ). begun_with x b.sack b.wscale b.rcv_wnd b.min_rto_us b.max_rto_us now syn) (sym m)
     ∙ ap (λ (x : Bool). begun_with a.mss x b.wscale b.rcv_wnd b.min_rto_us b.max_rto_us now syn) (sym k)
@@ -72,14 +72,14 @@ syn_consults true packets e s t h = cc
 syn_consults false packets e s t h = absurd cc
 
 opening : (o : Bool) (segment : Segment) (now : ℕ) (s t : State) (b : Settings)
-    → (if o then answered_syn now (begun now s.settings segment) s else Err Unsupported) ≡ Ok t
+    → (if o then answered_syn now (block_begun now s.settings segment) s else Err Unsupported) ≡ Ok t
     → Agree t.uses s.settings b
-    → (if o then answered_syn now (begun now b segment) (rebound b s) else Err Unsupported)
-    ≡ again b (if o then answered_syn now (begun now s.settings segment) s else Err Unsupported)
+    → (if o then answered_syn now (block_begun now b segment) (rebound b s) else Err Unsupported)
+    ≡ again b (if o then answered_syn now (block_begun now s.settings segment) s else Err Unsupported)
 opening true segment now s t b h agree =
-    let c : ControlBlock = begun now s.settings segment in
+    let c : ControlBlock = block_begun now s.settings segment in
     let uses : t.uses ≡ syn_uses s.uses = syn_consults (nat_lt (length s.endpoint.outbox) 1024) _ (record s.endpoint { connection = Some c }) s t h in
-    let same : begun now b segment ≡ c =
+    let same : block_begun now b segment ≡ c =
     begun_same s.settings b now segment (number_of (agree Mss (ap (λ (u : UseSet). u.mss) uses))) (truth_of (agree Sack (ap (λ (u : UseSet). u.sack) uses))) (number_of (agree Wscale (ap (λ (u : UseSet). u.wscale) uses))) (number_of (agree RcvWnd (ap (λ (u : UseSet). u.rcv_wnd) uses))) (number_of (agree MinRtoUs (ap (λ (u : UseSet). u.min_rto_us) uses))) (number_of (agree MaxRtoUs (ap (λ (u : UseSet). u.max_rto_us) uses))) in
     ap (λ (x : ControlBlock). answered_syn now x (rebound b s)) same
     ∙ beside_again b (record s { uses = syn_uses s.uses }) (put_out now (syn_ack_of c) (record s.endpoint { connection = Some c }))

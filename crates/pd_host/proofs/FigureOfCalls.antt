@@ -6,7 +6,7 @@ use Rattle.pd_script.specs.declared.calls.Call.{Call}
 use Rattle.pd_seg.specs.declared.answers.Answer.{Answer}
 use Rattle.pd_seg.specs.declared.answers.Answer.TheVariants.{Number, Error}
 use Rattle.pd_seg.specs.declared.answers.Errno.TheVariants.{Eagain, Epipe}
-use Rattle.pd_host.specs.Calls.{answered, with_listener, with_stored, socket_reply, bind_reply, listen_reply, accept_reply, handed_out, no_delay_reply, free_of, with_queued, write_uses, queued, written_on, write_reply, closed_stream, with_fin, closed_on, close_reply, operated, on_open, opened, requested, called, is_open, is_pending, is_waiting, is_stream_open, stream_in, stream_of, with_stream, with_nagle}
+use Rattle.pd_host.specs.Calls.{answered, with_listener, with_stored, socket_reply, bind_reply, listen_reply, accept_reply, handed_out, no_delay_reply, free_of, with_queued, write_uses, queued, written_on, write_reply, closed_stream, with_fin, closed_on, close_reply, operated, on_open, open_descriptor, requested, called, is_open, is_pending, is_waiting, is_stream_open, stream_in, stream_of, with_stream, with_nagle}
 use Rattle.pd_host.specs.ConnStates.{synchronized, state_since, state_of, state_on, conn_state}
 use Rattle.pd_host.specs.ControlBlock.{ControlBlock, peer_fin_in}
 use Rattle.pd_host.specs.Expiries.{block_expired, expired, advanced}
@@ -270,7 +270,7 @@ module _ (now : ℕ) (s : State) (h : IsLawful now s) where
   operated_moves d (Write n) unclosed = write_row n d unclosed
   operated_moves d Close unclosed = close_row d unclosed
 
-  open_moves : (fd : ℕ) (o : Operation) (d : Option Descriptor) → opened s.endpoint fd ≡ d → Replies (Moves (conn_state s)) (on_open now s o d)
+  open_moves : (fd : ℕ) (o : Operation) (d : Option Descriptor) → open_descriptor s.endpoint fd ≡ d → Replies (Moves (conn_state s)) (on_open now s o d)
   open_moves fd o None e = inl refl
   open_moves fd o (Some Listening) e = operated_moves Listening o tt
   open_moves fd o (Some Connected) e = operated_moves Connected o (connected s.endpoint fd e)
@@ -278,7 +278,7 @@ module _ (now : ℕ) (s : State) (h : IsLawful now s) where
   requested_moves : (r : Option Request) → Replies (Moves (conn_state s)) (requested now s r)
   requested_moves None = tt
   requested_moves (Some Socket) = socket_moves s s.endpoint.listener refl
-  requested_moves (Some (On fd o)) = open_moves fd o (opened s.endpoint fd) refl
+  requested_moves (Some (On fd o)) = open_moves fd o (open_descriptor s.endpoint fd) refl
 
 pub calls_move : (call : Call) (now : ℕ) (s t : State) (answer : Answer) → IsLawful now s → called call now s ≡ Ok (t, answer)
     → MovesByCall (conn_state s) (conn_state t)

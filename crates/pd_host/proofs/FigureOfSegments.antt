@@ -11,7 +11,7 @@ use Rattle.pd_host.specs.Calls.{stream_in}
 use Rattle.pd_host.specs.ConnStates.{state_since, state_of, state_on, conn_state, is_closed}
 use Rattle.pd_host.specs.ControlBlock.{ControlBlock, peer_fin_in, rcv_nxt}
 use Rattle.pd_host.specs.Figure.{MovesBySegment}
-use Rattle.pd_host.specs.Handshake.{is_listening, length_of, is_opening, begun, answered_syn, syn_uses, established_by, syn_acked}
+use Rattle.pd_host.specs.Handshake.{is_listening, length_of, is_opening, block_begun, answered_syn, syn_uses, established_by, syn_acked}
 use Rattle.pd_host.specs.Invariants.{IsReached, IsLawful}
 use Rattle.pd_host.specs.Sender.{beside, with_outbox}
 use Rattle.pd_host.specs.Sending.{with_block}
@@ -239,12 +239,12 @@ listens_so l h = ap (λ (b : Bool). if b then Listen else Closed) h
 
 begins : (b : Bool) (packets : List Sent) (segment : Segment) (now : ℕ) (s : State) (a : ConnState) → a ≡ Listen
     → Leaves (λ t. MovesBySegment segment a (conn_state t))
-    (beside (record s { uses = syn_uses s.uses }) (with_outbox (record s.endpoint { connection = Some (begun now s.settings segment) }) (if b then Ok packets else Err Limit)))
+    (beside (record s { uses = syn_uses s.uses }) (with_outbox (record s.endpoint { connection = Some (block_begun now s.settings segment) }) (if b then Ok packets else Err Limit)))
 begins true packets segment now s a e = subst (λ (x : ConnState). MovesBySegment segment x SynReceived) (sym e) (inr (inl refl))
 begins false packets segment now s a e = tt
 
 opens : (b : Bool) (segment : Segment) (now : ℕ) (s : State) (a : ConnState) → (b ≡ true → a ≡ Listen)
-    → Leaves (λ t. MovesBySegment segment a (conn_state t)) (if b then answered_syn now (begun now s.settings segment) s else Err Unsupported)
+    → Leaves (λ t. MovesBySegment segment a (conn_state t)) (if b then answered_syn now (block_begun now s.settings segment) s else Err Unsupported)
 opens true segment now s a e = begins (nat_lt (length s.endpoint.outbox) 1024) _ segment now s a (e refl)
 opens false segment now s a e = tt
 

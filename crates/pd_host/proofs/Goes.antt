@@ -7,7 +7,7 @@ use Rattle.pd_recover.specs.declared.responses.Then.TheVariants.{Ordinary, StepC
 use Rattle.pd_recover.specs.declared.segments.NextSegment.{NextSegment}
 use Rattle.pd_recover.specs.declared.segments.NextSegment.TheVariants.{Lost, New, Hole, Rescue}
 use Rattle.pd_seg.specs.declared.sack_blocks.Span.{Span}
-use Rattle.pd_host.specs.Acknowledgments.{OnTheWay, step_c_on, step_c_found, sent_as, noted_on, octets_of, step_c_sent, pipe_of, step_c, limited_on, limited_found, counted_on, limited_sent, limited_transmit, put_segment, entered_on, entry, led_to}
+use Rattle.pd_host.specs.Acknowledgments.{OnTheWay, step_c_on, step_c_found, sent_as, noted_on, octets_of, step_c_sent, pipe_of, step_c, limited_on, limited_found, counted_on, limited_sent, transmit_limited, put_segment, entered_on, entry, led_to}
 use Rattle.pd_host.specs.ControlBlock.{ControlBlock}
 use Rattle.pd_host.specs.Places.{has_place}
 use Rattle.pd_host.specs.Sending.{places_left, with_block, past_sacked, sent_on, with_segment, found_on, found, sent_ordinarily, ready, ordinary}
@@ -243,7 +243,7 @@ module _ (now : ℕ) (R : State → State → Type 0) (rules : Goes now R) where
   limited_once segment t (Some c) e h =
       rules.sent segment c (counted_on (octets_of segment) (sent_on now segment c) c.established) t.0 e (limited_sending now t.1 segment c h)
 
-  pub limited_goes : (r s : State) → R r s → Leaves (R r) (limited_transmit now s)
+  pub limited_goes : (r s : State) → R r s → Leaves (R r) (transmit_limited now s)
   limited_goes r s h =
       sender_leaves (R r) _
       (kept (λ t. R r t.0) limited_finds (limited_sends now)

@@ -11,7 +11,7 @@ use Rattle.pd_board.specs.Scoreboard.{Scoreboard, marked, has_new}
 use Rattle.pd_recover.specs.declared.segments.NextSegment.{NextSegment}
 use Rattle.pd_recover.specs.declared.segments.NextSegment.TheVariants.{Lost, New, Hole, Rescue}
 use Rattle.pd_host.specs.Acknowledgments.{is_block_sent, told_block, told_blocks, blocks_of, scored, with_number, with_blocks, newly_acked, with_timing, with_new_window, is_current, noted_on, sent_as, counted_on, octets_of, entered_on, with_ack, answering, taking}
-use Rattle.pd_host.specs.Calls.{Reply, answered, with_listener, with_stored, with_stream, with_nagle, with_queued, with_fin, with_answer, socket_reply, bind_reply, listen_reply, accept_reply, handed_out, no_delay_reply, queued, free_of, write_uses, written_on, write_reply, closed_stream, closed_on, close_reply, operated, on_open, opened, requested, called, is_pending, is_waiting, stream_of}
+use Rattle.pd_host.specs.Calls.{Reply, answered, with_listener, with_stored, with_stream, with_nagle, with_queued, with_fin, with_answer, socket_reply, bind_reply, listen_reply, accept_reply, handed_out, no_delay_reply, queued, free_of, write_uses, written_on, write_reply, closed_stream, closed_on, close_reply, operated, on_open, open_descriptor, requested, called, is_pending, is_waiting, stream_of}
 use Rattle.pd_host.specs.ControlBlock.{ControlBlock}
 use Rattle.pd_host.specs.Expiries.{advanced, deadline_of, due_by, expired, expired_on}
 use Rattle.pd_host.specs.Growth.{asked_by, ExpiriesQueueNothing, ArrivalsQueueOurSyn, CallsQueueWhatTheyAsk}
@@ -297,7 +297,7 @@ open_ends now fd s o (Some d) = operated_ends now fd s d o
 requested_ends : (now : ℕ) (s : State) (r : Option Request) → AtMost (queued_to s.endpoint.connection + asked_by r) (requested now s r)
 requested_ends now s None = tt
 requested_ends now s (Some Socket) = socket_ends (queued_to s.endpoint.connection + 0) s s.endpoint.listener (more (queued_to s.endpoint.connection) 0)
-requested_ends now s (Some (On fd o)) = open_ends now fd s o (opened s.endpoint fd)
+requested_ends now s (Some (On fd o)) = open_ends now fd s o (open_descriptor s.endpoint fd)
 
 pub calls_queue_what_they_ask : CallsQueueWhatTheyAsk
 calls_queue_what_they_ask call now s t answer is =

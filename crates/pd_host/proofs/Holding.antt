@@ -5,7 +5,7 @@ use Rattle.pd_seg.specs.declared.sack_blocks.Span.{Span}
 use Rattle.pd_board.specs.Choice.{run_at}
 use Rattle.pd_host.specs.ControlBlock.{ControlBlock}
 use Rattle.pd_host.specs.Holds.{is_enough, hold_of_new, is_open, OpenHoldsSend}
-use Rattle.pd_host.specs.Sending.{window_edge, sendable, new_segment, is_full, is_all, is_half_window, is_held_back, leaves_now, next_new, next_again}
+use Rattle.pd_host.specs.Sending.{window_edge, sendable, unsent_segment, is_full, is_all, is_half_window, is_held_back, leaves_now, next_new, next_again}
 use Rattle.pd_host.specs.declared.established.Established.{Established}
 use Rattle.pd_host.specs.declared.holds.Hold.TheVariants.{AllSent, PeerWindow, CongestionWindow, PartOfSegment, Nagle, Open}
 use Rattle.pd_host.proofs.Runs.{run_within}
@@ -66,7 +66,7 @@ by c e some sent queued false before =
     opens (nat_le c.board.end c.board.next) (nat_le (c.board.una + e.rwnd) c.board.next) (nat_le (c.board.una + e.congestion.cwnd) c.board.next) false (is_enough c e) (leaves_now c e)
     ∙ (joined (not (nat_le c.board.end c.board.next)) (not (nat_le (c.board.una + e.rwnd) c.board.next)) (not (nat_le (c.board.una + e.congestion.cwnd) c.board.next)) (is_full c e) (is_all c e || is_half_window c e) (is_held_back c e)
     ∙ (ap (λ b. b && leaves_now c e) (some_within c.board.una e.rwnd e.congestion.cwnd c.board.next c.board.end)
-    ∙ sym (found_where (nat_lt 0 (sendable c e) && leaves_now c e) (new_segment c e))))
+    ∙ sym (found_where (nat_lt 0 (sendable c e) && leaves_now c e) (unsent_segment c e))))
 
 pub open_holds_send : OpenHoldsSend
 open_holds_send c e some sent queued = by c e some sent queued (nat_lt c.board.next c.board.top) refl

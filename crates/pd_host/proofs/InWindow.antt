@@ -17,7 +17,7 @@ use Rattle.pd_host.specs.Calls.{called}
 use Rattle.pd_host.specs.Arrivals.{ruled, arrived_on, arrived, ruling_of, reset_of, with_peer_fin}
 use Rattle.pd_host.specs.ControlBlock.{ControlBlock, data_end}
 use Rattle.pd_host.specs.Expiries.{first_again, segment_again, block_expired, expired, advanced}
-use Rattle.pd_host.specs.Handshake.{is_opening, begun, answered_syn, syn_uses, established_by, establishment_uses}
+use Rattle.pd_host.specs.Handshake.{is_opening, block_begun, answered_syn, syn_uses, established_by, establishment_uses}
 use Rattle.pd_host.specs.Packets.{data_of, covers_fin, ack_of, refusal_of, syn_ack_of}
 use Rattle.pd_host.specs.Sender.{beside, with_outbox}
 use Rattle.pd_host.specs.Sending.{places_left, with_block, with_segment}
@@ -314,7 +314,7 @@ fin_in_window now s u c e h =
 on_connection : (o : Option ControlBlock) (segment : Segment) (now : ℕ) (s : State) → s.endpoint.connection ≡ o
     → Leaves (PutsOutInWindow s) (arrived_on now segment s o)
 on_connection None segment now s e =
-    let c : ControlBlock = begun now s.settings segment in
+    let c : ControlBlock = block_begun now s.settings segment in
     either (PutsOutInWindow s) (is_opening s.endpoint.listener segment) (answered_syn now c s) (Err Unsupported)
     (one_out (nat_lt (length s.endpoint.outbox) 1024) now (syn_ack_of c) (record s { uses = syn_uses s.uses }) s
     (record s.endpoint { connection = Some c }) refl (below_self 0)) tt

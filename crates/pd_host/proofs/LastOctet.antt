@@ -6,7 +6,7 @@ use Rattle.pd_seg.specs.declared.answers.Answer.{Answer}
 use Rattle.pd_seg.specs.declared.answers.Answer.TheVariants.{Number, Error}
 use Rattle.pd_seg.specs.declared.answers.Errno.TheVariants.{Eagain, Epipe}
 use Rattle.pd_seg.specs.declared.sack_blocks.Span.{Span}
-use Rattle.pd_host.specs.Calls.{Reply, answered, with_listener, with_stored, socket_reply, bind_reply, listen_reply, accept_reply, handed_out, no_delay_reply, free_of, with_queued, write_uses, queued, written_on, write_reply, operated, on_open, opened, reply_to, requested, called, is_pending, is_waiting, is_open, is_stream_open, is_listener_open, stream_of, with_stream, with_nagle}
+use Rattle.pd_host.specs.Calls.{Reply, answered, with_listener, with_stored, socket_reply, bind_reply, listen_reply, accept_reply, handed_out, no_delay_reply, free_of, with_queued, write_uses, queued, written_on, write_reply, operated, on_open, open_descriptor, reply_to, requested, called, is_pending, is_waiting, is_open, is_stream_open, is_listener_open, stream_of, with_stream, with_nagle}
 use Rattle.pd_host.specs.ControlBlock.{ControlBlock, data_end}
 use Rattle.pd_host.specs.Packets.{data_of}
 use Rattle.pd_host.specs.Requests.{request_of}
@@ -67,7 +67,7 @@ connected_so false false stands e = absurd (nothing Connected e)
 equal : (m n : ℕ) → (m == n) ≡ true → m ≡ n
 equal m n h = grind (arith, nat_tests)
 
-is_connected : (e : Endpoint) (fd : ℕ) → opened e fd ≡ Some Connected → ((fd == 4) ≡ true) × (is_stream_open e.connection ≡ true)
+is_connected : (e : Endpoint) (fd : ℕ) → open_descriptor e fd ≡ Some Connected → ((fd == 4) ≡ true) × (is_stream_open e.connection ≡ true)
 is_connected e fd h = connected_so (fd == 3 && is_listener_open e.listener) (fd == 4) (is_stream_open e.connection) h
 
 -- Only `close` queues the FIN
@@ -133,7 +133,7 @@ write_fin now s n Listening = refl
 write_fin now s n Connected = written_fin now n s s.endpoint.connection refl
 
 -- what is asked of an open descriptor leaves the FIN, or is the closing of the connection's
-operated_fin : (now fd : ℕ) (s : State) (d : Option Descriptor) (o : Operation) → opened s.endpoint fd ≡ d
+operated_fin : (now fd : ℕ) (s : State) (d : Option Descriptor) (o : Operation) → open_descriptor s.endpoint fd ≡ d
     → (On fd o ≡ On 4 Close) ⊎ Replies (SameFin s) (on_open now s o d)
 operated_fin now fd s None o e = inr refl
 operated_fin now fd s (Some d) Bind e = inr (bind_fin s s.endpoint.listener d)
@@ -150,7 +150,7 @@ operated_fin now fd s (Some Connected) Close e =
 
 reply_fin : (now : ℕ) (s : State) (r : Request) → (r ≡ On 4 Close) ⊎ Replies (SameFin s) (reply_to now s r)
 reply_fin now s Socket = inr (socket_fin s s.endpoint.listener)
-reply_fin now s (On fd o) = operated_fin now fd s (opened s.endpoint fd) o refl
+reply_fin now s (On fd o) = operated_fin now fd s (open_descriptor s.endpoint fd) o refl
 
 -- a call that queued the FIN
 abbrev Queues : State → State → Type 0
@@ -222,7 +222,7 @@ listening_same now s c Close e closed =
     either_reply (SameConnection s) (is_pending s.endpoint.connection) (Err Unsupported) (answered (with_listener Closed s) (Number 0)) tt refl
 
 open_same : (now fd : ℕ) (s : State) (c : ControlBlock) (o : Operation) (d : Option Descriptor) → s.endpoint.connection ≡ Some c → stream_of c ≡ stream.Closed
-    → opened s.endpoint fd ≡ d → Replies (SameConnection s) (on_open now s o d)
+    → open_descriptor s.endpoint fd ≡ d → Replies (SameConnection s) (on_open now s o d)
 open_same now fd s c o None e closed h = refl
 open_same now fd s c o (Some Listening) e closed h = listening_same now s c o e closed
 open_same now fd s c o (Some Connected) e closed h =
@@ -232,7 +232,7 @@ reply_same : (now : ℕ) (s : State) (c : ControlBlock) (o : Option Request) →
     → Replies (SameConnection s) (requested now s o)
 reply_same now s c None e closed = tt
 reply_same now s c (Some Socket) e closed = socket_same s s.endpoint.listener
-reply_same now s c (Some (On fd o)) e closed = open_same now fd s c o (opened s.endpoint fd) e closed refl
+reply_same now s c (Some (On fd o)) e closed = open_same now fd s c o (open_descriptor s.endpoint fd) e closed refl
 
 pub closed_stays : (call : Call) (now : ℕ) (s t : State) (a : Answer) (c : ControlBlock)
     → s.endpoint.connection ≡ Some c → stream_of c ≡ stream.Closed → called call now s ≡ Ok (t, a) → t.endpoint.connection ≡ Some c

@@ -2,10 +2,11 @@
 use Rattle.std.proofs.Common.{◌≡◌, ℕ, Option, Some, None, Ok, refl, sym, ap, ◌∙◌}
 use Rattle.pd_seg.specs.declared.sack_blocks.Span.{Span}
 use Rattle.pd_recover.specs.declared.responses.Then.TheVariants.{Ordinary, StepC, Entry, LimitedTransmit, FastRetransmit}
-use Rattle.pd_host.specs.Acknowledgments.{step_c, limited_transmit, put_again, entry_on, led_on}
+use Rattle.pd_host.specs.Acknowledgments.{step_c, transmit_limited}
 use Rattle.pd_host.specs.ControlBlock.{ControlBlock}
 use Rattle.pd_host.specs.Sender.{then_on}
 use Rattle.pd_host.specs.Sending.{found, ready, sent_until_done, ordinary}
+use Rattle.pd_host.specs.Steps.{put_again, entry_on, led_on}
 use Rattle.pd_host.specs.declared.sender_state.State.{State}
 use Rattle.pd_host.proofs.Recovering.{nothing_lost, nothing_limited}
 use Rattle.pd_host.proofs.Sends.{sending_done}
@@ -22,7 +23,7 @@ pub led_step_c : (now : ℕ) (s : State) (o : Option ControlBlock) → s.endpoin
 led_step_c now s None none = sym (nothing_lost now s none)
 led_step_c now s (Some c) begun = refl
 
-pub led_limited : (now : ℕ) (s : State) (o : Option ControlBlock) → s.endpoint.connection ≡ o → led_on now s LimitedTransmit o ≡ limited_transmit now s
+pub led_limited : (now : ℕ) (s : State) (o : Option ControlBlock) → s.endpoint.connection ≡ o → led_on now s LimitedTransmit o ≡ transmit_limited now s
 led_limited now s None none = sym (nothing_limited now s none)
 led_limited now s (Some c) begun = refl
 

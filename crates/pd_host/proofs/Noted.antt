@@ -9,10 +9,10 @@ use Rattle.pd_seg.specs.declared.answers.Errno.TheVariants.{Eagain, Epipe}
 use Rattle.pd_seg.specs.declared.segments.Segment.{Segment}
 use Rattle.pd_host.specs.Acknowledgments.{taking, taken}
 use Rattle.pd_host.specs.Arrivals.{ruled, arrived_on, arrived, ruling_of, reset_of}
-use Rattle.pd_host.specs.Calls.{Reply, answered, with_listener, with_stored, socket_reply, bind_reply, listen_reply, accept_reply, handed_out, no_delay_reply, free_of, with_queued, write_uses, queued, written_on, write_reply, closed_stream, closed_on, close_reply, operated, on_open, opened, reply_to, requested, called, is_pending, is_waiting, stream_of, with_stream, with_nagle}
+use Rattle.pd_host.specs.Calls.{Reply, answered, with_listener, with_stored, socket_reply, bind_reply, listen_reply, accept_reply, handed_out, no_delay_reply, free_of, with_queued, write_uses, queued, written_on, write_reply, closed_stream, closed_on, close_reply, operated, on_open, open_descriptor, reply_to, requested, called, is_pending, is_waiting, stream_of, with_stream, with_nagle}
 use Rattle.pd_host.specs.ControlBlock.{ControlBlock}
 use Rattle.pd_host.specs.Expiries.{expired, advanced}
-use Rattle.pd_host.specs.Handshake.{is_opening, begun, answered_syn, syn_uses, establishment_uses}
+use Rattle.pd_host.specs.Handshake.{is_opening, block_begun, answered_syn, syn_uses, establishment_uses}
 use Rattle.pd_host.specs.InputLaws.{Notes, ArrivalsNote, CallsNote, AdvancesNote}
 use Rattle.pd_host.specs.Requests.{request_of}
 use Rattle.pd_host.specs.Sender.{beside}
@@ -102,8 +102,8 @@ opening now c s =
 
 on_connection : (o : Option ControlBlock) (segment : Segment) (now : ℕ) (s : State) → Leaves (Notes s) (arrived_on now segment s o)
 on_connection None segment now s =
-    either (Notes s) (is_opening s.endpoint.listener segment) (answered_syn now (begun now s.settings segment) s) (Err Unsupported)
-    (opening now (begun now s.settings segment) s) tt
+    either (Notes s) (is_opening s.endpoint.listener segment) (answered_syn now (block_begun now s.settings segment) s) (Err Unsupported)
+    (opening now (block_begun now s.settings segment) s) tt
 on_connection (Some c) segment now s =
     passed_leaves (Notes s) now segment c s (ruling_of c segment) (λ u d e k. record { settings = k.settings; uses = k.uses })
     (by_ruling (ruling_of c segment) segment now s c)
@@ -188,7 +188,7 @@ open_notes now s o (Some d) = operated_notes now s d o
 
 reply_notes : (now : ℕ) (s : State) (r : Request) → Replies (Notes s) (reply_to now s r)
 reply_notes now s Socket = socket_notes now s s.endpoint.listener
-reply_notes now s (On fd o) = open_notes now s o (opened s.endpoint fd)
+reply_notes now s (On fd o) = open_notes now s o (open_descriptor s.endpoint fd)
 
 requested_notes : (now : ℕ) (s : State) (r : Option Request) → Replies (Notes s) (requested now s r)
 requested_notes now s None = tt

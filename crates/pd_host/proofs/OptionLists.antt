@@ -4,7 +4,8 @@ use Rattle.std.specs.Option.{option_or}
 use Rattle.std.proofs.lemmas.List.{drop_more}
 use Rattle.pd_seg.specs.declared.option_list.SegOption.{SegOption}
 use Rattle.pd_seg.specs.declared.option_list.SegOption.TheVariants.{Mss, Wscale, SackOk, Nop, Eol, Timestamp, Sack}
-use Rattle.pd_host.specs.Handshake.{offered_mss, offered_count, offers_sack, offered_too}
+use Rattle.pd_host.specs.Handshake.{offered_mss, offered_count, offers_sack}
+use Rattle.pd_host.specs.Steps.{offered_too}
 use Rattle.pd_host.specs.declared.offers.Offers.{Offers}
 
 -- what was offered so far, and what is left offers

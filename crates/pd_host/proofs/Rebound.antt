@@ -7,7 +7,7 @@ use Rattle.pd_recover.specs.declared.segments.NextSegment.{NextSegment}
 use Rattle.pd_seg.specs.declared.sack_blocks.Span.{Span}
 use Rattle.pd_seg.specs.declared.segments.Segment.{Segment}
 use Rattle.pd_settings.specs.declared.fields.Settings.{Settings}
-use Rattle.pd_host.specs.Acknowledgments.{OnTheWay, step_c_sent, sender_of, pipe_of, step_c, limited_sent, limited_transmit, put_segment, entered_on, entry, led_to, taking, taken}
+use Rattle.pd_host.specs.Acknowledgments.{OnTheWay, step_c_sent, sender_of, pipe_of, step_c, limited_sent, transmit_limited, put_segment, entered_on, entry, led_to, taking, taken}
 use Rattle.pd_host.specs.ControlBlock.{ControlBlock}
 use Rattle.pd_host.specs.InputLaws.{rebound}
 use Rattle.pd_host.specs.Places.{has_place}
@@ -66,7 +66,7 @@ step_c_again b now s =
     ap sender_of (alike (rebound_too b) c_finds (c_sends now) (λ u. refl) (λ sent u. c_sent_again b now sent u.0.endpoint.connection u) (places_left s) t)
     ∙ sender_again b (repeated c_finds (c_sends now) (places_left s) t)
 
-pub limited_again : (b : Settings) (now : ℕ) (s : State) → limited_transmit now (rebound b s) ≡ again b (limited_transmit now s)
+pub limited_again : (b : Settings) (now : ℕ) (s : State) → transmit_limited now (rebound b s) ≡ again b (transmit_limited now s)
 limited_again b now s =
     let t : OnTheWay = (s, pipe_of s.endpoint.connection) in
     ap sender_of (alike (rebound_too b) limited_finds (limited_sends now) (λ u. refl) (λ segment u. limited_sent_again b now segment u.0.endpoint.connection u) (places_left s) t)

@@ -4,7 +4,7 @@ use Rattle.pd_seg.specs.declared.sack_blocks.Span.{Span}
 use Rattle.pd_seg.specs.declared.segments.Sent.{Sent}
 use Rattle.pd_recover.specs.Choice.{segment_of}
 use Rattle.pd_recover.specs.declared.segments.NextSegment.{NextSegment}
-use Rattle.pd_host.specs.Acknowledgments.{OnTheWay, step_c_on, step_c_found, sent_as, noted_on, octets_of, step_c_sent, sender_of, pipe_of, step_c_from, step_c, limited_on, limited_found, counted_on, limited_sent, limited_from, limited_transmit}
+use Rattle.pd_host.specs.Acknowledgments.{OnTheWay, step_c_on, step_c_found, sent_as, noted_on, octets_of, step_c_sent, sender_of, pipe_of, step_c_from, step_c, limited_on, limited_found, counted_on, limited_sent, limited_from, transmit_limited}
 use Rattle.pd_host.specs.ControlBlock.{ControlBlock}
 use Rattle.pd_host.specs.Packets.{data_of}
 use Rattle.pd_host.specs.Sender.{with_packet}
@@ -31,7 +31,7 @@ pub nothing_lost : (now : ℕ) (s : State) → s.endpoint.connection ≡ None �
 nothing_lost now s none =
     ap sender_of (repeated-none lost (recover now) (places_left s) (s, pipe_of s.endpoint.connection) (ap (step_c_found (pipe_of s.endpoint.connection)) none))
 
-pub nothing_limited : (now : ℕ) (s : State) → s.endpoint.connection ≡ None → limited_transmit now s ≡ Ok s
+pub nothing_limited : (now : ℕ) (s : State) → s.endpoint.connection ≡ None → transmit_limited now s ≡ Ok s
 nothing_limited now s none =
     ap sender_of (repeated-none limited (transmit now) (places_left s) (s, pipe_of s.endpoint.connection) (ap (limited_found (pipe_of s.endpoint.connection)) none))
 

@@ -13,7 +13,7 @@ use Rattle.pd_recover.proofs.Chosen.{AllOf, one_of, either_of, map_of, allowed_o
 use Rattle.pd_recover.proofs.Found.{least}
 use Rattle.pd_seg.specs.declared.sack_blocks.Span.{Span}
 use Rattle.pd_seg.specs.declared.segments.Sent.{Sent}
-use Rattle.pd_host.specs.Acknowledgments.{OnTheWay, octets_of, step_c_on, step_c_found, sent_as, noted_on, step_c_sent, pipe_of, step_c, limited_on, limited_found, counted_on, limited_sent, limited_transmit}
+use Rattle.pd_host.specs.Acknowledgments.{OnTheWay, octets_of, step_c_on, step_c_found, sent_as, noted_on, step_c_sent, pipe_of, step_c, limited_on, limited_found, counted_on, limited_sent, transmit_limited}
 use Rattle.pd_host.specs.ControlBlock.{ControlBlock}
 use Rattle.pd_host.specs.Packets.{data_of}
 use Rattle.pd_host.specs.Sending.{places_left, sent_on, with_segment}
@@ -181,7 +181,7 @@ c_fills now s =
     (leaves_too (IsFilling pipe cwnd s) (λ t. FillsWindow s t.0) _ (ended s)
     (kept (IsFilling pipe cwnd s) c_finds (c_sends now) (λ sent t f h. c_once pipe cwnd now s t sent t.0.endpoint.connection refl f h) (places_left s) (s, pipe) (begun s)))
 
-limited_fills : (now : ℕ) (s : State) → Leaves (FillsWindow s) (limited_transmit now s)
+limited_fills : (now : ℕ) (s : State) → Leaves (FillsWindow s) (transmit_limited now s)
 limited_fills now s =
     let pipe : ℕ = pipe_of s.endpoint.connection in
     let cwnd : ℕ = cwnd_in s.endpoint.connection in
@@ -192,5 +192,5 @@ limited_fills now s =
 pub keeps_to_window : KeepsToWindow
 keeps_to_window = record {
   step_c = λ now s t h. came (FillsWindow s) (step_c now s) t h (c_fills now s);
-  limited = λ now s t h. came (FillsWindow s) (limited_transmit now s) t h (limited_fills now s);
+  limited = λ now s t h. came (FillsWindow s) (transmit_limited now s) t h (limited_fills now s);
 }

@@ -13,7 +13,7 @@ use Rattle.pd_host.specs.Arrivals.{ruling_of, reset_of, with_peer_fin}
 use Rattle.pd_host.specs.Calls.{stream_of, is_open, is_waiting, with_stream, with_nagle, with_queued, free_of, closed_stream}
 use Rattle.pd_host.specs.ControlBlock.{ControlBlock}
 use Rattle.pd_host.specs.Expiries.{due_by, resent_by, expired_by}
-use Rattle.pd_host.specs.Handshake.{is_opening, begun, established_by}
+use Rattle.pd_host.specs.Handshake.{is_opening, block_begun, established_by}
 use Rattle.pd_host.specs.Sending.{past_sacked, sent_on, found_on}
 use Rattle.pd_host.specs.Timing.{clocked}
 use Rattle.pd_host.specs.declared.established.Established.{Established}
@@ -59,7 +59,7 @@ pub record KeptByAcks (now : ℕ) (C D : ControlBlock → Type 0) : Type 0 where
 
 -- a connection begins
 abbrev pub HoldsFirst : ℕ → (Settings → ControlBlock → Type 0) → Type 0
-HoldsFirst now C = (b : Settings) (listener : Listener) (segment : Segment) → is_opening listener segment ≡ true → C b (begun now b segment)
+HoldsFirst now C = (b : Settings) (listener : Listener) (segment : Segment) → is_opening listener segment ≡ true → C b (block_begun now b segment)
 
 -- arrivals on a connection: C holds between inputs, and D while one is answered by data
 pub record KeptByArrivals (now : ℕ) (b : Settings) (C D : ControlBlock → Type 0) : Type 0 where

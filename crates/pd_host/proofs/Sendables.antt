@@ -118,7 +118,7 @@ new_can_leave c e h above =
       some = λ _. omega (arith, some, h.smss_low);
     }))
 
-pub ordinary_leaves : (c : ControlBlock) (e : Established) → IsOrdered c.board → AllOf (CanLeave c.board) (sending.next_segment c e)
+pub ordinary_leaves : (c : ControlBlock) (e : Established) → IsOrdered c.board → AllOf (CanLeave c.board) (sending.ordinary_segment c e)
 ordinary_leaves c e h = by_place (nat_lt c.board.next c.board.top) refl
   where
     by_place : (b : Bool) → nat_lt c.board.next c.board.top ≡ b → AllOf (CanLeave c.board) (if b then next_again c e else next_new c e)

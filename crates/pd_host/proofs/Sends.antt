@@ -3,9 +3,10 @@ use Rattle.std.proofs.Common.{◌≡◌, ℕ, suc, ◌<◌, length, length-appen
 use Rattle.pd_seg.specs.declared.sack_blocks.Span.{Span}
 use Rattle.pd_seg.specs.declared.segments.Sent.{Sent}
 use Rattle.pd_host.specs.ControlBlock.{ControlBlock}
-use Rattle.pd_host.specs.Expiries.{due_by, deadline_on, deadline_of, expired, expired_next, advanced}
+use Rattle.pd_host.specs.Expiries.{due_by, deadline_on, deadline_of, expired, advanced}
 use Rattle.pd_host.specs.Outcome.{Gives}
-use Rattle.pd_host.specs.Sending.{places_left, with_place, found, sent_ordinarily, sent_next, sent_until_done}
+use Rattle.pd_host.specs.Sending.{places_left, found, sent_ordinarily, sent_until_done}
+use Rattle.pd_host.specs.Steps.{with_place, sent_next, expired_next}
 use Rattle.pd_host.specs.declared.halts.Halt.{Halt}
 use Rattle.pd_host.specs.declared.halts.Ending.{Ending}
 use Rattle.pd_host.specs.declared.halts.Ending.TheVariants.{Halted, OutOfMemory}

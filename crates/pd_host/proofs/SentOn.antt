@@ -10,7 +10,7 @@ use Rattle.pd_recover.specs.Choice.{segment_of}
 use Rattle.pd_seg.specs.declared.sack_blocks.Span.{Span}
 use Rattle.pd_seg.specs.declared.segments.Sent.{Sent}
 use Rattle.pd_timer.specs.Timer.{initial}
-use Rattle.pd_host.specs.Acknowledgments.{OnTheWay, step_c_found, sent_as, noted_on, octets_of, step_c_sent, sender_of, pipe_of, step_c, limited_found, counted_on, limited_sent, limited_transmit, put_segment, entered_on, entry, led_to}
+use Rattle.pd_host.specs.Acknowledgments.{OnTheWay, step_c_found, sent_as, noted_on, octets_of, step_c_sent, sender_of, pipe_of, step_c, limited_found, counted_on, limited_sent, transmit_limited, put_segment, entered_on, entry, led_to}
 use Rattle.pd_host.specs.ControlBlock.{ControlBlock}
 use Rattle.pd_host.specs.Packets.{data_of}
 use Rattle.pd_host.specs.Places.{has_place}
@@ -203,7 +203,7 @@ limited_once now segment t (Some c) e =
     one_sent now segment c (counted_on (octets_of segment) (sent_on now segment c) c.established) t.0
     (ap (λ (d : ControlBlock). Some d) (counted_still (octets_of segment) (sent_on now segment c) c.established refl) ∙ sym (ap stills e))
 
-pub limited_transmit_sends : (now : ℕ) (r s : State) → IsSentOn now r s → Leaves (IsSentOn now r) (limited_transmit now s)
+pub limited_transmit_sends : (now : ℕ) (r s : State) → IsSentOn now r s → Leaves (IsSentOn now r) (transmit_limited now s)
 limited_transmit_sends now r s h =
     sender_leaves (IsSentOn now r) _
     (kept (λ t. IsSentOn now r t.0) limited_finds (limited_sends now)

@@ -14,7 +14,7 @@ use Rattle.pd_host.specs.Arrivals.{ruled, arrived_on, arrived, ruling_of, reset_
 use Rattle.pd_host.specs.Calls.{called}
 use Rattle.pd_host.specs.ControlBlock.{ControlBlock}
 use Rattle.pd_host.specs.Expiries.{segment_again, block_expired, expired, advanced}
-use Rattle.pd_host.specs.Handshake.{is_opening, begun, answered_syn, syn_uses, syn_octet, established_by, establishment_uses, syn_acked, window_in, with_window}
+use Rattle.pd_host.specs.Handshake.{is_opening, block_begun, answered_syn, syn_uses, syn_octet, established_by, establishment_uses, syn_acked, window_in, with_window}
 use Rattle.pd_host.specs.Packets.{data_of, ack_of, refusal_of, syn_ack_of}
 use Rattle.pd_host.specs.Sender.{beside, with_outbox}
 use Rattle.pd_host.specs.Sending.{places_left, with_block, with_segment}
@@ -402,7 +402,7 @@ fin_times_new now s u c e h =
 on_connection : (o : Option ControlBlock) (segment : Segment) (now : ℕ) (s : State) → s.endpoint.connection ≡ o
     → Leaves (TimesNew s) (arrived_on now segment s o)
 on_connection None segment now s e =
-    let c : ControlBlock = begun now s.settings segment in
+    let c : ControlBlock = block_begun now s.settings segment in
     either (TimesNew s) (is_opening s.endpoint.listener segment) (answered_syn now c s) (Err Unsupported)
     (opened_so (nat_lt (length s.endpoint.outbox) 1024) now c s e refl) tt
 on_connection (Some c) segment now s e =

@@ -10,7 +10,7 @@ use Rattle.pd_recover.specs.Laws.{StaysWithin}
 use Rattle.pd_host.specs.Arrivals.{ruling_of, reset_of}
 use Rattle.pd_host.specs.Calls.{stream_in}
 use Rattle.pd_host.specs.ControlBlock.{ControlBlock}
-use Rattle.pd_host.specs.Handshake.{is_listening, is_syn_alone, length_of, offered_mss, is_mss_run, is_opening, smss_of, offers_of, begun, window_in, established_with, established_by, syn_acked}
+use Rattle.pd_host.specs.Handshake.{is_listening, is_syn_alone, length_of, offered_mss, is_mss_run, is_opening, smss_of, offers_of, block_begun, window_in, established_with, established_by, syn_acked}
 use Rattle.pd_host.specs.Invariants.{IsOfPhase, IsTimed, IsReached}
 use Rattle.pd_host.specs.Timing.{is_measured, measured, with_timer_settled}
 use Rattle.pd_host.specs.declared.listeners.Listener.{Listener}
@@ -40,7 +40,7 @@ sooner end top e u t = grind (arith, nat_tests)
 
 module _ (b : Settings) (now : ℕ) where
   -- the SYN begins the connection
-  pub begun_reached : (listener : Listener) (segment : Segment) → is_opening listener segment ≡ true → IsReached b now (begun now b segment)
+  pub begun_reached : (listener : Listener) (segment : Segment) → is_opening listener segment ≡ true → IsReached b now (block_begun now b segment)
   begun_reached listener segment e =
       let low : 64 ≤ unwrap_or (offered_mss segment.options) 536 = mss_low (offered_mss segment.options) (opening_mss listener segment e) in
       record {

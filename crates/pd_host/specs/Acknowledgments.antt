@@ -1,6 +1,5 @@
 -- What an acceptable ACK changes: the numbers, the SACKed octets, the timer, the window, and what it leads to.
-use Rattle.std.specs.Prelude.{⊤, ℕ, ◌+◌, ◌-◌, ◌==◌, ◌&&◌, ◌||◌, nat_lt, nat_le, Bool, false, max, List, [], ◌∷◌, ◌++◌, Option, Some, None, Result, Ok, Err, if◌then◌else◌}
-use Rattle.std.specs.Option.{ForSome}
+use Rattle.std.specs.Prelude.{ℕ, ◌+◌, ◌-◌, ◌==◌, ◌&&◌, ◌||◌, nat_lt, nat_le, Bool, false, max, List, [], ◌∷◌, ◌++◌, Option, Some, None, Result, Ok, Err, if◌then◌else◌}
 use Rattle.pd_seg.specs.declared.option_list.SegOption.{SegOption}
 use Rattle.pd_seg.specs.declared.option_list.SegOption.TheVariants.{Sack}
 use Rattle.pd_seg.specs.declared.sack_blocks.Span.{Span}
@@ -21,7 +20,7 @@ use Rattle.pd_host.specs.ControlBlock.{ControlBlock}
 use Rattle.pd_host.specs.Handshake.{looked_at, window_in, with_window}
 use Rattle.pd_host.specs.Places.{has_place}
 use Rattle.pd_host.specs.Sender.{then_on}
-use Rattle.pd_host.specs.Sending.{IsQueued, repeated, places_left, with_block, with_segment, sent_on, ordinary}
+use Rattle.pd_host.specs.Sending.{repeated, places_left, with_block, with_segment, sent_on, ordinary}
 use Rattle.pd_host.specs.Timing.{clocked, with_sample, with_timer_moved}
 use Rattle.pd_host.specs.declared.established.Established.{Established}
 use Rattle.pd_host.specs.declared.halts.Halt.{Halt}
@@ -138,15 +137,6 @@ taking now segment c (Some e) =
     let after = with_ack now segment e c in
     answering segment (newly_acked c segment) after.1 e after.0 after.0.established
 
--- a new segment that follows ends among what is queued
-abbrev pub FollowsQueued : Then → ControlBlock → Type 0
-FollowsQueued (NewSegment segment) c = IsQueued segment c
-FollowsQueued _ c = ⊤
-
--- so it is on the connection, where one was begun
-abbrev pub FollowsQueuedOn : Then → Option ControlBlock → Type 0
-FollowsQueuedOn next connection = ForSome connection (FollowsQueued next)
-
 -- What follows
 
 -- the sender, and Pipe: how many octets count as on the way (RFC 6675, section 4, SetPipe)
@@ -246,8 +236,8 @@ limited_from now t = sender_of (
     (places_left t.0) t)
 
 -- limited transmit at a moment; the pipe is computed once, and grows by what is sent
-abbrev pub limited_transmit : ℕ → State → Result State Halt
-limited_transmit now s = limited_from now (s, pipe_of s.endpoint.connection)
+abbrev pub transmit_limited : ℕ → State → Result State Halt
+transmit_limited now s = limited_from now (s, pipe_of s.endpoint.connection)
 
 -- one segment is put out at a moment, where the outbox has a place for it
 abbrev pub put_segment : ℕ → Span → ControlBlock → ControlBlock → State → Result State Halt
@@ -267,38 +257,16 @@ entry now c s =
     then put_segment now segment c (entered_on segment (clocked now segment c) c.established) s
     else Ok (with_block (entered_on segment c c.established) s)
 
--- The same by whether a connection was begun
-
--- a segment of new octets is put out at a moment, and the sending place moves behind it (SND.NXT)
-abbrev pub put_new : ℕ → Span → State → Option ControlBlock → Result State Halt
-put_new now segment s None = Ok s
-put_new now segment s (Some c) = put_segment now segment c (sent_on now segment c) s
-
--- a segment is put out again at a moment; the sending place stays
-abbrev pub put_again : ℕ → Span → State → Option ControlBlock → Result State Halt
-put_again now segment s None = Ok s
-put_again now segment s (Some c) = put_segment now segment c (clocked now segment c) s
-
--- recovery begins at a moment
-abbrev pub entry_on : ℕ → State → Option ControlBlock → Result State Halt
-entry_on now s None = Ok s
-entry_on now s (Some c) = entry now c s
-
 -- what an ACK leads to, on the connection that it left: an entry is followed by step C (RFC 6675, section 5, step 4.5), a
 -- fast retransmit (RFC 5681, section 3.2, step 3) by ordinary sending
 abbrev pub led_to : ℕ → ControlBlock → State → Then → Result State Halt
 led_to now c s Ordinary = ordinary now s
 led_to now c s StepC = step_c now s
 led_to now c s Entry = then_on (step_c now) (entry now c s)
-led_to now c s LimitedTransmit = limited_transmit now s
+led_to now c s LimitedTransmit = transmit_limited now s
 led_to now c s (NewSegment segment) = put_segment now segment c (sent_on now segment c) s
 led_to now c s (FastRetransmit segment) = then_on (ordinary now) (put_segment now segment c (clocked now segment c) s)
 led_to now c s Nothing = Ok s
-
--- what an ACK leads to, on a connection if one was begun
-abbrev pub led_on : ℕ → State → Then → Option ControlBlock → Result State Halt
-led_on now s next None = Ok s
-led_on now s next (Some c) = led_to now c s next
 
 -- a segment that passed all checks is taken, and what follows is sent; its FIN comes after that
 abbrev pub taken : ℕ → Segment → ControlBlock → State → Option Established → Result State Halt

@@ -117,11 +117,6 @@ ruled now segment c s (Some EarlyAck) = beside s (put_out now (ack_of c) s.endpo
 ruled now segment c s (Some OldAck) = Ok s
 ruled now segment c s None = taken now segment c s c.established
 
--- the same by whether a connection was begun
-abbrev pub ruled_on : ℕ → Segment → State → Option Ruling → Option ControlBlock → Result State Halt
-ruled_on now segment s r None = Ok s
-ruled_on now segment s r (Some c) = ruled now segment c s r
-
 -- The FIN (RFC 9293, section 3.10.7.4, eighth check)
 
 -- a segment's FIN is looked at where it establishes the connection, where its ACK is old, and where it passed all checks; a

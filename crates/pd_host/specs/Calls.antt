@@ -78,8 +78,8 @@ is_pending None = false
 is_pending (Some c) = is_waiting (stream_of c)
 
 -- the open descriptor of a number: 3 is the listener, 4 the accepted connection
-abbrev pub opened : Endpoint → ℕ → Option Descriptor
-opened e fd =
+abbrev pub open_descriptor : Endpoint → ℕ → Option Descriptor
+open_descriptor e fd =
     if fd == 3 && is_listener_open e.listener then Some Listening
     else if fd == 4 && is_stream_open e.connection then Some Connected
     else None
@@ -206,7 +206,7 @@ on_open now s operation (Some descriptor) = operated now s descriptor operation
 -- the reply to a request
 abbrev pub reply_to : ℕ → State → Request → Reply
 reply_to now s Socket = socket_reply s s.endpoint.listener
-reply_to now s (On fd operation) = on_open now s operation (opened s.endpoint fd)
+reply_to now s (On fd operation) = on_open now s operation (open_descriptor s.endpoint fd)
 
 -- what a request does; without one the call isn't run
 abbrev pub requested : ℕ → State → Option Request → Reply

@@ -1,5 +1,5 @@
 -- Expiries of the retransmission timer (RFC 6298, section 5), and all of them up to a moment.
-use Rattle.std.specs.Prelude.{ℕ, nat_le, true, Option, Some, None, Result, Ok, if◌then◌else◌}
+use Rattle.std.specs.Prelude.{ℕ, nat_le, true, Option, Some, None, Result, if◌then◌else◌}
 use Rattle.pd_seg.specs.declared.sack_blocks.Span.{Span}
 use Rattle.pd_seg.specs.declared.segments.Segment.{Segment}
 use Rattle.pd_board.specs.Choice.{run_at}
@@ -8,7 +8,7 @@ use Rattle.pd_recover.specs.Congestion.{timed_out}
 use Rattle.pd_timer.specs.Timer.{backed_off}
 use Rattle.pd_host.specs.ControlBlock.{ControlBlock}
 use Rattle.pd_host.specs.Packets.{data_of, syn_ack_of}
-use Rattle.pd_host.specs.Sending.{repeated, places_left, with_place, with_packet_sent, with_block}
+use Rattle.pd_host.specs.Sending.{repeated, places_left, with_packet_sent, with_block}
 use Rattle.pd_host.specs.declared.established.Established.{Established}
 use Rattle.pd_host.specs.declared.halts.Halt.{Halt}
 use Rattle.pd_host.specs.declared.sender_state.State.{State}
@@ -72,11 +72,6 @@ expired_on at c e s = with_packet_sent at (segment_again c e) (with_block (block
 abbrev pub expired : ℕ → Option ControlBlock → State → State
 expired at None s = s
 expired at (Some c) s = expired_on at c c.established s
-
--- the same, where the outbox has a place
-abbrev pub expired_next : ℕ → Option ControlBlock → State → Result State Halt
-expired_next at None s = Ok s
-expired_next at (Some c) s = with_place s (expired at (Some c) s)
 
 -- all expiries up to a moment, in order, each at its own
 abbrev pub advanced : ℕ → State → Result State Halt

@@ -1,7 +1,6 @@
 -- The first segment, what it agrees, and the end of the handshake.
 use Rattle.std.specs.Prelude.{ℕ, ◌-◌, ◌*◌, ◌^◌, ◌==◌, nat_le, min, max, Bool, true, false, not, ◌&&◌, List, [], ◌∷◌, slice_get, Option, Some, None, option_map, unwrap_or, Result, Err, if◌then◌else◌}
 use Rattle.std.specs.List.{filter_map, list_any}
-use Rattle.std.specs.Option.{option_or}
 use Rattle.pd_settings.specs.declared.fields.Settings.{Settings}
 use Rattle.pd_settings.specs.declared.use_set.UseSet.{UseSet}
 use Rattle.pd_seg.specs.declared.control_bits.Flags.{Flags}
@@ -68,13 +67,6 @@ offers_sack options = list_any is_sack_ok (looked_at options)
 abbrev pub offers_of : List SegOption → Offers
 offers_of options = record { mss = offered_mss options; count = offered_count options; sack = offers_sack options }
 
--- what is offered with one more option; what was offered before counts
-abbrev pub offered_too : Offers → SegOption → Offers
-offered_too offers (Mss octets) = record offers { mss = option_or offers.mss (Some octets) }
-offered_too offers (Wscale count) = record offers { count = option_or offers.count (Some count) }
-offered_too offers SackOk = record offers { sack = true }
-offered_too offers _ = offers
-
 -- an MSS below 64 isn't run (own profile)
 abbrev pub is_mss_run : Option ℕ → Bool
 is_mss_run None = true
@@ -117,8 +109,8 @@ syn_octet = record { start = 0; end = 1 }
 
 -- the connection after a SYN at a moment: our SYN is sent, which starts the timer, and timed (RFC 6298, sections 3 and
 -- 5.1), and the window of the peer's SYN isn't shifted (RFC 7323, section 2.2)
-abbrev pub begun : ℕ → Settings → Segment → ControlBlock
-begun now settings syn = record {
+abbrev pub block_begun : ℕ → Settings → Segment → ControlBlock
+block_begun now settings syn = record {
   announced = settings.mss;
   sack = is_sack_agreed settings (offers_of syn.options);
   scaling = scaling_of settings (offers_of syn.options);
@@ -146,7 +138,7 @@ answered_syn now c s =
 abbrev pub opened_by : ℕ → Segment → State → Result State Halt
 opened_by now segment s =
     if is_opening s.endpoint.listener segment
-    then answered_syn now (begun now s.settings segment) s
+    then answered_syn now (block_begun now s.settings segment) s
     else Err Unsupported
 
 -- the window that a later segment tells, shifted by the peer's count (RFC 7323, section 2.3)

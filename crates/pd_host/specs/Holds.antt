@@ -4,7 +4,7 @@ use Rattle.pd_board.specs.Choice.{run_at}
 use Rattle.pd_board.specs.Loss.{pipe}
 use Rattle.pd_recover.specs.Choice as recovery
 use Rattle.pd_host.specs.ControlBlock.{ControlBlock}
-use Rattle.pd_host.specs.Sending.{is_full, is_all, is_half_window, leaves_now, next_segment, past_sacked}
+use Rattle.pd_host.specs.Sending.{is_full, is_all, is_half_window, leaves_now, ordinary_segment, past_sacked}
 use Rattle.pd_host.specs.declared.established.Established.{Established}
 use Rattle.pd_host.specs.declared.holds.Hold.{Hold}
 use Rattle.pd_host.specs.declared.holds.Hold.TheVariants.{Reset, NotEstablished, Acknowledged, PipeFull, NothingNext, Recovering, AllSent, PeerWindow, CongestionWindow, PartOfSegment, Nagle, Open}
@@ -75,4 +75,4 @@ abbrev pub OpenHoldsSend : Type 0
 OpenHoldsSend =
     (c : ControlBlock) (e : Established)
     → 1 ≤ c.board.next → c.board.next ≤ c.board.top → c.board.top ≤ c.board.end
-    → is_open (hold_at c e) ≡ is_some (next_segment c e)
+    → is_open (hold_at c e) ≡ is_some (ordinary_segment c e)

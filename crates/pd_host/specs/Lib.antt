@@ -14,6 +14,7 @@ pub mod Acknowledgments
 pub mod Arrivals
 pub mod Figure
 pub mod Expiries
+pub mod Steps
 pub mod Laws
 pub mod Growth
 pub mod InputLaws

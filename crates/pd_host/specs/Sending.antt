@@ -1,13 +1,12 @@
 -- Ordinary sending: what the windows and Nagle's algorithm let leave.
-use Rattle.std.specs.Prelude.{ℕ, ◌+◌, ◌-◌, ◌*◌, ◌≤◌, nat_lt, nat_le, min, zero, suc, not, Bool, false, ◌&&◌, ◌||◌, [], ◌∷◌, ◌++◌, length, Option, Some, None, is_some, Result, Ok, Err, if◌then◌else◌}
-use Rattle.std.specs.Option.{ForSome}
+use Rattle.std.specs.Prelude.{ℕ, ◌+◌, ◌-◌, ◌*◌, nat_lt, nat_le, min, zero, suc, not, Bool, false, ◌&&◌, ◌||◌, [], ◌∷◌, ◌++◌, length, Option, Some, None, is_some, Result, Ok, Err, if◌then◌else◌}
 use Rattle.pd_seg.specs.declared.sack_blocks.Span.{Span}
 use Rattle.pd_seg.specs.declared.segments.Segment.{Segment}
 use Rattle.pd_board.specs.Choice.{run_at}
 use Rattle.pd_board.specs.Scoreboard.{sent_to, skipped}
 use Rattle.pd_host.specs.ControlBlock.{ControlBlock}
 use Rattle.pd_host.specs.Packets.{data_of, covers_fin}
-use Rattle.pd_host.specs.Places.{most_packets, has_place}
+use Rattle.pd_host.specs.Places.{most_packets}
 use Rattle.pd_host.specs.Timing.{clocked}
 use Rattle.pd_host.specs.declared.established.Established.{Established}
 use Rattle.pd_host.specs.declared.halts.Halt.{Halt}
@@ -29,10 +28,6 @@ with_packet_sent now segment s = record s {
 -- the state with this connection
 abbrev pub with_block : ControlBlock → State → State
 with_block c s = record s { endpoint = record s.endpoint { connection = Some c } }
-
--- what comes next, where the outbox takes one packet more
-abbrev pub with_place : State → State → Result State Halt
-with_place s next = if has_place s.endpoint.outbox then Ok next else Err Limit
 
 -- what was found is done, and the rest follows; where nothing is found, all is done
 abbrev pub on_found : {S X : Type 0} → (S → Result S Halt) → (X → S → S) → S → Option X → Result S Halt
@@ -63,8 +58,8 @@ abbrev pub sendable : ControlBlock → Established → ℕ
 sendable c e = min (unsent c) (usable c e)
 
 -- the segment of new octets that could leave, SMSS octets at most
-abbrev pub new_segment : ControlBlock → Established → Span
-new_segment c e = record { start = c.board.next; end = c.board.next + min (sendable c e) c.board.smss }
+abbrev pub unsent_segment : ControlBlock → Established → Span
+unsent_segment c e = record { start = c.board.next; end = c.board.next + min (sendable c e) c.board.smss }
 
 -- a full segment can leave (RFC 9293, section 3.8.6.2.1, rule 1)
 abbrev pub is_full : ControlBlock → Established → Bool
@@ -81,7 +76,7 @@ is_half_window c e = nat_le c.widest (2 * sendable c e)
 -- Nagle's algorithm holds a segment that isn't full while octets are outstanding (RFC 9293, section 3.7.4), but not our FIN
 -- (own profile)
 abbrev pub is_held_back : ControlBlock → Established → Bool
-is_held_back c e = e.nagle && (nat_lt c.board.una c.board.top && not (covers_fin c (new_segment c e)))
+is_held_back c e = e.nagle && (nat_lt c.board.una c.board.top && not (covers_fin c (unsent_segment c e)))
 
 -- a segment of new octets leaves
 abbrev pub leaves_now : ControlBlock → Established → Bool
@@ -89,7 +84,7 @@ leaves_now c e = is_full c e || ((is_all c e || is_half_window c e) && not (is_h
 
 -- new octets: the next segment, where one leaves
 abbrev pub next_new : ControlBlock → Established → Option Span
-next_new c e = if nat_lt 0 (sendable c e) && leaves_now c e then Some (new_segment c e) else None
+next_new c e = if nat_lt 0 (sendable c e) && leaves_now c e then Some (unsent_segment c e) else None
 
 -- octets that were sent before: the next segment, where the windows let all of it leave
 abbrev pub next_again : ControlBlock → Established → Option Span
@@ -98,8 +93,8 @@ next_again c e =
     if nat_le segment.end (window_edge c e) then Some segment else None
 
 -- the segment that ordinary sending sends next, on a board whose sending place isn't SACKed
-abbrev pub next_segment : ControlBlock → Established → Option Span
-next_segment c e = if nat_lt c.board.next c.board.top then next_again c e else next_new c e
+abbrev pub ordinary_segment : ControlBlock → Established → Option Span
+ordinary_segment c e = if nat_lt c.board.next c.board.top then next_again c e else next_new c e
 
 -- How a segment is sent
 
@@ -115,18 +110,10 @@ sent_on now segment c = record (clocked now segment c) { board = sent_to segment
 abbrev pub with_segment : ℕ → Span → ControlBlock → ControlBlock → State → State
 with_segment now segment before after s = with_packet_sent now (data_of before segment) (with_block after s)
 
--- a segment that ends among the octets that are queued, and isn't acknowledged beyond
-abbrev pub IsQueued : Span → ControlBlock → Type 0
-IsQueued segment c = (c.board.una ≤ segment.end) × (segment.end ≤ c.board.end)
-
--- so on the connection, where one was begun
-abbrev pub IsQueuedOn : Span → Option ControlBlock → Type 0
-IsQueuedOn segment connection = ForSome connection (IsQueued segment)
-
 -- the segment that ordinary sending sends next on a connection; none before the end of the handshake
 abbrev pub found_on : ControlBlock → Option Established → Option Span
 found_on c None = None
-found_on c (Some e) = next_segment c e
+found_on c (Some e) = ordinary_segment c e
 
 -- the same, by whether a connection was begun
 abbrev pub found : Option ControlBlock → Option Span
@@ -137,11 +124,6 @@ found (Some c) = found_on c c.established
 abbrev pub sent_ordinarily : ℕ → Span → Option ControlBlock → State → State
 sent_ordinarily now segment None s = s
 sent_ordinarily now segment (Some c) s = with_segment now segment c (past_sacked (sent_on now segment c)) s
-
--- the same, where the outbox has a place
-abbrev pub sent_next : ℕ → Span → Option ControlBlock → State → Result State Halt
-sent_next now segment None s = Ok s
-sent_next now segment (Some c) s = with_place s (sent_ordinarily now segment (Some c) s)
 
 -- before anything is sent, the sending place moves past SACKed octets (RFC 2018, section 5)
 abbrev pub ready : Option ControlBlock → State → State

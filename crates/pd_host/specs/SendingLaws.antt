@@ -15,7 +15,7 @@ use Rattle.pd_seg.specs.declared.answers.Answer.{Answer}
 use Rattle.pd_seg.specs.declared.sack_blocks.Span.{Span}
 use Rattle.pd_seg.specs.declared.segments.Segment.{Segment}
 use Rattle.pd_seg.specs.declared.segments.Sent.{Sent}
-use Rattle.pd_host.specs.Acknowledgments.{OnTheWay, newly_acked, step_c_on, step_c_found, step_c_sent, pipe_of, step_c, limited_on, limited_found, limited_sent, limited_transmit, taken}
+use Rattle.pd_host.specs.Acknowledgments.{OnTheWay, newly_acked, step_c_on, step_c_found, step_c_sent, pipe_of, step_c, limited_on, limited_found, limited_sent, transmit_limited, taken}
 use Rattle.pd_host.specs.Arrivals.{arrived}
 use Rattle.pd_host.specs.Calls.{called, stream_of}
 use Rattle.pd_host.specs.ControlBlock.{ControlBlock, data_end}
@@ -151,7 +151,7 @@ FillsWindow s t =
 -- so it is after step C and after limited transmit (RFC 6675, section 5)
 pub record KeepsToWindow : Type 0 where
   pub step_c : (now : ℕ) (s t : State) → step_c now s ≡ Ok t → FillsWindow s t
-  pub limited : (now : ℕ) (s t : State) → limited_transmit now s ≡ Ok t → FillsWindow s t
+  pub limited : (now : ℕ) (s t : State) → transmit_limited now s ≡ Ok t → FillsWindow s t
 
 -- All that may leave does
 
@@ -202,7 +202,7 @@ pub record SendsAllThatMay : Type 0 where
       × (step_c_found on_the_way t.endpoint.connection ≡ None)
   pub limited :
       (now : ℕ) (s t : State)
-      → limited_transmit now s ≡ Ok t
+      → transmit_limited now s ≡ Ok t
       → (on_the_way : ℕ)
       × (limited_counted now s ≡ Ok (t, on_the_way))
       × (limited_found on_the_way t.endpoint.connection ≡ None)

@@ -1,10 +1,10 @@
 //! What an acceptable ACK leads to.
 ghost use Rattle.std.specs.Prelude.{◌≡◌, ◌<◌, ◌^◌};
-ghost use Rattle.pd_host.specs.Acknowledgments.{step_c, limited_transmit, put_new, put_again, entry_on, led_on, FollowsQueuedOn};
+ghost use Rattle.pd_host.specs.Acknowledgments.{step_c, transmit_limited};
 ghost use Rattle.pd_host.specs.Outcome.{Gives};
 ghost use Rattle.pd_host.specs.Packets.{data_of};
 ghost use Rattle.pd_host.specs.Sender.{with_packet};
-ghost use Rattle.pd_host.specs.Sending.{IsQueuedOn};
+ghost use Rattle.pd_host.specs.Steps.{IsQueuedOn, put_new, put_again, entry_on, led_on, FollowsQueuedOn};
 
 use crate::connection::Connection;
 use crate::halts::Ending;
@@ -115,7 +115,7 @@ impl State {
     /// Limited transmit: new octets while the window has room for them.
     fn transmit_limited(&mut self, now: u64) -> Result<(), Ending>
         requires early { now < 2 ^ 62 }
-        ensures { Gives (limited_transmit now self.old) result self.new }
+        ensures { Gives (transmit_limited now self.old) result self.new }
     {
         let Some(connection) = &mut self.endpoint.connection else {
             return Ok(());

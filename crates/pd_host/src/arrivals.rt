@@ -1,8 +1,9 @@
 //! A segment that arrives.
 ghost use Rattle.std.specs.Prelude.{◌≡◌, ◌≤◌, ◌<◌, ◌^◌, Some, IfSome, IfNone};
-ghost use Rattle.pd_host.specs.Arrivals.{ruled_on, finished_on, arrived};
+ghost use Rattle.pd_host.specs.Arrivals.{finished_on, arrived};
 ghost use Rattle.pd_host.specs.Handshake.{is_syn_alone, is_opening, opened_by};
 ghost use Rattle.pd_host.specs.Outcome.{Gives};
+ghost use Rattle.pd_host.specs.Steps.{ruled_on};
 ghost use Rattle.pd_host.specs.declared.rulings.Ruling.TheVariants.{FirstAck};
 
 use crate::connection::{Connection, refusal};

@@ -1,6 +1,6 @@
 //! The table of calls.
 ghost use Rattle.std.specs.Prelude.{◌≡◌, ◌<◌, ◌^◌, Ok};
-ghost use Rattle.pd_host.specs.Calls.{opened, is_stream_open, is_pending, socket_reply, bind_reply, listen_reply, accept_reply, handed_out, no_delay_reply, write_reply, close_reply, closed_on, operated, reply_to};
+ghost use Rattle.pd_host.specs.Calls.{open_descriptor, is_stream_open, is_pending, socket_reply, bind_reply, listen_reply, accept_reply, handed_out, no_delay_reply, write_reply, close_reply, closed_on, operated, reply_to};
 ghost use Rattle.pd_host.specs.Outcome.{GivesAnswer};
 ghost use Rattle.pd_host.specs.Sender.{IsShort};
 
@@ -27,8 +27,8 @@ const NOT_RUN: Ending = Ending::Halted(Halt::Unsupported);
 
 impl Endpoint {
     /// The open descriptor of a number.
-    fn opened(&self, fd: u64) -> Option<Descriptor>
-        ensures { result ≡ opened self.now fd }
+    fn open_descriptor(&self, fd: u64) -> Option<Descriptor>
+        ensures { result ≡ open_descriptor self.now fd }
     {
         if fd == u64::from(LISTENER) && self.listener.is_open() {
             Some(Descriptor::Listening)
@@ -71,7 +71,7 @@ impl State {
     {
         match request {
             Request::Socket => self.socket(),
-            Request::On(fd, operation) => match self.endpoint.opened(fd) {
+            Request::On(fd, operation) => match self.endpoint.open_descriptor(fd) {
                 None => Ok(Answer::Error(Errno::Ebadf)),
                 Some(descriptor) => self.operate(descriptor, operation, now),
             },

@@ -3,7 +3,7 @@ ghost use Rattle.std.specs.Prelude.{◌≡◌, ◌+◌, ◌≤◌, ◌<◌, ◌^
 ghost use Rattle.pd_host.specs.Arrivals.{reset_of, with_peer_fin};
 ghost use Rattle.pd_host.specs.Calls.{stream_of, with_stream, with_nagle, free_of, with_queued, with_fin};
 ghost use Rattle.pd_host.specs.ControlBlock.{IsScalable, peer_fin_in, rcv_nxt};
-ghost use Rattle.pd_host.specs.Handshake.{offered_mss, is_mss_run, smss_of, scaling_of, begun, window_in, syn_acked, established_with, established_by};
+ghost use Rattle.pd_host.specs.Handshake.{offered_mss, is_mss_run, smss_of, scaling_of, block_begun, window_in, syn_acked, established_with, established_by};
 ghost use Rattle.pd_host.specs.Sending.{is_recovering};
 ghost use Rattle.pd_host.specs.declared.streams.Stream.TheVariants.{Open as StreamOpen, Closed as StreamClosed};
 ghost use Rattle.pd_host.specs.Packets.{peer_count};
@@ -119,7 +119,7 @@ impl Connection {
     pub fn begin(alloc: Global, settings: &Settings, syn: &Segment, now: u64) -> Connection
         requires early { now < 2 ^ 62 }
         requires run { is_mss_run (offered_mss syn.now.options) ≡ true }
-        ensures { result ≡ begun now settings.now syn.now }
+        ensures { result ≡ block_begun now settings.now syn.now }
     {
         let offers = Offers::of(syn.options.as_slice());
         let mut timer = Rto::new(settings);

@@ -1,7 +1,8 @@
 //! Expiries of the retransmission timer.
 ghost use Rattle.std.specs.Prelude.{◌≡◌, ◌<◌, ◌≤◌, ◌^◌, IfSome};
-ghost use Rattle.pd_host.specs.Expiries.{deadline_of, due_by, expired_next, advanced};
+ghost use Rattle.pd_host.specs.Expiries.{deadline_of, due_by, advanced};
 ghost use Rattle.pd_host.specs.Outcome.{Gives};
+ghost use Rattle.pd_host.specs.Steps.{expired_next};
 
 use crate::halts::Ending;
 use crate::sender_state::State;

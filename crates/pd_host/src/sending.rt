@@ -1,7 +1,8 @@
 //! Ordinary sending.
 ghost use Rattle.std.specs.Prelude.{◌≡◌, ◌<◌, ◌^◌, IfSome};
 ghost use Rattle.pd_host.specs.Outcome.{Gives};
-ghost use Rattle.pd_host.specs.Sending.{IsQueuedOn, found, ready, sent_next, ordinary};
+ghost use Rattle.pd_host.specs.Sending.{found, ready, ordinary};
+ghost use Rattle.pd_host.specs.Steps.{IsQueuedOn, sent_next};
 
 use crate::halts::Ending;
 use crate::sender_state::State;

@@ -2,9 +2,10 @@
 ghost use Rattle.std.specs.Prelude.{◌≡◌, ◌+◌, ◌≤◌, ◌<◌, ◌^◌, false, IfOk, OnOk, IfSome};
 ghost use Rattle.pd_board.specs.Choice.{run_at};
 ghost use Rattle.pd_recover.specs.Choice.{IsSendable, segment_of};
-ghost use Rattle.pd_host.specs.Acknowledgments.{told_block, told_blocks, blocks_in, blocks_of, with_blocks, scored, with_timing, with_new_window, news_of, answering, taking, FollowsQueued, step_c_on, sent_as, noted_on, octets_of, pipe_on, limited_on, counted_on, entered_on};
+ghost use Rattle.pd_host.specs.Acknowledgments.{told_block, told_blocks, blocks_in, blocks_of, with_blocks, scored, with_timing, with_new_window, news_of, answering, taking, step_c_on, sent_as, noted_on, octets_of, pipe_on, limited_on, counted_on, entered_on};
 ghost use Rattle.pd_host.specs.Handshake.{looked_at};
 ghost use Rattle.pd_host.specs.Sending.{sent_on};
+ghost use Rattle.pd_host.specs.Steps.{FollowsQueued};
 
 use super::Connection;
 use crate::established::Established;

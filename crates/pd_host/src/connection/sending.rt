@@ -3,7 +3,8 @@ ghost use Rattle.std.specs.Prelude.{◌≡◌, ◌<◌, ◌^◌, IfSome, IfOk};
 ghost use Rattle.pd_host.specs.ControlBlock.{data_end};
 ghost use Rattle.pd_host.specs.Packets.{covers_fin, ends_data, data_of};
 ghost use Rattle.pd_host.specs.Holds.{is_enough};
-ghost use Rattle.pd_host.specs.Sending.{IsQueued, window_edge, usable, unsent, sendable, new_segment, leaves_now, is_held_back, next_new, next_again, next_segment, found_on, past_sacked, sent_on};
+ghost use Rattle.pd_host.specs.Sending.{window_edge, usable, unsent, sendable, unsent_segment, leaves_now, is_held_back, next_new, next_again, ordinary_segment, found_on, past_sacked, sent_on};
+ghost use Rattle.pd_host.specs.Steps.{IsQueued};
 
 use super::Connection;
 use super::packets::{MAX_WINDOW_FIELD, NO_FLAGS};
@@ -81,8 +82,8 @@ impl Connection {
         self.unsent().min(self.usable(established))
     }
 
-    fn new_segment(&self, established: &Established) -> Span
-        ensures value { result ≡ new_segment self.now established.now }
+    fn unsent_segment(&self, established: &Established) -> Span
+        ensures value { result ≡ unsent_segment self.now established.now }
         ensures queued { IsQueued result self.now }
     {
         let octets = self.sendable(established).min(u32::from(self.board.smss()));
@@ -98,7 +99,7 @@ impl Connection {
     {
         established.nagle
             && self.board.una() < self.board.top()
-            && !self.covers_fin(self.new_segment(established))
+            && !self.covers_fin(self.unsent_segment(established))
     }
 
     /// Whether a segment of new octets leaves.
@@ -127,7 +128,7 @@ impl Connection {
         ensures queued { IfSome result (λ segment. IsQueued segment self.now) }
     {
         if self.sendable(established) > 0 && self.leaves_now(established) {
-            Some(self.new_segment(established))
+            Some(self.unsent_segment(established))
         } else {
             None
         }

@@ -1,9 +1,10 @@
 -- What an ACK leads to.
 use Rattle.std.proofs.Common.{subst, refl, ap, ◌∙◌}
 use Rattle.pd_recover.specs.declared.responses.Then.{Then}
-use Rattle.pd_host.specs.Acknowledgments.{FollowsQueued, led_on, step_c, limited_transmit}
+use Rattle.pd_host.specs.Acknowledgments.{step_c, transmit_limited}
 use Rattle.pd_host.specs.Sender.{then_on}
 use Rattle.pd_host.specs.Sending.{ordinary}
+use Rattle.pd_host.specs.Steps.{FollowsQueued, led_on}
 use Rattle.pd_host.proofs.Led.{led_ordinary, led_step_c, led_limited, led_entry, led_again}
 use Rattle.pd_host.proofs.PutOut.{gives_same}
 use Rattle.pd_host.proofs.sender_state.State.respond.Goals as goal
@@ -28,7 +29,7 @@ returns-in-StepC c =
 pub returns-in-LimitedTransmit : goal.returns-in-LimitedTransmit
 returns-in-LimitedTransmit c =
     let s = c.args.self.now in
-    gives_same _ (limited_transmit c.args.now s) _ _
+    gives_same _ (transmit_limited c.args.now s) _ _
     (ap (λ (n : Then). led_on c.args.now s n s.endpoint.connection) c.in-LimitedTransmit.is ∙ led_limited c.args.now s s.endpoint.connection refl)
     c.transmit_limited.ensures
 
