@@ -1,5 +1,5 @@
 -- What holds of every step that goes on, whatever the checks and their order.
-use Rattle.std.specs.Prelude.{◌≡◌, ℕ, ◌+◌, ◌*◌, ◌≤◌, List, slice_get, Some, None, Ok}
+use Rattle.std.specs.Prelude.{◌≡◌, ◌⊎◌, ℕ, ◌+◌, ◌*◌, ◌≤◌, List, [], ◌∷◌, slice_get, Some, None, Ok}
 use Rattle.std.specs.List.{AllByRecursion}
 use Rattle.pd_settings.specs.declared.fields.Settings.{Settings}
 use Rattle.pd_script.specs.declared.calls.Call.{Call}
@@ -9,6 +9,7 @@ use Rattle.pd_script.specs.declared.script_events.Event.{Event}
 use Rattle.pd_script.specs.declared.script_header.HeaderItem.{HeaderItem}
 use Rattle.pd_seg.specs.declared.answers.Answer.{Answer}
 use Rattle.pd_seg.specs.declared.segments.Sent.{Sent}
+use Rattle.pd_host.specs.Expiries.{advanced, deadline_of}
 use Rattle.pd_host.specs.Growth.{ExpiriesQueueNothing, ArrivalsQueueOurSyn, CallsQueueWhatTheyAsk}
 use Rattle.pd_host.specs.InputLaws.{RebindingKeepsUp}
 use Rattle.pd_host.specs.Laws.{IsUpTo, StartsUpToDate, AdvancesKeepUp, ArrivalsKeepUp, CallsKeepUp, TakingKeepsUp}
@@ -44,6 +45,34 @@ PassedPacketsAgree =
     × (awaited (noted r) e ≡ Ok t)
     × (slice_get t.host.state.endpoint.outbox 0 ≡ Some sent)
     × AllByRecursion (Agrees p (moments_of t.base e.time) sent (tolerance_of t)) compared
+
+-- the packets that nobody has taken
+abbrev pub untaken : Running → List Sent
+untaken r = r.host.state.endpoint.outbox
+
+-- those of which the oldest is the one that was expected: those that nobody had taken, and where there were none those that
+-- the next expiry put out
+abbrev pub AreAwaited : Running → List Sent → Type 0
+AreAwaited r packets =
+    (packets ≡ untaken r)
+    ⊎ ((at : ℕ)
+    × (s : State)
+    × (untaken r ≡ [])
+    × (deadline_of r.host.state ≡ Some at)
+    × (advanced at r.host.state ≡ Ok s)
+    × (packets ≡ s.endpoint.outbox))
+
+-- where an expected packet passes, the oldest of these is taken, and all others stay
+abbrev pub PassedPacketsAreTaken : Type 0
+PassedPacketsAreTaken =
+    (r s : Running) (e : Event) (p : Packet)
+    → e.action ≡ Outbound p
+    → step r e ≡ Ok s
+    → (t : Running)
+    × (sent : Sent)
+    × (awaited (noted r) e ≡ Ok t)
+    × AreAwaited r (untaken t)
+    × (untaken t ≡ sent ∷ untaken s)
 
 -- where a call passes, the sender answered the written result
 abbrev pub PassedCallsAnswer : Type 0

@@ -1,6 +1,6 @@
 //! Laws of runs: functions whose contracts are the laws; they call those that they rest on.
 ghost use Rattle.pd_run.specs.Consulted.{InputsOnlyUse, StepsNote, StepsOnlyUse, RunsOnlyUse, RunsGoOnUnder};
-ghost use Rattle.pd_run.specs.Laws.{SenderIsLawful, PassedPacketsAgree, PassedCallsAnswer, ToleranceStays, StartsUnderway, StepsGoOn, RebindingGoesOn, StartsHeld, StepsStayHeld};
+ghost use Rattle.pd_run.specs.Laws.{SenderIsLawful, PassedPacketsAgree, PassedPacketsAreTaken, PassedCallsAnswer, ToleranceStays, StartsUnderway, StepsGoOn, RebindingGoesOn, StartsHeld, StepsStayHeld};
 ghost use Rattle.pd_run.specs.Stops.{VerdictsHaveReasons};
 ghost use Rattle.pd_run.specs.Why.{ReasonsGiveVerdicts, DifferencesAreFirst};
 
@@ -21,6 +21,7 @@ pub(crate) fn sender_is_lawful()
 /// What holds of every step that goes on, whatever the checks and their order.
 pub fn steps_are_lawful()
     ensures packets { PassedPacketsAgree }
+    ensures taken { PassedPacketsAreTaken }
     ensures calls { PassedCallsAnswer }
     ensures tolerance { ToleranceStays }
 {
