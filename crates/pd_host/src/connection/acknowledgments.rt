@@ -1,7 +1,9 @@
 //! What an acceptable ACK changes on a connection.
 ghost use Rattle.std.specs.Prelude.{◌≡◌, ◌+◌, ◌≤◌, ◌<◌, ◌^◌, false, IfOk, OnOk, IfSome};
 ghost use Rattle.pd_board.specs.Choice.{run_at};
+ghost use Rattle.pd_board.specs.Scoreboard.{IsScoreboard};
 ghost use Rattle.pd_recover.specs.Choice.{IsSendable, segment_of};
+ghost use Rattle.pd_recover.specs.Congestion.{IsCongestion};
 ghost use Rattle.pd_host.specs.Acknowledgments.{told_block, told_blocks, blocks_in, blocks_of, with_blocks, scored, with_timing, with_new_window, news_of, answering, taking, step_c_on, sent_as, noted_on, octets_of, pipe_on, limited_on, counted_on, entered_on};
 ghost use Rattle.pd_host.specs.Handshake.{looked_at};
 ghost use Rattle.pd_host.specs.Sending.{sent_on};
@@ -10,7 +12,7 @@ ghost use Rattle.pd_host.specs.Steps.{FollowsQueued};
 use super::Connection;
 use crate::established::Established;
 use pd_board::Board;
-use pd_recover::{Ack, News, NextSegment, Then};
+use pd_recover::{Ack, Cong, News, NextSegment, Then};
 use pd_seg::{SegOption, Segment, Span};
 use std::alloc::AllocError;
 
@@ -61,6 +63,20 @@ fn score_options(board: &mut Board, options: &[SegOption]) -> Result<bool, Alloc
         fresh = score_option(board, option, fresh)?;
     }
     Ok(fresh)
+}
+
+/// A fact of congestion control: its windows and counts lie in their ranges.
+fn have_ranges(congestion: &Cong)
+    ensures { IsCongestion congestion.now }
+{
+    let _cwnd = congestion.cwnd();
+}
+
+/// A fact of scoreboards: their numbers are in order and lie in their ranges.
+fn have_order(board: &Board)
+    ensures { IsScoreboard board.now }
+{
+    let _smss = board.smss();
 }
 
 impl Connection {
@@ -198,7 +214,7 @@ impl Connection {
         let Some(established) = &self.established else {
             return None;
         };
-        let _range = established.congestion.cwnd();
+        have_ranges(&established.congestion);
         established
             .congestion
             .step_c(&self.board, established.rwnd, pipe)
@@ -252,7 +268,7 @@ impl Connection {
         let Some(established) = &self.established else {
             return None;
         };
-        let _range = established.congestion.cwnd();
+        have_ranges(&established.congestion);
         established
             .congestion
             .limited_segment(&self.board, established.rwnd, pipe)
@@ -267,7 +283,7 @@ impl Connection {
         requires sendable { IsSendable self.old.board segment }
         ensures { OnOk result (self.new ≡ counted_on (octets_of segment) (sent_on now segment self.old) self.old.established) }
     {
-        let _range = self.board.smss();
+        have_order(&self.board);
         self.send_on(segment, now)?;
         if let Some(established) = &mut self.established {
             established
