@@ -22,9 +22,7 @@ impl Settings {
     fn has_same(&self, other: &Settings, uses: &UseSet) -> bool
         ensures { result ≡ agrees uses.now self.now other.now }
     {
-        Key::ALL
-            .iter()
-            .all(|key| self.agrees_at(other, uses, *key))
+        Key::ALL.iter().all(|key| self.agrees_at(other, uses, *key))
     }
 
     fn agrees_at(&self, other: &Settings, uses: &UseSet, key: Key) -> bool
