@@ -1,13 +1,17 @@
 //! The next token of a text.
-ghost use Rattle.std.specs.Prelude.{◌≡◌};
-ghost use Rattle.pd_lex.specs.Numbers.{first_octet};
+ghost use Rattle.std.specs.Prelude.{◌≡◌, ◌≤◌, true, [], ◌∷◌, length, take, IfSome};
+ghost use Rattle.pd_lex.specs.Numbers.{first_octet, capped_number};
+ghost use Rattle.pd_lex.specs.Pieces.{piece};
+ghost use Rattle.pd_lex.specs.declared.scan.Piece.TheVariants.{Whole};
+ghost use Rattle.pd_lex.specs.declared.token.TokenKind.TheVariants.{Int, Symbol};
 ghost use Rattle.pd_lex.specs.Lexing.{IsNext};
 ghost use Rattle.pd_text.specs.Text.{AreLines};
 ghost use Rattle.pd_lex.specs.Next.{IsCut, HasLine, HasText};
-ghost use Rattle.pd_lex.specs.Scanned.{IsLeftInLine};
+ghost use Rattle.pd_lex.specs.Scanned.{IsLeftInLine, begins_name};
 
+use crate::classes::{Class, class_of};
 use crate::numbers::number_of;
-use crate::plain::{plain_at, symbol_at};
+use crate::plain::{Plain, name, number_at, point, symbol_at};
 use crate::standing::behind_blanks;
 use crate::step::{Step, step_at};
 use crate::token::{Lexed, Place, Token, TokenKind};
@@ -70,8 +74,8 @@ pub fn read_next<'a>(lines: &'a Lines, place: Place, next: &mut Lexed<'a>)
 }
 
 /// Reads a token that its first octet doesn't tell for a symbol, at a place in a line of which this
-/// much is left. It stands apart, since a symbol needs few registers.
-#[inline(never)]
+/// much is left. Each class of them has a function that stands apart, since none needs many registers.
+#[inline(always)]
 fn read_at<'a>(lines: &'a Lines, from: Place, rest: &'a [u8], next: &mut Lexed<'a>)
     requires left { IsLeftInLine lines.now from rest.now }
     requires plain { AreLines lines.now }
@@ -80,7 +84,75 @@ fn read_at<'a>(lines: &'a Lines, from: Place, rest: &'a [u8], next: &mut Lexed<'
     ensures line { HasLine lines.now next.new }
     ensures text { HasText lines.now next.new }
 {
-    let Some(plain) = plain_at(rest) else {
+    match class_of(rest[0]) {
+        Class::Letter => read_name(lines, from, rest, next),
+        Class::Digit => read_number(lines, from, rest, next),
+        _ => read_point(lines, from, rest, next),
+    }
+}
+
+/// Reads a word that begins with a letter or `_`.
+#[inline(never)]
+fn read_name<'a>(lines: &'a Lines, from: Place, rest: &'a [u8], next: &mut Lexed<'a>)
+    requires left { IsLeftInLine lines.now from rest.now }
+    requires plain { AreLines lines.now }
+    requires name { begins_name rest.now ≡ true }
+    ensures next { IsNext lines.now from next.new }
+    ensures cut { IsCut lines.now from next.new }
+    ensures line { HasLine lines.now next.new }
+    ensures text { HasText lines.now next.new }
+{
+    put(lines, from, rest, name(rest), next);
+}
+
+/// Reads what begins with a digit.
+#[inline(never)]
+fn read_number<'a>(lines: &'a Lines, from: Place, rest: &'a [u8], next: &mut Lexed<'a>)
+    requires left { IsLeftInLine lines.now from rest.now }
+    requires plain { AreLines lines.now }
+    ensures next { IsNext lines.now from next.new }
+    ensures cut { IsCut lines.now from next.new }
+    ensures line { HasLine lines.now next.new }
+    ensures text { HasText lines.now next.new }
+{
+    put(lines, from, rest, number_at(rest), next);
+}
+
+/// Reads what begins with a point, or with an octet of no class.
+#[inline(never)]
+fn read_point<'a>(lines: &'a Lines, from: Place, rest: &'a [u8], next: &mut Lexed<'a>)
+    requires left { IsLeftInLine lines.now from rest.now }
+    requires plain { AreLines lines.now }
+    ensures next { IsNext lines.now from next.new }
+    ensures cut { IsCut lines.now from next.new }
+    ensures line { HasLine lines.now next.new }
+    ensures text { HasText lines.now next.new }
+{
+    put(lines, from, rest, point(rest), next);
+}
+
+/// Puts the token that was found at the front of what is left of a line in the place of what was
+/// read before; reads any where none was found.
+#[inline(always)]
+fn put<'a>(
+    lines: &'a Lines,
+    from: Place,
+    rest: &'a [u8],
+    found: Option<Plain>,
+    next: &mut Lexed<'a>,
+)
+    requires left { IsLeftInLine lines.now from rest.now }
+    requires plain { AreLines lines.now }
+    requires piece { IfSome found (λ p. Whole p.kind p.len ≡ piece rest.now) }
+    requires within { IfSome found (λ p. p.len ≤ length rest.now) }
+    requires number { IfSome found (λ p. p.kind ≡ Int → p.number ≡ capped_number (take p.len rest.now)) }
+    requires symbol { IfSome found (λ p. p.kind ≡ Symbol → take p.len rest.now ≡ p.symbol ∷ []) }
+    ensures next { IsNext lines.now from next.new }
+    ensures cut { IsCut lines.now from next.new }
+    ensures line { HasLine lines.now next.new }
+    ensures text { HasText lines.now next.new }
+{
+    let Some(plain) = found else {
         return read_on(lines, from, next);
     };
     *next = Lexed::Token(Token {

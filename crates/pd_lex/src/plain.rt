@@ -9,7 +9,7 @@ ghost use Rattle.pd_lex.specs.declared.scan.Piece.TheVariants.{Whole};
 ghost use Rattle.pd_lex.specs.declared.token.TokenKind.TheVariants.{Int, Symbol};
 
 use crate::classes::{Class, class_of};
-use crate::scan::{digit, fraction, goes_on, word_len};
+use crate::scan::{digit, fraction, goes_on, name_len};
 use crate::token::TokenKind;
 
 /// A token of so many octets of the line, with the octet of a Symbol and the number of an Int.
@@ -50,7 +50,7 @@ fn digits_at(s: &[u8]) -> (usize, u64)
 
 /// The Int or the Decimal at the front, if its whole part has few digits.
 #[inline(always)]
-fn number_at(s: &[u8]) -> Option<Plain>
+pub fn number_at(s: &[u8]) -> Option<Plain>
     ensures piece { IfSome result (λ p. Whole p.kind p.len ≡ piece s.now) }
     ensures within { IfSome result (λ p. p.len ≤ length s.now) }
     ensures number { IfSome result (λ p. p.kind ≡ Int → p.number ≡ capped_number (take p.len s.now)) }
@@ -83,7 +83,7 @@ fn number_at(s: &[u8]) -> Option<Plain>
 
 /// The word at the front.
 #[inline(always)]
-fn name(s: &[u8]) -> Option<Plain>
+pub fn name(s: &[u8]) -> Option<Plain>
     requires { begins_name s.now ≡ true }
     ensures piece { IfSome result (λ p. Whole p.kind p.len ≡ piece s.now) }
     ensures within { IfSome result (λ p. p.len ≤ length s.now) }
@@ -93,7 +93,7 @@ fn name(s: &[u8]) -> Option<Plain>
     Some(Plain {
         kind: TokenKind::Word,
         symbol: 0,
-        len: word_len(s),
+        len: name_len(s),
         number: 0,
     })
 }
@@ -101,7 +101,7 @@ fn name(s: &[u8]) -> Option<Plain>
 /// Three points, or a point before a blank.
 #[tactic(auto, unfolding(crate::specs::Pieces::piece, crate::specs::Pieces::point_piece))]
 #[inline(always)]
-fn point(s: &[u8]) -> Option<Plain>
+pub fn point(s: &[u8]) -> Option<Plain>
     ensures piece { IfSome result (λ p. Whole p.kind p.len ≡ piece s.now) }
     ensures within { IfSome result (λ p. p.len ≤ length s.now) }
     ensures number { IfSome result (λ p. p.kind ≡ Int → p.number ≡ capped_number (take p.len s.now)) }
@@ -145,25 +145,5 @@ pub fn symbol_at(s: &[u8]) -> Option<u8>
     match class_of(*octet) {
         Class::Symbol => Some(*octet),
         _ => None,
-    }
-}
-
-/// The token at the front of what is left of a line, where it is one of the common.
-#[inline(always)]
-pub fn plain_at(s: &[u8]) -> Option<Plain>
-    ensures piece { IfSome result (λ p. Whole p.kind p.len ≡ piece s.now) }
-    ensures within { IfSome result (λ p. p.len ≤ length s.now) }
-    ensures number { IfSome result (λ p. p.kind ≡ Int → p.number ≡ capped_number (take p.len s.now)) }
-    ensures symbol { IfSome result (λ p. p.kind ≡ Symbol → take p.len s.now ≡ p.symbol ∷ []) }
-{
-    let [octet, ..] = s else {
-        return None;
-    };
-    match class_of(*octet) {
-        Class::Digit => number_at(s),
-        Class::Letter => name(s),
-        Class::Point => point(s),
-        Class::Symbol => symbol(*octet),
-        Class::Other => None,
     }
 }

@@ -102,6 +102,19 @@ pub fn word_len(s: &[u8]) -> usize
     s.iter().take_while(|b| word(**b)).count()
 }
 
+/// The same where the first octet begins a word, which is not looked at again.
+#[inline(always)]
+pub fn name_len(s: &[u8]) -> usize
+    requires { begins_name s.now ≡ true }
+    ensures len { result ≡ prefix_len is_word s.now }
+    ensures within { result ≤ length s.now }
+{
+    match s {
+        [_, rest @ ..] => word_len(rest) + 1,
+        [] => 0,
+    }
+}
+
 fn solid_len(s: &[u8]) -> usize
     ensures len { result ≡ prefix_len is_solid s.now }
     ensures within { result ≤ length s.now }

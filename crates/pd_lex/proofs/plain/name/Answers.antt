@@ -3,4 +3,4 @@ use Rattle.pd_lex.proofs.PlainTokens.{name_piece}
 use Rattle.pd_lex.proofs.plain.name.Goals as goal
 
 pub returns-clause-piece : goal.returns-clause-piece
-returns-clause-piece c = rw c.word_len.ensures.len (name_piece c.args.s.now c.requires)
+returns-clause-piece c = rw c.name_len.ensures.len (name_piece c.args.s.now c.requires)

@@ -1,4 +1,4 @@
--- A common token is the piece that stands there.
+-- A token that was found is the piece that stands there.
 use Rattle.std.proofs.Common.{◌+◌}
 use Rattle.pd_lex.specs.declared.token.Place.{Place}
 use Rattle.pd_lex.specs.Places.{octets_from, between}
@@ -7,7 +7,7 @@ use Rattle.pd_lex.specs.Spellings.{here}
 use Rattle.pd_lex.proofs.Longest.{longest_token}
 use Rattle.pd_lex.proofs.Items.{token_line, items_at_token}
 use Rattle.pd_lex.proofs.Steps.{step_whole}
-use Rattle.pd_lex.proofs.next.read_at.Goals as goal
+use Rattle.pd_lex.proofs.next.put.Goals as goal
 
 pub returns : goal.returns
 unfolding lexeme_of between
@@ -18,7 +18,7 @@ returns c =
     let n = c.in-Some.plain.len in
     let to : Place = record { line = from.line; at = from.at + n } in
     let left = c.requires.left in
-    let whole = step_whole lines from left.place left.line c.args.rest.now kind n left.rest_is c.in-Some.ensures.piece left.some c.in-Some.ensures.within in
+    let whole = step_whole lines from left.place left.line c.args.rest.now kind n left.rest_is (rw c.in-Some.is at c.requires.piece) left.some (rw c.in-Some.is at c.requires.within) in
     record {
       next = items_at_token lines c.requires.plain from to kind left.place whole.0 whole.1;
       cut = record { skipped = here; longest = longest_token (octets_from lines from) (octets_from lines to) kind whole.1; from = left.place; behind = whole.0 };
