@@ -1,5 +1,5 @@
 //! Lists of lines, of any length.
-ghost use Rattle.std.specs.Prelude.{◌≡◌, ◌+◌, ◌-◌, ◌≤◌, ◌<◌, ◌++◌, ◌∷◌, ◌↔◌, [], Some, length, take, drop, option_copied, slice_get, IfOk, OnOk, OnErr, IsTrue};
+ghost use Rattle.std.specs.Prelude.{◌≡◌, ◌+◌, ◌-◌, ◌^◌, ◌≤◌, ◌<◌, ◌++◌, ◌∷◌, ◌↔◌, [], Some, length, take, drop, option_copied, slice_get, IfOk, OnOk, OnErr, IsTrue};
 ghost use Rattle.pd_text.specs.Text.{front, is_line, octets_of, AreLines};
 
 use std::alloc::{AllocError, Global};
@@ -130,12 +130,20 @@ impl LineList {
         most
     }
 
+    /// A fact of lists: their octets, each line counted with one more for its end, are few enough
+    /// that those of some lines, without the ends, don't overflow.
+    fn have_few_octets(&self)
+        ensures { octets_of self.now < length self.now + 2 ^ 64 }
+    {
+        let _octets = self.octets();
+    }
+
     /// How many octets lines `from` up to `to` have, counted from 0, without their newlines.
     pub fn octets_between(&self, from: usize, to: usize) -> usize
         requires { (from ≤ to) × (to ≤ length self.now) }
         ensures { result + (to - from) ≡ octets_of (take (to - from) (drop from self.now)) }
     {
-        let _all = self.octets();
+        self.have_few_octets();
         let mut octets = 0;
         'lines: for i in from..to {
             octets += self.at(i).len();

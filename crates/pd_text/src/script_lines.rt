@@ -53,13 +53,6 @@ impl Lines {
         self.list.len()
     }
 
-    /// Whether it has no line.
-    pub fn is_empty(&self) -> bool
-        ensures { IsTrue result ↔ (length self.now ≡ 0) }
-    {
-        self.list.len() == 0
-    }
-
     /// The octets of line `n`, counted from 1, or `None` outside the text.
     #[inline(always)]
     pub fn line(&self, n: usize) -> Option<&[u8]>
