@@ -7,7 +7,7 @@ ghost use Rattle.pd_lex.specs.declared.token.TokenKind.TheVariants.{Int, Symbol}
 ghost use Rattle.pd_lex.specs.Lexing.{IsNext};
 ghost use Rattle.pd_text.specs.Text.{AreLines};
 ghost use Rattle.pd_lex.specs.Next.{IsCut, HasLine, HasText};
-ghost use Rattle.pd_lex.specs.Scanned.{IsLeftInLine, begins_name};
+ghost use Rattle.pd_lex.specs.Scanned.{IsLeftInLine};
 
 use crate::classes::{Class, class_of};
 use crate::numbers::number_of;
@@ -74,8 +74,8 @@ pub fn read_next<'a>(lines: &'a Lines, place: Place, next: &mut Lexed<'a>)
 }
 
 /// Reads a token that its first octet doesn't tell for a symbol, at a place in a line of which this
-/// much is left. Each class of them has a function that stands apart, since none needs many registers.
-#[inline(always)]
+/// much is left. It stands apart, since a symbol needs fewer registers.
+#[inline(never)]
 fn read_at<'a>(lines: &'a Lines, from: Place, rest: &'a [u8], next: &mut Lexed<'a>)
     requires left { IsLeftInLine lines.now from rest.now }
     requires plain { AreLines lines.now }
@@ -85,27 +85,13 @@ fn read_at<'a>(lines: &'a Lines, from: Place, rest: &'a [u8], next: &mut Lexed<'
     ensures text { HasText lines.now next.new }
 {
     match class_of(rest[0]) {
-        Class::Letter => read_name(lines, from, rest, next),
+        Class::Letter => put(lines, from, rest, name(rest), next),
         Class::Digit => read_number(lines, from, rest, next),
         _ => read_point(lines, from, rest, next),
     }
 }
 
-/// Reads a word that begins with a letter or `_`.
-#[inline(never)]
-fn read_name<'a>(lines: &'a Lines, from: Place, rest: &'a [u8], next: &mut Lexed<'a>)
-    requires left { IsLeftInLine lines.now from rest.now }
-    requires plain { AreLines lines.now }
-    requires name { begins_name rest.now ≡ true }
-    ensures next { IsNext lines.now from next.new }
-    ensures cut { IsCut lines.now from next.new }
-    ensures line { HasLine lines.now next.new }
-    ensures text { HasText lines.now next.new }
-{
-    put(lines, from, rest, name(rest), next);
-}
-
-/// Reads what begins with a digit.
+/// Reads what begins with a digit. It stands apart, since a word needs fewer registers.
 #[inline(never)]
 fn read_number<'a>(lines: &'a Lines, from: Place, rest: &'a [u8], next: &mut Lexed<'a>)
     requires left { IsLeftInLine lines.now from rest.now }
