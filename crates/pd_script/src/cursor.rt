@@ -123,7 +123,7 @@ impl<'a> Cursor<'a> {
             return Err(Stop::Syntax);
         };
         inside.pairs.pass(&token, MAX_DEPTH)?;
-        inside.draft = inside.draft.with(&token);
+        inside.draft.add(&token);
         self.take();
         Ok(())
     }

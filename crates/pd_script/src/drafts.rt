@@ -43,7 +43,7 @@ impl Draft {
     }
 
     /// The draft with one token more.
-    pub fn with(self, token: &Token) -> Draft
+    fn with(self, token: &Token) -> Draft
         ensures { result ≡ longer_draft self (shown token.now) }
     {
         match self {
@@ -51,6 +51,15 @@ impl Draft {
             Draft::Opened if is_any_int(token) => Draft::Numbered(token.number),
             Draft::Numbered(n) if is_symbol(token, b']') => Draft::Element(n),
             _ => Draft::Mixed,
+        }
+    }
+
+    /// Takes one token more; a mixed draft stays as it is.
+    pub fn add(&mut self, token: &Token)
+        ensures { self.new ≡ longer_draft self.old (shown token.now) }
+    {
+        if !matches!(self, Draft::Mixed) {
+            *self = self.with(token);
         }
     }
 

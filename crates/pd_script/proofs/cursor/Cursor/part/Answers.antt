@@ -18,4 +18,4 @@ pub returns : goal.returns
 returns c =
     let is : c.self.inside.next ≡ lexed.Token c.in-Token.token = cc c.in-Token.is in
     let old : c.args.self.now ≡ left c.self.inside.lines.now c.self.inside.next = cc c.self.view_is in
-    part_ok c.self.inside.lines.now c.self.inside.next c.in-Token.token c.args.self.now is c.self.invariant old c.take.new.self c.args.inside.now c.pass.new.self c.with-inside.result c.take.ensures c.in_ok-pass.ensures.ok c.with-inside.ensures
+    part_ok c.self.inside.lines.now c.self.inside.next c.in-Token.token c.args.self.now is c.self.invariant old c.take.new.self c.args.inside.now c.pass.new.self c.add.new.self c.take.ensures c.in_ok-pass.ensures.ok c.add.ensures
