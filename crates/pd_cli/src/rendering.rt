@@ -1,8 +1,9 @@
 //! The octets of a report.
-ghost use Rattle.std.specs.Prelude.{◌≡◌, ◌++◌, IfOk, OnOk, string_bytes};
+ghost use Rattle.std.specs.Prelude.{◌≡◌, ◌++◌, IfOk, OnOk};
 ghost use Rattle.std.specs.Fmt.{decimal};
 ghost use Rattle.pd_cli.specs.Report.{rendered, row_line, totals, totals_line, verdict_text, kind_word, is_of, number};
 
+use itoa::Buffer;
 use pd_book::{Report, Row};
 use pd_run::{Kind, Verdict};
 use std::alloc::{AllocError, Global};
@@ -16,52 +17,53 @@ pub fn render(alloc: Global, report: &Report) -> Result<Vec<u8>, AllocError>
 {
     let mut out = Vec::new(alloc);
     for row in report.rows() {
-        put_row(alloc, &mut out, row)?;
+        put_row(&mut out, row)?;
     }
-    Totals::of(report.rows()).put_line(alloc, &mut out)?;
+    Totals::of(report.rows()).put_line(&mut out)?;
     Ok(out)
 }
 
 /// Adds the line of a row.
-fn put_row(alloc: Global, out: &mut Vec<u8>, row: &Row) -> Result<(), AllocError>
+fn put_row(out: &mut Vec<u8>, row: &Row) -> Result<(), AllocError>
     ensures { OnOk result (out.new.items ≡ out.old.items ++ row_line row.now) }
 {
     out.extend_from_slice(row.name.as_slice())?;
-    out.extend_from_slice(b" ")?;
+    out.push(b' ')?;
     match row.verdict {
-        Some(verdict) => put_verdict(alloc, out, verdict)?,
+        Some(verdict) => put_verdict(out, verdict)?,
         None => out.extend_from_slice(b"pending")?,
     }
-    out.extend_from_slice(b"\n")
+    out.push(b'\n')?;
+    Ok(())
 }
 
 /// Adds the text of a verdict.
 ///
 /// # Errors
 /// `AllocError` where a growth is refused.
-pub fn put_verdict(alloc: Global, out: &mut Vec<u8>, verdict: Verdict) -> Result<(), AllocError>
+pub fn put_verdict(out: &mut Vec<u8>, verdict: Verdict) -> Result<(), AllocError>
     ensures { OnOk result (out.new.items ≡ out.old.items ++ verdict_text verdict) }
 {
     match verdict {
-        Verdict::Pass(events) => put_number(alloc, out, b"pass ", events),
+        Verdict::Pass(events) => put_number(out, b"pass ", events),
         Verdict::Fail(line, kind) => {
-            put_number(alloc, out, b"fail ", line)?;
+            put_number(out, b"fail ", line)?;
             out.extend_from_slice(b" ")?;
             out.extend_from_slice(kind_word(kind))
         }
-        Verdict::Syntax(line) => put_number(alloc, out, b"syntax ", line),
-        Verdict::Unsupported(line) => put_number(alloc, out, b"unsupported ", line),
-        Verdict::Limit(line) => put_number(alloc, out, b"limit ", line),
+        Verdict::Syntax(line) => put_number(out, b"syntax ", line),
+        Verdict::Unsupported(line) => put_number(out, b"unsupported ", line),
+        Verdict::Limit(line) => put_number(out, b"limit ", line),
     }
 }
 
 /// Adds a word and a number in decimal digits.
-fn put_number(alloc: Global, out: &mut Vec<u8>, word: &[u8], n: usize) -> Result<(), AllocError>
+fn put_number(out: &mut Vec<u8>, word: &[u8], n: usize) -> Result<(), AllocError>
     ensures { OnOk result (out.new.items ≡ out.old.items ++ word.now ++ decimal n) }
 {
-    let digits = n.to_string(alloc)?;
+    let mut digits = Buffer::new();
     out.extend_from_slice(word)?;
-    out.extend_from_slice(digits.as_bytes())
+    out.extend_from_slice(digits.format(n).as_bytes())
 }
 
 /// The word for what a script failed at.
@@ -151,16 +153,16 @@ impl Totals {
     }
 
     /// Adds the line of the totals.
-    fn put_line(self, alloc: Global, out: &mut Vec<u8>) -> Result<(), AllocError>
+    fn put_line(self, out: &mut Vec<u8>) -> Result<(), AllocError>
         ensures { OnOk result (out.new.items ≡ out.old.items ++ totals_line self) }
     {
-        put_number(alloc, out, b"total ", self.total)?;
-        put_number(alloc, out, b" pass ", self.pass)?;
-        put_number(alloc, out, b" fail ", self.fail)?;
-        put_number(alloc, out, b" syntax ", self.syntax)?;
-        put_number(alloc, out, b" unsupported ", self.unsupported)?;
-        put_number(alloc, out, b" limit ", self.limit)?;
-        put_number(alloc, out, b" pending ", self.pending)?;
+        put_number(out, b"total ", self.total)?;
+        put_number(out, b" pass ", self.pass)?;
+        put_number(out, b" fail ", self.fail)?;
+        put_number(out, b" syntax ", self.syntax)?;
+        put_number(out, b" unsupported ", self.unsupported)?;
+        put_number(out, b" limit ", self.limit)?;
+        put_number(out, b" pending ", self.pending)?;
         out.extend_from_slice(b"\n")
     }
 }

@@ -44,7 +44,7 @@ fn why_of(alloc: Global, refusal: NotRecorded, input: &ScriptInput) -> Result<Ve
         NotRecorded::Stopped(verdict) => {
             let mut row = Vec::new(alloc);
             let line = input.line_of(line_in(verdict));
-            put_verdict(alloc, &mut row, at_line(verdict, line))?;
+            put_verdict(&mut row, at_line(verdict, line))?;
             Ok(row)
         }
         NotRecorded::TooLarge => Ok(Vec::from_slice(alloc, b"2 TooLarge")?),
