@@ -143,7 +143,7 @@ fn wait(
         awaited: awaited(event.time, before),
         expiry: host.deadline(),
         reason,
-        words: reason.in_words(alloc, host.figures())?,
+        words: reason.in_words(alloc, host.figures(), host.wanted_octet()?)?,
     })
 }
 

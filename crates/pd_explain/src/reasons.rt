@@ -67,11 +67,17 @@ impl Reason {
         }
     }
 
-    /// The reason in words, with the numbers of the connection that it concerns.
+    /// The reason in words, with the numbers of the connection that it concerns. `wanted` is the octet that has to lie within
+    /// the windows for the next segment to leave.
     ///
     /// # Errors
     /// `AllocError` where a growth is refused.
-    pub fn in_words(self, alloc: Global, figures: Option<Figures>) -> Result<Vec<u8>, AllocError> {
+    pub fn in_words(
+        self,
+        alloc: Global,
+        figures: Option<Figures>,
+        wanted: Option<u32>,
+    ) -> Result<Vec<u8>, AllocError> {
         match self {
             Reason::NoOctets => said(
                 alloc,
@@ -79,7 +85,13 @@ impl Reason {
                     "the awaited packet has no octets (no data, SYN or FIN), so it is an answer to something that didn't come",
                 )],
             ),
-            Reason::Held(hold) => held_in_words(alloc, hold, Numbers::of(figures)),
+            Reason::Held(hold) => {
+                let numbers = Numbers {
+                    wanted: wanted.unwrap_or(0),
+                    ..Numbers::of(figures)
+                };
+                held_in_words(alloc, hold, numbers)
+            }
         }
     }
 }
@@ -219,16 +231,6 @@ fn said(alloc: Global, pieces: &[Piece]) -> Result<Vec<u8>, AllocError> {
     Ok(words)
 }
 
-/// The last octet of the next segment where it was sent before, else its first.
-fn wanted(figures: Figures) -> u32 {
-    if figures.next < figures.top {
-        let end = figures.next.saturating_add(u32::from(figures.smss));
-        end.min(figures.top).saturating_sub(1)
-    } else {
-        figures.next
-    }
-}
-
 impl Numbers {
     fn of(figures: Option<Figures>) -> Numbers {
         let Some(figures) = figures else {
@@ -236,7 +238,6 @@ impl Numbers {
         };
         let mut numbers = Numbers {
             end: figures.end,
-            wanted: wanted(figures),
             flight: figures.top.saturating_sub(figures.una),
             smss: u32::from(figures.smss),
             unsent: figures.end.saturating_sub(figures.top),

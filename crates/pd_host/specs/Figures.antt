@@ -1,8 +1,10 @@
 -- The numbers of a connection, as those who observe it see them.
-use Rattle.std.specs.Prelude.{Bool, true, false, Option, option_map}
+use Rattle.std.specs.Prelude.{Bool, true, false, ℕ, Option, option_map}
 use Rattle.pd_board.specs.Loss.{pipe}
 use Rattle.pd_recover.specs.Congestion.{Congestion}
 use Rattle.pd_host.specs.ControlBlock.{ControlBlock}
+use Rattle.pd_host.specs.Holds.{wanted}
+use Rattle.pd_host.specs.Sending.{past_sacked}
 use Rattle.pd_host.specs.declared.established.Established.{Established}
 use Rattle.pd_host.specs.declared.figures.Figures.{Figures}
 use Rattle.pd_host.specs.declared.figures.Recovery.{Recovery}
@@ -48,3 +50,8 @@ figures_of c = record {
 -- the same of the sender, once a SYN has begun a connection
 abbrev pub figures_in : State → Option Figures
 figures_in s = option_map {T = ControlBlock} figures_of s.endpoint.connection
+
+-- once a SYN has begun a connection, the octet that has to lie within the windows for its next segment to leave, its sending
+-- place past SACKed octets
+abbrev pub wanted_in : State → Option ℕ
+wanted_in s = option_map {T = ControlBlock} (λ c. wanted (past_sacked c)) s.endpoint.connection

@@ -6,7 +6,7 @@ ghost use Rattle.pd_host.specs.Calls.{called};
 ghost use Rattle.pd_host.specs.ConnStates.{conn_state};
 ghost use Rattle.pd_host.specs.Outcome.{Goes, Answers};
 ghost use Rattle.pd_host.specs.Expiries.{advanced, deadline_of};
-ghost use Rattle.pd_host.specs.Figures.{figures_in};
+ghost use Rattle.pd_host.specs.Figures.{figures_in, wanted_in};
 ghost use Rattle.pd_host.specs.Holds.{hold_in};
 ghost use Rattle.pd_host.specs.InputLaws.{rebound_host};
 ghost use Rattle.pd_host.specs.Sender.{IsShort, fresh, without_oldest, exhausted, end_of};
@@ -153,6 +153,20 @@ impl Host {
         match &self.state.endpoint.connection {
             None => Ok(Hold::NotEstablished),
             Some(connection) => connection.hold(),
+        }
+    }
+
+    /// The octet that has to lie within the windows for the next segment to leave, once a SYN has begun the connection: of
+    /// octets that were sent before the last one of the segment, else the next.
+    ///
+    /// # Errors
+    /// `AllocError` where a growth is refused, or the host has found no memory before.
+    pub fn wanted_octet(&self) -> Result<Option<u32>, AllocError>
+        ensures { IfOk result (λ octet. octet ≡ wanted_in self.now.state) }
+    {
+        match &self.state.endpoint.connection {
+            None => Ok(None),
+            Some(connection) => Ok(Some(connection.wanted_octet()?)),
         }
     }
 

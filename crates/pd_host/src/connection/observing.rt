@@ -61,9 +61,27 @@ impl Connection {
     pub fn hold(&self) -> Result<Hold, AllocError>
         ensures { IfOk result (λ hold. hold ≡ hold_of (past_sacked self.now)) }
     {
+        Ok(self.past_sacked()?.hold_from_here())
+    }
+
+    /// The octet that has to lie within the windows for the next segment to leave, once its sending place has moved past
+    /// SACKed octets.
+    ///
+    /// # Errors
+    /// `AllocError` where a growth is refused, or the scoreboard has found no memory before.
+    pub fn wanted_octet(&self) -> Result<u32, AllocError>
+        ensures { IfOk result (λ octet. octet ≡ wanted (past_sacked self.now)) }
+    {
+        Ok(self.past_sacked()?.wanted())
+    }
+
+    /// The same connection with its sending place past SACKed octets.
+    fn past_sacked(&self) -> Result<Connection, AllocError>
+        ensures { IfOk result (λ ready. ready ≡ past_sacked self.now) }
+    {
         let mut ready = self.with_board(self.board_copy()?);
         ready.skip_sacked();
-        Ok(ready.hold_from_here())
+        Ok(ready)
     }
 
     /// Why it sends nothing by itself from the sending place on.
