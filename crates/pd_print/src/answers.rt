@@ -20,17 +20,17 @@ pub fn write_answer(alloc: Global, answer: Answer) -> Result<Vec<u8>, AllocError
     ensures back { IfOk result (λ text. IsReadAs IsOutcome (λ line. outcome_of answer) text.items) }
 {
     let mut out = Vec::new(alloc);
-    put_answer(alloc, &mut out, answer)?;
+    put_answer(&mut out, answer)?;
     Ok(out)
 }
 
 /// Adds an answer.
-fn put_answer(alloc: Global, out: &mut Vec<u8>, answer: Answer) -> Result<(), AllocError>
+fn put_answer(out: &mut Vec<u8>, answer: Answer) -> Result<(), AllocError>
     ensures text { OnOk result (out.new.items ≡ out.old.items ++ answer_text answer) }
     ensures small { FitsAnswer answer }
 {
     match answer {
-        Answer::Number(number) => put_number(alloc, out, u64::from(number)),
+        Answer::Number(number) => put_number(out, u64::from(number)),
         Answer::Error(error) => {
             out.extend_from_slice(b"-1 ")?;
             out.extend_from_slice(error_name(error))

@@ -3,14 +3,15 @@ ghost use Rattle.std.specs.Prelude.{◌≡◌, ◌++◌, ◌<◌, OnOk};
 ghost use Rattle.std.specs.Fmt.{decimal};
 ghost use Rattle.pd_print.specs.Numbers.{digits_of, shortest_digits};
 
-use std::alloc::{AllocError, Global};
+use itoa::Buffer;
+use std::alloc::AllocError;
 
 /// Adds a number.
-pub fn put_number(alloc: Global, out: &mut Vec<u8>, number: u64) -> Result<(), AllocError>
+pub fn put_number(out: &mut Vec<u8>, number: u64) -> Result<(), AllocError>
     ensures { OnOk result (out.new.items ≡ out.old.items ++ decimal number) }
 {
-    let digits = number.to_string(alloc)?;
-    out.extend_from_slice(digits.as_bytes())
+    let mut digits = Buffer::new();
+    out.extend_from_slice(digits.format(number).as_bytes())
 }
 
 /// Adds the last digits of a number, so many, with zeros in front.

@@ -23,7 +23,7 @@ pub fn write_moment(alloc: Global, moment: u64) -> Result<Vec<u8>, AllocError>
     ensures back { IfOk result (λ text. microseconds text.items ≡ moment) }
 {
     let mut out = Vec::new(alloc);
-    put_number(alloc, &mut out, moment / SECOND)?;
+    put_number(&mut out, moment / SECOND)?;
     out.extend_from_slice(b".")?;
     put_digits(&mut out, 6, moment % SECOND)?;
     Ok(out)
@@ -40,35 +40,35 @@ pub fn write_time(alloc: Global, time: Time) -> Result<Vec<u8>, AllocError>
     ensures back { IfOk result (λ text. FitsTime time → IsReadAs IsTime (λ line. (line, time)) text.items) }
 {
     let mut out = Vec::new(alloc);
-    put_time(alloc, &mut out, time)?;
+    put_time(&mut out, time)?;
     Ok(out)
 }
 
 /// Adds a time.
-pub fn put_time(alloc: Global, out: &mut Vec<u8>, time: Time) -> Result<(), AllocError>
+pub fn put_time(out: &mut Vec<u8>, time: Time) -> Result<(), AllocError>
     ensures { OnOk result (out.new.items ≡ out.old.items ++ time_text time) }
 {
     match time {
         Time::Any => out.extend_from_slice(b"*"),
-        Time::Absolute(moment) => put_seconds(alloc, out, b"", moment),
-        Time::Relative(moment) => put_seconds(alloc, out, b"+", moment),
+        Time::Absolute(moment) => put_seconds(out, b"", moment),
+        Time::Relative(moment) => put_seconds(out, b"+", moment),
         Time::AbsoluteRange(first, last) => {
-            put_seconds(alloc, out, b"", first)?;
-            put_seconds(alloc, out, b"~", last)
+            put_seconds(out, b"", first)?;
+            put_seconds(out, b"~", last)
         }
         Time::RelativeRange(first, last) => {
-            put_seconds(alloc, out, b"+", first)?;
-            put_seconds(alloc, out, b"~+", last)
+            put_seconds(out, b"+", first)?;
+            put_seconds(out, b"~+", last)
         }
     }
 }
 
 /// Adds a sign, and seconds with no more decimals than they take.
-fn put_seconds(alloc: Global, out: &mut Vec<u8>, sign: &[u8], time: u64) -> Result<(), AllocError>
+fn put_seconds(out: &mut Vec<u8>, sign: &[u8], time: u64) -> Result<(), AllocError>
     ensures { OnOk result (out.new.items ≡ out.old.items ++ (sign.now ++ seconds_text time)) }
 {
     out.extend_from_slice(sign)?;
-    put_number(alloc, out, time / SECOND)?;
+    put_number(out, time / SECOND)?;
     put_fraction(out, time % SECOND)
 }
 

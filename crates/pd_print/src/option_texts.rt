@@ -5,10 +5,10 @@ ghost use Rattle.pd_print.specs.Options.{block_text, option_text, next_option_te
 
 use crate::digits::put_number;
 use pd_script::{Block, Options, PacketOption};
-use std::alloc::{AllocError, Global};
+use std::alloc::AllocError;
 
 /// Adds the options of a packet in angle brackets; nothing where it writes none.
-pub fn put_options(alloc: Global, out: &mut Vec<u8>, options: &Options) -> Result<(), AllocError>
+pub fn put_options(out: &mut Vec<u8>, options: &Options) -> Result<(), AllocError>
     ensures { OnOk result (out.new.items ≡ out.old.items ++ options_text options.now) }
 {
     match options {
@@ -16,72 +16,72 @@ pub fn put_options(alloc: Global, out: &mut Vec<u8>, options: &Options) -> Resul
         Options::Any => out.extend_from_slice(b" <...>"),
         Options::Listed(options) => {
             out.extend_from_slice(b" <")?;
-            put_list(alloc, out, options.as_slice())?;
+            put_list(out, options.as_slice())?;
             out.extend_from_slice(b">")
         }
     }
 }
 
 /// Adds options with commas between them.
-fn put_list(alloc: Global, out: &mut Vec<u8>, options: &[PacketOption]) -> Result<(), AllocError>
+fn put_list(out: &mut Vec<u8>, options: &[PacketOption]) -> Result<(), AllocError>
     ensures { OnOk result (out.new.items ≡ out.old.items ++ list_text options.now) }
 {
     match options {
         [] => Ok(()),
         [first, others @ ..] => {
-            put_option(alloc, out, first)?;
-            put_others(alloc, out, others)
+            put_option(out, first)?;
+            put_others(out, others)
         }
     }
 }
 
 /// Adds options with a comma before each.
-fn put_others(alloc: Global, out: &mut Vec<u8>, others: &[PacketOption]) -> Result<(), AllocError>
+fn put_others(out: &mut Vec<u8>, others: &[PacketOption]) -> Result<(), AllocError>
     ensures { OnOk result (out.new.items ≡ out.old.items ++ flat_map next_option_text others.now) }
 {
     for option in others {
         out.extend_from_slice(b",")?;
-        put_option(alloc, out, option)?;
+        put_option(out, option)?;
     }
     Ok(())
 }
 
 /// Adds an option.
-fn put_option(alloc: Global, out: &mut Vec<u8>, option: &PacketOption) -> Result<(), AllocError>
+fn put_option(out: &mut Vec<u8>, option: &PacketOption) -> Result<(), AllocError>
     ensures { OnOk result (out.new.items ≡ out.old.items ++ option_text option.now) }
 {
     match option {
-        PacketOption::Mss(mss) => put_value(alloc, out, b"mss ", *mss),
-        PacketOption::Wscale(shift) => put_value(alloc, out, b"wscale ", *shift),
+        PacketOption::Mss(mss) => put_value(out, b"mss ", *mss),
+        PacketOption::Wscale(shift) => put_value(out, b"wscale ", *shift),
         PacketOption::SackOk => out.extend_from_slice(b"sackOK"),
         PacketOption::Nop => out.extend_from_slice(b"nop"),
         PacketOption::Eol => out.extend_from_slice(b"eol"),
         PacketOption::Timestamp(value, echo) => {
-            put_value(alloc, out, b"TS val ", *value)?;
-            put_value(alloc, out, b" ecr ", *echo)
+            put_value(out, b"TS val ", *value)?;
+            put_value(out, b" ecr ", *echo)
         }
         PacketOption::Sack(blocks) => {
             out.extend_from_slice(b"sack")?;
-            put_blocks(alloc, out, blocks.as_slice())
+            put_blocks(out, blocks.as_slice())
         }
     }
 }
 
 /// Adds SACK blocks with a blank before each.
-fn put_blocks(alloc: Global, out: &mut Vec<u8>, blocks: &[Block]) -> Result<(), AllocError>
+fn put_blocks(out: &mut Vec<u8>, blocks: &[Block]) -> Result<(), AllocError>
     ensures { OnOk result (out.new.items ≡ out.old.items ++ flat_map block_text blocks.now) }
 {
     for block in blocks {
-        put_value(alloc, out, b" ", block.left)?;
-        put_value(alloc, out, b":", block.right)?;
+        put_value(out, b" ", block.left)?;
+        put_value(out, b":", block.right)?;
     }
     Ok(())
 }
 
 /// Adds a word and a number.
-fn put_value(alloc: Global, out: &mut Vec<u8>, word: &[u8], n: u64) -> Result<(), AllocError>
+fn put_value(out: &mut Vec<u8>, word: &[u8], n: u64) -> Result<(), AllocError>
     ensures { OnOk result (out.new.items ≡ out.old.items ++ (word.now ++ decimal n)) }
 {
     out.extend_from_slice(word)?;
-    put_number(alloc, out, n)
+    put_number(out, n)
 }

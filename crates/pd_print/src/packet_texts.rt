@@ -40,9 +40,9 @@ pub fn write_event(
     ensures back { IfOk result (λ text. FitsTime time → FitsPacket direction packet.now → IsReadAs IsEvent (event_of time (action_of direction packet.now)) text.items) }
 {
     let mut out = Vec::new(alloc);
-    put_time(alloc, &mut out, time)?;
+    put_time(&mut out, time)?;
     put_arrow(&mut out, direction)?;
-    put_packet(alloc, &mut out, packet)?;
+    put_packet(&mut out, packet)?;
     Ok(out)
 }
 
@@ -57,13 +57,13 @@ fn put_arrow(out: &mut Vec<u8>, direction: Direction) -> Result<(), AllocError>
 }
 
 /// Adds a packet.
-fn put_packet(alloc: Global, out: &mut Vec<u8>, packet: &Packet) -> Result<(), AllocError>
+fn put_packet(out: &mut Vec<u8>, packet: &Packet) -> Result<(), AllocError>
     ensures { OnOk result (out.new.items ≡ out.old.items ++ packet_text packet.now) }
 {
     put_flags(out, packet.flags)?;
-    put_octets(alloc, out, packet)?;
-    put_fields(alloc, out, packet)?;
-    put_options(alloc, out, &packet.options)
+    put_octets(out, packet)?;
+    put_fields(out, packet)?;
+    put_options(out, &packet.options)
 }
 
 /// Adds the letters of flags in the order F, S, R and P, and the point of ACK; `-` where none is set.
@@ -101,42 +101,37 @@ fn put_point(out: &mut Vec<u8>, flags: Flags) -> Result<(), AllocError>
 }
 
 /// Adds the start, the end and the length.
-pub fn put_octets(alloc: Global, out: &mut Vec<u8>, packet: &Packet) -> Result<(), AllocError>
+pub fn put_octets(out: &mut Vec<u8>, packet: &Packet) -> Result<(), AllocError>
     ensures { OnOk result (out.new.items ≡ out.old.items ++ octets_text packet.now) }
 {
-    put_field(alloc, out, b" ", packet.start)?;
-    put_field(alloc, out, b":", packet.end)?;
-    put_field(alloc, out, b"(", packet.length)?;
+    put_field(out, b" ", packet.start)?;
+    put_field(out, b":", packet.end)?;
+    put_field(out, b"(", packet.length)?;
     out.extend_from_slice(b")")
 }
 
 /// Adds the acknowledgment number and the window where they are written.
-fn put_fields(alloc: Global, out: &mut Vec<u8>, packet: &Packet) -> Result<(), AllocError>
+fn put_fields(out: &mut Vec<u8>, packet: &Packet) -> Result<(), AllocError>
     ensures { OnOk result (out.new.items ≡ out.old.items ++ fields_text packet.now) }
 {
-    put_numbered(alloc, out, b" ack ", packet.ack)?;
-    put_numbered(alloc, out, b" win ", packet.win)
+    put_numbered(out, b" ack ", packet.ack)?;
+    put_numbered(out, b" win ", packet.win)
 }
 
 /// Adds a word and a number where one is written.
-pub fn put_numbered(
-    alloc: Global,
-    out: &mut Vec<u8>,
-    word: &[u8],
-    number: Option<u32>,
-) -> Result<(), AllocError>
+pub fn put_numbered(out: &mut Vec<u8>, word: &[u8], number: Option<u32>) -> Result<(), AllocError>
     ensures { OnOk result (out.new.items ≡ out.old.items ++ numbered word.now number) }
 {
     match number {
         None => Ok(()),
-        Some(number) => put_field(alloc, out, word, number),
+        Some(number) => put_field(out, word, number),
     }
 }
 
 /// Adds a word and a number.
-fn put_field(alloc: Global, out: &mut Vec<u8>, word: &[u8], n: u32) -> Result<(), AllocError>
+fn put_field(out: &mut Vec<u8>, word: &[u8], n: u32) -> Result<(), AllocError>
     ensures { OnOk result (out.new.items ≡ out.old.items ++ (word.now ++ decimal n)) }
 {
     out.extend_from_slice(word)?;
-    put_number(alloc, out, u64::from(n))
+    put_number(out, u64::from(n))
 }

@@ -38,13 +38,13 @@ pub fn write_parts(alloc: Global, packet: &Packet) -> Result<Parts, AllocError>
     let mut flags = Vec::new(alloc);
     put_flags(&mut flags, packet.flags)?;
     let mut octets = Vec::new(alloc);
-    put_octets(alloc, &mut octets, packet)?;
+    put_octets(&mut octets, packet)?;
     let mut ack = Vec::new(alloc);
-    put_numbered(alloc, &mut ack, b" ack ", packet.ack)?;
+    put_numbered(&mut ack, b" ack ", packet.ack)?;
     let mut win = Vec::new(alloc);
-    put_numbered(alloc, &mut win, b" win ", packet.win)?;
+    put_numbered(&mut win, b" win ", packet.win)?;
     let mut options = Vec::new(alloc);
-    put_options(alloc, &mut options, &packet.options)?;
+    put_options(&mut options, &packet.options)?;
     Ok(Parts {
         flags,
         octets,
