@@ -1,7 +1,6 @@
 -- The lemmas of this crate.
 pub mod Images
 pub mod Found
-pub mod Rulings
 pub mod Bounds
 pub mod Leaving
 pub mod Leaves

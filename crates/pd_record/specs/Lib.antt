@@ -3,6 +3,5 @@ pub mod Sameness
 pub mod Scripts
 pub mod Standings
 pub mod Tape
-pub mod Rulings
 pub mod Recording
 pub mod Traces

@@ -4,7 +4,6 @@ ghost use Rattle.std.specs.List.{list_any};
 ghost use Rattle.pd_run.specs.Limits.{is_long, written_times};
 ghost use Rattle.pd_run.specs.Step.{tolerance_of};
 ghost use Rattle.pd_run.specs.Times.{moment_of, moments_of, is_in_reach};
-ghost use Rattle.pd_record.specs.Rulings.{ruled_by};
 ghost use Rattle.pd_record.specs.Tape.{Finds, Gives, Goes, IsReached, Sound, acts_at, answer_at, arrives, begun, calls, departs, event_at, expects, inputs, leaves_next, left_by, recorded, refusal_at, ruling_at, stepped, taken, with_base, with_unmet};
 
 use crate::outcomes::outcome_of;
@@ -14,8 +13,8 @@ use crate::tape::{Own, Recorded, Reply, Standing, Take};
 use pd_match::{Kind, check_call};
 use pd_print::sent_packet;
 use pd_run::{
-    Plain, RunState, StepEnd, Stepper, Verdict, Why, base_after, is_backwards, is_in_reach,
-    moment_of, moments_of, runs_are_bounded,
+    Plain, RunState, StepEnd, Stepper, Verdict, base_after, is_backwards, is_in_reach,
+    is_over_limit, is_run, moment_of, moments_of, runs_are_bounded,
 };
 use pd_script::{Action, Call, Event, Header, MAX_EVENTS, Packet, Time};
 use pd_seg::{Answer, Sent};
@@ -31,8 +30,6 @@ const MAX_GAP: u64 = 3_600_000_000;
 /// what was recorded so far always passes.
 #[derive(Drop)]
 pub struct Recorder {
-    /// A run of the same script in which nothing has happened.
-    fresh: RunState,
     /// The run of what was recorded so far.
     run: RunState,
     /// The settings of the run.
@@ -46,15 +43,11 @@ pub struct Recorder {
 }
 
 impl Model for Recorder {
-    ghost use Rattle.pd_run.specs.Laws.{IsUnderway};
-    ghost use Rattle.pd_record.specs.Rulings.{ruled_by};
     ghost use Rattle.pd_record.specs.Tape.{Tape};
 
     ghost Value = { Tape };
 
     ghost view = { λ r. record { run = r.run; count = r.count; base = r.base; unmet = r.unmet.items } };
-
-    ghost invariant = { λ r. IsUnderway 0 r.fresh };
 }
 
 impl Recorder {
@@ -73,7 +66,6 @@ impl Recorder {
             Err(verdict) => return Err(NotRecorded::Stopped(verdict)),
         };
         Ok(Recorder {
-            fresh: run.copy()?,
             run,
             settings: *settings,
             count: 0,
@@ -107,7 +99,7 @@ impl Recorder {
         ensures sound { OnOk result (Sound self.new) }
         ensures base { OnOk result (self.new.base ≤ max (self.old.base + 3600000000) (3600000000 * 4097)) }
     {
-        if let Some(refusal) = self.ruling(event)? {
+        if let Some(refusal) = self.ruling(event) {
             return Err(refusal);
         }
         match &event.action {
@@ -121,22 +113,17 @@ impl Recorder {
     }
 
     /// The checks of a step before anything happens: limits, shapes that aren't run, and times that go backwards.
-    fn ruling(&self, event: &Event) -> Result<Option<NotRecorded>, AllocError>
-        ensures { IfOk result (λ ruling. ruling ≡ ruling_at self.now event.now) }
+    fn ruling(&self, event: &Event) -> Option<NotRecorded>
+        ensures { result ≡ ruling_at self.now event.now }
     {
-        let reason = self.fresh.why(event)?;
-        Ok(self.ruled_by(event, reason))
-    }
-
-    /// What rules at an event, by the reason why some run stops there.
-    fn ruled_by(&self, event: &Event, reason: Option<Why>) -> Option<NotRecorded>
-        ensures { result ≡ ruled_by self.now event.now reason }
-    {
-        let verdict = match reason {
-            Some(Why::OverLimit) => Verdict::Limit(event.line),
-            Some(Why::NotRun) => Verdict::Unsupported(event.line),
-            _ if is_backwards(self.base, event.time) => Verdict::Fail(event.line, Kind::Backwards),
-            _ => return None,
+        let verdict = if is_over_limit(event) {
+            Verdict::Limit(event.line)
+        } else if !is_run(event) {
+            Verdict::Unsupported(event.line)
+        } else if is_backwards(self.base, event.time) {
+            Verdict::Fail(event.line, Kind::Backwards)
+        } else {
+            return None;
         };
         Some(NotRecorded::Stopped(verdict))
     }

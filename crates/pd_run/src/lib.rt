@@ -15,10 +15,12 @@ mod verdicts;
 mod whys;
 
 pub use laws::{runs_are_bounded, runs_only_use, steps_are_lawful, verdicts_have_reasons};
+pub use limits::is_over_limit;
 pub use pd_host::ConnState;
 pub use pd_match::Kind;
 pub use run_state::RunState;
 pub use running::{run_all, run_with};
+pub use shapes::is_run;
 pub use stepping::{Plain, StepEnd, Stepper};
 pub use stops::{Stopped, find_stop};
 pub use times::{base_after, is_backwards, is_in_reach, moment_of, moments_of};
