@@ -88,6 +88,7 @@ impl Host {
     /// # Errors
     /// What ended the host before; else `Halted` for a segment that isn't run, and where more than 1,024 packets would stand
     /// untaken, and `OutOfMemory`.
+    #[inline(always)]
     pub fn arrive(&mut self, segment: &Segment, now: u64) -> Result<(), Ending>
         requires early { now < 2 ^ 62 }
         ensures { Goes self.old (arrived segment.now now) result self.new }

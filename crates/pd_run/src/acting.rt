@@ -35,6 +35,7 @@ pub fn arrive(host: &mut Host, packet: &Packet, at: u64) -> Result<(), Ending>
 ///
 /// # Errors
 /// Why the host has ended, here or before.
+#[inline(always)]
 pub fn answer(host: &mut Host, call: &Call, now: u64) -> Result<Answer, Ending>
     requires early { now < 2 ^ 62 }
     requires short { IsShort host.old.state }

@@ -152,6 +152,7 @@ impl RunState {
 
     /// One event, its checks in order: limits, shapes that aren't run, absolute times that go back, then the event
     /// itself.
+    #[inline(always)]
     pub(crate) fn step(&mut self, event: &Event) -> Result<StepEnd, AllocError>
         requires clock { self.old.clock < 2 ^ 61 }
         requires base { self.old.base < 2 ^ 61 }
@@ -237,6 +238,7 @@ impl RunState {
         self.base = moment_of(self.base, event.time);
     }
 
+    #[inline(always)]
     fn arrive(&mut self, event: &Event, packet: &Packet) -> Result<StepEnd, AllocError>
         requires live { self.old.host.ended ≡ None }
         requires clock { self.old.clock < 2 ^ 61 }
@@ -257,6 +259,7 @@ impl RunState {
         Ok(StepEnd::Go)
     }
 
+    #[inline(always)]
     fn call(&mut self, event: &Event, call: &Call) -> Result<StepEnd, AllocError>
         requires live { self.old.host.ended ≡ None }
         requires clock { self.old.clock < 2 ^ 61 }
@@ -280,6 +283,7 @@ impl RunState {
         Ok(StepEnd::Go)
     }
 
+    #[inline(always)]
     fn expect(&mut self, event: &Event, packet: &Packet) -> Result<StepEnd, AllocError>
         requires live { self.old.host.ended ≡ None }
         requires clock { self.old.clock < 2 ^ 61 }
@@ -295,6 +299,7 @@ impl RunState {
     }
 
     /// Where no packet stands untaken, performs the next expiry that may send the expected one.
+    #[inline(always)]
     fn wait(&mut self, event: &Event) -> Result<StepEnd, AllocError>
         requires live { self.old.host.ended ≡ None }
         requires clock { self.old.clock < 2 ^ 61 }
