@@ -1,6 +1,6 @@
 //! Where a run begins: at its first event, or in a state that an earlier one kept.
 ghost use Rattle.std.specs.Prelude.{◌≡◌, ◌+◌, ◌*◌, ◌-◌, ◌≤◌, ◌<◌, ℕ, length, map, take, drop, slice_get, Some, true, false, IfOk};
-ghost use Rattle.pd_text.specs.Text.{front};
+ghost use Rattle.pd_text.specs.Text.{front, AreLines};
 ghost use Rattle.pd_reparse.specs.Reading.{reading_of, kept_of};
 ghost use Rattle.pd_run.specs.Consulted.{rebound_run};
 ghost use Rattle.pd_run.specs.Run.{states_of};
@@ -16,7 +16,7 @@ use pd_reparse::{Reread, first_events, read, reread};
 use pd_run::{RunState, runs_are_bounded, runs_only_use};
 use pd_settings::{Settings, UseSet};
 use pd_shared::SharedList;
-use pd_text::{Text, have_lines};
+use pd_text::Text;
 use std::alloc::{AllocError, Global};
 
 /// Reads a job's text, from the first event on that the track's reading doesn't settle.
@@ -42,8 +42,15 @@ fn read_after(alloc: Global, track: &Track, text: &Text, same: usize) -> Result<
     ensures reading { IfOk result (λ r. r.reading ≡ reading_of text.now) }
     ensures kept { IfOk result (λ r. r.kept ≡ kept track.now.text text.now) }
 {
-    have_lines(track.text().lines());
+    have_lines(track.text());
     reread(alloc, track.reading(), text.lines(), same)
+}
+
+/// A fact of texts: no line holds a newline.
+fn have_lines(text: &Text)
+    ensures { AreLines text.now }
+{
+    let _first = text.lines().line(1);
 }
 
 /// Begins a job's run, which before its first event is in this state, where the track allows.
@@ -97,8 +104,8 @@ fn begin_after(
     }
     first_events();
     runs_are_bounded();
-    have_lines(track.text().lines());
-    have_lines(text.lines());
+    have_lines(track.text());
+    have_lines(text);
     runs_only_use();
     let checkpoints = first_of(track, count)?;
     let mut state = state_at(track, count).copy()?;

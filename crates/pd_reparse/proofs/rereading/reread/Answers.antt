@@ -29,4 +29,4 @@ returns-clause-reading c =
     let events : c.in_ok-events.events ≡ take (kept_of same old) old.events = c.in_ok-events.ensures ∙ ap (λ (n : ℕ). take n old.events) count in
     let some : kept_of same old ≡ 0 → ⊥ = λ z. omega (arith, z, c.if-kept-eq0.false, count) in
     let behind : (start : Place) → last_place start (take (kept_of same old) old.events) ≡ c.place_behind-place.result = λ start. ap (λ (n : ℕ). last_place start (take n old.events)) (sym count) ∙ c.place_behind-place.ensures start in
-    read_again c.first_lines.ensures.order c.first_lines.ensures.same c.items_stand_there.ensures c.args.lines.now same old c.in_ok-reading-2.reading c.place_behind-place.result c.line.ensures.lines c.requires c.in_ok-header.header c.in_ok-events.events header events some behind c.in_ok-reading-2.ensures
+    read_again c.first_lines.ensures.order c.first_lines.ensures.same c.items_stand_there.ensures c.args.lines.now same old c.in_ok-reading-2.reading c.place_behind-place.result c.have_lines.ensures c.requires c.in_ok-header.header c.in_ok-events.events header events some behind c.in_ok-reading-2.ensures
