@@ -93,7 +93,7 @@ impl Held {
         let kept = SharedName::copy_of(*self.notes.allocator(), &name)?;
         let act = Act::Add(kept, text.share()?);
         self.book.add_shared(name, text)?;
-        have_legal_acts(&self.book);
+        let _acts = self.book.history();
         note(&mut self.notes, seat.number);
         record(&mut seat.own, act);
         Ok(())
@@ -133,7 +133,7 @@ impl Held {
         seat.own.reserve(seat.open_jobs.len() + 1)?;
         let act = Act::Edit(name.share()?, edit.share()?);
         self.book.edit_shared(name, edit)?;
-        have_legal_acts(&self.book);
+        let _acts = self.book.history();
         note(&mut self.notes, seat.number);
         record(&mut seat.own, act);
         Ok(())
@@ -154,7 +154,7 @@ impl Held {
         seat.own.reserve(seat.open_jobs.len() + 1)?;
         let act = Act::Remove(SharedName::copy_of(*self.notes.allocator(), name)?);
         self.book.remove(name)?;
-        have_legal_acts(&self.book);
+        let _acts = self.book.history();
         note(&mut self.notes, seat.number);
         record(&mut seat.own, act);
         Ok(())
@@ -177,7 +177,7 @@ impl Held {
         let Some(key) = Key::named(key) else {
             return Ok(());
         };
-        have_legal_acts(&self.book);
+        let _acts = self.book.history();
         note(&mut self.notes, seat.number);
         record(&mut seat.own, Act::Set(key, value));
         Ok(())
@@ -214,7 +214,7 @@ impl Held {
         let Some(job) = self.book.start()? else {
             return Ok(None);
         };
-        have_legal_acts(&self.book);
+        let _acts = self.book.history();
         if let Some(act) = act {
             note(&mut self.notes, seat.number);
             record(&mut seat.own, act);
@@ -241,7 +241,7 @@ impl Held {
         }
         make_room(&mut seat.own, seat.open_jobs.as_slice(), done.number())?;
         let ruling = self.book.finish(done)?;
-        have_legal_acts(&self.book);
+        let _acts = self.book.history();
         note(&mut self.notes, seat.number);
         record(&mut seat.own, Act::Finish(done.number(), ruling));
         drop_job(&mut seat.open_jobs, done.number());
@@ -274,7 +274,7 @@ impl Held {
         }
         make_room(&mut seat.own, seat.open_jobs.as_slice(), number)?;
         self.book.abandon(number)?;
-        have_legal_acts(&self.book);
+        let _acts = self.book.history();
         note(&mut self.notes, seat.number);
         record(&mut seat.own, Act::Abandon(number));
         drop_job(&mut seat.open_jobs, number);
@@ -322,11 +322,4 @@ impl Held {
     {
         self.book.next_name().is_some()
     }
-}
-
-/// A fact of books: their history is one that rules allow.
-fn have_legal_acts(book: &Book)
-    ensures { Legal book.now.story.opening book.now.story.past }
-{
-    let _acts = book.history();
 }
