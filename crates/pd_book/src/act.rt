@@ -2,9 +2,8 @@
 ghost use Rattle.std.specs.Prelude.{◌≡◌, ◌↔◌, IfOk, IsTrue};
 
 use crate::shared_edit::SharedEdit;
-use crate::shared_name::SharedName;
 use pd_settings::{Key, Value};
-use pd_text::Text;
+use pd_text::{Name, Text};
 use std::alloc::AllocError;
 
 /// What a finish of a job came to.
@@ -19,11 +18,11 @@ pub enum Ruling {
 /// An accepted call that changed a book. Jobs are named by their numbers, from 1.
 #[derive(Drop)]
 pub enum Act {
-    Add(SharedName, Text),
-    Edit(SharedName, SharedEdit),
-    Remove(SharedName),
+    Add(Name, Text),
+    Edit(Name, SharedEdit),
+    Remove(Name),
     Set(Key, Value),
-    Start(u64, SharedName),
+    Start(u64, Name),
     Finish(u64, Ruling),
     Abandon(u64),
 }

@@ -19,7 +19,6 @@ use crate::faults::BookFault;
 use crate::recording::{Records, record};
 use crate::report::Report;
 use crate::shared_edit::SharedEdit;
-use crate::shared_name::SharedName;
 use crate::shelf::Tracks;
 use pd_settings::{Key, Settings, Value};
 use pd_text::{LineEdit, Lines, Name, Text, TextFault};
@@ -170,8 +169,7 @@ impl Book {
         };
         let _first = text.lines().line(1);
         self.records.acts.reserve(self.records.tasks.len() + 1)?;
-        let kept = SharedName::copy_of(*self.records.acts.allocator(), &name)?;
-        let act = Act::Add(kept, text.share()?);
+        let act = Act::Add(name.share()?, text.share()?);
         self.records.scripts.add(name, text)?;
         record(&mut self.records.acts, act);
         Ok(())
@@ -224,6 +222,16 @@ impl Book {
         }
     }
 
+    /// The name as the book keeps it where a script of this name stands, else another owner of the given one: equal octets.
+    ///
+    /// # Errors
+    /// `AllocError` only where a count of owners is full.
+    pub fn kept_name(&self, name: &Name) -> Result<Name, AllocError>
+        ensures { IfOk result (λ kept. kept ≡ name.now) }
+    {
+        self.records.scripts.kept_name(name)
+    }
+
     /// The present text of a script.
     fn text(&self, name: &Name) -> Option<&Text>
         ensures { option_copied result ≡ present self.now.story.past name.now }
@@ -244,25 +252,23 @@ impl Book {
         ensures tracks { self.new.tracks ≡ self.old.tracks }
     {
         let lines = self.rewritten(name, edit)?;
-        let alloc = *self.records.acts.allocator();
-        let name = SharedName::copy_of(alloc, name)?;
-        let edit = SharedEdit::copy_of(alloc, edit)?;
+        let edit = SharedEdit::copy_of(*self.records.acts.allocator(), edit)?;
         self.rewrite(name, edit, lines)
     }
 
-    /// Edits the text of a script, where others keep the name and the edit too.
+    /// Edits the text of a script, where others keep the edit too.
     ///
     /// # Errors
     /// As for `edit`.
-    pub fn edit_shared(&mut self, name: SharedName, edit: SharedEdit) -> Result<(), BookFault>
-        ensures gives { GivesEdit self.old.story name edit result self.new.story }
-        ensures ok { OnOk result (self.new.story ≡ told self.old.story (Act.Edit name edit)) }
-        ensures allowed { OnOk result (edit_refusal self.old.story name edit ≡ None) }
-        ensures err { IfErr result (λ e. e ≡ fault_of (edit_refusal self.old.story name edit)) }
+    pub fn edit_shared(&mut self, name: &Name, edit: SharedEdit) -> Result<(), BookFault>
+        ensures gives { GivesEdit self.old.story name.now edit result self.new.story }
+        ensures ok { OnOk result (self.new.story ≡ told self.old.story (Act.Edit name.now edit)) }
+        ensures allowed { OnOk result (edit_refusal self.old.story name.now edit ≡ None) }
+        ensures err { IfErr result (λ e. e ≡ fault_of (edit_refusal self.old.story name.now edit)) }
         ensures same { OnErr result (self.new ≡ self.old) }
         ensures tracks { self.new.tracks ≡ self.old.tracks }
     {
-        let lines = self.rewritten(name.name(), edit.edit())?;
+        let lines = self.rewritten(name, edit.edit())?;
         self.rewrite(name, edit, lines)
     }
 
@@ -285,20 +291,21 @@ impl Book {
     }
 
     /// Keeps what an edit leaves that isn't refused.
-    fn rewrite(&mut self, name: SharedName, edit: SharedEdit, lines: Lines) -> Result<(), BookFault>
-        requires allowed { text_refusal (present self.old.story.past name) edit ≡ None }
+    fn rewrite(&mut self, name: &Name, edit: SharedEdit, lines: Lines) -> Result<(), BookFault>
+        requires allowed { text_refusal (present self.old.story.past name.now) edit ≡ None }
         requires room { full 1 self.old.story ≡ None }
-        requires text { lines ≡ edited (text_of self.old.story.past name) edit }
+        requires text { lines ≡ edited (text_of self.old.story.past name.now) edit }
         requires inserted { AreLines edit.insert }
-        ensures ok { OnOk result (self.new.story ≡ told self.old.story (Act.Edit name edit)) }
+        ensures ok { OnOk result (self.new.story ≡ told self.old.story (Act.Edit name.now edit)) }
         ensures err { IfErr result (λ e. e ≡ BookFault.OutOfMemory) }
         ensures same { OnErr result (self.new ≡ self.old) }
         ensures tracks { self.new.tracks ≡ self.old.tracks }
     {
         self.records.acts.reserve(self.records.tasks.len() + 1)?;
         let text = Text::new(*self.records.acts.allocator(), lines)?;
-        self.records.scripts.rewrite(name.name(), text);
-        record(&mut self.records.acts, Act::Edit(name, edit));
+        let act = Act::Edit(self.kept_name(name)?, edit);
+        self.records.scripts.rewrite(name, text);
+        record(&mut self.records.acts, act);
         Ok(())
     }
 
@@ -321,7 +328,7 @@ impl Book {
             return Err(fault);
         }
         self.records.acts.reserve(self.records.tasks.len() + 1)?;
-        let act = Act::Remove(SharedName::copy_of(*self.records.acts.allocator(), name)?);
+        let act = Act::Remove(self.kept_name(name)?);
         self.records.scripts.remove(name);
         self.tracks.remove(name);
         record(&mut self.records.acts, act);

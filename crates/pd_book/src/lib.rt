@@ -16,7 +16,6 @@ mod row;
 mod script;
 mod scripts;
 mod shared_edit;
-mod shared_name;
 mod shelf;
 
 pub use act::{Act, Ruling};
@@ -27,4 +26,3 @@ pub use pd_track::{Done, Job, Task, Track, Unfinished, run_job};
 pub use report::Report;
 pub use row::Row;
 pub use shared_edit::SharedEdit;
-pub use shared_name::SharedName;

@@ -56,6 +56,19 @@ impl Scripts {
         self.by_name.contains_key(name)
     }
 
+    /// The name as the book keeps it where a script of this name stands, else another owner of the given one: equal octets.
+    ///
+    /// # Errors
+    /// `AllocError` only where a count of owners is full.
+    pub fn kept_name(&self, name: &Name) -> Result<Name, AllocError>
+        ensures { IfOk result (λ kept. kept ≡ name.now) }
+    {
+        match self.by_name.get_key_value(name) {
+            Some((kept, _)) => kept.share(),
+            None => name.share(),
+        }
+    }
+
     /// The text of the script of this name, if one stands.
     pub fn text(&self, name: &Name) -> Option<&Text>
         ensures { option_copied result ≡ option_map (λ s. s.text) (lookup (bytes_eq name.now) self.now) }
@@ -141,7 +154,7 @@ impl Scripts {
     /// A row for each script.
     ///
     /// # Errors
-    /// `AllocError` where a growth is refused, or the count of a text's owners is full.
+    /// `AllocError` where a growth is refused, or a count of owners is full.
     pub fn rows(&self, alloc: Global) -> Result<Vec<Row>, AllocError>
         ensures { IfOk result (λ rows. rows.items ≡ map kept_row self.now) }
     {
@@ -203,7 +216,7 @@ fn row_of(name: &Name, script: &Script) -> Result<Row, AllocError>
     ensures { IfOk result (λ row. row ≡ kept_row (name.now, script.now)) }
 {
     Ok(Row {
-        name: name.copy()?,
+        name: name.share()?,
         text: script.text.share()?,
         verdict: script.state.verdict(),
     })

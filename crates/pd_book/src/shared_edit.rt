@@ -22,6 +22,18 @@ impl Model for SharedEdit {
 }
 
 impl SharedEdit {
+    /// This edit, with one owner.
+    ///
+    /// # Errors
+    /// `AllocError` where memory for it is refused.
+    pub fn new(alloc: Global, edit: LineEdit) -> Result<SharedEdit, AllocError>
+        ensures { IfOk result (λ shared. shared ≡ edit) }
+    {
+        Ok(SharedEdit {
+            edit: Arc::new(alloc, edit)?,
+        })
+    }
+
     /// An equal edit, with one owner.
     ///
     /// # Errors
@@ -29,9 +41,7 @@ impl SharedEdit {
     pub fn copy_of(alloc: Global, edit: &LineEdit) -> Result<SharedEdit, AllocError>
         ensures { IfOk result (λ shared. shared ≡ edit.now) }
     {
-        Ok(SharedEdit {
-            edit: Arc::new(alloc, edit.copy()?)?,
-        })
+        SharedEdit::new(alloc, edit.copy()?)
     }
 
     /// The edit.

@@ -111,7 +111,7 @@ impl Tracks {
         ensures put { OnOk result (self.new ≡ put_first done.now.name (source_of done.now) self.old) }
         ensures same { OnErr result (self.new ≡ self.old) }
     {
-        let name = done.name().copy()?;
+        let name = done.name().share()?;
         let track = done.track().share()?;
         if self.cache.is_none() {
             self.cache = Some(LruCache::new(alloc, self.most)?);

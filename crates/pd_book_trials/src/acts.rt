@@ -2,7 +2,8 @@
 use crate::answers::say_lines;
 use crate::said::{REFUSED, Said};
 use crate::settings::say_value;
-use pd_book::{Act, Ruling, SharedEdit, SharedName};
+use pd_book::{Act, Ruling, SharedEdit};
+use pd_text::Name;
 
 /// Says each of these acts, from the oldest on, with all that it has or its kind and job alone.
 pub fn say_acts(said: &mut Said, acts: &[Act], is_whole: bool) {
@@ -68,9 +69,9 @@ fn say_rest(said: &mut Said, act: &Act) {
     }
 }
 
-fn say_name(said: &mut Said, name: &SharedName) {
+fn say_name(said: &mut Said, name: &Name) {
     said.say(" ");
-    said.say_octets(name.name().as_slice());
+    said.say_octets(name.as_slice());
 }
 
 /// Says the first line of an edit, how many lines go, and those that come.

@@ -112,7 +112,7 @@ fn name_kind(texts: &Texts, octets: &[u8]) -> &'static str {
     let Ok(name) = texts.name(octets) else {
         return REFUSED;
     };
-    match name.copy() {
+    match name.share() {
         Ok(copy) if !copy.is_same(&name) => "other",
         Ok(copy) if copy.is_valid() => "valid",
         Ok(_) => "refused",

@@ -103,7 +103,7 @@ impl Texts {
     pub fn name(&self, octets: &[u8]) -> Result<Name, AllocError> {
         let mut own = Vec::new(self.alloc);
         own.extend_from_slice(octets)?;
-        Ok(Name::new(own))
+        Name::new(own)
     }
 }
 

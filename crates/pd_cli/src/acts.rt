@@ -5,7 +5,7 @@ ghost use Rattle.pd_cli.specs.Steps.{RepliesTo};
 
 use crate::command::Command;
 use crate::faults::ServeFault;
-use pd_book::{Book, BookFault};
+use pd_book::{Book, BookFault, SharedEdit};
 use pd_settings::Value;
 use pd_text::{LineEdit, Lines, Name};
 use std::alloc::{AllocError, Global};
@@ -43,7 +43,7 @@ pub fn edit(
     ensures only { IfErr result (λ fault. fault ≡ ServeFault.OutOfMemory) }
 {
     match edit {
-        Some(edit) => reply(alloc, book.edit(name, &edit)),
+        Some(edit) => reply(alloc, book.edit_shared(name, SharedEdit::new(alloc, edit)?)),
         None => reply(alloc, Err(BookFault::TooLarge)),
     }
 }

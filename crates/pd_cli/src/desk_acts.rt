@@ -10,7 +10,7 @@ ghost use Rattle.pd_cli.specs.BesideSteps.{Declines, FailsBeside};
 use crate::acts::refusal_line;
 use crate::command::Command;
 use crate::faults::ServeFault;
-use pd_book::{Act, Book, BookFault, SharedEdit, SharedName};
+use pd_book::{Act, Book, BookFault, SharedEdit};
 use pd_desk::Desk;
 use pd_seat::Seat;
 use pd_settings::Value;
@@ -70,7 +70,7 @@ pub fn add<H: Wait>(
     let Some(text) = text else {
         return Ok(refusal_line(at.alloc, BookFault::TooLarge)?);
     };
-    match at.add(seat, name.copy()?, text) {
+    match at.add(seat, name.share()?, text) {
         Ok(()) => {
             let text = added_text(seat)?;
             accepted(at.alloc, own.add_shared(name, text))
@@ -100,7 +100,7 @@ pub fn edit<H: Wait>(
     match at.edit(seat, name, &edit) {
         Ok(()) => {
             let (name, edit) = last_edit(seat)?;
-            accepted(at.alloc, own.edit_shared(name, edit))
+            accepted(at.alloc, own.edit_shared(&name, edit))
         }
         Err(fault) => declined(at.alloc, fault, own.text_refusal(name, &edit)),
     }
@@ -160,7 +160,7 @@ fn added_text(seat: &Seat) -> Result<Text, ServeFault>
 }
 
 /// The name and the edit of the seat's last act, an edit.
-fn last_edit(seat: &Seat) -> Result<(SharedName, SharedEdit), ServeFault>
+fn last_edit(seat: &Seat) -> Result<(Name, SharedEdit), ServeFault>
     ensures edit { (name : List ℕ) → (edit : LineEdit) → (older : List Act) → seat.now.own ≡ Act.Edit name edit ∷ older → IfOk result (λ own. (own.0 ≡ name) × (own.1 ≡ edit)) }
     ensures only { (command : Command) → IfErr result (λ fault. FailsBeside fault command) }
 {

@@ -157,5 +157,5 @@ fn name_of(alloc: Global, octets: &[u8]) -> Result<Name, AllocError>
 {
     let mut own = Vec::new(alloc);
     own.extend_from_slice(octets)?;
-    Ok(Name::new(own))
+    Name::new(own)
 }

@@ -33,14 +33,11 @@ impl Replay {
     /// Makes an act again; whether it is accepted, with the same reply.
     fn is_made(&mut self, act: &Act) -> Result<bool, AllocError> {
         Ok(match act {
-            Act::Add(name, text) => self
-                .book
-                .add_shared(name.name().copy()?, text.share()?)
-                .is_ok(),
-            Act::Edit(name, edit) => self.book.edit_shared(name.share()?, edit.share()?).is_ok(),
-            Act::Remove(name) => self.book.remove(name.name()).is_ok(),
+            Act::Add(name, text) => self.book.add_shared(name.share()?, text.share()?).is_ok(),
+            Act::Edit(name, edit) => self.book.edit_shared(name, edit.share()?).is_ok(),
+            Act::Remove(name) => self.book.remove(name).is_ok(),
             Act::Set(key, value) => self.book.set(key.name(), *value).is_ok(),
-            Act::Start(number, name) => self.is_started(*number, name.name())?,
+            Act::Start(number, name) => self.is_started(*number, name)?,
             Act::Finish(number, ruling) => self.is_finished(*number, *ruling),
             Act::Abandon(number) => self.book.abandon(*number).is_ok(),
         })

@@ -7,7 +7,7 @@ use std::alloc::{AllocError, Global};
 
 /// The name of these octets, valid or not.
 pub fn name(alloc: Global, octets: &[u8]) -> Result<Name, AllocError> {
-    Ok(Name::new(owned(alloc, octets)?))
+    Name::new(owned(alloc, octets)?)
 }
 
 fn owned(alloc: Global, octets: &[u8]) -> Result<Vec<u8>, AllocError> {

@@ -32,7 +32,7 @@ fn explained(
     settings: &Settings,
     as_json: bool,
 ) -> Result<Vec<u8>, AllocError> {
-    let name = Name::new(said(alloc, b"s")?);
+    let name = Name::new(said(alloc, b"s")?)?;
     let verdict = run_all(alloc, lines, settings)?;
     match explain(alloc, lines, settings, verdict)? {
         None => said(alloc, b"pass\n"),

@@ -13,9 +13,7 @@ use crate::comparing::is_own;
 use crate::faults::ShowFault;
 use crate::recording::{drop_job, make_room, note, record};
 use crate::seat::Seat;
-use pd_book::{
-    Act, Book, BookFault, Done, FinishFault, Job, Report, Ruling, SharedEdit, SharedName,
-};
+use pd_book::{Act, Book, BookFault, Done, FinishFault, Job, Report, Ruling, SharedEdit};
 use pd_settings::{Key, Settings, Value};
 use pd_text::{LineEdit, Lines, Name, Text};
 use pd_track::Track;
@@ -90,8 +88,7 @@ impl Held {
         self.notes.reserve(self.book.outstanding_count() + 1)?;
         seat.own.reserve(seat.open_jobs.len() + 1)?;
         let text = Text::new(*self.notes.allocator(), lines)?;
-        let kept = SharedName::copy_of(*self.notes.allocator(), &name)?;
-        let act = Act::Add(kept, text.share()?);
+        let act = Act::Add(name.share()?, text.share()?);
         self.book.add_shared(name, text)?;
         let _acts = self.book.history();
         note(&mut self.notes, seat.number);
@@ -110,28 +107,26 @@ impl Held {
         ensures tracks { self.new.book.tracks ≡ self.old.book.tracks }
         ensures refuses { OnErr result ((self.new ≡ self.old) × (seat.new ≡ seat.old)) }
     {
-        let alloc = *self.notes.allocator();
-        let name = SharedName::copy_of(alloc, name)?;
-        let edit = SharedEdit::copy_of(alloc, edit)?;
+        let edit = SharedEdit::copy_of(*self.notes.allocator(), edit)?;
         self.edit_shared(seat, name, edit)
     }
 
-    /// Edits the text of a script, where history and seat keep one name and one edit.
+    /// Edits the text of a script, where history and seat keep one edit.
     fn edit_shared(
         &mut self,
         seat: &mut Seat,
-        name: SharedName,
+        name: &Name,
         edit: SharedEdit,
     ) -> Result<(), BookFault>
-        ensures gives { Unless BookFault.OutOfMemory result (GivesEdit self.old.book.story name edit result self.new.book.story) }
+        ensures gives { Unless BookFault.OutOfMemory result (GivesEdit self.old.book.story name.now edit result self.new.book.story) }
         ensures legal { Legal self.old.book.story.opening self.old.book.story.past }
-        ensures records { OnOk result (Records self.old seat.old (Act.Edit name edit) self.new seat.new) }
+        ensures records { OnOk result (Records self.old seat.old (Act.Edit name.now edit) self.new seat.new) }
         ensures tracks { self.new.book.tracks ≡ self.old.book.tracks }
         ensures refuses { OnErr result ((self.new ≡ self.old) × (seat.new ≡ seat.old)) }
     {
         self.notes.reserve(self.book.outstanding_count() + 1)?;
         seat.own.reserve(seat.open_jobs.len() + 1)?;
-        let act = Act::Edit(name.share()?, edit.share()?);
+        let act = Act::Edit(self.book.kept_name(name)?, edit.share()?);
         self.book.edit_shared(name, edit)?;
         let _acts = self.book.history();
         note(&mut self.notes, seat.number);
@@ -152,7 +147,7 @@ impl Held {
     {
         self.notes.reserve(self.book.outstanding_count() + 1)?;
         seat.own.reserve(seat.open_jobs.len() + 1)?;
-        let act = Act::Remove(SharedName::copy_of(*self.notes.allocator(), name)?);
+        let act = Act::Remove(self.book.kept_name(name)?);
         self.book.remove(name)?;
         let _acts = self.book.history();
         note(&mut self.notes, seat.number);
@@ -190,8 +185,7 @@ impl Held {
         let Some(name) = self.book.next_name() else {
             return Ok(None);
         };
-        let name = SharedName::copy_of(*self.notes.allocator(), name)?;
-        Ok(Some(Act::Start(self.book.next_number(), name)))
+        Ok(Some(Act::Start(self.book.next_number(), name.share()?)))
     }
 
     /// Hands out the job of the first script that waits, with room for its end; `None`, which records nothing, where none

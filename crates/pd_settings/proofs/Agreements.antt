@@ -79,6 +79,10 @@ all_same uses a b h =
     (λ key. where_used (has uses key) (is_same_value (value_at a key) (value_at b key))
     (λ e. subst (λ v. is_same_value (value_at a key) v ≡ true) (h key e) (value_same (value_at a key))))
 
+-- settings agree with themselves
+pub agrees_with_itself : (uses : UseSet) (a : Settings) → agrees uses a a ≡ true
+agrees_with_itself uses a = all_same uses a a (λ key e. refl)
+
 -- the test holds where the two are equal at the keys of the set, and nowhere else
 pub agrees_is : (uses : UseSet) (a b : Settings) → IsTrue (agrees uses a b) ↔ Agree uses a b
 agrees_is uses a b = (same_at uses a b, all_same uses a b)

@@ -11,12 +11,13 @@ impl Settings {
     /// Whether the two are equal in each setting of a set.
     ///
     /// Takes no memory.
-    #[tactic(auto, using(crate::proofs::Agreements::agrees_is))]
+    #[tactic(auto, using(crate::proofs::Agreements::agrees_is, crate::proofs::Agreements::agrees_with_itself))]
     pub fn agrees(&self, other: &Settings, uses: &UseSet) -> bool
         ensures test { result ≡ agrees uses.now self.now other.now }
         ensures fields { IsTrue result ↔ Agree uses.now self.now other.now }
     {
-        self.has_same(other, uses)
+        // Mostly nothing has changed at all.
+        self.is_same(other) || self.has_same(other, uses)
     }
 
     fn has_same(&self, other: &Settings, uses: &UseSet) -> bool

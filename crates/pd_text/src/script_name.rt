@@ -6,12 +6,13 @@ ghost use Rattle.pd_text.specs.Name.{is_name_octet, is_valid_name};
 use std::alloc::AllocError;
 use std::hash::{Hash, Hasher};
 use std::marker::Model;
+use std::sync::Arc;
 
-/// The name of a script or of a setting, or what was given as one: any octets.
+/// The name of a script or of a setting, or what was given as one: any octets. It is held once, however many owners keep it.
 #[derive(Drop)]
 pub struct Name {
-    /// The octets of the name, as given.
-    octets: Vec<u8>,
+    /// The octets of the name, as given, which each owner shares.
+    octets: Arc<Vec<u8>>,
 }
 
 impl Model for Name {
@@ -19,7 +20,7 @@ impl Model for Name {
 
     ghost Value = { List ℕ };
 
-    ghost view = { λ n. n.octets.items };
+    ghost view = { λ n. n.octets.value.items };
 }
 
 impl PartialEq for Name {
@@ -58,11 +59,16 @@ impl Hash for Name {
 }
 
 impl Name {
-    /// The name of these octets, valid or not.
-    pub fn new(octets: Vec<u8>) -> Name
-        ensures { result ≡ octets.items }
+    /// The name of these octets, valid or not, with one owner.
+    ///
+    /// # Errors
+    /// `AllocError` where memory for it is refused.
+    pub fn new(octets: Vec<u8>) -> Result<Name, AllocError>
+        ensures { IfOk result (λ name. name ≡ octets.items) }
     {
-        Name { octets }
+        Ok(Name {
+            octets: Arc::new(*octets.allocator(), octets)?,
+        })
     }
 
     /// Its octets.
@@ -87,11 +93,11 @@ impl Name {
         self.octets.as_slice() == other.octets.as_slice()
     }
 
-    /// An equal name of its own.
+    /// Another owner of the same name.
     ///
     /// # Errors
-    /// `AllocError` where a growth is refused.
-    pub fn copy(&self) -> Result<Name, AllocError>
+    /// `AllocError` only where the count of owners is full.
+    pub fn share(&self) -> Result<Name, AllocError>
         ensures { IfOk result (λ name. name ≡ self.now) }
     {
         Ok(Name {

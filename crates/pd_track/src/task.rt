@@ -29,16 +29,16 @@ impl Task {
             && self.text.is_same(&other.text)
     }
 
-    /// An equal task, which shares the text.
+    /// An equal task, which shares the name and the text.
     ///
     /// # Errors
-    /// `AllocError` where a growth for the name is refused, or the count of the text's owners is full.
+    /// `AllocError` only where a count of owners is full.
     pub fn share(&self) -> Result<Task, AllocError>
         ensures { IfOk result (λ task. task ≡ self.now) }
     {
         Ok(Task {
             number: self.number,
-            name: self.name.copy()?,
+            name: self.name.share()?,
             text: self.text.share()?,
             settings: self.settings,
         })

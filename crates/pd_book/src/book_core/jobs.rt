@@ -13,7 +13,6 @@ use super::Book;
 use crate::act::{Act, Ruling};
 use crate::faults::{BookFault, FinishFault};
 use crate::recording::{Prepared, task_of};
-use crate::shared_name::SharedName;
 use pd_text::{Name, Text};
 use pd_track::{Done, Job, Task};
 
@@ -62,12 +61,11 @@ impl Book {
         }
         let task = Task {
             number: self.next_number(),
-            name: name.copy()?,
+            name: name.share()?,
             text: text.share()?,
             settings: self.settings,
         };
-        let kept = SharedName::copy_of(*self.records.acts.allocator(), name)?;
-        let act = Act::Start(task.number, kept);
+        let act = Act::Start(task.number, name.share()?);
         let track = match self.tracks.track(name) {
             Some(track) => Some(track.share()?),
             None => None,
