@@ -1,12 +1,9 @@
 -- A name that does not stand is not kept, and the book after an add is the replay of its acts.
-use Rattle.std.proofs.Common.{◌≡◌, ◌∙◌, ◌+◌, ◌≤◌, ◌<◌, List, [], ◌∷◌, ◌++◌, refl, true, false, None, length, ap, sym, subst, reverse, arith, rules, ℕ}
+use Rattle.std.proofs.Common.{◌≡◌, ◌∙◌, ◌+◌, ◌≤◌, ◌<◌, List, refl, false, None, length, ap, sym, subst, reverse, arith, rules, ℕ}
 use Rattle.std.proofs.lemmas.List.{length-reverse}
-use Rattle.pd_text.specs.Name.{is_valid_name}
 use Rattle.pd_book.specs.declared.act.Act.TheVariants as act
-use Rattle.pd_book.specs.declared.script.State.TheVariants.{Pending}
 use Rattle.pd_book.specs.Acts.{texts, stands}
 use Rattle.pd_book.specs.Legal.{IsText}
-use Rattle.pd_book.specs.Kept.{Entry}
 use Rattle.pd_book.specs.Story.{Contents}
 use Rattle.pd_book.specs.Refusals.{full, taken_room}
 use Rattle.pd_book.proofs.Calls.{recorded, has_room}
@@ -33,7 +30,7 @@ invariant_of-self-2 c =
     c.self.invariant
     (sym c.is_valid.ensures ∙ c.if-not-is_valid.false, absent, count, fits)
     refl refl c.self.invariant.settings
-    (c.in_ok-add.ensures.ok ∙ cc (c.self.invariant.scripts, c.in_ok-share.ensures))
-    (c.record.ensures.past ∙ cc (c.in_ok-reserve.ensures.items, c.in_ok-kept.ensures, c.in_ok-share.ensures))
+    (c.in_ok-add.ensures.ok ∙ cc (c.self.invariant.scripts))
+    (c.record.ensures.past ∙ cc (c.in_ok-reserve.ensures.items, c.in_ok-share.ensures, c.in_ok-share-2.ensures))
     few
     (omega (arith, c.in_ok-reserve.ensures.ok, c.record.ensures.capacity, length-reverse acts, c.in_ok-reserve.ensures.len, c.len.ensures))

@@ -1,5 +1,5 @@
 -- The book after an edit is the replay of its acts.
-use Rattle.std.proofs.Common.{◌≡◌, ◌∙◌, ℕ, ◌+◌, ◌≤◌, List, None, reverse, ap, sym, arith, length}
+use Rattle.std.proofs.Common.{◌∙◌, ◌+◌, ◌≤◌, reverse, ap, sym, arith, length}
 use Rattle.std.specs.Map.{lookup}
 use Rattle.std.specs.Str.{bytes_eq}
 use Rattle.std.proofs.lemmas.List.{length-reverse}
@@ -10,10 +10,9 @@ use Rattle.pd_book.specs.Refusals.{text_refusal, taken_room}
 use Rattle.pd_book.proofs.Calls.{edit_kept, has_room}
 use Rattle.pd_book.proofs.book_core.Book.rewrite.Goals as goal
 
-pub invariant_of-self-2 : goal.invariant_of-self-2
-invariant_of-self-2 c =
-    let n = c.name-2.result.now in
-    let named : n ≡ c.args.name = c.name-2.ensures in
+pub invariant_of-self-3 : goal.invariant_of-self-3
+invariant_of-self-3 c =
+    let n = c.args.name.now in
     let past = c.args.self.now.story.past in
     let d = c.args.edit in
     let acts = c.self.inside.records.acts.items in
@@ -21,11 +20,11 @@ invariant_of-self-2 c =
     let few : length (reverse acts) + length c.self.inside.records.tasks.items + 1 ≤ 65536 = omega (arith, ap length c.self.invariant.tasks, ap (λ (x : Contents). taken_room x.story) c.self.view_is, room) in
     edit_kept c.self.inside.opening (reverse acts) _ c.self.inside.settings c.self.inside.records.scripts _ c.self.inside.records.tasks.items c.self.inside.numbers _ _ n d c.in_ok-text.text
     c.self.invariant
-    (ap (λ (x : Contents). text_refusal (lookup (bytes_eq n) (texts x.story.past)) d) c.self.view_is ∙ (ap (λ (m : List ℕ). text_refusal (lookup (bytes_eq m) (texts past)) d) named ∙ c.requires.allowed))
+    (ap (λ (x : Contents). text_refusal (lookup (bytes_eq n) (texts x.story.past)) d) c.self.view_is ∙ c.requires.allowed)
     c.requires.inserted
-    (c.in_ok-text.ensures ∙ (c.requires.text ∙ (ap (λ (m : List ℕ). edited (text_of past m) d) (sym named) ∙ ap (λ (x : Contents). edited (text_of x.story.past n) d) (sym c.self.view_is))))
+    (c.in_ok-text.ensures ∙ (c.requires.text ∙ ap (λ (x : Contents). edited (text_of x.story.past n) d) (sym c.self.view_is)))
     c.rewrite.ensures.written
     c.rewrite.ensures.distinct
-    (c.record.ensures.past ∙ cc (c.in_ok-reserve.ensures.items, named))
+    (c.record.ensures.past ∙ cc (c.in_ok-reserve.ensures.items, c.in_ok-kept_name.ensures))
     few
     (omega (arith, c.in_ok-reserve.ensures.ok, c.record.ensures.capacity, length-reverse acts, c.in_ok-reserve.ensures.len, c.len.ensures))
