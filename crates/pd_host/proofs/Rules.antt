@@ -8,7 +8,7 @@ use Rattle.pd_seg.specs.declared.segments.Sent.{Sent}
 use Rattle.pd_board.specs.Choice.{run_at}
 use Rattle.pd_recover.specs.declared.responses.Then.TheVariants.{NewSegment, FastRetransmit}
 use Rattle.pd_recover.specs.declared.segments.NextSegment.{NextSegment}
-use Rattle.pd_host.specs.Acknowledgments.{taking, step_c_on, sent_as, noted_on, limited_on, counted_on, octets_of, entered_on}
+use Rattle.pd_host.specs.Acknowledgments.{taking, next_on, sent_as, noted_on, entered_on}
 use Rattle.pd_host.specs.Arrivals.{ruling_of, reset_of, with_peer_fin}
 use Rattle.pd_host.specs.Calls.{stream_of, is_open, is_waiting, with_stream, with_nagle, with_queued, free_of, closed_stream}
 use Rattle.pd_host.specs.ControlBlock.{ControlBlock}
@@ -17,6 +17,7 @@ use Rattle.pd_host.specs.Handshake.{is_opening, block_begun, established_by}
 use Rattle.pd_host.specs.Sending.{past_sacked, sent_on, found_on}
 use Rattle.pd_host.specs.Timing.{clocked}
 use Rattle.pd_host.specs.declared.established.Established.{Established}
+use Rattle.pd_host.specs.declared.fillings.Filling.{Filling}
 use Rattle.pd_host.specs.declared.listeners.Listener.{Listener}
 use Rattle.pd_host.specs.declared.rulings.Ruling.TheVariants.{FirstAck}
 use Rattle.pd_host.specs.declared.sender_state.State.{State}
@@ -38,12 +39,9 @@ first_run c = run_at c.board.una c.board
 
 -- an ACK, and what it leads to: while it is answered, D holds
 pub record KeptByAcks (now : ℕ) (C D : ControlBlock → Type 0) : Type 0 where
-  pub step_c :
-      (pipe : ℕ) (c : ControlBlock) (sent : NextSegment) → D c → step_c_on pipe c c.established ≡ Some sent
-      → D (noted_on sent (sent_as now sent c) c.established)
-  pub limited :
-      (pipe : ℕ) (c : ControlBlock) (segment : Span) → D c → limited_on pipe c c.established ≡ Some segment
-      → D (counted_on (octets_of segment) (sent_on now segment c) c.established)
+  pub filled :
+      (filling : Filling) (pipe : ℕ) (c : ControlBlock) (sent : NextSegment) → D c → next_on filling pipe c c.established ≡ Some sent
+      → D (noted_on filling sent (sent_as now sent c) c.established)
   pub entry :
       (c : ControlBlock) → D c → nat_lt (first_run c).start (first_run c).end ≡ true
       → D (entered_on (first_run c) (clocked now (first_run c) c) c.established)
