@@ -13,11 +13,11 @@ use Rattle.pd_recover.proofs.Chosen.{AllOf, one_of, either_of, map_of, allowed_o
 use Rattle.pd_recover.proofs.Found.{least}
 use Rattle.pd_seg.specs.declared.sack_blocks.Span.{Span}
 use Rattle.pd_seg.specs.declared.segments.Sent.{Sent}
-use Rattle.pd_host.specs.Acknowledgments.{OnTheWay, octets_of, next_by, next_on, next_found, sent_as, noted_on, one_filled, pipe_of, filled}
+use Rattle.pd_host.specs.Acknowledgments.{OnTheWay, octets_of, next_by, next_on, next_found, sent_as, noted_on, one_filled, number_on, pipe_of, filled}
 use Rattle.pd_host.specs.ControlBlock.{ControlBlock}
 use Rattle.pd_host.specs.Packets.{data_of}
 use Rattle.pd_host.specs.Sending.{places_left, with_segment}
-use Rattle.pd_host.specs.SendingLaws.{end_with_fin, octets_in, cwnd_on, cwnd_in, FillsWindow, KeepsToWindow}
+use Rattle.pd_host.specs.SendingLaws.{end_with_fin, octets_in, cwnd_in, FillsWindow, KeepsToWindow}
 use Rattle.pd_host.specs.declared.established.Established.{Established}
 use Rattle.pd_host.specs.declared.fillings.Filling.{Filling}
 use Rattle.pd_host.specs.declared.fillings.Filling.TheVariants.{NextSeg, NewData}
@@ -67,6 +67,10 @@ next_short rwnd s w =
     (map_of P (λ x. Hole (run_at x s)) (next_hole w.high_rxt s) (λ x e. run_short s x))
     (allowed_of P _ _ (λ _. map_of P (λ segment. Rescue segment) (rescue s) (rescue_short s)))))
 
+-- cwnd of a connection
+abbrev cwnd_on : ControlBlock → Option Established → ℕ
+cwnd_on c o = number_on (λ _ e. e.congestion.cwnd) c o
+
 -- a segment has room between what is on the way and the window
 abbrev HasRoom : ℕ → ℕ → Span → Type 0
 HasRoom cwnd pipe segment = octets_of segment ≤ cwnd - pipe
@@ -92,7 +96,7 @@ filling_room NewData n c e =
     (limited_room e.rwnd n c.board e.congestion)
 
 room_on : (filling : Filling) (n : ℕ) (c : ControlBlock) (o : Option Established) (sent : NextSegment) → next_on filling n c o ≡ Some sent
-    → HasRoom (cwnd_on o) n (segment_of sent)
+    → HasRoom (cwnd_on c o) n (segment_of sent)
 room_on filling n c None sent h = absurd cc
 room_on filling n c (Some e) sent h = filling_room filling n c e sent h
 
@@ -118,12 +122,12 @@ counted_more pipe before last start end n whole h k e = omega (arith, h, k, e)
 fuller : (pipe cwnd n octets : ℕ) → n ≤ max pipe cwnd → octets ≤ cwnd - n → n + octets ≤ max pipe cwnd
 fuller pipe cwnd n octets h k = omega (arith, h, k)
 
-rest_window : (o : Option Established) → cwnd_on (at_rest o) ≡ cwnd_on o
-rest_window None = refl
-rest_window (Some e) = refl
+rest_window : (c : ControlBlock) (o : Option Established) → cwnd_on (still c) (at_rest o) ≡ cwnd_on c o
+rest_window c None = refl
+rest_window c (Some e) = refl
 
 same_window : (c d : ControlBlock) → still d ≡ still c → cwnd_in (Some d) ≡ cwnd_in (Some c)
-same_window c d h = sym (rest_window d.established) ∙ ap (λ (x : ControlBlock). cwnd_in (Some x)) h ∙ rest_window c.established
+same_window c d h = sym (rest_window d d.established) ∙ ap (λ (x : ControlBlock). cwnd_in (Some x)) h ∙ rest_window c c.established
 
 one_filling : (pipe cwnd now : ℕ) (s : State) (t : OnTheWay) (segment : Span) (c d : ControlBlock) → t.0.endpoint.connection ≡ Some c
     → HasRoom (cwnd_in (Some c)) t.1 segment → still d ≡ still c → IsFilling pipe cwnd s t

@@ -197,15 +197,19 @@ abbrev pub sender_of : Result OnTheWay Halt → Result State Halt
 sender_of (Ok t) = Ok t.0
 sender_of (Err halt) = Err halt
 
--- Pipe of a connection, by its HighRxt (RFC 6675, section 4, SetPipe); 0 before the end of the handshake
-abbrev pub pipe_on : ControlBlock → Option Established → ℕ
-pipe_on c None = 0
-pipe_on c (Some e) = pipe e.congestion.high_rxt c.board
+-- a number of a connection, 0 before the end of the handshake
+abbrev pub number_on : (ControlBlock → Established → ℕ) → ControlBlock → Option Established → ℕ
+number_on number c None = 0
+number_on number c (Some e) = number c e
 
 -- the same, 0 where no connection was begun
+abbrev pub number_in : (ControlBlock → Established → ℕ) → Option ControlBlock → ℕ
+number_in number None = 0
+number_in number (Some c) = number_on number c c.established
+
+-- Pipe of a connection, by its HighRxt (RFC 6675, section 4, SetPipe); 0 where it has none
 abbrev pub pipe_of : Option ControlBlock → ℕ
-pipe_of None = 0
-pipe_of (Some c) = pipe_on c c.established
+pipe_of connection = number_in (λ c e. pipe e.congestion.high_rxt c.board) connection
 
 -- segments are sent at a moment from such a state on, until none is found (RFC 6675, section 5, step C.5)
 abbrev pub filled_from : ℕ → Filling → OnTheWay → Result OnTheWay Halt

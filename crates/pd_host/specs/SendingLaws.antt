@@ -15,7 +15,7 @@ use Rattle.pd_seg.specs.declared.answers.Answer.{Answer}
 use Rattle.pd_seg.specs.declared.sack_blocks.Span.{Span}
 use Rattle.pd_seg.specs.declared.segments.Segment.{Segment}
 use Rattle.pd_seg.specs.declared.segments.Sent.{Sent}
-use Rattle.pd_host.specs.Acknowledgments.{OnTheWay, newly_acked, next_on, next_found, one_filled, pipe_of, filled_from, filled, taken}
+use Rattle.pd_host.specs.Acknowledgments.{OnTheWay, newly_acked, next_on, next_found, one_filled, number_in, pipe_of, filled_from, filled, taken}
 use Rattle.pd_host.specs.Arrivals.{arrived}
 use Rattle.pd_host.specs.Calls.{called, stream_of}
 use Rattle.pd_host.specs.ControlBlock.{ControlBlock, data_end}
@@ -56,15 +56,9 @@ abbrev pub sent_in : Option ControlBlock → ℕ
 sent_in None = 0
 sent_in (Some c) = c.board.top
 
--- the number after the last octet that the peer's window takes, 0 before the end of the handshake
-abbrev pub window_end : ControlBlock → Option Established → ℕ
-window_end c None = 0
-window_end c (Some e) = c.board.una + e.rwnd
-
--- the same, 0 where no connection was begun
+-- the number after the last octet that the peer's window takes, 0 where there is none yet
 abbrev pub taken_in : Option ControlBlock → ℕ
-taken_in None = 0
-taken_in (Some c) = window_end c c.established
+taken_in connection = number_in (λ c e. c.board.una + e.rwnd) connection
 
 -- the segment that is timed, if one is
 abbrev pub timed_in : Option ControlBlock → Option Timing
@@ -94,15 +88,9 @@ pub record StaysInWindow : Type 0 where
 
 -- Congestion control (RFC 5681, section 3.1; RFC 6675, section 5)
 
--- below this number both windows let octets leave, 0 before the end of the handshake
-abbrev pub edge_on : ControlBlock → Option Established → ℕ
-edge_on c None = 0
-edge_on c (Some e) = window_edge c e
-
--- the same, 0 where no connection was begun
+-- below this number both windows let octets leave, 0 where there are none yet
 abbrev pub edge_of : Option ControlBlock → ℕ
-edge_of None = 0
-edge_of (Some c) = edge_on c c.established
+edge_of connection = number_in window_edge connection
 
 -- ordinary sending chooses nothing that ends beyond the congestion window, and so puts nothing out that does; step C and
 -- limited transmit choose where it has room for a full segment beside what is on the way
@@ -125,15 +113,9 @@ abbrev pub octets_in : List Sent → ℕ
 octets_in [] = 0
 octets_in (p ∷ packets) = (end_with_fin p.segment - p.segment.start) + octets_in packets
 
--- cwnd, 0 before the end of the handshake
-abbrev pub cwnd_on : Option Established → ℕ
-cwnd_on None = 0
-cwnd_on (Some e) = e.congestion.cwnd
-
--- the same, 0 where no connection was begun
+-- cwnd, 0 where there is none yet
 abbrev pub cwnd_in : Option ControlBlock → ℕ
-cwnd_in None = 0
-cwnd_in (Some c) = cwnd_on c.established
+cwnd_in connection = number_in (λ c e. e.congestion.cwnd) connection
 
 -- what was put out has no more octets than the congestion window has room for beside what was on the way
 abbrev pub FillsWindow : State → State → Type 0

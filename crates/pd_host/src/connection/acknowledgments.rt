@@ -1,10 +1,10 @@
 //! What an acceptable ACK changes on a connection.
-ghost use Rattle.std.specs.Prelude.{◌≡◌, ◌+◌, ◌≤◌, ◌<◌, ◌^◌, false, IfOk, OnOk, IfSome};
+ghost use Rattle.std.specs.Prelude.{◌≡◌, ◌+◌, ◌≤◌, ◌<◌, ◌^◌, false, Some, IfOk, OnOk, IfSome};
 ghost use Rattle.pd_board.specs.Choice.{run_at};
 ghost use Rattle.pd_board.specs.Scoreboard.{IsScoreboard};
 ghost use Rattle.pd_recover.specs.Choice.{IsSendable, segment_of};
 ghost use Rattle.pd_recover.specs.Congestion.{IsCongestion};
-ghost use Rattle.pd_host.specs.Acknowledgments.{told_block, told_blocks, blocks_in, blocks_of, with_blocks, scored, with_timing, with_new_window, news_of, answering, taking, next_on, sent_as, noted_by, noted_on, octets_of, pipe_on, entered_on};
+ghost use Rattle.pd_host.specs.Acknowledgments.{told_block, told_blocks, blocks_in, blocks_of, with_blocks, scored, with_timing, with_new_window, news_of, answering, taking, next_on, sent_as, noted_by, noted_on, octets_of, pipe_of, entered_on};
 ghost use Rattle.pd_host.specs.Handshake.{looked_at};
 ghost use Rattle.pd_host.specs.Steps.{FollowsQueued};
 
@@ -196,7 +196,7 @@ impl Connection {
 
     /// How many octets count as on the way (RFC 6675, section 4).
     pub fn pipe(&self) -> u32
-        ensures { result ≡ pipe_on self.now self.now.established }
+        ensures { result ≡ pipe_of (Some self.now) }
     {
         match &self.established {
             None => 0,
