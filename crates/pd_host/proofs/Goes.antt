@@ -7,10 +7,10 @@ use Rattle.pd_recover.specs.declared.responses.Then.TheVariants.{Ordinary, StepC
 use Rattle.pd_recover.specs.declared.segments.NextSegment.{NextSegment}
 use Rattle.pd_recover.specs.declared.segments.NextSegment.TheVariants.{Lost, New, Hole, Rescue}
 use Rattle.pd_seg.specs.declared.sack_blocks.Span.{Span}
-use Rattle.pd_host.specs.Acknowledgments.{OnTheWay, next_on, next_found, sent_as, noted_on, one_filled, pipe_of, filled, number_on, put_segment, entered_on, entry, led_to}
+use Rattle.pd_host.specs.Acknowledgments.{OnTheWay, next_found, sent_as, noted_on, one_filled, pipe_of, filled, put_segment, entered_on, entry, led_to}
 use Rattle.pd_host.specs.ControlBlock.{ControlBlock}
 use Rattle.pd_host.specs.Places.{has_place}
-use Rattle.pd_host.specs.Sending.{places_left, with_block, past_sacked, sent_on, with_segment, found_on, found, sent_ordinarily, ready, ordinary}
+use Rattle.pd_host.specs.Sending.{value_on, places_left, with_block, past_sacked, sent_on, with_segment, found, sent_ordinarily, ready, ordinary}
 use Rattle.pd_host.specs.Timing.{clocked, timed_after}
 use Rattle.pd_host.specs.declared.established.Established.{Established}
 use Rattle.pd_host.specs.declared.fillings.Filling.{Filling}
@@ -20,10 +20,11 @@ use Rattle.pd_host.specs.declared.sender_state.State.{State}
 use Rattle.pd_host.proofs.Chosen.{Stands, ordinary_end, ordinary_queued, filling_stands, run_end}
 use Rattle.pd_host.proofs.Outcomes.{Leaves, kept, either, then_leaves}
 use Rattle.pd_host.proofs.SentOn.{still, sender_leaves, finds, sends, fill_finds, fill_sends, fill_still, entered_still}
+use Rattle.pd_host.proofs.Rules.{found_on, next_on}
 
 -- the number after the last octet that the peer's window takes
 abbrev pub window_end : ControlBlock → Option Established → ℕ
-window_end c o = number_on (λ d e. d.board.una + e.rwnd) c o
+window_end c o = value_on 0 (λ d e. d.board.una + e.rwnd) c o
 
 -- a segment that the windows let leave is sent from a connection, which becomes another one
 pub record IsSending (now : ℕ) (segment : Span) (c d : ControlBlock) : Type 0 where

@@ -11,10 +11,10 @@ use Rattle.pd_recover.specs.Congestion.{Congestion, entered_to}
 use Rattle.pd_recover.specs.Laws.{IsWithin}
 use Rattle.pd_recover.specs.declared.segments.NextSegment.{NextSegment}
 use Rattle.pd_recover.specs.declared.segments.NextSegment.TheVariants.{Lost, New, Hole, Rescue}
-use Rattle.pd_host.specs.Acknowledgments.{next_on, sent_as, noted_by, noted_on, entered_on}
+use Rattle.pd_host.specs.Acknowledgments.{sent_as, noted_by, noted_on, entered_on}
 use Rattle.pd_host.specs.ControlBlock.{ControlBlock}
 use Rattle.pd_host.specs.Invariants.{IsEnding, IsOfPhase, IsInBounds, IsTimed, IsReached}
-use Rattle.pd_host.specs.Sending.{past_sacked, sent_on, found_on}
+use Rattle.pd_host.specs.Sending.{past_sacked, sent_on}
 use Rattle.pd_host.specs.Timing.{overlaps, timed_after, clocked}
 use Rattle.pd_host.specs.declared.established.Established.{Established}
 use Rattle.pd_host.specs.declared.fillings.Filling.{Filling}
@@ -22,7 +22,7 @@ use Rattle.pd_host.specs.declared.fillings.Filling.TheVariants.{NextSeg, NewData
 use Rattle.pd_host.specs.declared.timings.Timing.{Timing}
 use Rattle.pd_host.proofs.Boards.{sent_ordered, skipped_ordered}
 use Rattle.pd_host.proofs.Kept.{by_test}
-use Rattle.pd_host.proofs.Rules.{KeptBySending, first_run}
+use Rattle.pd_host.proofs.Rules.{found_on, next_on, KeptBySending, first_run}
 use Rattle.pd_host.proofs.Runs.{run_within}
 use Rattle.pd_host.proofs.Sendables.{CanLeave, IsNext, new_leaves, filling_fits, ordinary_leaves}
 use Rattle.pd_host.proofs.AckedBelow.{IsBelow, lt, le}

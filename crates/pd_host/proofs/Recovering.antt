@@ -4,7 +4,7 @@ use Rattle.pd_seg.specs.declared.sack_blocks.Span.{Span}
 use Rattle.pd_seg.specs.declared.segments.Sent.{Sent}
 use Rattle.pd_recover.specs.Choice.{segment_of}
 use Rattle.pd_recover.specs.declared.segments.NextSegment.{NextSegment}
-use Rattle.pd_host.specs.Acknowledgments.{OnTheWay, next_on, next_found, sent_as, noted_on, one_filled, sender_of, pipe_of, filled_from, filled}
+use Rattle.pd_host.specs.Acknowledgments.{OnTheWay, next_found, sent_as, noted_on, one_filled, sender_of, pipe_of, filled_from, filled}
 use Rattle.pd_host.specs.ControlBlock.{ControlBlock}
 use Rattle.pd_host.specs.Packets.{data_of}
 use Rattle.pd_host.specs.Sender.{with_packet}
@@ -14,6 +14,7 @@ use Rattle.pd_host.specs.declared.halts.Halt.{Halt}
 use Rattle.pd_host.specs.declared.sender_state.State.{State}
 use Rattle.pd_host.proofs.PutOut.{holding, and_packet, put_ok, one_place_less}
 use Rattle.pd_host.proofs.Repeats.{repeated-more, repeated-none}
+use Rattle.pd_host.proofs.Rules.{next_on}
 
 -- what is found and done
 abbrev next : Filling → OnTheWay → Option NextSegment

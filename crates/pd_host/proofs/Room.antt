@@ -13,10 +13,10 @@ use Rattle.pd_recover.proofs.Chosen.{AllOf, one_of, either_of, map_of, allowed_o
 use Rattle.pd_recover.proofs.Found.{least}
 use Rattle.pd_seg.specs.declared.sack_blocks.Span.{Span}
 use Rattle.pd_seg.specs.declared.segments.Sent.{Sent}
-use Rattle.pd_host.specs.Acknowledgments.{OnTheWay, octets_of, next_by, next_on, next_found, sent_as, noted_on, one_filled, number_on, pipe_of, filled}
+use Rattle.pd_host.specs.Acknowledgments.{OnTheWay, octets_of, next_by, next_found, sent_as, noted_on, one_filled, pipe_of, filled}
 use Rattle.pd_host.specs.ControlBlock.{ControlBlock}
 use Rattle.pd_host.specs.Packets.{data_of}
-use Rattle.pd_host.specs.Sending.{places_left, with_segment}
+use Rattle.pd_host.specs.Sending.{value_on, places_left, with_segment}
 use Rattle.pd_host.specs.SendingLaws.{end_with_fin, octets_in, cwnd_in, FillsWindow, KeepsToWindow}
 use Rattle.pd_host.specs.declared.established.Established.{Established}
 use Rattle.pd_host.specs.declared.fillings.Filling.{Filling}
@@ -26,6 +26,7 @@ use Rattle.pd_host.proofs.Chosen.{is_within}
 use Rattle.pd_host.proofs.InWindow.{packet_ends}
 use Rattle.pd_host.proofs.Outcomes.{Leaves, came, leaves_too, kept}
 use Rattle.pd_host.proofs.SentOn.{still, at_rest, sender_leaves, fill_finds, fill_sends, fill_still}
+use Rattle.pd_host.proofs.Rules.{next_on}
 
 -- Segments of SMSS octets at most
 
@@ -69,7 +70,7 @@ next_short rwnd s w =
 
 -- cwnd of a connection
 abbrev cwnd_on : ControlBlock → Option Established → ℕ
-cwnd_on c o = number_on (λ _ e. e.congestion.cwnd) c o
+cwnd_on c o = value_on 0 (λ _ e. e.congestion.cwnd) c o
 
 -- a segment has room between what is on the way and the window
 abbrev HasRoom : ℕ → ℕ → Span → Type 0

@@ -20,7 +20,7 @@ use Rattle.pd_host.specs.ControlBlock.{ControlBlock}
 use Rattle.pd_host.specs.Handshake.{looked_at, window_in, with_window}
 use Rattle.pd_host.specs.Places.{has_place}
 use Rattle.pd_host.specs.Sender.{then_on}
-use Rattle.pd_host.specs.Sending.{repeated, places_left, with_block, with_segment, sent_on, ordinary}
+use Rattle.pd_host.specs.Sending.{value_in, repeated, places_left, with_block, with_segment, sent_on, ordinary}
 use Rattle.pd_host.specs.Timing.{clocked, with_sample, with_timer_moved}
 use Rattle.pd_host.specs.declared.established.Established.{Established}
 use Rattle.pd_host.specs.declared.fillings.Filling.{Filling}
@@ -154,14 +154,8 @@ next_by NextSeg on_the_way c e = step_c_segment e.rwnd on_the_way c.board e.cong
 next_by NewData on_the_way c e = option_map (λ segment. New segment) (limited_segment e.rwnd on_the_way c.board e.congestion)
 
 -- the same; none before the end of the handshake
-abbrev pub next_on : Filling → ℕ → ControlBlock → Option Established → Option NextSegment
-next_on filling on_the_way c None = None
-next_on filling on_the_way c (Some e) = next_by filling on_the_way c e
-
--- the same, by whether a connection was begun
 abbrev pub next_found : Filling → ℕ → Option ControlBlock → Option NextSegment
-next_found filling on_the_way None = None
-next_found filling on_the_way (Some c) = next_on filling on_the_way c c.established
+next_found filling on_the_way connection = value_in None (next_by filling on_the_way) connection
 
 -- such a segment was sent at a moment: new octets move the sending place (SND.NXT), octets sent again leave it
 abbrev pub sent_as : ℕ → NextSegment → ControlBlock → ControlBlock
@@ -197,19 +191,9 @@ abbrev pub sender_of : Result OnTheWay Halt → Result State Halt
 sender_of (Ok t) = Ok t.0
 sender_of (Err halt) = Err halt
 
--- a number of a connection, 0 before the end of the handshake
-abbrev pub number_on : (ControlBlock → Established → ℕ) → ControlBlock → Option Established → ℕ
-number_on number c None = 0
-number_on number c (Some e) = number c e
-
--- the same, 0 where no connection was begun
-abbrev pub number_in : (ControlBlock → Established → ℕ) → Option ControlBlock → ℕ
-number_in number None = 0
-number_in number (Some c) = number_on number c c.established
-
 -- Pipe of a connection, by its HighRxt (RFC 6675, section 4, SetPipe); 0 where it has none
 abbrev pub pipe_of : Option ControlBlock → ℕ
-pipe_of connection = number_in (λ c e. pipe e.congestion.high_rxt c.board) connection
+pipe_of connection = value_in 0 (λ c e. pipe e.congestion.high_rxt c.board) connection
 
 -- segments are sent at a moment from such a state on, until none is found (RFC 6675, section 5, step C.5)
 abbrev pub filled_from : ℕ → Filling → OnTheWay → Result OnTheWay Halt

@@ -15,14 +15,14 @@ use Rattle.pd_seg.specs.declared.answers.Answer.{Answer}
 use Rattle.pd_seg.specs.declared.sack_blocks.Span.{Span}
 use Rattle.pd_seg.specs.declared.segments.Segment.{Segment}
 use Rattle.pd_seg.specs.declared.segments.Sent.{Sent}
-use Rattle.pd_host.specs.Acknowledgments.{OnTheWay, newly_acked, next_on, next_found, one_filled, number_in, pipe_of, filled_from, filled, taken}
+use Rattle.pd_host.specs.Acknowledgments.{OnTheWay, newly_acked, next_by, next_found, one_filled, pipe_of, filled_from, filled, taken}
 use Rattle.pd_host.specs.Arrivals.{arrived}
 use Rattle.pd_host.specs.Calls.{called, stream_of}
 use Rattle.pd_host.specs.ControlBlock.{ControlBlock, data_end}
 use Rattle.pd_host.specs.Expiries.{deadline_of, due_by, block_expired, expired_by, expired, advanced}
 use Rattle.pd_host.specs.Packets.{data_of}
 use Rattle.pd_host.specs.Requests.{request_of}
-use Rattle.pd_host.specs.Sending.{window_edge, found_on, found, sent_ordinarily, ordinary, is_recovering}
+use Rattle.pd_host.specs.Sending.{value_in, window_edge, ordinary_segment, found, sent_ordinarily, ordinary, is_recovering}
 use Rattle.pd_host.specs.Timing.{overlaps, clocked}
 use Rattle.pd_host.specs.declared.established.Established.{Established}
 use Rattle.pd_host.specs.declared.fillings.Filling.{Filling}
@@ -42,10 +42,10 @@ IsInPeersWindow s rwnd segment = s.top < segment.end → (segment.start ≡ s.to
 pub record ControlsFlow : Type 0 where
   pub ordinary :
       (c : ControlBlock) (e : Established) (segment : Span) → c.board.next ≤ c.board.top
-      → found_on c (Some e) ≡ Some segment → IsInPeersWindow c.board e.rwnd segment
+      → ordinary_segment c e ≡ Some segment → IsInPeersWindow c.board e.rwnd segment
   pub filling :
       (filling : Filling) (on_the_way : ℕ) (c : ControlBlock) (e : Established) (sent : NextSegment)
-      → next_on filling on_the_way c (Some e) ≡ Some sent → IsInPeersWindow c.board e.rwnd (segment_of sent)
+      → next_by filling on_the_way c e ≡ Some sent → IsInPeersWindow c.board e.rwnd (segment_of sent)
   pub duplicate :
       (ack : Ack) (w : Congestion) (segment : Span)
       → (acked ack w).1 ≡ NewSegment segment → (segment.start ≡ ack.top) × (segment.end ≤ ack.una + ack.rwnd)
@@ -58,7 +58,7 @@ sent_in (Some c) = c.board.top
 
 -- the number after the last octet that the peer's window takes, 0 where there is none yet
 abbrev pub taken_in : Option ControlBlock → ℕ
-taken_in connection = number_in (λ c e. c.board.una + e.rwnd) connection
+taken_in connection = value_in 0 (λ c e. c.board.una + e.rwnd) connection
 
 -- the segment that is timed, if one is
 abbrev pub timed_in : Option ControlBlock → Option Timing
@@ -90,14 +90,14 @@ pub record StaysInWindow : Type 0 where
 
 -- below this number both windows let octets leave, 0 where there are none yet
 abbrev pub edge_of : Option ControlBlock → ℕ
-edge_of connection = number_in window_edge connection
+edge_of connection = value_in 0 window_edge connection
 
 -- ordinary sending chooses nothing that ends beyond the congestion window, and so puts nothing out that does; step C and
 -- limited transmit choose where it has room for a full segment beside what is on the way
 pub record ControlsCongestion : Type 0 where
   pub chosen :
       (c : ControlBlock) (e : Established) (segment : Span)
-      → found_on c (Some e) ≡ Some segment → segment.end ≤ c.board.una + e.congestion.cwnd
+      → ordinary_segment c e ≡ Some segment → segment.end ≤ c.board.una + e.congestion.cwnd
   pub ordinary :
       (now : ℕ) (s t : State)
       → ordinary now s ≡ Ok t
@@ -106,7 +106,7 @@ pub record ControlsCongestion : Type 0 where
       × (t.endpoint.outbox ≡ s.endpoint.outbox ++ packets)
   pub filling :
       (filling : Filling) (on_the_way : ℕ) (c : ControlBlock) (e : Established) (sent : NextSegment)
-      → next_on filling on_the_way c (Some e) ≡ Some sent → c.board.smss ≤ e.congestion.cwnd - on_the_way
+      → next_by filling on_the_way c e ≡ Some sent → c.board.smss ≤ e.congestion.cwnd - on_the_way
 
 -- how many octets packets have
 abbrev pub octets_in : List Sent → ℕ
@@ -115,7 +115,7 @@ octets_in (p ∷ packets) = (end_with_fin p.segment - p.segment.start) + octets_
 
 -- cwnd, 0 where there is none yet
 abbrev pub cwnd_in : Option ControlBlock → ℕ
-cwnd_in connection = number_in (λ c e. e.congestion.cwnd) connection
+cwnd_in connection = value_in 0 (λ c e. e.congestion.cwnd) connection
 
 -- what was put out has no more octets than the congestion window has room for beside what was on the way
 abbrev pub FillsWindow : State → State → Type 0
@@ -266,10 +266,10 @@ pub record EndsWithFin : Type 0 where
 pub record SparesWhatArrived : Type 0 where
   pub ordinary :
       (c : ControlBlock) (e : Established) (segment : Span) → IsScoreboard c.board
-      → found_on c (Some e) ≡ Some segment → IsSpared c.board segment
+      → ordinary_segment c e ≡ Some segment → IsSpared c.board segment
   pub filling :
       (filling : Filling) (on_the_way : ℕ) (c : ControlBlock) (e : Established) (sent : NextSegment) → IsScoreboard c.board
-      → next_on filling on_the_way c (Some e) ≡ Some sent → IsSpared c.board (segment_of sent)
+      → next_by filling on_the_way c e ≡ Some sent → IsSpared c.board (segment_of sent)
   pub entry : (c : ControlBlock) → IsSpared c.board (run_at c.board.una c.board)
 
 -- The end of loss recovery (RFC 6675, section 5; RFC 5681, section 3.2)

@@ -4,7 +4,7 @@ ghost use Rattle.pd_board.specs.Choice.{run_at};
 ghost use Rattle.pd_board.specs.Scoreboard.{IsScoreboard};
 ghost use Rattle.pd_recover.specs.Choice.{IsSendable, segment_of};
 ghost use Rattle.pd_recover.specs.Congestion.{IsCongestion};
-ghost use Rattle.pd_host.specs.Acknowledgments.{told_block, told_blocks, blocks_in, blocks_of, with_blocks, scored, with_timing, with_new_window, news_of, answering, taking, next_on, sent_as, noted_by, noted_on, octets_of, pipe_of, entered_on};
+ghost use Rattle.pd_host.specs.Acknowledgments.{told_block, told_blocks, blocks_in, blocks_of, with_blocks, scored, with_timing, with_new_window, news_of, answering, taking, next_found, sent_as, noted_by, noted_on, octets_of, pipe_of, entered_on};
 ghost use Rattle.pd_host.specs.Handshake.{looked_at};
 ghost use Rattle.pd_host.specs.Steps.{FollowsQueued};
 
@@ -222,7 +222,7 @@ impl Connection {
 
     /// The segment that is sent next while the congestion window has room.
     pub fn next_filling(&self, filling: Filling, pipe: u32) -> Option<NextSegment>
-        ensures value { result ≡ next_on filling pipe self.now self.now.established }
+        ensures value { result ≡ next_found filling pipe (Some self.now) }
         ensures sendable { IfSome result (λ sent. IsSendable self.now.board (segment_of sent)) }
         ensures fits { IfSome result (λ sent. pipe + octets_of (segment_of sent) ≤ 2 ^ 31) }
     {
