@@ -6,12 +6,13 @@ use Rattle.pd_seg.specs.declared.sack_blocks.Span.{Span}
 use Rattle.pd_seg.specs.declared.segments.Sent.{Sent}
 use Rattle.pd_host.specs.Acknowledgments.{OnTheWay, next_found, one_filled}
 use Rattle.pd_host.specs.ControlBlock.{ControlBlock}
-use Rattle.pd_host.specs.Expiries.{deadline_on, due_by, segment_again, expired}
+use Rattle.pd_host.specs.Expiries.{due_by, segment_again, expired}
 use Rattle.pd_host.specs.Packets.{data_of}
 use Rattle.pd_host.specs.Sending.{found, sent_ordinarily}
 use Rattle.pd_host.specs.SendingLaws.{PutsOutOne, SendsOneByOne}
 use Rattle.pd_host.specs.declared.fillings.Filling.{Filling}
 use Rattle.pd_host.specs.declared.sender_state.State.{State}
+use Rattle.pd_host.proofs.Rules.{deadline_on}
 
 ordinary_one : (now : ℕ) (segment : Span) (s : State) (o : Option ControlBlock) → found o ≡ Some segment → PutsOutOne s (sent_ordinarily now segment o s)
 ordinary_one now segment s None h = absurd cc

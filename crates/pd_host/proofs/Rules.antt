@@ -1,6 +1,6 @@
 -- What each rule owes to a property of connections, for every input to keep it.
 use Rattle.std.proofs.Common.{◌≡◌, ℕ, ◌≤◌, ◌&&◌, min, nat_lt, Bool, true, false, List, [], ◌∷◌, ◌++◌, Option, Some, None}
-use Rattle.std.specs.Prelude.{is_some, IfSome}
+use Rattle.std.specs.Prelude.{is_some, IfSome, option_and_then}
 use Rattle.pd_settings.specs.declared.fields.Settings.{Settings}
 use Rattle.pd_seg.specs.declared.sack_blocks.Span.{Span}
 use Rattle.pd_seg.specs.declared.segments.Segment.{Segment}
@@ -27,6 +27,10 @@ use Rattle.pd_host.specs.declared.streams.Stream.TheVariants as stream
 pub record Holds (O : List Sent → Type 0) (C : Settings → ControlBlock → Type 0) (s : State) : Type 0 where
   pub packets : O s.endpoint.outbox
   pub connection : IfSome s.endpoint.connection (C s.settings)
+
+-- the moment of the next expiry, where the timer runs
+abbrev pub deadline_on : Option ControlBlock → Option ℕ
+deadline_on o = option_and_then (λ c. c.timer.deadline) o
 
 -- what is found on a connection
 abbrev pub found_on : ControlBlock → Option Established → Option Span

@@ -1,5 +1,5 @@
 -- What holds of all that is sent.
-use Rattle.std.specs.Prelude.{◌≡◌, ◌↔◌, ℕ, ◌+◌, ◌-◌, ◌<◌, ◌≤◌, ◌⊎◌, ◌&&◌, nat_lt, max, Bool, true, false, List, [], ◌∷◌, ◌++◌, Option, Some, None, Ok, if◌then◌else◌}
+use Rattle.std.specs.Prelude.{◌≡◌, ◌↔◌, ℕ, ◌+◌, ◌-◌, ◌<◌, ◌≤◌, ◌⊎◌, ◌&&◌, nat_lt, max, Bool, true, false, List, [], ◌∷◌, ◌++◌, Option, Some, None, Ok, if◌then◌else◌, unwrap_or, option_map, option_and_then}
 use Rattle.std.specs.List.{AllByRecursion}
 use Rattle.pd_board.specs.Choice.{run_at}
 use Rattle.pd_board.specs.Scoreboard.{Scoreboard, IsScoreboard}
@@ -53,8 +53,7 @@ pub record ControlsFlow : Type 0 where
 
 -- the number after the highest octet that was sent
 abbrev pub sent_in : Option ControlBlock → ℕ
-sent_in None = 0
-sent_in (Some c) = c.board.top
+sent_in connection = unwrap_or (option_map (λ c. c.board.top) connection) 0
 
 -- the number after the last octet that the peer's window takes, 0 where there is none yet
 abbrev pub taken_in : Option ControlBlock → ℕ
@@ -62,8 +61,7 @@ taken_in connection = value_in 0 (λ c e. c.board.una + e.rwnd) connection
 
 -- the segment that is timed, if one is
 abbrev pub timed_in : Option ControlBlock → Option Timing
-timed_in None = None
-timed_in (Some c) = c.timed
+timed_in connection = option_and_then (λ c. c.timed) connection
 
 -- the number after the last octet of a segment, a FIN counted (RFC 9293, section 3.4)
 abbrev pub end_with_fin : Segment → ℕ
