@@ -8,7 +8,7 @@ use Rattle.pd_seg.specs.declared.segments.Sent.{Sent}
 use Rattle.pd_recover.specs.declared.responses.Then.{Then}
 use Rattle.pd_recover.specs.declared.responses.Then.TheVariants.{Ordinary, StepC, Entry, LimitedTransmit, NewSegment, FastRetransmit, Nothing}
 use Rattle.pd_recover.specs.declared.segments.NextSegment.{NextSegment}
-use Rattle.pd_host.specs.Acknowledgments.{OnTheWay, taking, taken, step_c_found, step_c_sent, step_c, sender_of, pipe_of, limited_found, limited_sent, transmit_limited, put_segment, entered_on, entry, led_to}
+use Rattle.pd_host.specs.Acknowledgments.{OnTheWay, taking, taken, next_found, one_filled, filled, sender_of, pipe_of, put_segment, entered_on, entry, led_to}
 use Rattle.pd_host.specs.Arrivals.{ruling_of, ruled, goes_on, with_connection, with_peer_fin, finished_on, finished_by, arrived_on, arrived}
 use Rattle.pd_host.specs.ControlBlock.{ControlBlock}
 use Rattle.pd_host.specs.Handshake.{is_opening, block_begun, syn_uses}
@@ -18,6 +18,8 @@ use Rattle.pd_host.specs.Sender.{beside, with_outbox, put_out}
 use Rattle.pd_host.specs.Sending.{with_block, places_left, sent_on, ordinary}
 use Rattle.pd_host.specs.Timing.{clocked}
 use Rattle.pd_host.specs.declared.endpoint.Endpoint.{Endpoint}
+use Rattle.pd_host.specs.declared.fillings.Filling.{Filling}
+use Rattle.pd_host.specs.declared.fillings.Filling.TheVariants.{NextSeg, NewData}
 use Rattle.pd_host.specs.declared.halts.Halt.{Halt}
 use Rattle.pd_host.specs.declared.halts.Halt.TheVariants.{Limit, Unsupported}
 use Rattle.pd_host.specs.declared.rulings.Ruling.{Ruling}
@@ -45,28 +47,16 @@ module _ (now : ℕ) (O : List Sent → Type 0) (C D : Settings → ControlBlock
     ordinary_after : (s : State) → Sends s → Comes Sends (ordinary now s)
     ordinary_after s h = ordinary_holds now O D more (λ b. (rules b).sending) s h
 
-    in_step_c : (o : Option ControlBlock) (sent : NextSegment) (t : OnTheWay) → Sends t.0 → IfSome o (D t.0.settings)
-        → step_c_found t.1 o ≡ Some sent → Sends (step_c_sent now sent o t).0
-    in_step_c None sent t h d e = h
-    in_step_c (Some c) sent t h d e = placed now O D more _ _ t.0 h ((rules t.0.settings).acks.step_c t.1 c sent d e)
+    in_filled : (filling : Filling) (o : Option ControlBlock) (sent : NextSegment) (t : OnTheWay) → Sends t.0 → IfSome o (D t.0.settings)
+        → next_found filling t.1 o ≡ Some sent → Sends (one_filled now filling sent o t).0
+    in_filled filling None sent t h d e = h
+    in_filled filling (Some c) sent t h d e = placed now O D more _ _ t.0 h ((rules t.0.settings).acks.filled filling t.1 c sent d e)
 
-    step_c_holds : (s : State) → Sends s → Comes Sends (step_c now s)
-    step_c_holds s h =
-        sender_comes Sends _ (repeated_holds (λ (t : OnTheWay). Sends t.0) (λ t. step_c_found t.1 t.0.endpoint.connection)
-        (λ sent t. step_c_sent now sent t.0.endpoint.connection t)
-        (λ t sent k e. in_step_c t.0.endpoint.connection sent t k k.connection e)
-        (places_left s) (s, pipe_of s.endpoint.connection) h)
-
-    in_limited : (o : Option ControlBlock) (segment : Span) (t : OnTheWay) → Sends t.0 → IfSome o (D t.0.settings)
-        → limited_found t.1 o ≡ Some segment → Sends (limited_sent now segment o t).0
-    in_limited None segment t h d e = h
-    in_limited (Some c) segment t h d e = placed now O D more _ _ t.0 h ((rules t.0.settings).acks.limited t.1 c segment d e)
-
-    limited_holds : (s : State) → Sends s → Comes Sends (transmit_limited now s)
-    limited_holds s h =
-        sender_comes Sends _ (repeated_holds (λ (t : OnTheWay). Sends t.0) (λ t. limited_found t.1 t.0.endpoint.connection)
-        (λ segment t. limited_sent now segment t.0.endpoint.connection t)
-        (λ t segment k e. in_limited t.0.endpoint.connection segment t k k.connection e)
+    filled_holds : (filling : Filling) (s : State) → Sends s → Comes Sends (filled now filling s)
+    filled_holds filling s h =
+        sender_comes Sends _ (repeated_holds (λ (t : OnTheWay). Sends t.0) (λ t. next_found filling t.1 t.0.endpoint.connection)
+        (λ sent t. one_filled now filling sent t.0.endpoint.connection t)
+        (λ t sent k e. in_filled filling t.0.endpoint.connection sent t k k.connection e)
         (places_left s) (s, pipe_of s.endpoint.connection) h)
 
     put_holds : (segment : Span) (before after : ControlBlock) (s : State) → Sends s → D s.settings after
@@ -85,11 +75,11 @@ module _ (now : ℕ) (O : List Sent → Type 0) (C D : Settings → ControlBlock
         → Sends s → C s.settings c → D s.settings (taking now segment c c.established).0 → ruling_of c segment ≡ None
         → (taking now segment c c.established).1 ≡ x → Comes Sends (led_to now (taking now segment c c.established).0 s x)
     led_holds segment c s Ordinary h old d passed e = ordinary_after s h
-    led_holds segment c s StepC h old d passed e = step_c_holds s h
+    led_holds segment c s StepC h old d passed e = filled_holds NextSeg s h
     led_holds segment c s Entry h old d passed e =
-        comes_then Sends Sends (step_c now) step_c_holds (entry now (taking now segment c c.established).0 s)
+        comes_then Sends Sends (filled now NextSeg) (filled_holds NextSeg) (entry now (taking now segment c c.established).0 s)
         (entry_holds (taking now segment c c.established).0 s h d)
-    led_holds segment c s LimitedTransmit h old d passed e = limited_holds s h
+    led_holds segment c s LimitedTransmit h old d passed e = filled_holds NewData s h
     led_holds segment c s (NewSegment new) h old d passed e =
         let t : ControlBlock = (taking now segment c c.established).0 in
         put_holds new t (sent_on now new t) s h ((rules s.settings).acks.new_segment segment c new old passed e)

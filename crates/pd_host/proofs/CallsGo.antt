@@ -8,7 +8,7 @@ use Rattle.pd_host.specs.Calls.{Reply, answered, with_listener, with_stored, wit
 use Rattle.pd_host.specs.ControlBlock.{ControlBlock}
 use Rattle.pd_host.specs.Requests.{request_of}
 use Rattle.pd_host.specs.Sending.{ordinary, ordinary_outside_recovery, is_recovering}
-use Rattle.pd_host.specs.SendingLaws.{sent_in, taken_in, timed_in, window_end}
+use Rattle.pd_host.specs.SendingLaws.{sent_in, taken_in, timed_in}
 use Rattle.pd_host.specs.declared.descriptors.Descriptor.{Descriptor}
 use Rattle.pd_host.specs.declared.descriptors.Descriptor.TheVariants.{Listening, Connected}
 use Rattle.pd_host.specs.declared.established.Established.{Established}
@@ -24,7 +24,7 @@ use Rattle.pd_host.specs.declared.sender_state.State.{State}
 use Rattle.pd_host.specs.declared.streams.Stream.{Stream}
 use Rattle.pd_host.specs.declared.streams.Stream.TheVariants as stream
 use Rattle.pd_host.proofs.CallsBehind.{Replies, either_reply, reply_leaves}
-use Rattle.pd_host.proofs.Goes.{Goes, ordinary_goes}
+use Rattle.pd_host.proofs.Goes.{window_end, Goes, ordinary_goes}
 use Rattle.pd_host.proofs.Outcomes.{Leaves, came, leaves_too, either}
 
 -- nothing was put out, nothing else is timed, and the numbers of what was sent and what the peer takes are the same

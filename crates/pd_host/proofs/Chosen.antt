@@ -15,10 +15,13 @@ use Rattle.pd_recover.specs.declared.segments.NextSegment.TheVariants.{Lost, New
 use Rattle.pd_recover.proofs.Chosen.{AllOf, one_of, either_of, map_of, allowed_of}
 use Rattle.pd_recover.proofs.Found.{least, greatest}
 use Rattle.pd_seg.specs.declared.sack_blocks.Span.{Span}
+use Rattle.pd_host.specs.Acknowledgments.{next_by}
 use Rattle.pd_host.specs.ControlBlock.{ControlBlock}
 use Rattle.pd_host.specs.Sending.{window_edge, usable, unsent, sendable, unsent_segment, leaves_now, next_new, next_again, ordinary_segment}
 use Rattle.pd_host.specs.SendingLaws.{IsInPeersWindow}
 use Rattle.pd_host.specs.declared.established.Established.{Established}
+use Rattle.pd_host.specs.declared.fillings.Filling.{Filling}
+use Rattle.pd_host.specs.declared.fillings.Filling.TheVariants.{NextSeg, NewData}
 
 -- tests
 
@@ -179,7 +182,7 @@ recovery_stands rwnd s w =
     (map_of P (λ x. Hole (run_at x s)) (next_hole w.high_rxt s) (λ x e. run_end s x))
     (allowed_of P _ _ (λ _. map_of P (λ segment. Rescue segment) (rescue s) (rescue_end s)))))
 
-pub step_c_stands : (rwnd pipe : ℕ) (s : Scoreboard) (w : Congestion) → AllOf (Stands rwnd s) (step_c_segment rwnd pipe s w)
+step_c_stands : (rwnd pipe : ℕ) (s : Scoreboard) (w : Congestion) → AllOf (Stands rwnd s) (step_c_segment rwnd pipe s w)
 step_c_stands rwnd pipe s w = allowed_of (Stands rwnd s) (has_room pipe s w) (next_seg rwnd s w) (λ _. recovery_stands rwnd s w)
 
 stands_in_window : (rwnd : ℕ) (s : Scoreboard) (sent : NextSegment) → Stands rwnd s sent → IsInPeersWindow s rwnd (segment_of sent)
@@ -188,23 +191,30 @@ stands_in_window rwnd s (Lost segment) h = sent_before s rwnd segment h
 stands_in_window rwnd s (Hole segment) h = sent_before s rwnd segment h
 stands_in_window rwnd s (Rescue segment) h = sent_before s rwnd segment h
 
-pub step_c_flow : (rwnd pipe : ℕ) (s : Scoreboard) (w : Congestion) → AllOf (λ sent. IsInPeersWindow s rwnd (segment_of sent)) (step_c_segment rwnd pipe s w)
-step_c_flow rwnd pipe s w sent e = stands_in_window rwnd s sent (step_c_stands rwnd pipe s w sent e)
+limited_stands : (rwnd pipe : ℕ) (s : Scoreboard) (w : Congestion) → AllOf (λ segment. Stands rwnd s (New segment)) (limited_segment rwnd pipe s w)
+limited_stands rwnd pipe s w =
+    allowed_of (λ segment. Stands rwnd s (New segment)) (has_room pipe s w) (new_data rwnd s) (λ _. data_flow rwnd s)
 
-pub limited_flow : (rwnd pipe : ℕ) (s : Scoreboard) (w : Congestion) → AllOf (IsInPeersWindow s rwnd) (limited_segment rwnd pipe s w)
-limited_flow rwnd pipe s w =
-    allowed_of (IsInPeersWindow s rwnd) (has_room pipe s w) (new_data rwnd s)
-    (λ _ segment e _. let flow = data_flow rwnd s segment e in (flow.0, flow.1))
+-- so stands what step C and limited transmit send
+pub filling_stands : (filling : Filling) (pipe : ℕ) (c : ControlBlock) (e : Established) → AllOf (Stands e.rwnd c.board) (next_by filling pipe c e)
+filling_stands NextSeg pipe c e = step_c_stands e.rwnd pipe c.board e.congestion
+filling_stands NewData pipe c e =
+    map_of (Stands e.rwnd c.board) (λ segment. New segment) (limited_segment e.rwnd pipe c.board e.congestion) (limited_stands e.rwnd pipe c.board e.congestion)
 
--- and sends what is queued
-pub limited_queued : (rwnd pipe : ℕ) (s : Scoreboard) (w : Congestion) → AllOf (λ (segment : Span). segment.end ≤ s.end) (limited_segment rwnd pipe s w)
-limited_queued rwnd pipe s w =
-    allowed_of (λ (segment : Span). segment.end ≤ s.end) (has_room pipe s w) (new_data rwnd s) (λ _ segment e. (data_flow rwnd s segment e).2)
+pub filling_flow : (filling : Filling) (pipe : ℕ) (c : ControlBlock) (e : Established)
+    → AllOf (λ sent. IsInPeersWindow c.board e.rwnd (segment_of sent)) (next_by filling pipe c e)
+filling_flow filling pipe c e sent h = stands_in_window e.rwnd c.board sent (filling_stands filling pipe c e sent h)
 
--- limited transmit has room for a full segment
-pub limited_room : (rwnd pipe : ℕ) (s : Scoreboard) (w : Congestion) → AllOf (λ _. s.smss ≤ w.cwnd - pipe) (limited_segment rwnd pipe s w)
-limited_room rwnd pipe s w =
-    allowed_of (λ (_ : Span). s.smss ≤ w.cwnd - pipe) (has_room pipe s w) (new_data rwnd s) (λ t _ _. is_within s.smss (w.cwnd - pipe) t)
+-- they have room for a full segment
+pub filling_room : (filling : Filling) (pipe : ℕ) (c : ControlBlock) (e : Established)
+    → AllOf (λ _. c.board.smss ≤ e.congestion.cwnd - pipe) (next_by filling pipe c e)
+filling_room NextSeg pipe c e =
+    allowed_of (λ _. c.board.smss ≤ e.congestion.cwnd - pipe) (has_room pipe c.board e.congestion) (next_seg e.rwnd c.board e.congestion)
+    (λ t _ _. is_within c.board.smss (e.congestion.cwnd - pipe) t)
+filling_room NewData pipe c e =
+    map_of (λ _. c.board.smss ≤ e.congestion.cwnd - pipe) (λ segment. New segment) (limited_segment e.rwnd pipe c.board e.congestion)
+    (allowed_of (λ _. c.board.smss ≤ e.congestion.cwnd - pipe) (has_room pipe c.board e.congestion) (new_data e.rwnd c.board)
+    (λ t _ _. is_within c.board.smss (e.congestion.cwnd - pipe) t))
 
 -- Octets that are SACKed
 
@@ -227,7 +237,7 @@ ordinary_spared spares c e known =
     (λ t segment h. above_spared c.board segment known
     (subst (λ (n : ℕ). c.board.top ≤ n) (sym (new_within c e segment h).0) (at_most c.board.next c.board.top t)))
 
-pub step_c_spared : SparesSacked → (rwnd pipe : ℕ) (s : Scoreboard) (w : Congestion) → IsScoreboard s
+step_c_spared : SparesSacked → (rwnd pipe : ℕ) (s : Scoreboard) (w : Congestion) → IsScoreboard s
     → AllOf (λ sent. IsSpared s (segment_of sent)) (step_c_segment rwnd pipe s w)
 step_c_spared spares rwnd pipe s w known =
     allowed_of (λ sent. IsSpared s (segment_of sent)) (has_room pipe s w) (next_seg rwnd s w) (λ _. spares.chosen rwnd s w known)
@@ -235,7 +245,14 @@ step_c_spared spares rwnd pipe s w known =
 at_top : (start top : ℕ) → start ≡ top → top ≤ start
 at_top start top e = omega (arith, e)
 
-pub limited_spared : (rwnd pipe : ℕ) (s : Scoreboard) (w : Congestion) → IsScoreboard s → AllOf (IsSpared s) (limited_segment rwnd pipe s w)
+limited_spared : (rwnd pipe : ℕ) (s : Scoreboard) (w : Congestion) → IsScoreboard s → AllOf (IsSpared s) (limited_segment rwnd pipe s w)
 limited_spared rwnd pipe s w known =
     allowed_of (IsSpared s) (has_room pipe s w) (new_data rwnd s)
     (λ _ segment e. above_spared s segment known (at_top segment.start s.top (data_flow rwnd s segment e).0))
+
+pub filling_spared : SparesSacked → (filling : Filling) (pipe : ℕ) (c : ControlBlock) (e : Established) → IsScoreboard c.board
+    → AllOf (λ sent. IsSpared c.board (segment_of sent)) (next_by filling pipe c e)
+filling_spared spares NextSeg pipe c e known = step_c_spared spares e.rwnd pipe c.board e.congestion known
+filling_spared spares NewData pipe c e known =
+    map_of (λ sent. IsSpared c.board (segment_of sent)) (λ segment. New segment) (limited_segment e.rwnd pipe c.board e.congestion)
+    (limited_spared e.rwnd pipe c.board e.congestion known)

@@ -1,11 +1,9 @@
 -- Other settings that agree on all that was consulted give the same arrival.
-use Rattle.std.proofs.Common.{◌≡◌, ℕ, ◌&&◌, min, max, Bool, true, false, if◌then◌else◌, nat_lt, length, List, Option, None, Some, Result, Ok, Err, refl, sym, ap, subst, ◌∙◌}
+use Rattle.std.proofs.Common.{◌≡◌, ℕ, ◌&&◌, min, Bool, true, false, if◌then◌else◌, nat_lt, length, List, Option, None, Some, Result, Ok, Err, refl, sym, ap, subst, ◌∙◌}
 use Rattle.std.specs.Option.{option_map, unwrap_or}
 use Rattle.pd_board.specs.Scoreboard.{opened}
-use Rattle.pd_recover.specs.Congestion as congestion
 use Rattle.pd_settings.specs.Uses.{Agree}
 use Rattle.pd_settings.specs.declared.fields.Settings.{Settings}
-use Rattle.pd_settings.specs.declared.initial_window.InitialWindow.{InitialWindow}
 use Rattle.pd_settings.specs.declared.keys.Key.TheVariants.{Mss, Sack, Wscale, RcvWnd, InitialSsthresh, InitialWindow as Rule, MinRtoUs, MaxRtoUs, GranularityUs, Nagle}
 use Rattle.pd_settings.specs.declared.use_set.UseSet.{UseSet}
 use Rattle.pd_seg.specs.declared.segments.Segment.{Segment}
@@ -13,19 +11,16 @@ use Rattle.pd_seg.specs.declared.segments.Sent.{Sent}
 use Rattle.pd_timer.specs.Timer.{initial, started}
 use Rattle.pd_host.specs.Arrivals.{ruled, goes_on, finished_on, finished_by, arrived_on, ruling_of, with_connection}
 use Rattle.pd_host.specs.ControlBlock.{ControlBlock}
-use Rattle.pd_host.specs.Handshake.{is_opening, block_begun, answered_syn, established_by, window_in, syn_acked, syn_octet, syn_uses, establishment_uses, offered_mss, offered_count, offers_sack}
+use Rattle.pd_host.specs.Handshake.{is_opening, block_begun, answered_syn, established_by, syn_octet, syn_uses, establishment_uses, offered_mss, offered_count, offers_sack}
 use Rattle.pd_host.specs.InputLaws.{OnlyUsesMatter, rebound}
 use Rattle.pd_host.specs.Packets.{syn_ack_of}
 use Rattle.pd_host.specs.Sender.{beside, with_outbox, put_out, then_on}
-use Rattle.pd_host.specs.Timing.{with_sample, with_timer_settled}
 use Rattle.pd_host.specs.declared.endpoint.Endpoint.{Endpoint}
 use Rattle.pd_host.specs.declared.halts.Halt.{Halt}
 use Rattle.pd_host.specs.declared.halts.Halt.TheVariants.{Limit, Unsupported}
-use Rattle.pd_host.specs.declared.peer_fins.PeerFin.TheVariants.{Awaited}
 use Rattle.pd_host.specs.declared.rulings.Ruling.{Ruling}
 use Rattle.pd_host.specs.declared.rulings.Ruling.TheVariants.{NotRun, StrayRst, OutsideWindow, ExactRst, ChallengedRst, WithoutAck, FirstAck, RefusedAck, EarlyAck, OldAck}
 use Rattle.pd_host.specs.declared.sender_state.State.{State}
-use Rattle.pd_host.specs.declared.streams.Stream.TheVariants.{Waiting}
 use Rattle.pd_host.proofs.Finishes.{finished_leaves}
 use Rattle.pd_host.proofs.Outcomes.{came, either_mapped}
 use Rattle.pd_host.proofs.Rebound.{again, taken_again}

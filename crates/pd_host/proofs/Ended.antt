@@ -8,7 +8,7 @@ use Rattle.pd_host.specs.Arrivals.{is_stray_fin, check_window, check_rst, check_
 use Rattle.pd_host.specs.Calls.{with_stream, with_fin, closed_stream}
 use Rattle.pd_host.specs.ConnStates.{state_since, state_of, is_closed}
 use Rattle.pd_host.specs.ControlBlock.{ControlBlock}
-use Rattle.pd_host.specs.Expiries.{due_by, deadline_on, deadline_of, expired}
+use Rattle.pd_host.specs.Expiries.{due_by, deadline_of, expired}
 use Rattle.pd_host.specs.Handshake.{length_of}
 use Rattle.pd_host.specs.Invariants.{IsReached, BoardsAreScoreboards, CallsStayInRange, EndsForGood}
 use Rattle.pd_host.specs.Sender.{queued_to}
@@ -24,7 +24,7 @@ use Rattle.pd_host.proofs.Kept.{by_test, nothing_found}
 use Rattle.pd_host.proofs.Moments.{anything}
 use Rattle.pd_host.proofs.Queued.{clash}
 use Rattle.pd_host.proofs.Reached.{at_some}
-use Rattle.pd_host.proofs.Rules.{Holds, KeptByCalls}
+use Rattle.pd_host.proofs.Rules.{deadline_on, Holds, KeptByCalls}
 
 pub boards_are_scoreboards : BoardsAreScoreboards
 boards_are_scoreboards now s c h is low =

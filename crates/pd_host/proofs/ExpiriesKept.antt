@@ -5,12 +5,12 @@ use Rattle.std.proofs.lemmas.Bool.Decides.{nat_tests}
 use Rattle.pd_settings.specs.declared.fields.Settings.{Settings}
 use Rattle.pd_seg.specs.declared.segments.Sent.{Sent}
 use Rattle.pd_host.specs.ControlBlock.{ControlBlock}
-use Rattle.pd_host.specs.Expiries.{due_by, deadline_on, deadline_of, expired_on, expired, advanced}
+use Rattle.pd_host.specs.Expiries.{due_by, deadline_of, expired_on, expired, advanced}
 use Rattle.pd_host.specs.Sending.{places_left}
 use Rattle.pd_host.specs.declared.established.Established.{Established}
 use Rattle.pd_host.specs.declared.sender_state.State.{State}
 use Rattle.pd_host.proofs.Kept.{AtEnd, came, repeated_keeps}
-use Rattle.pd_host.proofs.Rules.{Holds, KeptByExpiries}
+use Rattle.pd_host.proofs.Rules.{deadline_on, Holds, KeptByExpiries}
 
 -- a moment that is due is the one that was given, and no later
 

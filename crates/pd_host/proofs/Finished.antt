@@ -1,14 +1,14 @@
 -- Where sending comes to its end, nothing more is found.
 use Rattle.std.proofs.Common.{◌≡◌, ℕ, None, Result, Ok, Err, ap}
-use Rattle.pd_host.specs.Acknowledgments.{OnTheWay, sender_of, pipe_of}
+use Rattle.pd_host.specs.Acknowledgments.{OnTheWay, sender_of, pipe_of, filled_from}
 use Rattle.pd_host.specs.Expiries.{advanced}
 use Rattle.pd_host.specs.Sending.{places_left, ready, ordinary}
-use Rattle.pd_host.specs.SendingLaws.{SendsAllThatMay, step_c_counted, limited_counted}
+use Rattle.pd_host.specs.SendingLaws.{SendsAllThatMay}
 use Rattle.pd_host.specs.declared.halts.Halt.{Halt}
 use Rattle.pd_host.specs.declared.sender_state.State.{State}
 use Rattle.pd_host.proofs.Advances.{expiry_finds, expiry_sends}
 use Rattle.pd_host.proofs.Outcomes.{came, done}
-use Rattle.pd_host.proofs.SentOn.{finds, sends, c_finds, c_sends, limited_finds, limited_sends}
+use Rattle.pd_host.proofs.SentOn.{finds, sends, fill_finds, fill_sends}
 
 -- what was on the way beside the state that came
 counted : (r : Result OnTheWay Halt) (t : State) → sender_of r ≡ Ok t → (n : ℕ) × (r ≡ Ok (t, n))
@@ -20,19 +20,12 @@ sends_all_that_may = record {
   ordinary = λ now s t h.
       let u : State = ready s.endpoint.connection s in
       came (λ (x : State). finds x ≡ None) (ordinary now s) t h (done finds (sends now) (places_left u) u);
-  step_c = λ now s t h.
-      let n = counted (step_c_counted now s) t h in (
+  filling = λ now filling s t h.
+      let n = counted (filled_from now filling (s, pipe_of s.endpoint.connection)) t h in (
         n.0,
         n.1,
-        came (λ (x : OnTheWay). c_finds x ≡ None) (step_c_counted now s) (t, n.0) n.1
-            (done c_finds (c_sends now) (places_left s) (s, pipe_of s.endpoint.connection)),
-      );
-  limited = λ now s t h.
-      let n = counted (limited_counted now s) t h in (
-        n.0,
-        n.1,
-        came (λ (x : OnTheWay). limited_finds x ≡ None) (limited_counted now s) (t, n.0) n.1
-            (done limited_finds (limited_sends now) (places_left s) (s, pipe_of s.endpoint.connection)),
+        came (λ (x : OnTheWay). fill_finds filling x ≡ None) (filled_from now filling (s, pipe_of s.endpoint.connection)) (t, n.0) n.1
+            (done (fill_finds filling) (fill_sends now filling) (places_left s) (s, pipe_of s.endpoint.connection)),
       );
   expiries = λ until s t h.
       came (λ (x : State). expiry_finds until x ≡ None) (advanced until s) t h (done (expiry_finds until) expiry_sends (places_left s) s);

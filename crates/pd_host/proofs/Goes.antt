@@ -1,5 +1,5 @@
 -- A relation of states that each segment sent keeps holds of all that is sent.
-use Rattle.std.proofs.Common.{◌≡◌, ℕ, ◌<◌, ◌≤◌, max, nat_lt, Option, None, Some, Ok, Err, refl, sym, subst, ap, ◌∙◌, arith}
+use Rattle.std.proofs.Common.{◌≡◌, ℕ, ◌+◌, ◌<◌, ◌≤◌, max, nat_lt, Option, None, Some, Ok, Err, refl, sym, subst, ap, ◌∙◌, arith}
 use Rattle.pd_board.specs.Choice.{run_at}
 use Rattle.pd_recover.specs.Choice.{segment_of}
 use Rattle.pd_recover.specs.declared.responses.Then.{Then}
@@ -7,18 +7,24 @@ use Rattle.pd_recover.specs.declared.responses.Then.TheVariants.{Ordinary, StepC
 use Rattle.pd_recover.specs.declared.segments.NextSegment.{NextSegment}
 use Rattle.pd_recover.specs.declared.segments.NextSegment.TheVariants.{Lost, New, Hole, Rescue}
 use Rattle.pd_seg.specs.declared.sack_blocks.Span.{Span}
-use Rattle.pd_host.specs.Acknowledgments.{OnTheWay, step_c_on, step_c_found, sent_as, noted_on, octets_of, step_c_sent, pipe_of, step_c, limited_on, limited_found, counted_on, limited_sent, transmit_limited, put_segment, entered_on, entry, led_to}
+use Rattle.pd_host.specs.Acknowledgments.{OnTheWay, next_found, sent_as, noted_on, one_filled, pipe_of, filled, put_segment, entered_on, entry, led_to}
 use Rattle.pd_host.specs.ControlBlock.{ControlBlock}
 use Rattle.pd_host.specs.Places.{has_place}
-use Rattle.pd_host.specs.Sending.{places_left, with_block, past_sacked, sent_on, with_segment, found_on, found, sent_ordinarily, ready, ordinary}
-use Rattle.pd_host.specs.SendingLaws.{window_end}
+use Rattle.pd_host.specs.Sending.{value_on, places_left, with_block, past_sacked, sent_on, with_segment, found, sent_ordinarily, ready, ordinary}
 use Rattle.pd_host.specs.Timing.{clocked, timed_after}
 use Rattle.pd_host.specs.declared.established.Established.{Established}
+use Rattle.pd_host.specs.declared.fillings.Filling.{Filling}
+use Rattle.pd_host.specs.declared.fillings.Filling.TheVariants.{NextSeg, NewData}
 use Rattle.pd_host.specs.declared.halts.Halt.TheVariants.{Limit}
 use Rattle.pd_host.specs.declared.sender_state.State.{State}
-use Rattle.pd_host.proofs.Chosen.{Stands, ordinary_end, ordinary_queued, step_c_stands, limited_flow, limited_queued, run_end}
+use Rattle.pd_host.proofs.Chosen.{Stands, ordinary_end, ordinary_queued, filling_stands, run_end}
 use Rattle.pd_host.proofs.Outcomes.{Leaves, kept, either, then_leaves}
-use Rattle.pd_host.proofs.SentOn.{still, sender_leaves, finds, sends, c_finds, c_sends, c_still, limited_finds, limited_sends, counted_still, entered_still}
+use Rattle.pd_host.proofs.SentOn.{still, sender_leaves, finds, sends, fill_finds, fill_sends, fill_still, entered_still}
+use Rattle.pd_host.proofs.Rules.{found_on, next_on}
+
+-- the number after the last octet that the peer's window takes
+abbrev pub window_end : ControlBlock → Option Established → ℕ
+window_end c o = value_on 0 (λ d e. d.board.una + e.rwnd) c o
 
 -- a segment that the windows let leave is sent from a connection, which becomes another one
 pub record IsSending (now : ℕ) (segment : Span) (c d : ControlBlock) : Type 0 where
@@ -110,19 +116,15 @@ ordinary_sending now segment c h =
 abbrev bare : ControlBlock → ControlBlock
 bare c = record c { established = None }
 
-noted_bare : (sent : NextSegment) (c : ControlBlock) (o : Option Established) → bare (noted_on sent c o) ≡ bare c
-noted_bare sent c None = refl
-noted_bare sent c (Some e) = refl
-
-counted_bare : (octets : ℕ) (c : ControlBlock) (o : Option Established) → bare (counted_on octets c o) ≡ bare c
-counted_bare octets c None = refl
-counted_bare octets c (Some e) = refl
+noted_bare : (filling : Filling) (sent : NextSegment) (c : ControlBlock) (o : Option Established) → bare (noted_on filling sent c o) ≡ bare c
+noted_bare filling sent c None = refl
+noted_bare filling sent c (Some e) = refl
 
 entered_bare : (segment : Span) (c : ControlBlock) (o : Option Established) → bare (entered_on segment c o) ≡ bare c
 entered_bare segment c None = refl
 entered_bare segment c (Some e) = refl
 
--- where what step C finds stands
+-- where what step C or limited transmit finds stands
 abbrev StandsOn : ControlBlock → Option Established → NextSegment → Type 0
 StandsOn c o (New segment) = (segment.end ≤ window_end c o) × (segment.end ≤ c.board.end)
 StandsOn c o (Lost segment) = segment.end ≤ c.board.top
@@ -135,53 +137,33 @@ on_board c e (Lost segment) h = h
 on_board c e (Hole segment) h = h
 on_board c e (Rescue segment) h = h
 
-c_stands : (n : ℕ) (c : ControlBlock) (o : Option Established) (sent : NextSegment) → step_c_on n c o ≡ Some sent → StandsOn c o sent
-c_stands n c None sent h = absurd cc
-c_stands n c (Some e) sent h = on_board c e sent (step_c_stands e.rwnd n c.board e.congestion sent h)
+fill_stands : (filling : Filling) (n : ℕ) (c : ControlBlock) (o : Option Established) (sent : NextSegment) → next_on filling n c o ≡ Some sent
+    → StandsOn c o sent
+fill_stands filling n c None sent h = absurd cc
+fill_stands filling n c (Some e) sent h = on_board c e sent (filling_stands filling n c e sent h)
 
--- what step C makes of the connection
-abbrev c_left : ℕ → NextSegment → ControlBlock → ControlBlock
-c_left now sent c = noted_on sent (sent_as now sent c) c.established
+-- what they make of the connection
+abbrev fill_left : ℕ → Filling → NextSegment → ControlBlock → ControlBlock
+fill_left now filling sent c = noted_on filling sent (sent_as now sent c) c.established
 
-c_old : (now : ℕ) (sent : NextSegment) (c : ControlBlock) → sent_as now sent c ≡ clocked now (segment_of sent) c
-    → (segment_of sent).end ≤ c.board.top → IsSending now (segment_of sent) c (c_left now sent c)
-c_old now sent c e below =
-    let left : bare (c_left now sent c) ≡ bare (clocked now (segment_of sent) c) =
-    noted_bare sent (sent_as now sent c) c.established ∙ ap bare e in
-    old_octets now (segment_of sent) c (c_left now sent c) (c_still now sent c)
+fill_old : (now : ℕ) (filling : Filling) (sent : NextSegment) (c : ControlBlock) → sent_as now sent c ≡ clocked now (segment_of sent) c
+    → (segment_of sent).end ≤ c.board.top → IsSending now (segment_of sent) c (fill_left now filling sent c)
+fill_old now filling sent c e below =
+    let left : bare (fill_left now filling sent c) ≡ bare (clocked now (segment_of sent) c) =
+    noted_bare filling sent (sent_as now sent c) c.established ∙ ap bare e in
+    old_octets now (segment_of sent) c (fill_left now filling sent c) (fill_still now filling sent c)
     (ap (λ (x : ControlBlock). x.timed) left) (ap (λ (x : ControlBlock). x.board.top) left) below
 
-c_sending : (now : ℕ) (sent : NextSegment) (c : ControlBlock) → StandsOn c c.established sent
-    → IsSending now (segment_of sent) c (c_left now sent c)
-c_sending now (New segment) c h =
-    let left : bare (c_left now (New segment) c) ≡ bare (sent_on now segment c) =
-    noted_bare (New segment) (sent_on now segment c) c.established in
-    new_octets now segment c (c_left now (New segment) c) (c_still now (New segment) c)
+fill_sending : (now : ℕ) (filling : Filling) (sent : NextSegment) (c : ControlBlock) → StandsOn c c.established sent
+    → IsSending now (segment_of sent) c (fill_left now filling sent c)
+fill_sending now filling (New segment) c h =
+    let left : bare (fill_left now filling (New segment) c) ≡ bare (sent_on now segment c) =
+    noted_bare filling (New segment) (sent_on now segment c) c.established in
+    new_octets now segment c (fill_left now filling (New segment) c) (fill_still now filling (New segment) c)
     (ap (λ (x : ControlBlock). x.timed) left) (ap (λ (x : ControlBlock). x.board.top) left) (λ _. h.0) (λ _ _. h.1)
-c_sending now (Lost segment) c h = c_old now (Lost segment) c refl h
-c_sending now (Hole segment) c h = c_old now (Hole segment) c refl h
-c_sending now (Rescue segment) c h = c_old now (Rescue segment) c refl h
-
--- what limited transmit finds ends in the peer's window
-limited_end : (n : ℕ) (c : ControlBlock) (o : Option Established) (segment : Span) → limited_on n c o ≡ Some segment
-    → c.board.top < segment.end → segment.end ≤ window_end c o
-limited_end n c None segment h = absurd cc
-limited_end n c (Some e) segment h = λ new. (limited_flow e.rwnd n c.board e.congestion segment h new).1
-
--- and among what is queued
-limited_last : (n : ℕ) (c : ControlBlock) (o : Option Established) (segment : Span) → limited_on n c o ≡ Some segment → segment.end ≤ c.board.end
-limited_last n c None segment h = absurd cc
-limited_last n c (Some e) segment h = limited_queued e.rwnd n c.board e.congestion segment h
-
-limited_sending : (now n : ℕ) (segment : Span) (c : ControlBlock) → limited_on n c c.established ≡ Some segment
-    → IsSending now segment c (counted_on (octets_of segment) (sent_on now segment c) c.established)
-limited_sending now n segment c h =
-    let left : bare (counted_on (octets_of segment) (sent_on now segment c) c.established) ≡ bare (sent_on now segment c) =
-    counted_bare (octets_of segment) (sent_on now segment c) c.established in
-    new_octets now segment c (counted_on (octets_of segment) (sent_on now segment c) c.established)
-    (counted_still (octets_of segment) (sent_on now segment c) c.established refl)
-    (ap (λ (x : ControlBlock). x.timed) left) (ap (λ (x : ControlBlock). x.board.top) left)
-    (limited_end n c c.established segment h) (λ _ _. limited_last n c c.established segment h)
+fill_sending now filling (Lost segment) c h = fill_old now filling (Lost segment) c refl h
+fill_sending now filling (Hole segment) c h = fill_old now filling (Hole segment) c refl h
+fill_sending now filling (Rescue segment) c h = fill_old now filling (Rescue segment) c refl h
 
 entry_sending : (now : ℕ) (segment : Span) (c : ControlBlock) → segment.end ≤ c.board.top
     → IsSending now segment c (entered_on segment (clocked now segment c) c.established)
@@ -224,30 +206,18 @@ module _ (now : ℕ) (R : State → State → Type 0) (rules : Goes now R) where
       (λ segment t e so_far. rules.more r t (sends now segment t) so_far (once segment t t.endpoint.connection refl e))
       (places_left u) u (rules.more r s u h (made_ready s s.endpoint.connection refl))
 
-  c_once : (sent : NextSegment) (t : OnTheWay) (o : Option ControlBlock) → t.0.endpoint.connection ≡ o → step_c_found t.1 o ≡ Some sent
-      → R t.0 (step_c_sent now sent o t).0
-  c_once sent t None e h = rules.none t.0
-  c_once sent t (Some c) e h =
-      rules.sent (segment_of sent) c (c_left now sent c) t.0 e (c_sending now sent c (c_stands t.1 c c.established sent h))
+  fill_once : (filling : Filling) (sent : NextSegment) (t : OnTheWay) (o : Option ControlBlock) → t.0.endpoint.connection ≡ o
+      → next_found filling t.1 o ≡ Some sent → R t.0 (one_filled now filling sent o t).0
+  fill_once filling sent t None e h = rules.none t.0
+  fill_once filling sent t (Some c) e h =
+      rules.sent (segment_of sent) c (fill_left now filling sent c) t.0 e
+      (fill_sending now filling sent c (fill_stands filling t.1 c c.established sent h))
 
-  pub step_c_goes : (r s : State) → R r s → Leaves (R r) (step_c now s)
-  step_c_goes r s h =
+  pub filled_goes : (filling : Filling) (r s : State) → R r s → Leaves (R r) (filled now filling s)
+  filled_goes filling r s h =
       sender_leaves (R r) _
-      (kept (λ t. R r t.0) c_finds (c_sends now)
-      (λ sent t e so_far. rules.more r t.0 (c_sends now sent t).0 so_far (c_once sent t t.0.endpoint.connection refl e))
-      (places_left s) (s, pipe_of s.endpoint.connection) h)
-
-  limited_once : (segment : Span) (t : OnTheWay) (o : Option ControlBlock) → t.0.endpoint.connection ≡ o → limited_found t.1 o ≡ Some segment
-      → R t.0 (limited_sent now segment o t).0
-  limited_once segment t None e h = rules.none t.0
-  limited_once segment t (Some c) e h =
-      rules.sent segment c (counted_on (octets_of segment) (sent_on now segment c) c.established) t.0 e (limited_sending now t.1 segment c h)
-
-  pub limited_goes : (r s : State) → R r s → Leaves (R r) (transmit_limited now s)
-  limited_goes r s h =
-      sender_leaves (R r) _
-      (kept (λ t. R r t.0) limited_finds (limited_sends now)
-      (λ segment t e so_far. rules.more r t.0 (limited_sends now segment t).0 so_far (limited_once segment t t.0.endpoint.connection refl e))
+      (kept (λ t. R r t.0) (fill_finds filling) (fill_sends now filling)
+      (λ sent t e so_far. rules.more r t.0 (fill_sends now filling sent t).0 so_far (fill_once filling sent t t.0.endpoint.connection refl e))
       (places_left s) (s, pipe_of s.endpoint.connection) h)
 
   put_goes : (segment : Span) (c d : ControlBlock) (s : State) → s.endpoint.connection ≡ Some c → IsSending now segment c d
@@ -266,10 +236,10 @@ module _ (now : ℕ) (R : State → State → Type 0) (rules : Goes now R) where
 
   pub led_to_goes : (c : ControlBlock) (s : State) (next : Then) → s.endpoint.connection ≡ Some c → IsNamed c next → Leaves (R s) (led_to now c s next)
   led_to_goes c s Ordinary e h = ordinary_goes s s (rules.none s)
-  led_to_goes c s StepC e h = step_c_goes s s (rules.none s)
+  led_to_goes c s StepC e h = filled_goes NextSeg s s (rules.none s)
   led_to_goes c s Entry e h =
-      then_leaves (R s) (R s) (step_c now) (entry now c s) (entry_goes c s e) (λ t so_far. step_c_goes s t so_far)
-  led_to_goes c s LimitedTransmit e h = limited_goes s s (rules.none s)
+      then_leaves (R s) (R s) (filled now NextSeg) (entry now c s) (entry_goes c s e) (λ t so_far. filled_goes NextSeg s t so_far)
+  led_to_goes c s LimitedTransmit e h = filled_goes NewData s s (rules.none s)
   led_to_goes c s (NewSegment segment) e h =
       put_goes segment c (sent_on now segment c) s e (new_octets now segment c (sent_on now segment c) refl refl refl (λ _. h.0) (λ _ _. h.1))
   led_to_goes c s (FastRetransmit segment) e h =

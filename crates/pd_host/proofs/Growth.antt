@@ -10,7 +10,7 @@ use Rattle.pd_seg.specs.declared.segments.Segment.{Segment}
 use Rattle.pd_board.specs.Scoreboard.{Scoreboard, marked, has_new}
 use Rattle.pd_recover.specs.declared.segments.NextSegment.{NextSegment}
 use Rattle.pd_recover.specs.declared.segments.NextSegment.TheVariants.{Lost, New, Hole, Rescue}
-use Rattle.pd_host.specs.Acknowledgments.{is_block_sent, told_block, told_blocks, blocks_of, scored, with_number, with_blocks, newly_acked, with_timing, with_new_window, is_current, noted_on, sent_as, counted_on, octets_of, entered_on, with_ack, answering, taking}
+use Rattle.pd_host.specs.Acknowledgments.{is_block_sent, told_block, told_blocks, blocks_of, scored, with_number, with_blocks, newly_acked, with_timing, with_new_window, is_current, noted_on, sent_as, entered_on, with_ack, answering, taking}
 use Rattle.pd_host.specs.Calls.{Reply, answered, with_listener, with_stored, with_stream, with_nagle, with_queued, with_fin, with_answer, socket_reply, bind_reply, listen_reply, accept_reply, handed_out, no_delay_reply, queued, free_of, write_uses, written_on, write_reply, closed_stream, closed_on, close_reply, operated, on_open, open_descriptor, requested, called, is_pending, is_waiting, stream_of}
 use Rattle.pd_host.specs.ControlBlock.{ControlBlock}
 use Rattle.pd_host.specs.Expiries.{advanced, deadline_of, due_by, expired, expired_on}
@@ -18,11 +18,12 @@ use Rattle.pd_host.specs.Growth.{asked_by, ExpiriesQueueNothing, ArrivalsQueueOu
 use Rattle.pd_host.specs.Handshake.{syn_acked, looked_at}
 use Rattle.pd_host.specs.Requests.{request_of}
 use Rattle.pd_host.specs.Sender.{queued_to}
-use Rattle.pd_host.specs.Sending.{places_left, sent_on, ordinary, is_recovering, ordinary_outside_recovery}
+use Rattle.pd_host.specs.Sending.{places_left, ordinary, is_recovering, ordinary_outside_recovery}
 use Rattle.pd_host.specs.Timing.{clocked, measured, is_measured, with_sample, with_timer_moved}
 use Rattle.pd_host.specs.declared.descriptors.Descriptor.{Descriptor}
 use Rattle.pd_host.specs.declared.descriptors.Descriptor.TheVariants.{Listening, Connected}
 use Rattle.pd_host.specs.declared.established.Established.{Established}
+use Rattle.pd_host.specs.declared.fillings.Filling.{Filling}
 use Rattle.pd_host.specs.declared.halts.Halt.{Halt}
 use Rattle.pd_host.specs.declared.halts.Halt.TheVariants.{Unsupported}
 use Rattle.pd_host.specs.declared.listeners.Listener.{Listener}
@@ -97,13 +98,9 @@ sent_as_end now (New segment) c = refl
 sent_as_end now (Hole segment) c = refl
 sent_as_end now (Rescue segment) c = refl
 
-noted_end : (sent : NextSegment) (c : ControlBlock) (o : Option Established) → (noted_on sent c o).board.end ≡ c.board.end
-noted_end sent c None = refl
-noted_end sent c (Some e) = refl
-
-counted_end : (octets : ℕ) (c : ControlBlock) (o : Option Established) → (counted_on octets c o).board.end ≡ c.board.end
-counted_end octets c None = refl
-counted_end octets c (Some e) = refl
+noted_end : (filling : Filling) (sent : NextSegment) (c : ControlBlock) (o : Option Established) → (noted_on filling sent c o).board.end ≡ c.board.end
+noted_end filling sent c None = refl
+noted_end filling sent c (Some e) = refl
 
 entered_end : (segment : Span) (c : ControlBlock) (o : Option Established) → (entered_on segment c o).board.end ≡ c.board.end
 entered_end segment c None = refl
@@ -126,8 +123,8 @@ arrivals now n b = record {
   sending = sending now n;
   sent = λ c h. h;
   acks = record {
-    step_c = λ pipe c sent h e. alike n _ _ (noted_end sent (sent_as now sent c) c.established ∙ sent_as_end now sent c) h;
-    limited = λ pipe c segment h e. alike n _ _ (counted_end (octets_of segment) (sent_on now segment c) c.established) h;
+    filled = λ filling pipe c sent h e.
+        alike n _ _ (noted_end filling sent (sent_as now sent c) c.established ∙ sent_as_end now sent c) h;
     entry = λ c h e. alike n _ _ (entered_end (first_run c) (clocked now (first_run c) c) c.established) h;
     entry_alone = λ c h. alike n _ _ (entered_end (first_run c) c c.established) h;
     ack = λ segment c h passed. alike n _ _ (taking_end now segment c c.established) h;

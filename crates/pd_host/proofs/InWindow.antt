@@ -21,7 +21,7 @@ use Rattle.pd_host.specs.Handshake.{is_opening, block_begun, answered_syn, syn_u
 use Rattle.pd_host.specs.Packets.{data_of, covers_fin, ack_of, refusal_of, syn_ack_of}
 use Rattle.pd_host.specs.Sender.{beside, with_outbox}
 use Rattle.pd_host.specs.Sending.{places_left, with_block, with_segment}
-use Rattle.pd_host.specs.SendingLaws.{sent_in, window_end, taken_in, end_with_fin, LiesBelow, PutsOutInWindow, StaysInWindow}
+use Rattle.pd_host.specs.SendingLaws.{sent_in, taken_in, end_with_fin, LiesBelow, PutsOutInWindow, StaysInWindow}
 use Rattle.pd_host.specs.declared.endpoint.Endpoint.{Endpoint}
 use Rattle.pd_host.specs.declared.established.Established.{Established}
 use Rattle.pd_host.specs.declared.halts.Halt.TheVariants.{Limit, Unsupported}
@@ -34,7 +34,7 @@ use Rattle.pd_host.proofs.CallsGo.{IsQuiet, called_goes}
 use Rattle.pd_host.proofs.Chosen.{run_end}
 use Rattle.pd_host.proofs.Duplicates.{IsAllowed, what_follows}
 use Rattle.pd_host.proofs.Finishes.{after_fin, passed_leaves}
-use Rattle.pd_host.proofs.Goes.{IsSending, IsMoved, Goes, IsNamed, led_to_goes}
+use Rattle.pd_host.proofs.Goes.{window_end, IsSending, IsMoved, Goes, IsNamed, led_to_goes}
 use Rattle.pd_host.proofs.LastOctet.{fin_covered}
 use Rattle.pd_host.proofs.Outcomes.{Leaves, came, leaves_too, either, kept}
 use Rattle.pd_host.proofs.SentOn.{still, at_rest}

@@ -2,13 +2,14 @@
 use Rattle.std.proofs.Common.{◌≡◌, ℕ, Option, Some, None, Ok, refl, sym, ap, ◌∙◌}
 use Rattle.pd_seg.specs.declared.sack_blocks.Span.{Span}
 use Rattle.pd_recover.specs.declared.responses.Then.TheVariants.{Ordinary, StepC, Entry, LimitedTransmit, FastRetransmit}
-use Rattle.pd_host.specs.Acknowledgments.{step_c, transmit_limited}
+use Rattle.pd_host.specs.Acknowledgments.{filled}
 use Rattle.pd_host.specs.ControlBlock.{ControlBlock}
 use Rattle.pd_host.specs.Sender.{then_on}
 use Rattle.pd_host.specs.Sending.{found, ready, sent_until_done, ordinary}
 use Rattle.pd_host.specs.Steps.{put_again, entry_on, led_on}
+use Rattle.pd_host.specs.declared.fillings.Filling.TheVariants.{NextSeg, NewData}
 use Rattle.pd_host.specs.declared.sender_state.State.{State}
-use Rattle.pd_host.proofs.Recovering.{nothing_lost, nothing_limited}
+use Rattle.pd_host.proofs.Recovering.{nothing_filled}
 use Rattle.pd_host.proofs.Sends.{sending_done}
 
 nothing_ordinary : (now : ℕ) (s : State) → s.endpoint.connection ≡ None → ordinary now s ≡ Ok s
@@ -19,17 +20,17 @@ pub led_ordinary : (now : ℕ) (s : State) (o : Option ControlBlock) → s.endpo
 led_ordinary now s None none = sym (nothing_ordinary now s none)
 led_ordinary now s (Some c) begun = refl
 
-pub led_step_c : (now : ℕ) (s : State) (o : Option ControlBlock) → s.endpoint.connection ≡ o → led_on now s StepC o ≡ step_c now s
-led_step_c now s None none = sym (nothing_lost now s none)
+pub led_step_c : (now : ℕ) (s : State) (o : Option ControlBlock) → s.endpoint.connection ≡ o → led_on now s StepC o ≡ filled now NextSeg s
+led_step_c now s None none = sym (nothing_filled now NextSeg s none)
 led_step_c now s (Some c) begun = refl
 
-pub led_limited : (now : ℕ) (s : State) (o : Option ControlBlock) → s.endpoint.connection ≡ o → led_on now s LimitedTransmit o ≡ transmit_limited now s
-led_limited now s None none = sym (nothing_limited now s none)
+pub led_limited : (now : ℕ) (s : State) (o : Option ControlBlock) → s.endpoint.connection ≡ o → led_on now s LimitedTransmit o ≡ filled now NewData s
+led_limited now s None none = sym (nothing_filled now NewData s none)
 led_limited now s (Some c) begun = refl
 
 pub led_entry : (now : ℕ) (s : State) (o : Option ControlBlock) → s.endpoint.connection ≡ o
-    → led_on now s Entry o ≡ then_on (step_c now) (entry_on now s o)
-led_entry now s None none = sym (nothing_lost now s none)
+    → led_on now s Entry o ≡ then_on (filled now NextSeg) (entry_on now s o)
+led_entry now s None none = sym (nothing_filled now NextSeg s none)
 led_entry now s (Some c) begun = refl
 
 pub led_again : (now : ℕ) (segment : Span) (s : State) (o : Option ControlBlock) → s.endpoint.connection ≡ o

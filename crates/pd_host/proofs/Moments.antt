@@ -9,7 +9,7 @@ use Rattle.pd_seg.specs.declared.segments.Sent.{Sent}
 use Rattle.pd_timer.specs.Laws.{GoesBy, StaysWithin}
 use Rattle.pd_host.specs.Arrivals.{arrived}
 use Rattle.pd_host.specs.ControlBlock.{ControlBlock}
-use Rattle.pd_host.specs.Expiries.{deadline_on, due_by}
+use Rattle.pd_host.specs.Expiries.{due_by}
 use Rattle.pd_host.specs.InputLaws.{RebindingKeepsUp}
 use Rattle.pd_host.specs.Laws.{AreInOrder, IsUpTo, begun_under, StartsUpToDate, AdvancesKeepUp, ArrivalsKeepUp, CallsKeepUp, TakingKeepsUp}
 use Rattle.pd_host.specs.declared.sender_state.State.{State}
@@ -17,7 +17,7 @@ use Rattle.pd_host.proofs.ArrivalsKept.{arrived_holds, arrived_later}
 use Rattle.pd_host.proofs.CallsKept.{called_holds}
 use Rattle.pd_host.proofs.ExpiriesKept.{advanced_holds}
 use Rattle.pd_host.proofs.Noted.{arrivals_note}
-use Rattle.pd_host.proofs.Rules.{Holds, KeptByExpiries}
+use Rattle.pd_host.proofs.Rules.{deadline_on, Holds, KeptByExpiries}
 use Rattle.pd_host.proofs.Timely.{IsAhead, IsTimely, backed_off_timely, first_timely, arrivals_timely, calls_timely}
 
 pub later : (now until : ℕ) (packets : List Sent) → now ≤ until → AreInOrder now packets → AreInOrder until packets

@@ -4,28 +4,26 @@ use Rattle.pd_recover.specs.Choice.{segment_of}
 use Rattle.pd_recover.specs.declared.segments.NextSegment.{NextSegment}
 use Rattle.pd_seg.specs.declared.sack_blocks.Span.{Span}
 use Rattle.pd_seg.specs.declared.segments.Sent.{Sent}
-use Rattle.pd_host.specs.Acknowledgments.{OnTheWay, step_c_found, step_c_sent, limited_found, limited_sent}
+use Rattle.pd_host.specs.Acknowledgments.{OnTheWay, next_found, one_filled}
 use Rattle.pd_host.specs.ControlBlock.{ControlBlock}
-use Rattle.pd_host.specs.Expiries.{deadline_on, due_by, segment_again, expired}
+use Rattle.pd_host.specs.Expiries.{due_by, segment_again, expired}
 use Rattle.pd_host.specs.Packets.{data_of}
 use Rattle.pd_host.specs.Sending.{found, sent_ordinarily}
 use Rattle.pd_host.specs.SendingLaws.{PutsOutOne, SendsOneByOne}
+use Rattle.pd_host.specs.declared.fillings.Filling.{Filling}
 use Rattle.pd_host.specs.declared.sender_state.State.{State}
+use Rattle.pd_host.proofs.Rules.{deadline_on}
 
 ordinary_one : (now : ℕ) (segment : Span) (s : State) (o : Option ControlBlock) → found o ≡ Some segment → PutsOutOne s (sent_ordinarily now segment o s)
 ordinary_one now segment s None h = absurd cc
 ordinary_one now segment s (Some c) h =
     let packet : Sent = record { segment = data_of c segment; at = now } in (packet, refl)
 
-c_one : (now : ℕ) (sent : NextSegment) (t : OnTheWay) (o : Option ControlBlock) → step_c_found t.1 o ≡ Some sent → PutsOutOne t.0 (step_c_sent now sent o t).0
-c_one now sent t None h = absurd cc
-c_one now sent t (Some c) h =
+filling_one : (now : ℕ) (filling : Filling) (sent : NextSegment) (t : OnTheWay) (o : Option ControlBlock) → next_found filling t.1 o ≡ Some sent
+    → PutsOutOne t.0 (one_filled now filling sent o t).0
+filling_one now filling sent t None h = absurd cc
+filling_one now filling sent t (Some c) h =
     let packet : Sent = record { segment = data_of c (segment_of sent); at = now } in (packet, refl)
-
-limited_one : (now : ℕ) (segment : Span) (t : OnTheWay) (o : Option ControlBlock) → limited_found t.1 o ≡ Some segment → PutsOutOne t.0 (limited_sent now segment o t).0
-limited_one now segment t None h = absurd cc
-limited_one now segment t (Some c) h =
-    let packet : Sent = record { segment = data_of c segment; at = now } in (packet, refl)
 
 expiry_one : (until at : ℕ) (s : State) (o : Option ControlBlock) → due_by until (deadline_on o) ≡ Some at → PutsOutOne s (expired at o s)
 expiry_one until at s None h = absurd cc
@@ -35,7 +33,6 @@ expiry_one until at s (Some c) h =
 pub sends_one_by_one : SendsOneByOne
 sends_one_by_one = record {
   ordinary = λ now segment s h. ordinary_one now segment s s.endpoint.connection h;
-  step_c = λ now sent t h. c_one now sent t t.0.endpoint.connection h;
-  limited = λ now segment t h. limited_one now segment t t.0.endpoint.connection h;
+  filling = λ now filling sent t h. filling_one now filling sent t t.0.endpoint.connection h;
   expiries = λ until at s h. expiry_one until at s s.endpoint.connection h;
 }

@@ -6,23 +6,25 @@ use Rattle.std.proofs.lemmas.Bool.Decides.{nat_tests}
 use Rattle.pd_settings.specs.declared.fields.Settings.{Settings}
 use Rattle.pd_seg.specs.declared.sack_blocks.Span.{Span}
 use Rattle.pd_timer.specs.Timer.{Timer, started, restarted}
-use Rattle.pd_recover.specs.Choice.{noted}
-use Rattle.pd_recover.specs.Congestion.{Congestion, entered_to, with_limited}
+use Rattle.pd_recover.specs.Choice.{segment_of}
+use Rattle.pd_recover.specs.Congestion.{Congestion, entered_to}
 use Rattle.pd_recover.specs.Laws.{IsWithin}
 use Rattle.pd_recover.specs.declared.segments.NextSegment.{NextSegment}
 use Rattle.pd_recover.specs.declared.segments.NextSegment.TheVariants.{Lost, New, Hole, Rescue}
-use Rattle.pd_host.specs.Acknowledgments.{step_c_on, sent_as, noted_on, limited_on, counted_on, octets_of, entered_on}
+use Rattle.pd_host.specs.Acknowledgments.{sent_as, noted_by, noted_on, entered_on}
 use Rattle.pd_host.specs.ControlBlock.{ControlBlock}
 use Rattle.pd_host.specs.Invariants.{IsEnding, IsOfPhase, IsInBounds, IsTimed, IsReached}
-use Rattle.pd_host.specs.Sending.{past_sacked, sent_on, found_on}
+use Rattle.pd_host.specs.Sending.{past_sacked, sent_on}
 use Rattle.pd_host.specs.Timing.{overlaps, timed_after, clocked}
 use Rattle.pd_host.specs.declared.established.Established.{Established}
+use Rattle.pd_host.specs.declared.fillings.Filling.{Filling}
+use Rattle.pd_host.specs.declared.fillings.Filling.TheVariants.{NextSeg, NewData}
 use Rattle.pd_host.specs.declared.timings.Timing.{Timing}
 use Rattle.pd_host.proofs.Boards.{sent_ordered, skipped_ordered}
 use Rattle.pd_host.proofs.Kept.{by_test}
-use Rattle.pd_host.proofs.Rules.{KeptBySending, first_run}
+use Rattle.pd_host.proofs.Rules.{found_on, next_on, KeptBySending, first_run}
 use Rattle.pd_host.proofs.Runs.{run_within}
-use Rattle.pd_host.proofs.Sendables.{CanLeave, IsNext, new_leaves, step_c_fits, limited_new, ordinary_leaves}
+use Rattle.pd_host.proofs.Sendables.{CanLeave, IsNext, new_leaves, filling_fits, ordinary_leaves}
 use Rattle.pd_host.proofs.AckedBelow.{IsBelow, lt, le}
 
 -- a connection that wasn't reset, while data is sent on it
@@ -180,42 +182,50 @@ module _ (b : Settings) (now : ℕ) where
       let k : IsInBounds b c.board.smss c.board.top c.widest e = at_some (IsInBounds b c.board.smss c.board.top c.widest) c.established e is h.reached.bounds in
       record { recovery_point = k.recovery_point; high_rxt = k.high_rxt; rescue_rxt = k.rescue_rxt }
 
-  -- step C
-  noted_live : (c : ControlBlock) (e : Established) (sent : NextSegment) → IsLive b now c → c.established ≡ Some e → IsNext c.board sent
-      → IsLive b now (noted_on sent (sent_as now sent c) (Some e))
-  noted_live c e (New segment) h is fits =
-      let d = sent_live c e segment h is (new_leaves c.board segment h.reached.board fits) in
-      renumbered (sent_on now segment c) e e.congestion d is refl refl refl (numbers (sent_on now segment c) e d is)
-  noted_live c e (Lost segment) h is fits =
-      let d = clocked_live c segment h fits.outstanding fits.start in
-      let k = numbers c e h is in
-      renumbered (clocked now segment c) e (noted (Lost segment) e.congestion) d is refl refl refl
-      (record { recovery_point = k.recovery_point; high_rxt = fits.end; rescue_rxt = k.rescue_rxt })
-  noted_live c e (Hole segment) h is fits =
-      let d = clocked_live c segment h fits.outstanding fits.start in
-      let k = numbers c e h is in
-      renumbered (clocked now segment c) e (noted (Hole segment) e.congestion) d is refl refl refl
-      (record { recovery_point = k.recovery_point; high_rxt = fits.end; rescue_rxt = k.rescue_rxt })
-  noted_live c e (Rescue segment) h is fits =
-      let d = clocked_live c segment h fits.outstanding fits.start in
-      let k = numbers c e h is in
-      renumbered (clocked now segment c) e (noted (Rescue segment) e.congestion) d is refl refl refl
-      (record { recovery_point = k.recovery_point; high_rxt = k.high_rxt; rescue_rxt = k.recovery_point })
+  -- what congestion control notes of a segment
+  noted_numbers : (filling : Filling) (sent : NextSegment) (top : ℕ) (w : Congestion) → IsBelow top w → (segment_of sent).end ≤ top
+      → IsBelow top (noted_by filling sent w)
+  noted_numbers NewData sent top w k to = record { recovery_point = k.recovery_point; high_rxt = k.high_rxt; rescue_rxt = k.rescue_rxt }
+  noted_numbers NextSeg (New segment) top w k to = k
+  noted_numbers NextSeg (Lost segment) top w k to = record { recovery_point = k.recovery_point; high_rxt = to; rescue_rxt = k.rescue_rxt }
+  noted_numbers NextSeg (Hole segment) top w k to = record { recovery_point = k.recovery_point; high_rxt = to; rescue_rxt = k.rescue_rxt }
+  noted_numbers NextSeg (Rescue segment) top w k to =
+      record { recovery_point = k.recovery_point; high_rxt = k.high_rxt; rescue_rxt = k.recovery_point }
 
-  pub step_c_live : (pipe : ℕ) (c : ControlBlock) (sent : NextSegment) (o : Option Established) → IsLive b now c → c.established ≡ o
-      → step_c_on pipe c o ≡ Some sent → IsLive b now (noted_on sent (sent_as now sent c) o)
-  step_c_live pipe c sent None h is e = absurd cc
-  step_c_live pipe c sent (Some est) h is e =
-      noted_live c est sent h is (step_c_fits est.rwnd pipe c.board est.congestion h.reached.board sent e)
+  noted_windows : (filling : Filling) (sent : NextSegment) (w : Congestion)
+      → ((noted_by filling sent w).cwnd ≡ w.cwnd) × ((noted_by filling sent w).ssthresh ≡ w.ssthresh)
+      × ((noted_by filling sent w).recovering ≡ w.recovering)
+  noted_windows NewData sent w = (refl, refl, refl)
+  noted_windows NextSeg (New segment) w = (refl, refl, refl)
+  noted_windows NextSeg (Lost segment) w = (refl, refl, refl)
+  noted_windows NextSeg (Hole segment) w = (refl, refl, refl)
+  noted_windows NextSeg (Rescue segment) w = (refl, refl, refl)
 
-  pub limited_live : (pipe : ℕ) (c : ControlBlock) (segment : Span) (o : Option Established) → IsLive b now c → c.established ≡ o
-      → limited_on pipe c o ≡ Some segment → IsLive b now (counted_on (octets_of segment) (sent_on now segment c) o)
-  limited_live pipe c segment None h is e = absurd cc
-  limited_live pipe c segment (Some est) h is e =
-      let d = sent_live c est segment h is (new_leaves c.board segment h.reached.board (limited_new est.rwnd pipe c.board est.congestion segment e)) in
-      let k = numbers (sent_on now segment c) est d is in
-      renumbered (sent_on now segment c) est (with_limited (octets_of segment) est.congestion) d is refl refl refl
-      (record { recovery_point = k.recovery_point; high_rxt = k.high_rxt; rescue_rxt = k.rescue_rxt })
+  noted_too : (filling : Filling) (sent : NextSegment) (c : ControlBlock) (e : Established) → IsLive b now c → c.established ≡ Some e
+      → (segment_of sent).end ≤ c.board.top → IsLive b now (noted_on filling sent c (Some e))
+  noted_too filling sent c e h is to =
+      let same = noted_windows filling sent e.congestion in
+      renumbered c e (noted_by filling sent e.congestion) h is same.0 same.1 same.2
+      (noted_numbers filling sent c.board.top e.congestion (numbers c e h is) to)
+
+  -- one segment that fills the room of the window
+  noted_live : (filling : Filling) (c : ControlBlock) (e : Established) (sent : NextSegment) → IsLive b now c → c.established ≡ Some e
+      → IsNext c.board sent → IsLive b now (noted_on filling sent (sent_as now sent c) (Some e))
+  noted_live filling c e (New segment) h is fits =
+      noted_too filling (New segment) (sent_on now segment c) e
+      (sent_live c e segment h is (new_leaves c.board segment h.reached.board fits)) is (omega arith)
+  noted_live filling c e (Lost segment) h is fits =
+      noted_too filling (Lost segment) (clocked now segment c) e (clocked_live c segment h fits.outstanding fits.start) is fits.end
+  noted_live filling c e (Hole segment) h is fits =
+      noted_too filling (Hole segment) (clocked now segment c) e (clocked_live c segment h fits.outstanding fits.start) is fits.end
+  noted_live filling c e (Rescue segment) h is fits =
+      noted_too filling (Rescue segment) (clocked now segment c) e (clocked_live c segment h fits.outstanding fits.start) is fits.end
+
+  pub filling_live : (filling : Filling) (pipe : ℕ) (c : ControlBlock) (sent : NextSegment) (o : Option Established) → IsLive b now c
+      → c.established ≡ o → next_on filling pipe c o ≡ Some sent → IsLive b now (noted_on filling sent (sent_as now sent c) o)
+  filling_live filling pipe c sent None h is e = absurd cc
+  filling_live filling pipe c sent (Some est) h is e =
+      noted_live filling c est sent h is (filling_fits filling pipe c est h.reached.board sent e)
 
   -- entry
   pub entered_live : (segment : Span) (c : ControlBlock) (o : Option Established) → IsLive b now c → c.established ≡ o → segment.end ≤ c.board.top

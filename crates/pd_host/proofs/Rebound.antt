@@ -7,7 +7,7 @@ use Rattle.pd_recover.specs.declared.segments.NextSegment.{NextSegment}
 use Rattle.pd_seg.specs.declared.sack_blocks.Span.{Span}
 use Rattle.pd_seg.specs.declared.segments.Segment.{Segment}
 use Rattle.pd_settings.specs.declared.fields.Settings.{Settings}
-use Rattle.pd_host.specs.Acknowledgments.{OnTheWay, step_c_sent, sender_of, pipe_of, step_c, limited_sent, transmit_limited, put_segment, entered_on, entry, led_to, taking, taken}
+use Rattle.pd_host.specs.Acknowledgments.{OnTheWay, one_filled, sender_of, pipe_of, filled, put_segment, entered_on, entry, led_to, taking, taken}
 use Rattle.pd_host.specs.ControlBlock.{ControlBlock}
 use Rattle.pd_host.specs.InputLaws.{rebound}
 use Rattle.pd_host.specs.Places.{has_place}
@@ -15,11 +15,13 @@ use Rattle.pd_host.specs.Sender.{then_on}
 use Rattle.pd_host.specs.Sending.{repeated, places_left, with_block, sent_on, with_segment, sent_ordinarily, ready, sent_until_done, ordinary}
 use Rattle.pd_host.specs.Timing.{clocked}
 use Rattle.pd_host.specs.declared.established.Established.{Established}
+use Rattle.pd_host.specs.declared.fillings.Filling.{Filling}
+use Rattle.pd_host.specs.declared.fillings.Filling.TheVariants.{NextSeg, NewData}
 use Rattle.pd_host.specs.declared.halts.Halt.{Halt}
 use Rattle.pd_host.specs.declared.halts.Halt.TheVariants.{Limit}
 use Rattle.pd_host.specs.declared.sender_state.State.{State}
 use Rattle.pd_host.proofs.Outcomes.{mapped, alike, either_mapped, then_mapped}
-use Rattle.pd_host.proofs.SentOn.{finds, sends, c_finds, c_sends, limited_finds, limited_sends}
+use Rattle.pd_host.proofs.SentOn.{finds, sends, fill_finds, fill_sends}
 
 -- what came, with other settings held
 abbrev pub again : Settings → Result State Halt → Result State Halt
@@ -46,31 +48,20 @@ pub ordinary_again : (b : Settings) (now : ℕ) (s : State) → ordinary now (re
 ordinary_again b now s =
     ap (sent_until_done now) (ready_again b s.endpoint.connection s) ∙ until_done_again b now (ready s.endpoint.connection s)
 
-c_sent_again : (b : Settings) (now : ℕ) (sent : NextSegment) (o : Option ControlBlock) (t : OnTheWay)
-    → step_c_sent now sent o (rebound_too b t) ≡ rebound_too b (step_c_sent now sent o t)
-c_sent_again b now sent None t = refl
-c_sent_again b now sent (Some c) t = refl
-
-limited_sent_again : (b : Settings) (now : ℕ) (segment : Span) (o : Option ControlBlock) (t : OnTheWay)
-    → limited_sent now segment o (rebound_too b t) ≡ rebound_too b (limited_sent now segment o t)
-limited_sent_again b now segment None t = refl
-limited_sent_again b now segment (Some c) t = refl
+fill_again : (b : Settings) (now : ℕ) (filling : Filling) (sent : NextSegment) (o : Option ControlBlock) (t : OnTheWay)
+    → one_filled now filling sent o (rebound_too b t) ≡ rebound_too b (one_filled now filling sent o t)
+fill_again b now filling sent None t = refl
+fill_again b now filling sent (Some c) t = refl
 
 sender_again : (b : Settings) (r : Result OnTheWay Halt) → sender_of (mapped (rebound_too b) r) ≡ again b (sender_of r)
 sender_again b (Ok t) = refl
 sender_again b (Err halt) = refl
 
-pub step_c_again : (b : Settings) (now : ℕ) (s : State) → step_c now (rebound b s) ≡ again b (step_c now s)
-step_c_again b now s =
+pub filled_again : (b : Settings) (now : ℕ) (filling : Filling) (s : State) → filled now filling (rebound b s) ≡ again b (filled now filling s)
+filled_again b now filling s =
     let t : OnTheWay = (s, pipe_of s.endpoint.connection) in
-    ap sender_of (alike (rebound_too b) c_finds (c_sends now) (λ u. refl) (λ sent u. c_sent_again b now sent u.0.endpoint.connection u) (places_left s) t)
-    ∙ sender_again b (repeated c_finds (c_sends now) (places_left s) t)
-
-pub limited_again : (b : Settings) (now : ℕ) (s : State) → transmit_limited now (rebound b s) ≡ again b (transmit_limited now s)
-limited_again b now s =
-    let t : OnTheWay = (s, pipe_of s.endpoint.connection) in
-    ap sender_of (alike (rebound_too b) limited_finds (limited_sends now) (λ u. refl) (λ segment u. limited_sent_again b now segment u.0.endpoint.connection u) (places_left s) t)
-    ∙ sender_again b (repeated limited_finds (limited_sends now) (places_left s) t)
+    ap sender_of (alike (rebound_too b) (fill_finds filling) (fill_sends now filling) (λ u. refl) (λ sent u. fill_again b now filling sent u.0.endpoint.connection u) (places_left s) t)
+    ∙ sender_again b (repeated (fill_finds filling) (fill_sends now filling) (places_left s) t)
 
 put_again : (b : Settings) (now : ℕ) (segment : Span) (before after : ControlBlock) (s : State)
     → put_segment now segment before after (rebound b s) ≡ again b (put_segment now segment before after s)
@@ -89,10 +80,10 @@ entry_again b now c s =
 
 led_to_again : (b : Settings) (now : ℕ) (c : ControlBlock) (s : State) (next : Then) → led_to now c (rebound b s) next ≡ again b (led_to now c s next)
 led_to_again b now c s Ordinary = ordinary_again b now s
-led_to_again b now c s StepC = step_c_again b now s
+led_to_again b now c s StepC = filled_again b now NextSeg s
 led_to_again b now c s Entry =
-    ap (then_on (step_c now)) (entry_again b now c s) ∙ then_mapped (rebound b) (rebound b) (step_c now) (entry now c s) (step_c_again b now)
-led_to_again b now c s LimitedTransmit = limited_again b now s
+    ap (then_on (filled now NextSeg)) (entry_again b now c s) ∙ then_mapped (rebound b) (rebound b) (filled now NextSeg) (entry now c s) (filled_again b now NextSeg)
+led_to_again b now c s LimitedTransmit = filled_again b now NewData s
 led_to_again b now c s (NewSegment segment) = put_again b now segment c (sent_on now segment c) s
 led_to_again b now c s (FastRetransmit segment) =
     ap (then_on (ordinary now)) (put_again b now segment c (clocked now segment c) s)

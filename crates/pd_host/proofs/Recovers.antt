@@ -8,15 +8,14 @@ use Rattle.pd_board.proofs.Sets.{any-none}
 use Rattle.pd_board.specs.Octets.{contains}
 use Rattle.pd_board.specs.Scoreboard.{Scoreboard, covers, marked, has_new}
 use Rattle.pd_recover.specs.Acks.{renewed, told, told_by_sack, selective_duplicate, counted, grown_by}
-use Rattle.pd_recover.specs.Choice.{noted}
-use Rattle.pd_recover.specs.Congestion.{Congestion, entered_to, with_limited}
+use Rattle.pd_recover.specs.Congestion.{Congestion, entered_to}
 use Rattle.pd_recover.specs.declared.feedback.Ack.{Ack}
 use Rattle.pd_recover.specs.declared.feedback.News.{News}
 use Rattle.pd_recover.specs.declared.responses.Then.{Then}
 use Rattle.pd_recover.specs.declared.segments.NextSegment.{NextSegment}
 use Rattle.pd_recover.specs.declared.segments.NextSegment.TheVariants.{Lost, New, Hole, Rescue}
 use Rattle.pd_board.specs.Loss.{is_lost}
-use Rattle.pd_host.specs.Acknowledgments.{newly_acked, with_number, is_block_sent, blocks_of, told_block, told_blocks, scored, with_timing, is_current, with_new_window, with_blocks, with_ack, news_of, ack_of_segment, answering, taking, sent_as, noted_on, counted_on, entered_on}
+use Rattle.pd_host.specs.Acknowledgments.{newly_acked, with_number, is_block_sent, blocks_of, told_block, told_blocks, scored, with_timing, is_current, with_new_window, with_blocks, with_ack, news_of, ack_of_segment, answering, taking, sent_as, noted_by, noted_on, entered_on}
 use Rattle.pd_host.specs.Arrivals.{with_peer_fin}
 use Rattle.pd_host.specs.Calls.{with_stream, with_nagle}
 use Rattle.pd_host.specs.ControlBlock.{ControlBlock}
@@ -24,6 +23,8 @@ use Rattle.pd_host.specs.Handshake.{looked_at}
 use Rattle.pd_host.specs.Invariants.{RecoversBelow, IsBelowPoint}
 use Rattle.pd_host.specs.Timing.{is_measured, measured, with_sample, with_timer_moved}
 use Rattle.pd_host.specs.declared.established.Established.{Established}
+use Rattle.pd_host.specs.declared.fillings.Filling.{Filling}
+use Rattle.pd_host.specs.declared.fillings.Filling.TheVariants.{NextSeg, NewData}
 use Rattle.pd_host.specs.declared.peer_fins.PeerFin.{PeerFin}
 use Rattle.pd_host.specs.declared.peer_fins.PeerFin.TheVariants.{BeforeOurs, BehindOurs}
 use Rattle.pd_host.specs.declared.streams.Stream.{Stream}
@@ -156,20 +157,27 @@ recongested c e w h is r p sack recovering =
     let low : c.board.una < e.congestion.recovery_point = k (sym r ∙ recovering) in
     omega (arith, low, p)
 
-pub noted_below : (now : ℕ) (c : ControlBlock) (sent : NextSegment) (o : Option Established) → IsBelowPoint c → c.established ≡ o
-    → IsBelowPoint (noted_on sent (sent_as now sent c) o)
-noted_below now c (Lost segment) None h is = h
-noted_below now c (New segment) None h is = h
-noted_below now c (Hole segment) None h is = h
-noted_below now c (Rescue segment) None h is = h
-noted_below now c (Lost segment) (Some e) h is = recongested (sent_as now (Lost segment) c) e (noted (Lost segment) e.congestion) h is refl refl
-noted_below now c (New segment) (Some e) h is = recongested (sent_as now (New segment) c) e e.congestion h is refl refl
-noted_below now c (Hole segment) (Some e) h is = recongested (sent_as now (Hole segment) c) e (noted (Hole segment) e.congestion) h is refl refl
-noted_below now c (Rescue segment) (Some e) h is = recongested (sent_as now (Rescue segment) c) e (noted (Rescue segment) e.congestion) h is refl refl
+noted_recovering : (filling : Filling) (sent : NextSegment) (w : Congestion)
+    → ((noted_by filling sent w).recovering ≡ w.recovering) × ((noted_by filling sent w).recovery_point ≡ w.recovery_point)
+noted_recovering NewData sent w = (refl, refl)
+noted_recovering NextSeg (Lost segment) w = (refl, refl)
+noted_recovering NextSeg (New segment) w = (refl, refl)
+noted_recovering NextSeg (Hole segment) w = (refl, refl)
+noted_recovering NextSeg (Rescue segment) w = (refl, refl)
 
-pub counted_below : (octets : ℕ) (c : ControlBlock) (o : Option Established) → IsBelowPoint c → c.established ≡ o → IsBelowPoint (counted_on octets c o)
-counted_below octets c None h is = h
-counted_below octets c (Some e) h is = recongested c e (with_limited octets e.congestion) h is refl refl
+noted_too : (filling : Filling) (c : ControlBlock) (sent : NextSegment) (o : Option Established) → IsBelowPoint c → c.established ≡ o
+    → IsBelowPoint (noted_on filling sent c o)
+noted_too filling c sent None h is = h
+noted_too filling c sent (Some e) h is =
+    let same = noted_recovering filling sent e.congestion in
+    recongested c e (noted_by filling sent e.congestion) h is same.0 same.1
+
+pub noted_below : (now : ℕ) (filling : Filling) (c : ControlBlock) (sent : NextSegment) (o : Option Established) → IsBelowPoint c
+    → c.established ≡ o → IsBelowPoint (noted_on filling sent (sent_as now sent c) o)
+noted_below now filling c (Lost segment) o h is = noted_too filling (sent_as now (Lost segment) c) (Lost segment) o h is
+noted_below now filling c (New segment) o h is = noted_too filling (sent_as now (New segment) c) (New segment) o h is
+noted_below now filling c (Hole segment) o h is = noted_too filling (sent_as now (Hole segment) c) (Hole segment) o h is
+noted_below now filling c (Rescue segment) o h is = noted_too filling (sent_as now (Rescue segment) c) (Rescue segment) o h is
 
 pub entered_below : (segment : Span) (c : ControlBlock) (o : Option Established) → IsBelowPoint c → c.established ≡ o → IsBelowPoint (entered_on segment c o)
 entered_below segment c None h is = h

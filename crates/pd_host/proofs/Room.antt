@@ -13,17 +13,20 @@ use Rattle.pd_recover.proofs.Chosen.{AllOf, one_of, either_of, map_of, allowed_o
 use Rattle.pd_recover.proofs.Found.{least}
 use Rattle.pd_seg.specs.declared.sack_blocks.Span.{Span}
 use Rattle.pd_seg.specs.declared.segments.Sent.{Sent}
-use Rattle.pd_host.specs.Acknowledgments.{OnTheWay, octets_of, step_c_on, step_c_found, sent_as, noted_on, step_c_sent, pipe_of, step_c, limited_on, limited_found, counted_on, limited_sent, transmit_limited}
+use Rattle.pd_host.specs.Acknowledgments.{OnTheWay, octets_of, next_by, next_found, sent_as, noted_on, one_filled, pipe_of, filled}
 use Rattle.pd_host.specs.ControlBlock.{ControlBlock}
 use Rattle.pd_host.specs.Packets.{data_of}
-use Rattle.pd_host.specs.Sending.{places_left, sent_on, with_segment}
-use Rattle.pd_host.specs.SendingLaws.{end_with_fin, octets_in, cwnd_on, cwnd_in, FillsWindow, KeepsToWindow}
+use Rattle.pd_host.specs.Sending.{value_on, places_left, with_segment}
+use Rattle.pd_host.specs.SendingLaws.{end_with_fin, octets_in, cwnd_in, FillsWindow, KeepsToWindow}
 use Rattle.pd_host.specs.declared.established.Established.{Established}
+use Rattle.pd_host.specs.declared.fillings.Filling.{Filling}
+use Rattle.pd_host.specs.declared.fillings.Filling.TheVariants.{NextSeg, NewData}
 use Rattle.pd_host.specs.declared.sender_state.State.{State}
 use Rattle.pd_host.proofs.Chosen.{is_within}
 use Rattle.pd_host.proofs.InWindow.{packet_ends}
 use Rattle.pd_host.proofs.Outcomes.{Leaves, came, leaves_too, kept}
-use Rattle.pd_host.proofs.SentOn.{still, at_rest, sender_leaves, c_finds, c_sends, c_still, limited_finds, limited_sends, counted_still}
+use Rattle.pd_host.proofs.SentOn.{still, at_rest, sender_leaves, fill_finds, fill_sends, fill_still}
+use Rattle.pd_host.proofs.Rules.{next_on}
 
 -- Segments of SMSS octets at most
 
@@ -65,6 +68,10 @@ next_short rwnd s w =
     (map_of P (λ x. Hole (run_at x s)) (next_hole w.high_rxt s) (λ x e. run_short s x))
     (allowed_of P _ _ (λ _. map_of P (λ segment. Rescue segment) (rescue s) (rescue_short s)))))
 
+-- cwnd of a connection
+abbrev cwnd_on : ControlBlock → Option Established → ℕ
+cwnd_on c o = value_on 0 (λ _ e. e.congestion.cwnd) c o
+
 -- a segment has room between what is on the way and the window
 abbrev HasRoom : ℕ → ℕ → Span → Type 0
 HasRoom cwnd pipe segment = octets_of segment ≤ cwnd - pipe
@@ -82,13 +89,17 @@ limited_room rwnd pipe s w =
     allowed_of (HasRoom w.cwnd pipe) (has_room pipe s w) (new_data rwnd s)
     (λ t segment e. fits (octets_of segment) s.smss (w.cwnd - pipe) (data_short rwnd s segment e) (is_within s.smss (w.cwnd - pipe) t))
 
-c_room_on : (n : ℕ) (c : ControlBlock) (o : Option Established) (sent : NextSegment) → step_c_on n c o ≡ Some sent → HasRoom (cwnd_on o) n (segment_of sent)
-c_room_on n c None sent h = absurd cc
-c_room_on n c (Some e) sent h = c_room e.rwnd n c.board e.congestion sent h
+filling_room : (filling : Filling) (n : ℕ) (c : ControlBlock) (e : Established)
+    → AllOf (λ sent. HasRoom e.congestion.cwnd n (segment_of sent)) (next_by filling n c e)
+filling_room NextSeg n c e = c_room e.rwnd n c.board e.congestion
+filling_room NewData n c e =
+    map_of (λ sent. HasRoom e.congestion.cwnd n (segment_of sent)) (λ segment. New segment) (limited_segment e.rwnd n c.board e.congestion)
+    (limited_room e.rwnd n c.board e.congestion)
 
-limited_room_on : (n : ℕ) (c : ControlBlock) (o : Option Established) (segment : Span) → limited_on n c o ≡ Some segment → HasRoom (cwnd_on o) n segment
-limited_room_on n c None segment h = absurd cc
-limited_room_on n c (Some e) segment h = limited_room e.rwnd n c.board e.congestion segment h
+room_on : (filling : Filling) (n : ℕ) (c : ControlBlock) (o : Option Established) (sent : NextSegment) → next_on filling n c o ≡ Some sent
+    → HasRoom (cwnd_on c o) n (segment_of sent)
+room_on filling n c None sent h = absurd cc
+room_on filling n c (Some e) sent h = filling_room filling n c e sent h
 
 -- All of them
 
@@ -109,15 +120,15 @@ one_more (q ∷ packets) p =
 counted_more : (pipe before last start end n whole : ℕ) → pipe + before ≤ n → last ≤ end → whole ≡ before + (last - start) → pipe + whole ≤ n + (end - start)
 counted_more pipe before last start end n whole h k e = omega (arith, h, k, e)
 
-filled : (pipe cwnd n octets : ℕ) → n ≤ max pipe cwnd → octets ≤ cwnd - n → n + octets ≤ max pipe cwnd
-filled pipe cwnd n octets h k = omega (arith, h, k)
+fuller : (pipe cwnd n octets : ℕ) → n ≤ max pipe cwnd → octets ≤ cwnd - n → n + octets ≤ max pipe cwnd
+fuller pipe cwnd n octets h k = omega (arith, h, k)
 
-rest_window : (o : Option Established) → cwnd_on (at_rest o) ≡ cwnd_on o
-rest_window None = refl
-rest_window (Some e) = refl
+rest_window : (c : ControlBlock) (o : Option Established) → cwnd_on (still c) (at_rest o) ≡ cwnd_on c o
+rest_window c None = refl
+rest_window c (Some e) = refl
 
 same_window : (c d : ControlBlock) → still d ≡ still c → cwnd_in (Some d) ≡ cwnd_in (Some c)
-same_window c d h = sym (rest_window d.established) ∙ ap (λ (x : ControlBlock). cwnd_in (Some x)) h ∙ rest_window c.established
+same_window c d h = sym (rest_window d d.established) ∙ ap (λ (x : ControlBlock). cwnd_in (Some x)) h ∙ rest_window c c.established
 
 one_filling : (pipe cwnd now : ℕ) (s : State) (t : OnTheWay) (segment : Span) (c d : ControlBlock) → t.0.endpoint.connection ≡ Some c
     → HasRoom (cwnd_in (Some c)) t.1 segment → still d ≡ still c → IsFilling pipe cwnd s t
@@ -130,23 +141,17 @@ one_filling pipe cwnd now s t segment c d e room stays h =
       outbox = ap (λ (l : List Sent). l ++ packet ∷ []) h.outbox ∙ append_assoc s.endpoint.outbox h.packets (packet ∷ []);
       counted = counted_more pipe (octets_in h.packets) (end_with_fin packet.segment) segment.start segment.end t.1 (octets_in (h.packets ++ packet ∷ []))
           h.counted (packet_ends c segment) (one_more h.packets packet);
-      full = filled pipe cwnd t.1 (octets_of segment) h.full (subst (λ (n : ℕ). octets_of segment ≤ n - t.1) here room);
+      full = fuller pipe cwnd t.1 (octets_of segment) h.full (subst (λ (n : ℕ). octets_of segment ≤ n - t.1) here room);
       window = same_window c d stays ∙ here;
     }
 
-c_once : (pipe cwnd now : ℕ) (s : State) (t : OnTheWay) (sent : NextSegment) (o : Option ControlBlock) → t.0.endpoint.connection ≡ o
-    → step_c_found t.1 o ≡ Some sent → IsFilling pipe cwnd s t → IsFilling pipe cwnd s (step_c_sent now sent o t)
-c_once pipe cwnd now s t sent None e f h = h
-c_once pipe cwnd now s t sent (Some c) e f h =
-    one_filling pipe cwnd now s t (segment_of sent) c (noted_on sent (sent_as now sent c) c.established) e
-    (c_room_on t.1 c c.established sent f) (c_still now sent c) h
-
-limited_once : (pipe cwnd now : ℕ) (s : State) (t : OnTheWay) (segment : Span) (o : Option ControlBlock) → t.0.endpoint.connection ≡ o
-    → limited_found t.1 o ≡ Some segment → IsFilling pipe cwnd s t → IsFilling pipe cwnd s (limited_sent now segment o t)
-limited_once pipe cwnd now s t segment None e f h = h
-limited_once pipe cwnd now s t segment (Some c) e f h =
-    one_filling pipe cwnd now s t segment c (counted_on (octets_of segment) (sent_on now segment c) c.established) e
-    (limited_room_on t.1 c c.established segment f) (counted_still (octets_of segment) (sent_on now segment c) c.established refl) h
+fill_once : (filling : Filling) (pipe cwnd now : ℕ) (s : State) (t : OnTheWay) (sent : NextSegment) (o : Option ControlBlock)
+    → t.0.endpoint.connection ≡ o → next_found filling t.1 o ≡ Some sent → IsFilling pipe cwnd s t
+    → IsFilling pipe cwnd s (one_filled now filling sent o t)
+fill_once filling pipe cwnd now s t sent None e f h = h
+fill_once filling pipe cwnd now s t sent (Some c) e f h =
+    one_filling pipe cwnd now s t (segment_of sent) c (noted_on filling sent (sent_as now sent c) c.established) e
+    (room_on filling t.1 c c.established sent f) (fill_still now filling sent c) h
 
 most : (pipe cwnd : ℕ) → pipe ≤ max pipe cwnd
 most pipe cwnd = omega arith
@@ -173,24 +178,14 @@ ended s t h = (
   h.outbox,
 )
 
-c_fills : (now : ℕ) (s : State) → Leaves (FillsWindow s) (step_c now s)
-c_fills now s =
+fills : (now : ℕ) (filling : Filling) (s : State) → Leaves (FillsWindow s) (filled now filling s)
+fills now filling s =
     let pipe : ℕ = pipe_of s.endpoint.connection in
     let cwnd : ℕ = cwnd_in s.endpoint.connection in
     sender_leaves (FillsWindow s) _
     (leaves_too (IsFilling pipe cwnd s) (λ t. FillsWindow s t.0) _ (ended s)
-    (kept (IsFilling pipe cwnd s) c_finds (c_sends now) (λ sent t f h. c_once pipe cwnd now s t sent t.0.endpoint.connection refl f h) (places_left s) (s, pipe) (begun s)))
-
-limited_fills : (now : ℕ) (s : State) → Leaves (FillsWindow s) (transmit_limited now s)
-limited_fills now s =
-    let pipe : ℕ = pipe_of s.endpoint.connection in
-    let cwnd : ℕ = cwnd_in s.endpoint.connection in
-    sender_leaves (FillsWindow s) _
-    (leaves_too (IsFilling pipe cwnd s) (λ t. FillsWindow s t.0) _ (ended s)
-    (kept (IsFilling pipe cwnd s) limited_finds (limited_sends now) (λ segment t f h. limited_once pipe cwnd now s t segment t.0.endpoint.connection refl f h) (places_left s) (s, pipe) (begun s)))
+    (kept (IsFilling pipe cwnd s) (fill_finds filling) (fill_sends now filling)
+    (λ sent t f h. fill_once filling pipe cwnd now s t sent t.0.endpoint.connection refl f h) (places_left s) (s, pipe) (begun s)))
 
 pub keeps_to_window : KeepsToWindow
-keeps_to_window = record {
-  step_c = λ now s t h. came (FillsWindow s) (step_c now s) t h (c_fills now s);
-  limited = λ now s t h. came (FillsWindow s) (transmit_limited now s) t h (limited_fills now s);
-}
+keeps_to_window now filling s t h = came (FillsWindow s) (filled now filling s) t h (fills now filling s)

@@ -1,6 +1,6 @@
 -- What each rule owes to a property of connections, for every input to keep it.
-use Rattle.std.proofs.Common.{◌≡◌, ℕ, ◌≤◌, ◌&&◌, min, nat_lt, Bool, true, false, List, [], ◌∷◌, ◌++◌, Some, None}
-use Rattle.std.specs.Prelude.{is_some, IfSome}
+use Rattle.std.proofs.Common.{◌≡◌, ℕ, ◌≤◌, ◌&&◌, min, nat_lt, Bool, true, false, List, [], ◌∷◌, ◌++◌, Option, Some, None}
+use Rattle.std.specs.Prelude.{is_some, IfSome, option_and_then}
 use Rattle.pd_settings.specs.declared.fields.Settings.{Settings}
 use Rattle.pd_seg.specs.declared.sack_blocks.Span.{Span}
 use Rattle.pd_seg.specs.declared.segments.Segment.{Segment}
@@ -8,15 +8,16 @@ use Rattle.pd_seg.specs.declared.segments.Sent.{Sent}
 use Rattle.pd_board.specs.Choice.{run_at}
 use Rattle.pd_recover.specs.declared.responses.Then.TheVariants.{NewSegment, FastRetransmit}
 use Rattle.pd_recover.specs.declared.segments.NextSegment.{NextSegment}
-use Rattle.pd_host.specs.Acknowledgments.{taking, step_c_on, sent_as, noted_on, limited_on, counted_on, octets_of, entered_on}
+use Rattle.pd_host.specs.Acknowledgments.{taking, next_by, sent_as, noted_on, entered_on}
 use Rattle.pd_host.specs.Arrivals.{ruling_of, reset_of, with_peer_fin}
 use Rattle.pd_host.specs.Calls.{stream_of, is_open, is_waiting, with_stream, with_nagle, with_queued, free_of, closed_stream}
 use Rattle.pd_host.specs.ControlBlock.{ControlBlock}
 use Rattle.pd_host.specs.Expiries.{due_by, resent_by, expired_by}
 use Rattle.pd_host.specs.Handshake.{is_opening, block_begun, established_by}
-use Rattle.pd_host.specs.Sending.{past_sacked, sent_on, found_on}
+use Rattle.pd_host.specs.Sending.{value_on, ordinary_segment, past_sacked, sent_on}
 use Rattle.pd_host.specs.Timing.{clocked}
 use Rattle.pd_host.specs.declared.established.Established.{Established}
+use Rattle.pd_host.specs.declared.fillings.Filling.{Filling}
 use Rattle.pd_host.specs.declared.listeners.Listener.{Listener}
 use Rattle.pd_host.specs.declared.rulings.Ruling.TheVariants.{FirstAck}
 use Rattle.pd_host.specs.declared.sender_state.State.{State}
@@ -26,6 +27,17 @@ use Rattle.pd_host.specs.declared.streams.Stream.TheVariants as stream
 pub record Holds (O : List Sent → Type 0) (C : Settings → ControlBlock → Type 0) (s : State) : Type 0 where
   pub packets : O s.endpoint.outbox
   pub connection : IfSome s.endpoint.connection (C s.settings)
+
+-- the moment of the next expiry, where the timer runs
+abbrev pub deadline_on : Option ControlBlock → Option ℕ
+deadline_on o = option_and_then (λ c. c.timer.deadline) o
+
+-- what is found on a connection
+abbrev pub found_on : ControlBlock → Option Established → Option Span
+found_on c o = value_on None ordinary_segment c o
+
+abbrev pub next_on : Filling → ℕ → ControlBlock → Option Established → Option NextSegment
+next_on filling pipe c o = value_on None (next_by filling pipe) c o
 
 -- ordinary sending
 pub record KeptBySending (now : ℕ) (C : ControlBlock → Type 0) : Type 0 where
@@ -38,12 +50,9 @@ first_run c = run_at c.board.una c.board
 
 -- an ACK, and what it leads to: while it is answered, D holds
 pub record KeptByAcks (now : ℕ) (C D : ControlBlock → Type 0) : Type 0 where
-  pub step_c :
-      (pipe : ℕ) (c : ControlBlock) (sent : NextSegment) → D c → step_c_on pipe c c.established ≡ Some sent
-      → D (noted_on sent (sent_as now sent c) c.established)
-  pub limited :
-      (pipe : ℕ) (c : ControlBlock) (segment : Span) → D c → limited_on pipe c c.established ≡ Some segment
-      → D (counted_on (octets_of segment) (sent_on now segment c) c.established)
+  pub filled :
+      (filling : Filling) (pipe : ℕ) (c : ControlBlock) (sent : NextSegment) → D c → next_on filling pipe c c.established ≡ Some sent
+      → D (noted_on filling sent (sent_as now sent c) c.established)
   pub entry :
       (c : ControlBlock) → D c → nat_lt (first_run c).start (first_run c).end ≡ true
       → D (entered_on (first_run c) (clocked now (first_run c) c) c.established)

@@ -12,11 +12,14 @@ use Rattle.pd_recover.specs.Choice.{lost_run, new_data, hole_run, rescue_run, ne
 use Rattle.pd_recover.specs.Congestion.{Congestion}
 use Rattle.pd_recover.proofs.Chosen.{AllOf, one_of, either_of, map_of, allowed_of}
 use Rattle.pd_recover.proofs.Found.{least, greatest}
+use Rattle.pd_host.specs.Acknowledgments.{next_by}
 use Rattle.pd_host.specs.ControlBlock.{ControlBlock}
 use Rattle.pd_host.specs.Invariants.{IsOrdered}
 use Rattle.pd_host.specs.Sending.{next_again, next_new, leaves_now, sendable, window_edge}
 use Rattle.pd_host.specs.Sending as sending
 use Rattle.pd_host.specs.declared.established.Established.{Established}
+use Rattle.pd_host.specs.declared.fillings.Filling.{Filling}
+use Rattle.pd_host.specs.declared.fillings.Filling.TheVariants.{NextSeg, NewData}
 use Rattle.pd_host.proofs.Runs.{run_within}
 use Rattle.pd_host.proofs.AckedBelow.{first_of_two, lt, ge}
 
@@ -89,11 +92,16 @@ next_fits rwnd s w known =
     (either_of (IsNext s) (hole_run s w) (rescue_run s w) (map_of (IsNext s) (λ x. Hole (run_at x s)) (next_hole w.high_rxt s) (λ x e. let h = least _ s.una s.top x e in run_again s x h.from h.to))
     (allowed_of (IsNext s) _ _ (λ _. map_of (IsNext s) (λ segment. Rescue segment) (rescue s) (rescue_again s (omega (arith, known.smss_low)))))))
 
-pub step_c_fits : (rwnd pipe : ℕ) (s : Scoreboard) (w : Congestion) → IsOrdered s → AllOf (IsNext s) (step_c_segment rwnd pipe s w)
+step_c_fits : (rwnd pipe : ℕ) (s : Scoreboard) (w : Congestion) → IsOrdered s → AllOf (IsNext s) (step_c_segment rwnd pipe s w)
 step_c_fits rwnd pipe s w known = allowed_of (IsNext s) (has_room pipe s w) _ (λ _. next_fits rwnd s w known)
 
-pub limited_new : (rwnd pipe : ℕ) (s : Scoreboard) (w : Congestion) → AllOf (IsNew s) (limited_segment rwnd pipe s w)
+limited_new : (rwnd pipe : ℕ) (s : Scoreboard) (w : Congestion) → AllOf (IsNew s) (limited_segment rwnd pipe s w)
 limited_new rwnd pipe s w = allowed_of (IsNew s) (has_room pipe s w) _ (λ _. data_new rwnd s)
+
+pub filling_fits : (filling : Filling) (pipe : ℕ) (c : ControlBlock) (e : Established) → IsOrdered c.board → AllOf (IsNext c.board) (next_by filling pipe c e)
+filling_fits NextSeg pipe c e known = step_c_fits e.rwnd pipe c.board e.congestion known
+filling_fits NewData pipe c e known =
+    map_of (IsNext c.board) (λ segment. New segment) (limited_segment e.rwnd pipe c.board e.congestion) (limited_new e.rwnd pipe c.board e.congestion)
 
 -- ordinary sending
 

@@ -3,7 +3,7 @@ use Rattle.std.proofs.Common.{◌≡◌, ℕ, suc, ◌<◌, length, length-appen
 use Rattle.pd_seg.specs.declared.sack_blocks.Span.{Span}
 use Rattle.pd_seg.specs.declared.segments.Sent.{Sent}
 use Rattle.pd_host.specs.ControlBlock.{ControlBlock}
-use Rattle.pd_host.specs.Expiries.{due_by, deadline_on, deadline_of, expired, advanced}
+use Rattle.pd_host.specs.Expiries.{due_by, deadline_of, expired, advanced}
 use Rattle.pd_host.specs.Outcome.{Gives}
 use Rattle.pd_host.specs.Sending.{places_left, found, sent_ordinarily, sent_until_done}
 use Rattle.pd_host.specs.Steps.{with_place, sent_next, expired_next}
@@ -12,6 +12,7 @@ use Rattle.pd_host.specs.declared.halts.Ending.{Ending}
 use Rattle.pd_host.specs.declared.halts.Ending.TheVariants.{Halted, OutOfMemory}
 use Rattle.pd_host.specs.declared.sender_state.State.{State}
 use Rattle.pd_host.proofs.Repeats.{repeated-none, went_on, halted}
+use Rattle.pd_host.proofs.Rules.{deadline_on}
 
 -- an error stays one, where its halt is that of the whole
 pub gives_error : {S : Type 0} (a b : Result S Halt) (e : Ending) (s t : S) → ((halt : Halt) → a ≡ Err halt → b ≡ Err halt) → Gives a (Err e) s → Gives b (Err e) t

@@ -10,13 +10,15 @@ use Rattle.pd_recover.specs.Choice.{segment_of}
 use Rattle.pd_seg.specs.declared.sack_blocks.Span.{Span}
 use Rattle.pd_seg.specs.declared.segments.Sent.{Sent}
 use Rattle.pd_timer.specs.Timer.{initial}
-use Rattle.pd_host.specs.Acknowledgments.{OnTheWay, step_c_found, sent_as, noted_on, octets_of, step_c_sent, sender_of, pipe_of, step_c, limited_found, counted_on, limited_sent, transmit_limited, put_segment, entered_on, entry, led_to}
+use Rattle.pd_host.specs.Acknowledgments.{OnTheWay, next_found, sent_as, noted_on, one_filled, sender_of, pipe_of, filled, put_segment, entered_on, entry, led_to}
 use Rattle.pd_host.specs.ControlBlock.{ControlBlock}
 use Rattle.pd_host.specs.Packets.{data_of}
 use Rattle.pd_host.specs.Places.{has_place}
 use Rattle.pd_host.specs.Sending.{places_left, with_block, past_sacked, sent_on, with_segment, found, sent_ordinarily, ready, sent_until_done, ordinary}
 use Rattle.pd_host.specs.Timing.{clocked}
 use Rattle.pd_host.specs.declared.established.Established.{Established}
+use Rattle.pd_host.specs.declared.fillings.Filling.{Filling}
+use Rattle.pd_host.specs.declared.fillings.Filling.TheVariants.{NextSeg, NewData}
 use Rattle.pd_host.specs.declared.halts.Halt.{Halt}
 use Rattle.pd_host.specs.declared.halts.Halt.TheVariants.{Limit}
 use Rattle.pd_host.specs.declared.sender_state.State.{State}
@@ -135,13 +137,13 @@ ordinary_sends now r s h =
     let t = ready s.endpoint.connection s in
     until_done now r t (then_more now r s t h (made_ready now s s.endpoint.connection refl))
 
--- Step C
+-- Step C and limited transmit
 
-abbrev pub c_finds : OnTheWay → Option NextSegment
-c_finds t = step_c_found t.1 t.0.endpoint.connection
+abbrev pub fill_finds : Filling → OnTheWay → Option NextSegment
+fill_finds filling t = next_found filling t.1 t.0.endpoint.connection
 
-abbrev pub c_sends : ℕ → NextSegment → OnTheWay → OnTheWay
-c_sends now sent t = step_c_sent now sent t.0.endpoint.connection t
+abbrev pub fill_sends : ℕ → Filling → NextSegment → OnTheWay → OnTheWay
+fill_sends now filling sent t = one_filled now filling sent t.0.endpoint.connection t
 
 sent_as_still : (now : ℕ) (sent : NextSegment) (c : ControlBlock) → still (sent_as now sent c) ≡ still c
 sent_as_still now (Lost segment) c = refl
@@ -155,59 +157,37 @@ sent_as_established now (New segment) c = refl
 sent_as_established now (Hole segment) c = refl
 sent_as_established now (Rescue segment) c = refl
 
-noted_still : (sent : NextSegment) (c : ControlBlock) (o : Option Established) → c.established ≡ o → still (noted_on sent c o) ≡ still c
-noted_still sent c None e = refl
-noted_still (Lost segment) c (Some x) e = sym (ap (resting c) e)
-noted_still (New segment) c (Some x) e = sym (ap (resting c) e)
-noted_still (Hole segment) c (Some x) e = sym (ap (resting c) e)
-noted_still (Rescue segment) c (Some x) e = sym (ap (resting c) e)
+noted_still : (filling : Filling) (sent : NextSegment) (c : ControlBlock) (o : Option Established) → c.established ≡ o
+    → still (noted_on filling sent c o) ≡ still c
+noted_still filling sent c None e = refl
+noted_still NewData sent c (Some x) e = sym (ap (resting c) e)
+noted_still NextSeg (Lost segment) c (Some x) e = sym (ap (resting c) e)
+noted_still NextSeg (New segment) c (Some x) e = sym (ap (resting c) e)
+noted_still NextSeg (Hole segment) c (Some x) e = sym (ap (resting c) e)
+noted_still NextSeg (Rescue segment) c (Some x) e = sym (ap (resting c) e)
 
--- what step C leaves of the connection
-pub c_still : (now : ℕ) (sent : NextSegment) (c : ControlBlock) → still (noted_on sent (sent_as now sent c) c.established) ≡ still c
-c_still now sent c = noted_still sent (sent_as now sent c) c.established (sent_as_established now sent c) ∙ sent_as_still now sent c
+-- what they leave of the connection
+pub fill_still : (now : ℕ) (filling : Filling) (sent : NextSegment) (c : ControlBlock)
+    → still (noted_on filling sent (sent_as now sent c) c.established) ≡ still c
+fill_still now filling sent c =
+    noted_still filling sent (sent_as now sent c) c.established (sent_as_established now sent c) ∙ sent_as_still now sent c
 
-c_once : (now : ℕ) (sent : NextSegment) (t : OnTheWay) (o : Option ControlBlock) → t.0.endpoint.connection ≡ o
-    → IsSentOn now t.0 (step_c_sent now sent o t).0
-c_once now sent t None e = nothing_sent now t.0
-c_once now sent t (Some c) e =
-    one_sent now (segment_of sent) c (noted_on sent (sent_as now sent c) c.established) t.0
-    (ap (λ (d : ControlBlock). Some d) (c_still now sent c) ∙ sym (ap stills e))
+fill_once : (now : ℕ) (filling : Filling) (sent : NextSegment) (t : OnTheWay) (o : Option ControlBlock) → t.0.endpoint.connection ≡ o
+    → IsSentOn now t.0 (one_filled now filling sent o t).0
+fill_once now filling sent t None e = nothing_sent now t.0
+fill_once now filling sent t (Some c) e =
+    one_sent now (segment_of sent) c (noted_on filling sent (sent_as now sent c) c.established) t.0
+    (ap (λ (d : ControlBlock). Some d) (fill_still now filling sent c) ∙ sym (ap stills e))
 
 pub sender_leaves : (P : State → Type 0) (r : Result OnTheWay Halt) → Leaves (λ t. P t.0) r → Leaves P (sender_of r)
 sender_leaves P (Ok t) holds = holds
 sender_leaves P (Err halt) holds = tt
 
-pub step_c_sends : (now : ℕ) (r s : State) → IsSentOn now r s → Leaves (IsSentOn now r) (step_c now s)
-step_c_sends now r s h =
+pub filled_sends : (now : ℕ) (filling : Filling) (r s : State) → IsSentOn now r s → Leaves (IsSentOn now r) (filled now filling s)
+filled_sends now filling r s h =
     sender_leaves (IsSentOn now r) _
-    (kept (λ t. IsSentOn now r t.0) c_finds (c_sends now)
-    (λ sent t e so_far. then_more now r t.0 (c_sends now sent t).0 so_far (c_once now sent t t.0.endpoint.connection refl))
-    (places_left s) (s, pipe_of s.endpoint.connection) h)
-
--- Limited transmit
-
-abbrev pub limited_finds : OnTheWay → Option Span
-limited_finds t = limited_found t.1 t.0.endpoint.connection
-
-abbrev pub limited_sends : ℕ → Span → OnTheWay → OnTheWay
-limited_sends now segment t = limited_sent now segment t.0.endpoint.connection t
-
-pub counted_still : (octets : ℕ) (c : ControlBlock) (o : Option Established) → c.established ≡ o → still (counted_on octets c o) ≡ still c
-counted_still octets c None e = refl
-counted_still octets c (Some x) e = sym (ap (resting c) e)
-
-limited_once : (now : ℕ) (segment : Span) (t : OnTheWay) (o : Option ControlBlock) → t.0.endpoint.connection ≡ o
-    → IsSentOn now t.0 (limited_sent now segment o t).0
-limited_once now segment t None e = nothing_sent now t.0
-limited_once now segment t (Some c) e =
-    one_sent now segment c (counted_on (octets_of segment) (sent_on now segment c) c.established) t.0
-    (ap (λ (d : ControlBlock). Some d) (counted_still (octets_of segment) (sent_on now segment c) c.established refl) ∙ sym (ap stills e))
-
-pub limited_transmit_sends : (now : ℕ) (r s : State) → IsSentOn now r s → Leaves (IsSentOn now r) (transmit_limited now s)
-limited_transmit_sends now r s h =
-    sender_leaves (IsSentOn now r) _
-    (kept (λ t. IsSentOn now r t.0) limited_finds (limited_sends now)
-    (λ segment t e so_far. then_more now r t.0 (limited_sends now segment t).0 so_far (limited_once now segment t t.0.endpoint.connection refl))
+    (kept (λ t. IsSentOn now r t.0) (fill_finds filling) (fill_sends now filling)
+    (λ sent t e so_far. then_more now r t.0 (fill_sends now filling sent t).0 so_far (fill_once now filling sent t t.0.endpoint.connection refl))
     (places_left s) (s, pipe_of s.endpoint.connection) h)
 
 -- What an ACK leads to
@@ -235,10 +215,10 @@ entry_sends now c s e =
 pub led_to_sends : (now : ℕ) (c : ControlBlock) (s : State) (next : Then) → s.endpoint.connection ≡ Some c
     → Leaves (IsSentOn now s) (led_to now c s next)
 led_to_sends now c s Ordinary e = ordinary_sends now s s (nothing_sent now s)
-led_to_sends now c s StepC e = step_c_sends now s s (nothing_sent now s)
+led_to_sends now c s StepC e = filled_sends now NextSeg s s (nothing_sent now s)
 led_to_sends now c s Entry e =
-    then_leaves (IsSentOn now s) (IsSentOn now s) (step_c now) (entry now c s) (entry_sends now c s e) (λ t h. step_c_sends now s t h)
-led_to_sends now c s LimitedTransmit e = limited_transmit_sends now s s (nothing_sent now s)
+    then_leaves (IsSentOn now s) (IsSentOn now s) (filled now NextSeg) (entry now c s) (entry_sends now c s e) (λ t h. filled_sends now NextSeg s t h)
+led_to_sends now c s LimitedTransmit e = filled_sends now NewData s s (nothing_sent now s)
 led_to_sends now c s (NewSegment segment) e = put_sends now segment c (sent_on now segment c) s (sym (ap stills e))
 led_to_sends now c s (FastRetransmit segment) e =
     then_leaves (IsSentOn now s) (IsSentOn now s) (ordinary now) (put_segment now segment c (clocked now segment c) s)

@@ -4,12 +4,10 @@ use Rattle.std.specs.Prelude.{IfSome}
 use Rattle.pd_settings.specs.declared.fields.Settings.{Settings}
 use Rattle.pd_timer.specs.Laws.{StaysWithin as Bounds}
 use Rattle.pd_recover.specs.Laws.{StaysWithin as Windows}
-use Rattle.pd_host.specs.Acknowledgments.{octets_of}
 use Rattle.pd_host.specs.Calls.{with_stream, with_fin, closed_stream}
 use Rattle.pd_host.specs.ControlBlock.{ControlBlock}
 use Rattle.pd_host.specs.Invariants.{IsReached, IsBelowPoint, IsLawful, StartsLawful, AdvancesStayLawful, ArrivalsStayLawful, CallsStayLawful, TakingStaysLawful}
 use Rattle.pd_host.specs.Laws.{AreInOrder}
-use Rattle.pd_host.specs.Sending.{sent_on}
 use Rattle.pd_host.specs.Timing.{clocked}
 use Rattle.pd_host.specs.declared.sender_state.State.{State}
 use Rattle.pd_host.specs.declared.streams.Stream.TheVariants as stream
@@ -21,8 +19,8 @@ use Rattle.pd_host.proofs.ExpiriesKept.{advanced_holds}
 use Rattle.pd_host.proofs.Kept.{by_test}
 use Rattle.pd_host.proofs.Moments.{Good, good, up_to, anything, expiries, one_more, starts_up_to_date, taking_keeps_up}
 use Rattle.pd_host.proofs.Queued.{accepted_reached, nagle_reached, finned_reached, queued_live, finished_live, abandoned_reached}
-use Rattle.pd_host.proofs.Reached.{IsLive, sending_live, step_c_live, limited_live, entry_live, entry_alone_live}
-use Rattle.pd_host.proofs.Recovers.{taking_below, noted_below, counted_below, entered_below, stream_below, nagle_below, finned_below}
+use Rattle.pd_host.proofs.Reached.{IsLive, sending_live, filling_live, entry_live, entry_alone_live}
+use Rattle.pd_host.proofs.Recovers.{taking_below, noted_below, entered_below, stream_below, nagle_below, finned_below}
 use Rattle.pd_host.proofs.Rules.{Holds, HoldsFirst, KeptBySending, KeptByArrivals, KeptByCalls, KeptByExpiries, first_run}
 use Rattle.pd_host.proofs.Shaken.{begun_reached, reset_reached, established_reached}
 use Rattle.pd_host.proofs.Timely.{IsTimely, first_timely, arrivals_timely, calls_timely}
@@ -62,15 +60,10 @@ module _ (bounds : Bounds) (windows : Windows) where
         sending = sending_known now b;
         sent = λ c h. record { timely = h.timely; reached = h.live.reached; below = h.below };
         acks = record {
-          step_c = λ pipe c sent h e. record {
-            timely = t.acks.step_c pipe c sent h.timely e;
-            live = step_c_live b now pipe c sent c.established h.live refl e;
-            below = noted_below now c sent c.established h.below refl;
-          };
-          limited = λ pipe c segment h e. record {
-            timely = t.acks.limited pipe c segment h.timely e;
-            live = limited_live b now pipe c segment c.established h.live refl e;
-            below = counted_below (octets_of segment) (sent_on now segment c) c.established h.below refl;
+          filled = λ filling pipe c sent h e. record {
+            timely = t.acks.filled filling pipe c sent h.timely e;
+            live = filling_live b now filling pipe c sent c.established h.live refl e;
+            below = noted_below now filling c sent c.established h.below refl;
           };
           entry = λ c h e. record {
             timely = t.acks.entry c h.timely e;

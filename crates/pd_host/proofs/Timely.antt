@@ -8,13 +8,13 @@ use Rattle.pd_timer.specs.Laws.{GoesBy, StaysWithin}
 use Rattle.pd_timer.specs.Timer.{Timer, initial, sampled, started, restarted, stopped, backed_off, reinitialized}
 use Rattle.pd_recover.specs.declared.segments.NextSegment.{NextSegment}
 use Rattle.pd_recover.specs.declared.segments.NextSegment.TheVariants.{Lost, New, Hole, Rescue}
-use Rattle.pd_host.specs.Acknowledgments.{newly_acked, with_number, with_blocks, with_timing, is_current, with_new_window, with_ack, answering, taking, sent_as, noted_on, counted_on, octets_of, entered_on}
+use Rattle.pd_host.specs.Acknowledgments.{newly_acked, with_number, with_blocks, with_timing, is_current, with_new_window, with_ack, answering, taking, sent_as, noted_on, entered_on}
 use Rattle.pd_host.specs.Calls.{with_fin, closed_stream}
 use Rattle.pd_host.specs.ControlBlock.{ControlBlock}
 use Rattle.pd_host.specs.Handshake.{syn_acked}
 use Rattle.pd_host.specs.Timing.{clocked, is_measured, measured, with_sample, with_timer_moved}
-use Rattle.pd_host.specs.Sending.{sent_on}
 use Rattle.pd_host.specs.declared.established.Established.{Established}
+use Rattle.pd_host.specs.declared.fillings.Filling.{Filling}
 use Rattle.pd_host.specs.declared.timings.Timing.{Timing}
 use Rattle.pd_host.proofs.Kept.{by_test}
 use Rattle.pd_host.proofs.Rules.{HoldsFirst, KeptBySending, KeptByArrivals, KeptByCalls, first_run}
@@ -107,15 +107,10 @@ module _ (within : StaysWithin) where
       (with_ack now segment e c).0.established (ack_timely b now segment e c h)
 
   -- what is noted of loss recovery leaves the timer
-  noted_timely : (b : Settings) (now : ℕ) (sent : NextSegment) (c : ControlBlock) (o : Option Established) → Timely b now c
-      → Timely b now (noted_on sent c o)
-  noted_timely b now sent c None h = h
-  noted_timely b now sent c (Some e) h = h
-
-  counted_timely : (b : Settings) (now octets : ℕ) (c : ControlBlock) (o : Option Established) → Timely b now c
-      → Timely b now (counted_on octets c o)
-  counted_timely b now octets c None h = h
-  counted_timely b now octets c (Some e) h = h
+  noted_timely : (b : Settings) (now : ℕ) (filling : Filling) (sent : NextSegment) (c : ControlBlock) (o : Option Established) → Timely b now c
+      → Timely b now (noted_on filling sent c o)
+  noted_timely b now filling sent c None h = h
+  noted_timely b now filling sent c (Some e) h = h
 
   entered_timely : (b : Settings) (now : ℕ) (segment : Span) (c : ControlBlock) (o : Option Established) → Timely b now c
       → Timely b now (entered_on segment c o)
@@ -149,8 +144,8 @@ module _ (within : StaysWithin) where
     sending = sending_timely a now;
     sent = λ c h. h;
     acks = record {
-      step_c = λ pipe c sent h e. noted_timely a now sent (sent_as now sent c) c.established (sent_timely a now sent c h);
-      limited = λ pipe c segment h e. counted_timely a now (octets_of segment) (sent_on now segment c) c.established (clocked_timely a now segment c h);
+      filled = λ filling pipe c sent h e.
+          noted_timely a now filling sent (sent_as now sent c) c.established (sent_timely a now sent c h);
       entry = λ c h e. entered_timely a now (first_run c) (clocked now (first_run c) c) c.established (clocked_timely a now (first_run c) c h);
       entry_alone = λ c h. entered_timely a now (first_run c) c c.established h;
       ack = λ segment c h passed. taking_timely a now segment c c.established h;

@@ -5,14 +5,15 @@ use Rattle.pd_seg.specs.declared.sack_blocks.Span.{Span}
 use Rattle.pd_seg.specs.declared.segments.Sent.{Sent}
 use Rattle.pd_host.specs.ControlBlock.{ControlBlock}
 use Rattle.pd_host.specs.Packets.{data_of}
-use Rattle.pd_host.specs.Sending.{places_left, past_sacked, sent_on, found_on, found, sent_ordinarily, ready, ordinary}
-use Rattle.pd_host.specs.SendingLaws.{end_with_fin, edge_on, edge_of}
+use Rattle.pd_host.specs.Sending.{value_on, places_left, window_edge, past_sacked, sent_on, found, sent_ordinarily, ready, ordinary}
+use Rattle.pd_host.specs.SendingLaws.{end_with_fin, edge_of}
 use Rattle.pd_host.specs.declared.established.Established.{Established}
 use Rattle.pd_host.specs.declared.sender_state.State.{State}
 use Rattle.pd_host.proofs.Chosen.{chosen_within}
 use Rattle.pd_host.proofs.InWindow.{packet_ends}
 use Rattle.pd_host.proofs.Outcomes.{Leaves, came, kept}
 use Rattle.pd_host.proofs.SentOn.{finds, sends}
+use Rattle.pd_host.proofs.Rules.{found_on}
 
 -- packets were put out that end at this edge at most, which is still that of the connection
 record EndsBelow (edge : ℕ) (s t : State) : Type 0 where
@@ -26,6 +27,9 @@ one_more : (edge : ℕ) (packets : List Sent) (p : Sent) → end_with_fin p.segm
     → AllByRecursion (λ q. end_with_fin q.segment ≤ edge) (packets ++ p ∷ [])
 one_more edge [] p le h = (le, tt)
 one_more edge (q ∷ packets) p le h = (h.0, one_more edge packets p le h.1)
+
+abbrev edge_on : ControlBlock → Option Established → ℕ
+edge_on c o = value_on 0 window_edge c o
 
 same_edge : (c d : ControlBlock) (o : Option Established) → d.board.una ≡ c.board.una → edge_on d o ≡ edge_on c o
 same_edge c d None same = refl

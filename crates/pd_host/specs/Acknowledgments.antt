@@ -1,5 +1,5 @@
 -- What an acceptable ACK changes: the numbers, the SACKed octets, the timer, the window, and what it leads to.
-use Rattle.std.specs.Prelude.{ℕ, ◌+◌, ◌-◌, ◌==◌, ◌&&◌, ◌||◌, nat_lt, nat_le, Bool, false, max, List, [], ◌∷◌, ◌++◌, Option, Some, None, Result, Ok, Err, if◌then◌else◌}
+use Rattle.std.specs.Prelude.{ℕ, ◌+◌, ◌-◌, ◌==◌, ◌&&◌, ◌||◌, nat_lt, nat_le, Bool, false, max, List, [], ◌∷◌, ◌++◌, Option, Some, None, option_map, Result, Ok, Err, if◌then◌else◌}
 use Rattle.pd_seg.specs.declared.option_list.SegOption.{SegOption}
 use Rattle.pd_seg.specs.declared.option_list.SegOption.TheVariants.{Sack}
 use Rattle.pd_seg.specs.declared.sack_blocks.Span.{Span}
@@ -9,7 +9,7 @@ use Rattle.pd_board.specs.Loss.{is_lost, pipe}
 use Rattle.pd_board.specs.Scoreboard.{Scoreboard, acknowledged, marked, has_new}
 use Rattle.pd_recover.specs.Acks.{acked}
 use Rattle.pd_recover.specs.Choice.{segment_of, step_c_segment, limited_segment, noted}
-use Rattle.pd_recover.specs.Congestion.{entered_to, with_limited}
+use Rattle.pd_recover.specs.Congestion.{Congestion, entered_to, with_limited}
 use Rattle.pd_recover.specs.declared.feedback.Ack.{Ack}
 use Rattle.pd_recover.specs.declared.feedback.News.{News}
 use Rattle.pd_recover.specs.declared.responses.Then.{Then}
@@ -20,9 +20,11 @@ use Rattle.pd_host.specs.ControlBlock.{ControlBlock}
 use Rattle.pd_host.specs.Handshake.{looked_at, window_in, with_window}
 use Rattle.pd_host.specs.Places.{has_place}
 use Rattle.pd_host.specs.Sender.{then_on}
-use Rattle.pd_host.specs.Sending.{repeated, places_left, with_block, with_segment, sent_on, ordinary}
+use Rattle.pd_host.specs.Sending.{value_in, repeated, places_left, with_block, with_segment, sent_on, ordinary}
 use Rattle.pd_host.specs.Timing.{clocked, with_sample, with_timer_moved}
 use Rattle.pd_host.specs.declared.established.Established.{Established}
+use Rattle.pd_host.specs.declared.fillings.Filling.{Filling}
+use Rattle.pd_host.specs.declared.fillings.Filling.TheVariants.{NextSeg, NewData}
 use Rattle.pd_host.specs.declared.halts.Halt.{Halt}
 use Rattle.pd_host.specs.declared.halts.Halt.TheVariants.{Limit}
 use Rattle.pd_host.specs.declared.sender_state.State.{State}
@@ -143,38 +145,44 @@ taking now segment c (Some e) =
 abbrev pub OnTheWay : Type 0
 OnTheWay = State × ℕ
 
--- Step C (RFC 6675, section 5): what NextSeg gives while the window has room for it
+-- What fills the room that the congestion window has: in loss recovery what NextSeg gives (RFC 6675, section 5, step C), by
+-- limited transmit new octets alone (RFC 6675, section 5, step 3; RFC 3042)
 
--- the segment that step C sends next on a connection at this pipe: what NextSeg gives while cwnd - pipe is at least SMSS;
--- none before the end of the handshake
-abbrev pub step_c_on : ℕ → ControlBlock → Option Established → Option NextSegment
-step_c_on on_the_way c None = None
-step_c_on on_the_way c (Some e) = step_c_segment e.rwnd on_the_way c.board e.congestion
+-- the segment that is sent next on a connection at this pipe: within the peer's window, while cwnd - pipe is at least SMSS
+abbrev pub next_by : Filling → ℕ → ControlBlock → Established → Option NextSegment
+next_by NextSeg on_the_way c e = step_c_segment e.rwnd on_the_way c.board e.congestion
+next_by NewData on_the_way c e = option_map (λ segment. New segment) (limited_segment e.rwnd on_the_way c.board e.congestion)
 
--- the same, by whether a connection was begun
-abbrev pub step_c_found : ℕ → Option ControlBlock → Option NextSegment
-step_c_found on_the_way None = None
-step_c_found on_the_way (Some c) = step_c_on on_the_way c c.established
+-- the same; none before the end of the handshake
+abbrev pub next_found : Filling → ℕ → Option ControlBlock → Option NextSegment
+next_found filling on_the_way connection = value_in None (next_by filling on_the_way) connection
 
--- a segment that NextSeg gave was sent at a moment: new octets move the sending place (SND.NXT), octets sent again leave it
+-- such a segment was sent at a moment: new octets move the sending place (SND.NXT), octets sent again leave it
 abbrev pub sent_as : ℕ → NextSegment → ControlBlock → ControlBlock
 sent_as now (New segment) c = sent_on now segment c
 sent_as now sent c = clocked now (segment_of sent) c
-
--- where octets were sent again, HighRxt or RescueRxt moves (RFC 6675, section 4, NextSeg, rule 4, and section 5, step C.2)
-abbrev pub noted_on : NextSegment → ControlBlock → Option Established → ControlBlock
-noted_on sent c None = c
-noted_on sent c (Some e) = record c { established = Some (record e { congestion = noted sent e.congestion }) }
 
 -- how many octets a segment has
 abbrev pub octets_of : Span → ℕ
 octets_of segment = segment.end - segment.start
 
--- one segment of step C is put out at a moment, and its octets count as on the way (RFC 6675, section 5, step C.4)
-abbrev pub step_c_sent : ℕ → NextSegment → Option ControlBlock → OnTheWay → OnTheWay
-step_c_sent now sent None t = t
-step_c_sent now sent (Some c) t = (
-  with_segment now (segment_of sent) c (noted_on sent (sent_as now sent c) c.established) t.0,
+-- what congestion control notes: where octets were sent again, HighRxt or RescueRxt moves (RFC 6675, section 4, NextSeg, rule
+-- 4, and section 5, step C.2); those of limited transmit are counted: ssthresh is set without them (RFC 5681, section 3.2,
+-- step 2)
+abbrev pub noted_by : Filling → NextSegment → Congestion → Congestion
+noted_by NextSeg sent w = noted sent w
+noted_by NewData sent w = with_limited (octets_of (segment_of sent)) w
+
+-- the same on a connection
+abbrev pub noted_on : Filling → NextSegment → ControlBlock → Option Established → ControlBlock
+noted_on filling sent c None = c
+noted_on filling sent c (Some e) = record c { established = Some (record e { congestion = noted_by filling sent e.congestion }) }
+
+-- one such segment is put out at a moment, and its octets count as on the way (RFC 6675, section 5, steps 3 and C.4)
+abbrev pub one_filled : ℕ → Filling → NextSegment → Option ControlBlock → OnTheWay → OnTheWay
+one_filled now filling sent None t = t
+one_filled now filling sent (Some c) t = (
+  with_segment now (segment_of sent) c (noted_on filling sent (sent_as now sent c) c.established) t.0,
   t.1 + octets_of (segment_of sent),
 )
 
@@ -183,61 +191,19 @@ abbrev pub sender_of : Result OnTheWay Halt → Result State Halt
 sender_of (Ok t) = Ok t.0
 sender_of (Err halt) = Err halt
 
--- Pipe of a connection, by its HighRxt (RFC 6675, section 4, SetPipe); 0 before the end of the handshake
-abbrev pub pipe_on : ControlBlock → Option Established → ℕ
-pipe_on c None = 0
-pipe_on c (Some e) = pipe e.congestion.high_rxt c.board
-
--- the same, 0 where no connection was begun
+-- Pipe of a connection, by its HighRxt (RFC 6675, section 4, SetPipe); 0 where it has none
 abbrev pub pipe_of : Option ControlBlock → ℕ
-pipe_of None = 0
-pipe_of (Some c) = pipe_on c c.established
+pipe_of connection = value_in 0 (λ c e. pipe e.congestion.high_rxt c.board) connection
 
--- step C at a moment from such a state on, until no segment is found (RFC 6675, section 5, step C.5)
-abbrev pub step_c_from : ℕ → OnTheWay → Result State Halt
-step_c_from now t = sender_of (
-    repeated (λ u. step_c_found u.1 u.0.endpoint.connection) (λ sent u. step_c_sent now sent u.0.endpoint.connection u)
-    (places_left t.0) t)
+-- segments are sent at a moment from such a state on, until none is found (RFC 6675, section 5, step C.5)
+abbrev pub filled_from : ℕ → Filling → OnTheWay → Result OnTheWay Halt
+filled_from now filling t =
+    repeated (λ u. next_found filling u.1 u.0.endpoint.connection) (λ sent u. one_filled now filling sent u.0.endpoint.connection u)
+    (places_left t.0) t
 
--- step C at a moment; the pipe is computed once, and grows by what is sent
-abbrev pub step_c : ℕ → State → Result State Halt
-step_c now s = step_c_from now (s, pipe_of s.endpoint.connection)
-
--- Limited transmit (RFC 6675, section 5, step 3; RFC 3042): new octets while the window has room for them
-
--- the segment that limited transmit sends next on a connection at this pipe: new octets, within the peer's window, while
--- cwnd - pipe is at least SMSS; none before the end of the handshake
-abbrev pub limited_on : ℕ → ControlBlock → Option Established → Option Span
-limited_on on_the_way c None = None
-limited_on on_the_way c (Some e) = limited_segment e.rwnd on_the_way c.board e.congestion
-
--- the same, by whether a connection was begun
-abbrev pub limited_found : ℕ → Option ControlBlock → Option Span
-limited_found on_the_way None = None
-limited_found on_the_way (Some c) = limited_on on_the_way c c.established
-
--- the octets that limited transmit sends are counted: ssthresh is set without them (RFC 5681, section 3.2, step 2)
-abbrev pub counted_on : ℕ → ControlBlock → Option Established → ControlBlock
-counted_on octets c None = c
-counted_on octets c (Some e) = record c { established = Some (record e { congestion = with_limited octets e.congestion }) }
-
--- one segment of limited transmit is put out at a moment, and its octets count as on the way (RFC 6675, section 5, step 3)
-abbrev pub limited_sent : ℕ → Span → Option ControlBlock → OnTheWay → OnTheWay
-limited_sent now segment None t = t
-limited_sent now segment (Some c) t = (
-  with_segment now segment c (counted_on (octets_of segment) (sent_on now segment c) c.established) t.0,
-  t.1 + octets_of segment,
-)
-
--- limited transmit at a moment from such a state on, until no segment is found
-abbrev pub limited_from : ℕ → OnTheWay → Result State Halt
-limited_from now t = sender_of (
-    repeated (λ u. limited_found u.1 u.0.endpoint.connection) (λ segment u. limited_sent now segment u.0.endpoint.connection u)
-    (places_left t.0) t)
-
--- limited transmit at a moment; the pipe is computed once, and grows by what is sent
-abbrev pub transmit_limited : ℕ → State → Result State Halt
-transmit_limited now s = limited_from now (s, pipe_of s.endpoint.connection)
+-- the same; the pipe is computed once, and grows by what is sent
+abbrev pub filled : ℕ → Filling → State → Result State Halt
+filled now filling s = sender_of (filled_from now filling (s, pipe_of s.endpoint.connection))
 
 -- one segment is put out at a moment, where the outbox has a place for it
 abbrev pub put_segment : ℕ → Span → ControlBlock → ControlBlock → State → Result State Halt
@@ -261,9 +227,9 @@ entry now c s =
 -- fast retransmit (RFC 5681, section 3.2, step 3) by ordinary sending
 abbrev pub led_to : ℕ → ControlBlock → State → Then → Result State Halt
 led_to now c s Ordinary = ordinary now s
-led_to now c s StepC = step_c now s
-led_to now c s Entry = then_on (step_c now) (entry now c s)
-led_to now c s LimitedTransmit = transmit_limited now s
+led_to now c s StepC = filled now NextSeg s
+led_to now c s Entry = then_on (filled now NextSeg) (entry now c s)
+led_to now c s LimitedTransmit = filled now NewData s
 led_to now c s (NewSegment segment) = put_segment now segment c (sent_on now segment c) s
 led_to now c s (FastRetransmit segment) = then_on (ordinary now) (put_segment now segment c (clocked now segment c) s)
 led_to now c s Nothing = Ok s

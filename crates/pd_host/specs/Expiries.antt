@@ -1,5 +1,5 @@
 -- Expiries of the retransmission timer (RFC 6298, section 5), and all of them up to a moment.
-use Rattle.std.specs.Prelude.{ℕ, nat_le, true, Option, Some, None, Result, if◌then◌else◌}
+use Rattle.std.specs.Prelude.{ℕ, nat_le, true, Option, Some, None, Result, if◌then◌else◌, option_and_then}
 use Rattle.pd_seg.specs.declared.sack_blocks.Span.{Span}
 use Rattle.pd_seg.specs.declared.segments.Segment.{Segment}
 use Rattle.pd_board.specs.Choice.{run_at}
@@ -14,13 +14,8 @@ use Rattle.pd_host.specs.declared.halts.Halt.{Halt}
 use Rattle.pd_host.specs.declared.sender_state.State.{State}
 
 -- the moment of the next expiry, where the timer of a connection runs
-abbrev pub deadline_on : Option ControlBlock → Option ℕ
-deadline_on None = None
-deadline_on (Some c) = c.timer.deadline
-
--- the same of the sender's state
 abbrev pub deadline_of : State → Option ℕ
-deadline_of s = deadline_on s.endpoint.connection
+deadline_of s = option_and_then (λ c. c.timer.deadline) s.endpoint.connection
 
 -- a moment that lies at or before another one
 abbrev pub due_by : ℕ → Option ℕ → Option ℕ

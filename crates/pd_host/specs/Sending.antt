@@ -13,6 +13,18 @@ use Rattle.pd_host.specs.declared.halts.Halt.{Halt}
 use Rattle.pd_host.specs.declared.halts.Halt.TheVariants.{Limit}
 use Rattle.pd_host.specs.declared.sender_state.State.{State}
 
+-- Before the end of the handshake
+
+-- a value of a connection, another one before the end of the handshake
+abbrev pub value_on : {A : Type 0} → A → (ControlBlock → Established → A) → ControlBlock → Option Established → A
+value_on before value c None = before
+value_on before value c (Some e) = value c e
+
+-- the same, that other one also where no connection was begun
+abbrev pub value_in : {A : Type 0} → A → (ControlBlock → Established → A) → Option ControlBlock → A
+value_in before value None = before
+value_in before value (Some c) = value_on before value c c.established
+
 -- How packets are put out one after the other
 
 -- how many packets the outbox still takes
@@ -110,15 +122,9 @@ sent_on now segment c = record (clocked now segment c) { board = sent_to segment
 abbrev pub with_segment : ℕ → Span → ControlBlock → ControlBlock → State → State
 with_segment now segment before after s = with_packet_sent now (data_of before segment) (with_block after s)
 
--- the segment that ordinary sending sends next on a connection; none before the end of the handshake
-abbrev pub found_on : ControlBlock → Option Established → Option Span
-found_on c None = None
-found_on c (Some e) = ordinary_segment c e
-
--- the same, by whether a connection was begun
+-- the segment that ordinary sending sends next; none before the end of the handshake
 abbrev pub found : Option ControlBlock → Option Span
-found None = None
-found (Some c) = found_on c c.established
+found connection = value_in None ordinary_segment connection
 
 -- that segment is put out at a moment, and the sending place moves behind it and past SACKed octets
 abbrev pub sent_ordinarily : ℕ → Span → Option ControlBlock → State → State

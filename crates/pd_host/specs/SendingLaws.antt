@@ -1,5 +1,5 @@
 -- What holds of all that is sent.
-use Rattle.std.specs.Prelude.{◌≡◌, ◌↔◌, ℕ, ◌+◌, ◌-◌, ◌<◌, ◌≤◌, ◌⊎◌, ◌&&◌, nat_lt, max, Bool, true, false, List, [], ◌∷◌, ◌++◌, Option, Some, None, Result, Ok, if◌then◌else◌}
+use Rattle.std.specs.Prelude.{◌≡◌, ◌↔◌, ℕ, ◌+◌, ◌-◌, ◌<◌, ◌≤◌, ◌⊎◌, ◌&&◌, nat_lt, max, Bool, true, false, List, [], ◌∷◌, ◌++◌, Option, Some, None, Ok, if◌then◌else◌, unwrap_or, option_map, option_and_then}
 use Rattle.std.specs.List.{AllByRecursion}
 use Rattle.pd_board.specs.Choice.{run_at}
 use Rattle.pd_board.specs.Scoreboard.{Scoreboard, IsScoreboard}
@@ -15,17 +15,17 @@ use Rattle.pd_seg.specs.declared.answers.Answer.{Answer}
 use Rattle.pd_seg.specs.declared.sack_blocks.Span.{Span}
 use Rattle.pd_seg.specs.declared.segments.Segment.{Segment}
 use Rattle.pd_seg.specs.declared.segments.Sent.{Sent}
-use Rattle.pd_host.specs.Acknowledgments.{OnTheWay, newly_acked, step_c_on, step_c_found, step_c_sent, pipe_of, step_c, limited_on, limited_found, limited_sent, transmit_limited, taken}
+use Rattle.pd_host.specs.Acknowledgments.{OnTheWay, newly_acked, next_by, next_found, one_filled, pipe_of, filled_from, filled, taken}
 use Rattle.pd_host.specs.Arrivals.{arrived}
 use Rattle.pd_host.specs.Calls.{called, stream_of}
 use Rattle.pd_host.specs.ControlBlock.{ControlBlock, data_end}
 use Rattle.pd_host.specs.Expiries.{deadline_of, due_by, block_expired, expired_by, expired, advanced}
 use Rattle.pd_host.specs.Packets.{data_of}
 use Rattle.pd_host.specs.Requests.{request_of}
-use Rattle.pd_host.specs.Sending.{repeated, places_left, window_edge, found_on, found, sent_ordinarily, ordinary, is_recovering}
+use Rattle.pd_host.specs.Sending.{value_in, window_edge, ordinary_segment, found, sent_ordinarily, ordinary, is_recovering}
 use Rattle.pd_host.specs.Timing.{overlaps, clocked}
 use Rattle.pd_host.specs.declared.established.Established.{Established}
-use Rattle.pd_host.specs.declared.halts.Halt.{Halt}
+use Rattle.pd_host.specs.declared.fillings.Filling.{Filling}
 use Rattle.pd_host.specs.declared.requests.Operation.TheVariants.{Close}
 use Rattle.pd_host.specs.declared.requests.Request.TheVariants.{On}
 use Rattle.pd_host.specs.declared.sender_state.State.{State}
@@ -42,13 +42,10 @@ IsInPeersWindow s rwnd segment = s.top < segment.end → (segment.start ≡ s.to
 pub record ControlsFlow : Type 0 where
   pub ordinary :
       (c : ControlBlock) (e : Established) (segment : Span) → c.board.next ≤ c.board.top
-      → found_on c (Some e) ≡ Some segment → IsInPeersWindow c.board e.rwnd segment
-  pub step_c :
-      (on_the_way : ℕ) (c : ControlBlock) (e : Established) (sent : NextSegment)
-      → step_c_on on_the_way c (Some e) ≡ Some sent → IsInPeersWindow c.board e.rwnd (segment_of sent)
-  pub limited :
-      (on_the_way : ℕ) (c : ControlBlock) (e : Established) (segment : Span)
-      → limited_on on_the_way c (Some e) ≡ Some segment → IsInPeersWindow c.board e.rwnd segment
+      → ordinary_segment c e ≡ Some segment → IsInPeersWindow c.board e.rwnd segment
+  pub filling :
+      (filling : Filling) (on_the_way : ℕ) (c : ControlBlock) (e : Established) (sent : NextSegment)
+      → next_by filling on_the_way c e ≡ Some sent → IsInPeersWindow c.board e.rwnd (segment_of sent)
   pub duplicate :
       (ack : Ack) (w : Congestion) (segment : Span)
       → (acked ack w).1 ≡ NewSegment segment → (segment.start ≡ ack.top) × (segment.end ≤ ack.una + ack.rwnd)
@@ -56,23 +53,15 @@ pub record ControlsFlow : Type 0 where
 
 -- the number after the highest octet that was sent
 abbrev pub sent_in : Option ControlBlock → ℕ
-sent_in None = 0
-sent_in (Some c) = c.board.top
+sent_in connection = unwrap_or (option_map (λ c. c.board.top) connection) 0
 
--- the number after the last octet that the peer's window takes, 0 before the end of the handshake
-abbrev pub window_end : ControlBlock → Option Established → ℕ
-window_end c None = 0
-window_end c (Some e) = c.board.una + e.rwnd
-
--- the same, 0 where no connection was begun
+-- the number after the last octet that the peer's window takes, 0 where there is none yet
 abbrev pub taken_in : Option ControlBlock → ℕ
-taken_in None = 0
-taken_in (Some c) = window_end c c.established
+taken_in connection = value_in 0 (λ c e. c.board.una + e.rwnd) connection
 
 -- the segment that is timed, if one is
 abbrev pub timed_in : Option ControlBlock → Option Timing
-timed_in None = None
-timed_in (Some c) = c.timed
+timed_in connection = option_and_then (λ c. c.timed) connection
 
 -- the number after the last octet of a segment, a FIN counted (RFC 9293, section 3.4)
 abbrev pub end_with_fin : Segment → ℕ
@@ -97,49 +86,34 @@ pub record StaysInWindow : Type 0 where
 
 -- Congestion control (RFC 5681, section 3.1; RFC 6675, section 5)
 
--- below this number both windows let octets leave, 0 before the end of the handshake
-abbrev pub edge_on : ControlBlock → Option Established → ℕ
-edge_on c None = 0
-edge_on c (Some e) = window_edge c e
-
--- the same, 0 where no connection was begun
+-- below this number both windows let octets leave, 0 where there are none yet
 abbrev pub edge_of : Option ControlBlock → ℕ
-edge_of None = 0
-edge_of (Some c) = edge_on c c.established
+edge_of connection = value_in 0 window_edge connection
 
 -- ordinary sending chooses nothing that ends beyond the congestion window, and so puts nothing out that does; step C and
 -- limited transmit choose where it has room for a full segment beside what is on the way
 pub record ControlsCongestion : Type 0 where
   pub chosen :
       (c : ControlBlock) (e : Established) (segment : Span)
-      → found_on c (Some e) ≡ Some segment → segment.end ≤ c.board.una + e.congestion.cwnd
+      → ordinary_segment c e ≡ Some segment → segment.end ≤ c.board.una + e.congestion.cwnd
   pub ordinary :
       (now : ℕ) (s t : State)
       → ordinary now s ≡ Ok t
       → (packets : List Sent)
       × AllByRecursion (λ p. end_with_fin p.segment ≤ edge_of s.endpoint.connection) packets
       × (t.endpoint.outbox ≡ s.endpoint.outbox ++ packets)
-  pub step_c :
-      (on_the_way : ℕ) (c : ControlBlock) (e : Established) (sent : NextSegment)
-      → step_c_on on_the_way c (Some e) ≡ Some sent → c.board.smss ≤ e.congestion.cwnd - on_the_way
-  pub limited :
-      (on_the_way : ℕ) (c : ControlBlock) (e : Established) (segment : Span)
-      → limited_on on_the_way c (Some e) ≡ Some segment → c.board.smss ≤ e.congestion.cwnd - on_the_way
+  pub filling :
+      (filling : Filling) (on_the_way : ℕ) (c : ControlBlock) (e : Established) (sent : NextSegment)
+      → next_by filling on_the_way c e ≡ Some sent → c.board.smss ≤ e.congestion.cwnd - on_the_way
 
 -- how many octets packets have
 abbrev pub octets_in : List Sent → ℕ
 octets_in [] = 0
 octets_in (p ∷ packets) = (end_with_fin p.segment - p.segment.start) + octets_in packets
 
--- cwnd, 0 before the end of the handshake
-abbrev pub cwnd_on : Option Established → ℕ
-cwnd_on None = 0
-cwnd_on (Some e) = e.congestion.cwnd
-
--- the same, 0 where no connection was begun
+-- cwnd, 0 where there is none yet
 abbrev pub cwnd_in : Option ControlBlock → ℕ
-cwnd_in None = 0
-cwnd_in (Some c) = cwnd_on c.established
+cwnd_in connection = value_in 0 (λ c e. e.congestion.cwnd) connection
 
 -- what was put out has no more octets than the congestion window has room for beside what was on the way
 abbrev pub FillsWindow : State → State → Type 0
@@ -149,23 +123,10 @@ FillsWindow s t =
     × (t.endpoint.outbox ≡ s.endpoint.outbox ++ packets)
 
 -- so it is after step C and after limited transmit (RFC 6675, section 5)
-pub record KeepsToWindow : Type 0 where
-  pub step_c : (now : ℕ) (s t : State) → step_c now s ≡ Ok t → FillsWindow s t
-  pub limited : (now : ℕ) (s t : State) → transmit_limited now s ≡ Ok t → FillsWindow s t
+abbrev pub KeepsToWindow : Type 0
+KeepsToWindow = (now : ℕ) (filling : Filling) (s t : State) → filled now filling s ≡ Ok t → FillsWindow s t
 
 -- All that may leave does
-
--- step C, with what is on the way at its end
-abbrev pub step_c_counted : ℕ → State → Result OnTheWay Halt
-step_c_counted now s =
-    repeated (λ t. step_c_found t.1 t.0.endpoint.connection) (λ sent t. step_c_sent now sent t.0.endpoint.connection t)
-    (places_left s) (s, pipe_of s.endpoint.connection)
-
--- limited transmit, with that
-abbrev pub limited_counted : ℕ → State → Result OnTheWay Halt
-limited_counted now s =
-    repeated (λ t. limited_found t.1 t.0.endpoint.connection) (λ segment t. limited_sent now segment t.0.endpoint.connection t)
-    (places_left s) (s, pipe_of s.endpoint.connection)
 
 -- one packet more stands behind those that nobody has taken
 abbrev pub PutsOutOne : State → State → Type 0
@@ -178,14 +139,10 @@ pub record SendsOneByOne : Type 0 where
       (now : ℕ) (segment : Span) (s : State)
       → found s.endpoint.connection ≡ Some segment
       → PutsOutOne s (sent_ordinarily now segment s.endpoint.connection s)
-  pub step_c :
-      (now : ℕ) (sent : NextSegment) (t : OnTheWay)
-      → step_c_found t.1 t.0.endpoint.connection ≡ Some sent
-      → PutsOutOne t.0 (step_c_sent now sent t.0.endpoint.connection t).0
-  pub limited :
-      (now : ℕ) (segment : Span) (t : OnTheWay)
-      → limited_found t.1 t.0.endpoint.connection ≡ Some segment
-      → PutsOutOne t.0 (limited_sent now segment t.0.endpoint.connection t).0
+  pub filling :
+      (now : ℕ) (filling : Filling) (sent : NextSegment) (t : OnTheWay)
+      → next_found filling t.1 t.0.endpoint.connection ≡ Some sent
+      → PutsOutOne t.0 (one_filled now filling sent t.0.endpoint.connection t).0
   pub expiries :
       (until at : ℕ) (s : State)
       → due_by until (deadline_of s) ≡ Some at
@@ -194,18 +151,12 @@ pub record SendsOneByOne : Type 0 where
 -- where sending comes to its end, nothing more is found; no expiry is due up to the moment up to which all were performed
 pub record SendsAllThatMay : Type 0 where
   pub ordinary : (now : ℕ) (s t : State) → ordinary now s ≡ Ok t → found t.endpoint.connection ≡ None
-  pub step_c :
-      (now : ℕ) (s t : State)
-      → step_c now s ≡ Ok t
+  pub filling :
+      (now : ℕ) (filling : Filling) (s t : State)
+      → filled now filling s ≡ Ok t
       → (on_the_way : ℕ)
-      × (step_c_counted now s ≡ Ok (t, on_the_way))
-      × (step_c_found on_the_way t.endpoint.connection ≡ None)
-  pub limited :
-      (now : ℕ) (s t : State)
-      → transmit_limited now s ≡ Ok t
-      → (on_the_way : ℕ)
-      × (limited_counted now s ≡ Ok (t, on_the_way))
-      × (limited_found on_the_way t.endpoint.connection ≡ None)
+      × (filled_from now filling (s, pipe_of s.endpoint.connection) ≡ Ok (t, on_the_way))
+      × (next_found filling on_the_way t.endpoint.connection ≡ None)
   pub expiries : (until : ℕ) (s t : State) → advanced until s ≡ Ok t → due_by until (deadline_of t) ≡ None
 
 -- Karn's algorithm (RFC 6298, section 3)
@@ -313,13 +264,10 @@ pub record EndsWithFin : Type 0 where
 pub record SparesWhatArrived : Type 0 where
   pub ordinary :
       (c : ControlBlock) (e : Established) (segment : Span) → IsScoreboard c.board
-      → found_on c (Some e) ≡ Some segment → IsSpared c.board segment
-  pub step_c :
-      (on_the_way : ℕ) (c : ControlBlock) (e : Established) (sent : NextSegment) → IsScoreboard c.board
-      → step_c_on on_the_way c (Some e) ≡ Some sent → IsSpared c.board (segment_of sent)
-  pub limited :
-      (on_the_way : ℕ) (c : ControlBlock) (e : Established) (segment : Span) → IsScoreboard c.board
-      → limited_on on_the_way c (Some e) ≡ Some segment → IsSpared c.board segment
+      → ordinary_segment c e ≡ Some segment → IsSpared c.board segment
+  pub filling :
+      (filling : Filling) (on_the_way : ℕ) (c : ControlBlock) (e : Established) (sent : NextSegment) → IsScoreboard c.board
+      → next_by filling on_the_way c e ≡ Some sent → IsSpared c.board (segment_of sent)
   pub entry : (c : ControlBlock) → IsSpared c.board (run_at c.board.una c.board)
 
 -- The end of loss recovery (RFC 6675, section 5; RFC 5681, section 3.2)

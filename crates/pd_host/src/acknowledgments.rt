@@ -1,12 +1,13 @@
 //! What an acceptable ACK leads to.
 ghost use Rattle.std.specs.Prelude.{◌≡◌, ◌<◌, ◌^◌};
-ghost use Rattle.pd_host.specs.Acknowledgments.{step_c, transmit_limited};
+ghost use Rattle.pd_host.specs.Acknowledgments.{filled};
 ghost use Rattle.pd_host.specs.Outcome.{Gives};
 ghost use Rattle.pd_host.specs.Packets.{data_of};
 ghost use Rattle.pd_host.specs.Sender.{with_packet};
 ghost use Rattle.pd_host.specs.Steps.{IsQueuedOn, put_new, put_again, entry_on, led_on, FollowsQueuedOn};
 
 use crate::connection::Connection;
+use crate::fillings::Filling;
 use crate::halts::Ending;
 use crate::outbox::Outbox;
 use crate::sender_state::State;
@@ -34,12 +35,12 @@ impl State {
     {
         match next {
             Then::Ordinary => self.send(now),
-            Then::StepC => self.recover(now),
+            Then::StepC => self.fill(Filling::NextSeg, now),
             Then::Entry => {
                 self.enter(now)?;
-                self.recover(now)
+                self.fill(Filling::NextSeg, now)
             }
-            Then::LimitedTransmit => self.transmit_limited(now),
+            Then::LimitedTransmit => self.fill(Filling::NewData, now),
             Then::NewSegment(segment) => self.send_new(segment, now),
             Then::FastRetransmit(segment) => {
                 self.send_again(segment, now)?;
@@ -93,38 +94,20 @@ impl State {
         Ok(())
     }
 
-    /// Step C: what NextSeg gives while the window has room for it.
-    fn recover(&mut self, now: u64) -> Result<(), Ending>
+    /// Segments are sent while the congestion window has room for them (RFC 6675, section 5).
+    fn fill(&mut self, filling: Filling, now: u64) -> Result<(), Ending>
         requires early { now < 2 ^ 62 }
-        ensures { Gives (step_c now self.old) result self.new }
+        ensures { Gives (filled now filling self.old) result self.new }
     {
         let Some(connection) = &mut self.endpoint.connection else {
             return Ok(());
         };
         let outbox = &mut self.endpoint.outbox;
         let mut pipe = connection.pipe();
-        while let Some(sent) = connection.next_in_recovery(pipe) {
+        while let Some(sent) = connection.next_filling(filling, pipe) {
             let segment = sent.segment();
             put(connection, outbox, segment, now)?;
-            connection.sent_in_recovery(&sent, now)?;
-            pipe += segment.end - segment.start;
-        }
-        Ok(())
-    }
-
-    /// Limited transmit: new octets while the window has room for them.
-    fn transmit_limited(&mut self, now: u64) -> Result<(), Ending>
-        requires early { now < 2 ^ 62 }
-        ensures { Gives (transmit_limited now self.old) result self.new }
-    {
-        let Some(connection) = &mut self.endpoint.connection else {
-            return Ok(());
-        };
-        let outbox = &mut self.endpoint.outbox;
-        let mut pipe = connection.pipe();
-        while let Some(segment) = connection.next_limited(pipe) {
-            put(connection, outbox, segment, now)?;
-            connection.sent_limited(segment, now)?;
+            connection.sent_filling(filling, &sent, now)?;
             pipe += segment.end - segment.start;
         }
         Ok(())

@@ -11,6 +11,7 @@ mod endpoint;
 mod established;
 mod expiries;
 mod figures;
+mod fillings;
 mod halts;
 mod held;
 mod holds;

@@ -1,16 +1,16 @@
 //! What an acceptable ACK changes on a connection.
-ghost use Rattle.std.specs.Prelude.{◌≡◌, ◌+◌, ◌≤◌, ◌<◌, ◌^◌, false, IfOk, OnOk, IfSome};
+ghost use Rattle.std.specs.Prelude.{◌≡◌, ◌+◌, ◌≤◌, ◌<◌, ◌^◌, false, Some, IfOk, OnOk, IfSome};
 ghost use Rattle.pd_board.specs.Choice.{run_at};
 ghost use Rattle.pd_board.specs.Scoreboard.{IsScoreboard};
 ghost use Rattle.pd_recover.specs.Choice.{IsSendable, segment_of};
 ghost use Rattle.pd_recover.specs.Congestion.{IsCongestion};
-ghost use Rattle.pd_host.specs.Acknowledgments.{told_block, told_blocks, blocks_in, blocks_of, with_blocks, scored, with_timing, with_new_window, news_of, answering, taking, step_c_on, sent_as, noted_on, octets_of, pipe_on, limited_on, counted_on, entered_on};
+ghost use Rattle.pd_host.specs.Acknowledgments.{told_block, told_blocks, blocks_in, blocks_of, with_blocks, scored, with_timing, with_new_window, news_of, answering, taking, next_found, sent_as, noted_by, noted_on, octets_of, pipe_of, entered_on};
 ghost use Rattle.pd_host.specs.Handshake.{looked_at};
-ghost use Rattle.pd_host.specs.Sending.{sent_on};
 ghost use Rattle.pd_host.specs.Steps.{FollowsQueued};
 
 use super::Connection;
 use crate::established::Established;
+use crate::fillings::Filling;
 use pd_board::Board;
 use pd_recover::{Ack, Cong, News, NextSegment, Then};
 use pd_seg::{SegOption, Segment, Span};
@@ -77,6 +77,21 @@ fn have_order(board: &Board)
     ensures { IsScoreboard board.now }
 {
     let _smss = board.smss();
+}
+
+/// Congestion control notes a segment that filled the room of its window.
+fn note_by(congestion: &mut Cong, filling: Filling, sent: &NextSegment)
+    requires some { (segment_of sent.now).start ≤ (segment_of sent.now).end }
+    requires short { octets_of (segment_of sent.now) ≤ 65495 }
+    ensures { congestion.new ≡ noted_by filling sent.now congestion.old }
+{
+    match filling {
+        Filling::NextSeg => congestion.note(sent),
+        Filling::NewData => {
+            let segment = sent.segment();
+            congestion.count_limited(segment.end - segment.start);
+        }
+    }
 }
 
 impl Connection {
@@ -181,7 +196,7 @@ impl Connection {
 
     /// How many octets count as on the way (RFC 6675, section 4).
     pub fn pipe(&self) -> u32
-        ensures { result ≡ pipe_on self.now self.now.established }
+        ensures { result ≡ pipe_of (Some self.now) }
     {
         match &self.established {
             None => 0,
@@ -205,9 +220,9 @@ impl Connection {
         }
     }
 
-    /// The next segment of step C.
-    pub fn next_in_recovery(&self, pipe: u32) -> Option<NextSegment>
-        ensures value { result ≡ step_c_on pipe self.now self.now.established }
+    /// The segment that is sent next while the congestion window has room.
+    pub fn next_filling(&self, filling: Filling, pipe: u32) -> Option<NextSegment>
+        ensures value { result ≡ next_found filling pipe (Some self.now) }
         ensures sendable { IfSome result (λ sent. IsSendable self.now.board (segment_of sent)) }
         ensures fits { IfSome result (λ sent. pipe + octets_of (segment_of sent) ≤ 2 ^ 31) }
     {
@@ -215,22 +230,32 @@ impl Connection {
             return None;
         };
         have_ranges(&established.congestion);
-        established
-            .congestion
-            .step_c(&self.board, established.rwnd, pipe)
+        let congestion = &established.congestion;
+        match filling {
+            Filling::NextSeg => congestion.step_c(&self.board, established.rwnd, pipe),
+            Filling::NewData => congestion
+                .limited_segment(&self.board, established.rwnd, pipe)
+                .map(NextSegment::New),
+        }
     }
 
     /// It was sent at a moment.
     ///
     /// # Errors
     /// `AllocError` for new octets where the scoreboard has found no memory before.
-    pub fn sent_in_recovery(&mut self, sent: &NextSegment, now: u64) -> Result<(), AllocError>
+    pub fn sent_filling(
+        &mut self,
+        filling: Filling,
+        sent: &NextSegment,
+        now: u64,
+    ) -> Result<(), AllocError>
         requires early { now < 2 ^ 62 }
         requires sendable { IsSendable self.old.board (segment_of sent.now) }
-        ensures { OnOk result (self.new ≡ noted_on sent.now (sent_as now sent.now self.old) self.old.established) }
+        ensures { OnOk result (self.new ≡ noted_on filling sent.now (sent_as now sent.now self.old) self.old.established) }
     {
+        have_order(&self.board);
         self.send_as(sent, now)?;
-        self.note(sent);
+        self.note(filling, sent);
         Ok(())
     }
 
@@ -251,45 +276,13 @@ impl Connection {
         }
     }
 
-    fn note(&mut self, sent: &NextSegment)
-        ensures { self.new ≡ noted_on sent.now self.old self.old.established }
+    fn note(&mut self, filling: Filling, sent: &NextSegment)
+        requires some { (segment_of sent.now).start ≤ (segment_of sent.now).end }
+        requires short { octets_of (segment_of sent.now) ≤ 65495 }
+        ensures { self.new ≡ noted_on filling sent.now self.old self.old.established }
     {
         if let Some(established) = &mut self.established {
-            established.congestion.note(sent);
+            note_by(&mut established.congestion, filling, sent);
         }
-    }
-
-    /// The next segment of limited transmit.
-    pub fn next_limited(&self, pipe: u32) -> Option<Span>
-        ensures value { result ≡ limited_on pipe self.now self.now.established }
-        ensures sendable { IfSome result (IsSendable self.now.board) }
-        ensures fits { IfSome result (λ segment. pipe + octets_of segment ≤ 2 ^ 31) }
-    {
-        let Some(established) = &self.established else {
-            return None;
-        };
-        have_ranges(&established.congestion);
-        established
-            .congestion
-            .limited_segment(&self.board, established.rwnd, pipe)
-    }
-
-    /// It was sent at a moment.
-    ///
-    /// # Errors
-    /// `AllocError` where the scoreboard has found no memory before.
-    pub fn sent_limited(&mut self, segment: Span, now: u64) -> Result<(), AllocError>
-        requires early { now < 2 ^ 62 }
-        requires sendable { IsSendable self.old.board segment }
-        ensures { OnOk result (self.new ≡ counted_on (octets_of segment) (sent_on now segment self.old) self.old.established) }
-    {
-        have_order(&self.board);
-        self.send_on(segment, now)?;
-        if let Some(established) = &mut self.established {
-            established
-                .congestion
-                .count_limited(segment.end - segment.start);
-        }
-        Ok(())
     }
 }

@@ -1,9 +1,9 @@
 //! Which segment a connection sends next, and what a segment has.
-ghost use Rattle.std.specs.Prelude.{◌≡◌, ◌<◌, ◌^◌, IfSome, IfOk};
+ghost use Rattle.std.specs.Prelude.{◌≡◌, ◌<◌, ◌^◌, Some, IfSome, IfOk};
 ghost use Rattle.pd_host.specs.ControlBlock.{data_end};
 ghost use Rattle.pd_host.specs.Packets.{covers_fin, ends_data, data_of};
 ghost use Rattle.pd_host.specs.Holds.{is_enough};
-ghost use Rattle.pd_host.specs.Sending.{window_edge, usable, unsent, sendable, unsent_segment, leaves_now, is_held_back, next_new, next_again, ordinary_segment, found_on, past_sacked, sent_on};
+ghost use Rattle.pd_host.specs.Sending.{window_edge, usable, unsent, sendable, unsent_segment, leaves_now, is_held_back, next_new, next_again, found, past_sacked, sent_on};
 ghost use Rattle.pd_host.specs.Steps.{IsQueued};
 
 use super::Connection;
@@ -148,7 +148,7 @@ impl Connection {
 
     /// The segment that ordinary sending sends next.
     pub fn next_segment(&self) -> Option<Span>
-        ensures value { result ≡ found_on self.now self.now.established }
+        ensures value { result ≡ found (Some self.now) }
         ensures queued { IfSome result (λ segment. IsQueued segment self.now) }
     {
         let Some(established) = &self.established else {

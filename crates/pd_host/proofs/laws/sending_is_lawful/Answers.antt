@@ -1,5 +1,5 @@
 -- The laws hold.
-use Rattle.pd_host.proofs.Chosen.{chosen_within, in_window, ordinary_flow, step_c_flow, limited_flow, limited_room, run_end, ordinary_spared, step_c_spared, limited_spared}
+use Rattle.pd_host.proofs.Chosen.{chosen_within, in_window, ordinary_flow, filling_flow, filling_room, run_end, ordinary_spared, filling_spared}
 use Rattle.pd_host.proofs.Duplicates.{duplicate_flow}
 use Rattle.pd_host.proofs.Finished.{sends_all_that_may}
 use Rattle.pd_host.proofs.InWindow.{stays_in_window}
@@ -15,8 +15,7 @@ use Rattle.pd_host.proofs.laws.sending_is_lawful.Goals as goal
 pub returns-clause-flow : goal.returns-clause-flow
 returns-clause-flow c = record {
   ordinary = λ b e segment order h. ordinary_flow b e order segment h;
-  step_c = λ n b e sent h. step_c_flow e.rwnd n b.board e.congestion sent h;
-  limited = λ n b e segment h. limited_flow e.rwnd n b.board e.congestion segment h;
+  filling = λ filling n b e sent h. filling_flow filling n b e sent h;
   duplicate = duplicate_flow;
   again = run_end;
 }
@@ -28,8 +27,7 @@ pub returns-clause-congestion : goal.returns-clause-congestion
 returns-clause-congestion c = record {
   chosen = λ b e segment h. in_window b e segment (chosen_within b e segment h);
   ordinary = ordinary_below;
-  step_c = λ n b e sent h. c.recovery_is_lawful.ensures.step_c e.rwnd n b.board e.congestion sent h;
-  limited = λ n b e segment h. limited_room e.rwnd n b.board e.congestion segment h;
+  filling = λ filling n b e sent h. filling_room filling n b e sent h;
 }
 
 pub returns-clause-room : goal.returns-clause-room
@@ -59,8 +57,7 @@ returns-clause-sacked c =
     let spares = c.recovery_is_lawful.ensures.sacked in
     record {
       ordinary = λ b e segment known h. ordinary_spared spares b e known segment h;
-      step_c = λ n b e sent known h. step_c_spared spares e.rwnd n b.board e.congestion known sent h;
-      limited = λ n b e segment known h. limited_spared e.rwnd n b.board e.congestion known segment h;
+      filling = λ filling n b e sent known h. filling_spared spares filling n b e known sent h;
       entry = λ b. spares.again b.board b.board.una;
     }
 
