@@ -1,4 +1,5 @@
 //! Answers whose octets were worked out by hand.
+use crate::print_text;
 use pd_print::write_answer;
 use pd_seg::{Answer, Errno};
 use std::io;
@@ -18,8 +19,7 @@ const ANSWERS: [Answer; 8] = [
 pub fn print_answers(rt: &(impl Print + AllocGlobal)) -> io::Result<()> {
     for answer in ANSWERS {
         let text = write_answer(rt.alloc(), answer)?;
-        let shown = String::from_utf8_lossy(rt.alloc(), text.as_slice())?;
-        println!(rt; "{shown}")?;
+        print_text(rt, text.as_slice(), "\n")?;
     }
     Ok(())
 }

@@ -51,6 +51,12 @@ fn try_all(rt: &(impl Print + AllocGlobal)) -> io::Result<bool> {
     Ok(is_right && differing == 0)
 }
 
+/// Prints what was written, and what stands behind it.
+fn print_text(rt: &(impl Print + AllocGlobal), text: &[u8], behind: &str) -> io::Result<()> {
+    let text = String::from_utf8_lossy(rt.alloc(), text)?;
+    print!(rt; "{text}{behind}")
+}
+
 /// Draws a packet and a time, and reads back what is printed of them.
 fn is_drawn_back(rt: &impl AllocGlobal, dice: &mut Dice) -> Result<bool, AllocError> {
     let time = draw_time(dice);

@@ -1,4 +1,5 @@
 //! Moments whose octets were worked out by hand.
+use crate::print_text;
 use pd_print::{write_moment, write_time};
 use pd_script::Time;
 use std::io;
@@ -18,11 +19,9 @@ const MOMENTS: [u64; 9] = [
 /// Prints each moment with six decimals, and with no more than it takes.
 pub fn print_moments(rt: &(impl Print + AllocGlobal)) -> io::Result<()> {
     for moment in MOMENTS {
-        let six = write_moment(rt.alloc(), moment)?;
+        print_text(rt, write_moment(rt.alloc(), moment)?.as_slice(), " ")?;
         let short = write_time(rt.alloc(), Time::Relative(moment))?;
-        let six = String::from_utf8_lossy(rt.alloc(), six.as_slice())?;
-        let short = String::from_utf8_lossy(rt.alloc(), short.as_slice())?;
-        println!(rt; "{six} {short}")?;
+        print_text(rt, short.as_slice(), "\n")?;
     }
     Ok(())
 }

@@ -3,7 +3,7 @@ ghost use Rattle.std.specs.Prelude.{◌≡◌};
 ghost use Rattle.pd_text.specs.Text.{is_line};
 
 use pd_match::{Expect, check_packet};
-use pd_script::{Action, Event, Packet, Time, parse};
+use pd_script::{Action, Event, Packet, Parsed, Time, parse};
 use pd_seg::{Segment, Sent};
 use pd_text::{LineList, Lines};
 use std::alloc::{AllocError, Global};
@@ -23,7 +23,11 @@ pub fn is_read_back(
     let Ok(lines) = Lines::new(list) else {
         return Ok(false);
     };
-    let parsed = parse(alloc, &lines)?;
+    is_script(&parse(alloc, &lines)?, time, segment)
+}
+
+/// Whether a script has just one event: this one.
+fn is_script(parsed: &Parsed, time: Time, segment: &Segment) -> Result<bool, AllocError> {
     if parsed.fault.is_some() || !parsed.header.as_slice().is_empty() {
         return Ok(false);
     }

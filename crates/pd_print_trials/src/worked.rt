@@ -1,5 +1,5 @@
 //! Events whose octets were worked out by hand.
-use crate::is_sent_back;
+use crate::{is_sent_back, print_text};
 use pd_print::write_sent;
 use pd_script::Time;
 use pd_seg::{Flags, SackBlocks, SegOption, SegOptions, Segment, Span};
@@ -11,16 +11,18 @@ pub fn print_worked(rt: &(impl Print + AllocGlobal)) -> io::Result<bool> {
     let mut is_right = true;
     for number in 0..CASES {
         let segment = segment(rt.alloc(), number)?;
-        let time = time(number);
-        let text = write_sent(rt.alloc(), time, &segment)?;
-        let shown = String::from_utf8_lossy(rt.alloc(), text.as_slice())?;
-        println!(rt; "{shown}")?;
-        if !is_sent_back(rt, time, &segment)? {
+        print_sent(rt, time(number), &segment)?;
+        if !is_sent_back(rt, time(number), &segment)? {
             println!(rt; "event {number} differs")?;
             is_right = false;
         }
     }
     Ok(is_right)
+}
+
+fn print_sent(rt: &(impl Print + AllocGlobal), time: Time, segment: &Segment) -> io::Result<()> {
+    let text = write_sent(rt.alloc(), time, segment)?;
+    print_text(rt, text.as_slice(), "\n")
 }
 
 const CASES: u32 = 20;
@@ -116,6 +118,11 @@ fn segment(alloc: Global, number: u32) -> Result<Segment, AllocError> {
 
 fn options(alloc: Global, number: u32) -> Result<SegOptions, AllocError> {
     let mut options = SegOptions::new(alloc);
+    put_options(alloc, &mut options, number)?;
+    Ok(options)
+}
+
+fn put_options(alloc: Global, options: &mut SegOptions, number: u32) -> Result<(), AllocError> {
     match number {
         0 => {
             options.push(SegOption::Mss(1_000))?;
@@ -123,33 +130,32 @@ fn options(alloc: Global, number: u32) -> Result<SegOptions, AllocError> {
             options.push(SegOption::Nop)?;
             options.push(SegOption::SackOk)?;
             options.push(SegOption::Nop)?;
-            options.push(SegOption::Wscale(7))?;
+            options.push(SegOption::Wscale(7))
         }
-        9 => options.push(SegOption::Mss(65_535))?,
-        10 => options.push(SegOption::Mss(0))?,
-        11 => options.push(SegOption::Wscale(255))?,
-        12 => options.push(SegOption::SackOk)?,
-        13 => options.push(SegOption::Nop)?,
-        14 => options.push(SegOption::Eol)?,
-        15 => options.push(SegOption::Timestamp(0, 4_294_967_295))?,
-        16 => options.push(SegOption::Sack(blocks(alloc, 1)?))?,
-        17 => options.push(SegOption::Sack(blocks(alloc, 4)?))?,
+        9 => options.push(SegOption::Mss(65_535)),
+        10 => options.push(SegOption::Mss(0)),
+        11 => options.push(SegOption::Wscale(255)),
+        12 => options.push(SegOption::SackOk),
+        13 => options.push(SegOption::Nop),
+        14 => options.push(SegOption::Eol),
+        15 => options.push(SegOption::Timestamp(0, 4_294_967_295)),
+        16 => options.push(SegOption::Sack(blocks(alloc, 1)?)),
+        17 => options.push(SegOption::Sack(blocks(alloc, 4)?)),
         18 => {
             options.push(SegOption::Nop)?;
             options.push(SegOption::Nop)?;
             options.push(SegOption::Timestamp(100, 200))?;
             options.push(SegOption::Sack(blocks(alloc, 3)?))?;
-            options.push(SegOption::Eol)?;
+            options.push(SegOption::Eol)
         }
         19 => {
             options.push(SegOption::Sack(blocks(alloc, 1)?))?;
             options.push(SegOption::Sack(blocks(alloc, 2)?))?;
             options.push(SegOption::Mss(536))?;
-            options.push(SegOption::Mss(536))?;
+            options.push(SegOption::Mss(536))
         }
-        _ => {}
+        _ => Ok(()),
     }
-    Ok(options)
 }
 
 fn blocks(alloc: Global, count: u32) -> Result<SackBlocks, AllocError> {

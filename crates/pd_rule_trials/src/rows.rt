@@ -4,8 +4,8 @@ ghost use Rattle.std.specs.Prelude.{◌≤◌, length};
 use crate::cutting::cut_at_each;
 use crate::shown_lines::{cut, cut_at_mark};
 use crate::texts::text_of;
-use pd_explain::{Rule, event_rule, find_refusal, header_rule};
-use pd_run::{Verdict, find_stop, run_all};
+use pd_explain::{Refusal, Rule, event_rule, find_refusal, header_rule};
+use pd_run::{Stopped, Verdict, find_stop, run_all};
 use pd_script::{HeaderKind, MAX_EVENTS, Parsed, parse};
 use pd_settings::Settings;
 use pd_text::Lines;
@@ -51,9 +51,14 @@ fn rule_of(alloc: Global, script: &str) -> Result<String, AllocError> {
     }
     written.push_str(script)?;
     let lines = text_of(alloc, written.as_bytes())?;
-    match run_all(alloc, &lines, &Settings::new())? {
-        Verdict::Unsupported(line) => rule_at(alloc, &lines, "unsupported", line),
-        Verdict::Limit(line) => rule_at(alloc, &lines, "limit", line),
+    stopped(alloc, &lines)
+}
+
+/// The verdict of a script, and the rule by which it stops.
+fn stopped(alloc: Global, lines: &Lines) -> Result<String, AllocError> {
+    match run_all(alloc, lines, &Settings::new())? {
+        Verdict::Unsupported(line) => rule_at(alloc, lines, "unsupported", line),
+        Verdict::Limit(line) => rule_at(alloc, lines, "limit", line),
         Verdict::Pass(_) => String::from_str(alloc, "pass"),
         Verdict::Fail(line, _) => format!(in alloc; "fail {line}"),
         Verdict::Syntax(line) => format!(in alloc; "syntax {line}"),
@@ -92,31 +97,47 @@ fn rule_in(alloc: Global, parsed: &Parsed, line: usize) -> Result<Option<Rule>, 
     }
     match find_stop(alloc, parsed, &Settings::new(), line)? {
         None => Ok(None),
-        Some(stop) => match parsed.events.as_slice().get(stop.passed) {
-            None => Ok(None),
-            Some(event) => Ok(Some(event_rule(event, &stop))),
-        },
+        Some(stop) => Ok(rule_of_stop(parsed, &stop)),
     }
+}
+
+fn rule_of_stop(parsed: &Parsed, stop: &Stopped) -> Option<Rule> {
+    let event = parsed.events.as_slice().get(stop.passed)?;
+    Some(event_rule(event, stop))
 }
 
 /// The column at which a text is refused, what is left of the line there, and what could stand there.
 fn refused(alloc: Global, text: &[u8]) -> Result<String, AllocError> {
     let lines = text_of(alloc, text)?;
-    let Some(line) = parse(alloc, &lines)?.fault else {
-        return String::from_str(alloc, "a script");
-    };
-    let refusal = find_refusal(alloc, &lines, line)?;
-    let mut told = match refusal.mark {
-        None => format!(in alloc; "{line} end:")?,
-        Some(column) => format!(in alloc; "{line} column {column}:")?,
-    };
+    match parse(alloc, &lines)?.fault {
+        Some(line) => refused_in(alloc, &lines, line),
+        None => String::from_str(alloc, "a script"),
+    }
+}
+
+fn refused_in(alloc: Global, lines: &Lines, line: usize) -> Result<String, AllocError> {
+    let refusal = find_refusal(alloc, lines, line)?;
+    let mut told = place(alloc, line, refusal.mark)?;
+    put_expected(&mut told, &refusal)?;
+    Ok(told)
+}
+
+fn place(alloc: Global, line: usize, mark: Option<usize>) -> Result<String, AllocError> {
+    match mark {
+        None => format!(in alloc; "{line} end:"),
+        Some(column) => format!(in alloc; "{line} column {column}:"),
+    }
+}
+
+/// Adds what could stand there.
+fn put_expected(told: &mut String, refusal: &Refusal) -> Result<(), AllocError> {
     let mut separator = " ";
     for words in refusal.expected.as_slice() {
         told.push_str(separator)?;
         told.push_str(words)?;
         separator = " | ";
     }
-    Ok(told)
+    Ok(())
 }
 
 /// The same of a text after so many events.

@@ -14,14 +14,19 @@ pub fn cut(alloc: Global, line: &str) -> Result<String, AllocError> {
 pub fn cut_at_mark(alloc: Global, line: &str) -> Result<String, AllocError> {
     let mut shown = Vec::new(alloc);
     put_shown(&mut shown, line.as_bytes())?;
-    let mark = shown
-        .as_slice()
-        .iter()
-        .take_while(|octet| **octet != b'!')
-        .count();
-    let (cut, column) = cut_around(alloc, shown.as_slice(), mark)?;
+    let (cut, column) = cut_around(alloc, shown.as_slice(), mark_in(shown.as_slice()))?;
     let text = text_of(alloc, cut.as_slice())?;
     format!(in alloc; "{column} {text}")
+}
+
+/// How many octets stand before the first `!`.
+fn mark_in(octets: &[u8]) -> usize {
+    for (at, octet) in octets.iter().enumerate() {
+        if *octet == b'!' {
+            return at;
+        }
+    }
+    octets.len()
 }
 
 /// Octets of ASCII as a text.

@@ -6,7 +6,8 @@ use crate::measures::decimal_value;
 use crate::rereading::{edit_often, read_both};
 use crate::stops::Stop;
 use crate::texts::{line_list, many_of, octets_in, text};
-use pd_text::LineEdit;
+use pd_text::{LineEdit, Lines, TextFault};
+use std::alloc::Global;
 use std::fs;
 use std::rt::Files;
 
@@ -27,17 +28,28 @@ pub fn carry_out(
     let rest = rest.strip_prefix(' ').unwrap_or(rest);
     let (kind, numbers) = asked.split_once(' ').unwrap_or((asked, ""));
     if matches!(kind, "script" | "edit" | "edits") {
-        let (name, insert) = rest.split_once(' ').unwrap_or((rest, ""));
-        let script = fs::read(rt, name)?;
-        check_file(comparison, kind, numbers, script.as_slice(), insert)?;
+        check_file(rt, comparison, kind, numbers, rest)?;
     } else {
         check_row(comparison, kind, rest)?;
     }
     Ok(comparison.say("\n")?)
 }
 
-/// Checks a script and each way to cut or change it, or edits it as these numbers say.
+/// Checks the script of a file.
 fn check_file(
+    rt: &(impl Files + AllocGlobal),
+    comparison: &mut Comparison,
+    kind: &str,
+    numbers: &str,
+    rest: &str,
+) -> Result<(), Stop> {
+    let (name, insert) = rest.split_once(' ').unwrap_or((rest, ""));
+    let script = fs::read(rt, name)?;
+    check_script(comparison, kind, numbers, script.as_slice(), insert)
+}
+
+/// Checks a script and each way to cut or change it, or edits it as these numbers say.
+fn check_script(
     comparison: &mut Comparison,
     kind: &str,
     numbers: &str,
@@ -69,16 +81,26 @@ fn check_edit(
     insert: &str,
 ) -> Result<(), Stop> {
     let old = text(comparison.alloc, script)?;
-    let insert = line_list(comparison.alloc, insert.as_bytes())?;
+    let new = edited(comparison.alloc, &old, from, remove, insert)?;
+    let outcome = read_both(comparison.alloc, &old, &new)?;
+    Ok(comparison.say_edit(outcome)?)
+}
+
+/// A text after an edit.
+fn edited(
+    alloc: Global,
+    old: &Lines,
+    from: usize,
+    remove: usize,
+    insert: &str,
+) -> Result<Lines, TextFault> {
+    let insert = line_list(alloc, insert.as_bytes())?;
     let edit = LineEdit {
         from,
         remove,
         insert,
     };
-    let outcome = read_both(comparison.alloc, &old, &old.apply(&edit)?)?;
-    comparison.note_edit(outcome)?;
-    comparison.say_number(outcome.same)?;
-    Ok(comparison.say_number(outcome.kept)?)
+    old.apply(&edit)
 }
 
 /// Reads a text both ways, and says of it what is asked.

@@ -4,6 +4,7 @@ use crate::product::{Steps, parsed, stepped};
 use crate::rereading::Outcome;
 use crate::stops::Stop;
 use crate::texts::text;
+use pd_text::Lines;
 use std::alloc::{AllocError, Global};
 
 /// How many octets of differences are said, roughly.
@@ -37,14 +38,25 @@ impl Comparison {
     pub fn compare(&mut self, octets: &[u8]) -> Result<Reading, Stop> {
         let lines = text(self.alloc, octets)?;
         let slow = read(self.alloc, &lines)?;
-        let whole = parsed(self.alloc, &lines)?;
-        let steps = stepped(self.alloc, &lines)?;
-        self.texts = self.texts.saturating_add(1);
-        if !whole.is_same(&slow) || !steps.reading.is_same(&slow) {
-            self.wrong = self.wrong.saturating_add(1);
-            self.say_difference(octets, &slow, &whole, &steps.reading)?;
-        }
+        self.compare_product(octets, &lines, &slow)?;
         Ok(slow)
+    }
+
+    /// Compares what the product reads in a text with what the slow reader reads.
+    fn compare_product(
+        &mut self,
+        octets: &[u8],
+        lines: &Lines,
+        slow: &Reading,
+    ) -> Result<(), AllocError> {
+        let whole = parsed(self.alloc, lines)?;
+        let steps = stepped(self.alloc, lines)?;
+        self.texts = self.texts.saturating_add(1);
+        if whole.is_same(slow) && steps.reading.is_same(slow) {
+            return Ok(());
+        }
+        self.wrong = self.wrong.saturating_add(1);
+        self.say_difference(octets, slow, &whole, &steps.reading)
     }
 
     /// Reads a text both ways, and says what is read.
@@ -133,6 +145,13 @@ impl Comparison {
             self.say(" DIFFERS")?;
         }
         Ok(())
+    }
+
+    /// Notes an edit, and says how many first lines it left and how many events are kept.
+    pub fn say_edit(&mut self, outcome: Outcome) -> Result<(), AllocError> {
+        self.note_edit(outcome)?;
+        self.say_number(outcome.same)?;
+        self.say_number(outcome.kept)
     }
 
     /// Says how much was compared.

@@ -90,8 +90,13 @@ fn newlines_of(piece: &[u8]) -> usize {
 pub fn kinds_of(alloc: Global, octets: &[u8]) -> Result<String, Stop> {
     let lines = text(alloc, octets)?;
     let octets = octets_of(alloc, &lines)?;
+    let items = items(alloc, octets.as_slice(), lines.len())?;
+    Ok(names_of(alloc, items.as_slice())?)
+}
+
+fn names_of(alloc: Global, items: &[Item]) -> Result<String, AllocError> {
     let mut names = String::new(alloc);
-    for item in items(alloc, octets.as_slice(), lines.len())? {
+    for item in items {
         if let Item::Token(token) = item {
             names.push(' ')?;
             names.push_str(token.kind.name())?;

@@ -29,32 +29,42 @@ pub fn edit_often(comparison: &mut Comparison, script: &[u8], edits: usize) -> R
     let mut dice = Dice::new(20_261_123);
     let mut old = text(alloc, script)?;
     for _edit in 0..edits {
-        let edited = random_edit(alloc, &old, &mut dice)?;
-        let new = text(alloc, edited.as_slice())?;
+        let new = edited(alloc, &old, &mut dice)?;
         comparison.note_edit(read_both(alloc, &old, &new)?)?;
-        old = if dice.is_once_in(3) {
-            text(alloc, script)?
-        } else {
-            new
-        };
+        old = new;
+        if dice.is_once_in(3) {
+            old = text(alloc, script)?;
+        }
     }
     Ok(())
 }
 
+fn edited(alloc: Global, old: &Lines, dice: &mut Dice) -> Result<Lines, Stop> {
+    let octets = random_edit(alloc, old, dice)?;
+    Ok(text(alloc, octets.as_slice())?)
+}
+
 /// Reads a text, and an edited one again and whole; and behind that the first text once more.
 pub fn read_both(alloc: Global, old: &Lines, new: &Lines) -> Result<Outcome, Stop> {
-    let before = read(alloc, old)?;
-    let again = read_again(alloc, old, new)?;
-    let back = read_back(alloc, old, new)?;
-    let whole = read(alloc, new)?;
-    let same = old.same_front(new);
-    let is_right = is_same(&again.reading, &whole) && is_same(&back.reading, &before);
-    let is_kept = again.kept == counted(&before, same) && back.kept == counted(&whole, same);
+    let (kept, is_again) = check_again(alloc, &read_again(alloc, old, new)?, old, new)?;
+    let (_, is_back) = check_again(alloc, &read_back(alloc, old, new)?, new, old)?;
     Ok(Outcome {
-        same,
-        kept: again.kept,
-        is_right: is_right && is_kept,
+        same: old.same_front(new),
+        kept,
+        is_right: is_again && is_back,
     })
+}
+
+/// How many events were kept of a text, and whether the other is read as it is whole.
+fn check_again(
+    alloc: Global,
+    again: &Reread,
+    old: &Lines,
+    new: &Lines,
+) -> Result<(usize, bool), AllocError> {
+    let is_right = is_same(&again.reading, &read(alloc, new)?);
+    let kept = counted(&read(alloc, old)?, old.same_front(new));
+    Ok((kept, is_right && again.kept == kept))
 }
 
 /// Reads an edited text again.
