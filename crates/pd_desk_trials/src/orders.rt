@@ -89,17 +89,37 @@ fn try_order<R: Threads + Wait + Sync>(
     choices: &mut Choices,
 ) -> Result<bool, StoryFault> {
     let (desk, mut seats) = Desk::open(alloc, CACHE, Settings::new(), WORKERS, PLAYERS + 1)?;
-    let Some(mut seat) = seats.pop() else {
+    let Some(seat) = seats.pop() else {
         return Err(StoryFault::Missing);
     };
+    match play_all(rt, alloc, &desk, seats, seat, lists, choices)? {
+        Some((seats, last)) => is_closed(alloc, desk, seats, last.as_str()),
+        None => Ok(false),
+    }
+}
+
+/// Lets all players play while a seat looks on. All seats and the last report, if all answers were right and it is the
+/// one from scratch of all calls.
+fn play_all<R: Threads + Wait + Sync>(
+    rt: &R,
+    alloc: Global,
+    desk: &Desk,
+    seats: Vec<Seat>,
+    mut seat: Seat,
+    lists: &Lists,
+    choices: &mut Choices,
+) -> Result<Option<(Vec<Seat>, String)>, StoryFault> {
     let stage = Stage::new(alloc)?;
-    let played = play(rt, alloc, &desk, &stage, seats, &mut seat, lists, choices)?;
+    let played = play(rt, alloc, desk, &stage, seats, &mut seat, lists, choices)?;
     let Some((mut seats, wanted)) = played else {
-        return Ok(false);
+        return Ok(None);
     };
-    let last = show(rt, alloc, &desk, &mut seat)?;
+    let last = show(rt, alloc, desk, &mut seat)?;
+    if last.as_str() != wanted.as_str() {
+        return Ok(None);
+    }
     seats.push(seat).or(Err(StoryFault::OutOfMemory))?;
-    Ok(last.as_str() == wanted.as_str() && is_closed(alloc, desk, seats, last.as_str())?)
+    Ok(Some((seats, last)))
 }
 
 /// Lets all players play. Their seats and the report from scratch of all calls, if all answers were right.
@@ -132,6 +152,14 @@ fn play<'x, 'y, R: Threads + Wait + Sync>(
     let Some(wanted) = wanted? else {
         return Ok(None);
     };
+    match seats_of(alloc, played)? {
+        Some(seats) => Ok(Some((seats, wanted))),
+        None => Ok(None),
+    }
+}
+
+/// The seats of those that have played, if all gave them back.
+fn seats_of(alloc: Global, played: Vec<Played>) -> Result<Option<Vec<Seat>>, StoryFault> {
     let mut seats = Vec::new(alloc);
     for one in played {
         let Played { seat, said: _ } = one;
@@ -140,7 +168,7 @@ fn play<'x, 'y, R: Threads + Wait + Sync>(
         };
         seats.push(seat).or(Err(StoryFault::OutOfMemory))?;
     }
-    Ok(Some((seats, wanted)))
+    Ok(Some(seats))
 }
 
 /// A player at each of these seats.

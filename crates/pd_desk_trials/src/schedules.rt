@@ -68,12 +68,23 @@ fn try_input(
     let input = random_input(alloc, dice, COMMANDS)?;
     let mut reader = SlowReader::new(input.settled.as_slice(), 0);
     let alone = served_alone(alloc, &mut reader);
-    let mut reader = SlowReader::new(input.octets.as_slice(), gate.seed);
-    let served = served_beside(rt, alloc, &mut reader, workers, &gate);
-    if !is_served(&served, &alone, input.is_settled.as_slice()) {
+    if !is_served_beside(rt, &gate, workers, &input, &alone) {
         return Ok(Err(Difference("what is served")));
     }
     try_desk(rt, &gate, workers, &input, &alone)
+}
+
+/// Whether commands are served beside so many workers as they are without threads.
+fn is_served_beside(
+    rt: &(impl AllocGlobal + Threads + Wait + Sync),
+    gate: &Delays,
+    workers: u8,
+    input: &Input,
+    alone: &Served,
+) -> bool {
+    let mut reader = SlowReader::new(input.octets.as_slice(), gate.seed);
+    let served = served_beside(rt, rt.alloc(), &mut reader, workers, gate);
+    is_served(&served, alone, input.is_settled.as_slice())
 }
 
 /// Opens a desk for so many workers, serves the commands while they run, and closes it.
@@ -86,24 +97,39 @@ fn try_desk(
 ) -> Result<Result<(), Difference>, AllocError> {
     let alloc = rt.alloc();
     let workers = usize::from(workers);
-    let (desk, seats) = Desk::open(alloc, CACHE, Settings::new(), workers, workers + 1)?;
-    let mut seats = seats;
-    let Some(mut seat) = seats.pop() else {
+    let (desk, mut seats) = Desk::open(alloc, CACHE, Settings::new(), workers, workers + 1)?;
+    let Some(seat) = seats.pop() else {
         return Ok(Err(Difference("the number of seats")));
     };
-    let octets = input.octets.as_slice();
-    let Some(pooled) = serve_seated(rt, alloc, &desk, gate, seats, &mut seat, octets) else {
-        return Err(AllocError);
-    };
-    if pooled.left.is_err() || !is_served(&pooled.said, alone, input.is_settled.as_slice()) {
+    let Some(seats) = serve_all(rt, &desk, gate, seats, seat, input, alone)? else {
         return Ok(Err(Difference("what a seat is served")));
-    }
-    let mut seats = pooled.seats;
-    seats.push(seat)?;
+    };
     match desk.close(seats) {
         Ok(book) => compare_history(alloc, &book, alone),
         Err(_) => Ok(Err(Difference("the closing"))),
     }
+}
+
+/// Serves the commands at a seat while workers run at the others: all seats, if it is served as without threads.
+fn serve_all(
+    rt: &(impl AllocGlobal + Threads + Wait + Sync),
+    desk: &Desk,
+    gate: &Delays,
+    seats: Vec<Seat>,
+    mut seat: Seat,
+    input: &Input,
+    alone: &Served,
+) -> Result<Option<Vec<Seat>>, AllocError> {
+    let octets = input.octets.as_slice();
+    let Some(pooled) = serve_seated(rt, rt.alloc(), desk, gate, seats, &mut seat, octets) else {
+        return Err(AllocError);
+    };
+    if pooled.left.is_err() || !is_served(&pooled.said, alone, input.is_settled.as_slice()) {
+        return Ok(None);
+    }
+    let mut seats = pooled.seats;
+    seats.push(seat)?;
+    Ok(Some(seats))
 }
 
 /// Compares a closed book's report and that of its history, made again, with the last that was written without threads.
@@ -112,15 +138,20 @@ fn compare_history(
     book: &Book,
     alone: &Served,
 ) -> Result<Result<(), Difference>, AllocError> {
-    let wanted = alone.octets.as_slice();
-    let shown = render(alloc, &book.show()?)?;
-    if !wanted.ends_with(shown.as_slice()) {
+    if !is_last(alloc, book, alone)? {
         return Ok(Err(Difference("the closed book")));
     }
-    let Some(again) = made_again(alloc, book.history())? else {
-        return Ok(Err(Difference("an act")));
-    };
-    let shown = render(alloc, &again.show()?)?;
-    let is_same = wanted.ends_with(shown.as_slice());
-    Ok(must(is_same, "the report of the history"))
+    match made_again(alloc, book.history())? {
+        Some(again) => {
+            let is_same = is_last(alloc, &again, alone)?;
+            Ok(must(is_same, "the report of the history"))
+        }
+        None => Ok(Err(Difference("an act"))),
+    }
+}
+
+/// Whether a book's report is the last that was written.
+fn is_last(alloc: Global, book: &Book, alone: &Served) -> Result<bool, AllocError> {
+    let shown = render(alloc, &book.show()?)?;
+    Ok(alone.octets.as_slice().ends_with(shown.as_slice()))
 }

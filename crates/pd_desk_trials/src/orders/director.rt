@@ -183,16 +183,20 @@ impl<'a, 'b, R: Wait> Director<'a, 'b, R> {
                 Some(caller) => caller.open.take(),
                 None => None,
             };
-            let is_right = match open {
-                Some(open) if open.is_settle => self.is_report(said.as_str(), open.before)?,
-                Some(open) => said.as_str() == open.said.as_str(),
-                None => false,
-            };
-            if !is_right {
+            if !self.is_right(said.as_str(), &open)? {
                 return Ok(false);
             }
         }
         Ok(true)
+    }
+
+    /// Whether this is right as the answer to a call.
+    fn is_right(&self, said: &str, open: &Option<Open>) -> Result<bool, StoryFault> {
+        match open {
+            Some(open) if open.is_settle => self.is_report(said, open.before),
+            Some(open) => Ok(said == open.said.as_str()),
+            None => Ok(false),
+        }
     }
 
     /// Whether this is the report from scratch of so many calls or more.

@@ -50,6 +50,24 @@ impl Hand {
         Ok(said.as_str() != "none")
     }
 
+    /// Makes the first so many of these calls, and all jobs.
+    fn work_off<R: Wait>(
+        &mut self,
+        rt: &R,
+        calls: &[&'static str],
+        count: usize,
+    ) -> Result<(), StoryFault> {
+        for call in calls.iter().take(count) {
+            self.call(rt, *call)?;
+        }
+        for job in 1..=calls.len() as u64 {
+            if self.start(rt)? {
+                self.finish(rt, job)?;
+            }
+        }
+        Ok(())
+    }
+
     /// Finishes a job.
     pub fn finish<R: Wait>(&mut self, rt: &R, job: u64) -> Result<String, StoryFault> {
         self.table.finish(rt, &self.desk, 0, job as usize)
@@ -64,13 +82,6 @@ pub fn scratch<R: Wait>(
     count: usize,
 ) -> Result<String, StoryFault> {
     let mut hand = Hand::open(alloc)?;
-    for call in calls.iter().take(count) {
-        hand.call(rt, *call)?;
-    }
-    for job in 1..=calls.len() as u64 {
-        if hand.start(rt)? {
-            hand.finish(rt, job)?;
-        }
-    }
+    hand.work_off(rt, calls, count)?;
     hand.call(rt, "show")
 }

@@ -59,20 +59,31 @@ impl Table {
         &mut self,
         rt: &R,
         desk: &Desk,
+        words: Words<'_>,
+    ) -> Result<String, StoryFault> {
+        let progress = Progress::new();
+        let said = self.call_beside(rt, desk, &progress, words)?;
+        if progress.late.load(Ordering::SeqCst) != 0 {
+            return Ok(joined(self.alloc, &["late; ", said.as_str()])?);
+        }
+        Ok(said)
+    }
+
+    /// Makes the calls beside the threads, and takes the seats back.
+    fn call_beside<R: Threads + Wait + Sync>(
+        &mut self,
+        rt: &R,
+        desk: &Desk,
+        progress: &Progress,
         mut words: Words<'_>,
     ) -> Result<String, StoryFault> {
         let alloc = self.alloc;
-        let letters = words.word();
-        let progress = Progress::new();
-        let waiters = self.waiters(rt, desk, &progress, letters)?;
-        let mut workers = 0u64;
-        for waiter in &waiters {
-            workers = workers.wrapping_add(u64::from(waiter.way.is_work()));
-        }
+        let waiters = self.waiters(rt, desk, progress, words.word())?;
+        let workers = workers_among(waiters.as_slice());
         let calls = Calls {
             rt,
             desk,
-            progress: &progress,
+            progress,
             table: &mut *self,
             calls: words.rest(),
             workers,
@@ -81,11 +92,7 @@ impl Table {
         let Some((played, said)) = run_among(rt, alloc, waiters, calls) else {
             return Err(StoryFault::OutOfMemory);
         };
-        let said = self.take_back(played, said?)?;
-        if progress.late.load(Ordering::SeqCst) != 0 {
-            return Ok(joined(alloc, &["late; ", said.as_str()])?);
-        }
-        Ok(said)
+        self.take_back(played, said?)
     }
 
     /// A thread's part for each letter, at the seats that are away.
@@ -120,27 +127,14 @@ impl Table {
 
     /// Takes seats back, and tells what was said beside them and there.
     fn take_back(&mut self, played: Vec<Played>, said: String) -> Result<String, StoryFault> {
-        let mut text = said;
-        let mut refused = None;
-        for one in &played {
-            match &one.said {
-                Ok(said) => {
-                    text.push_str("; ")?;
-                    text.push_str(said.as_str())?;
-                }
-                Err(fault) => refused = Some(*fault),
-            }
-        }
+        let told = with_played(said, played.as_slice());
         for one in played.into_iter().rev() {
             let Played { seat, said: _ } = one;
             if let Some(seat) = seat {
                 self.away.push(seat).or(Err(StoryFault::OutOfMemory))?;
             }
         }
-        match refused {
-            None => Ok(text),
-            Some(fault) => Err(fault),
-        }
+        told
     }
 
     /// Makes calls that are parted by `; `, and gives their answers so.
@@ -167,4 +161,27 @@ impl Table {
         }
         let _ = desk.set(rt, seat, b"nagle", Value::Truth(true));
     }
+}
+
+fn workers_among<R>(waiters: &[Waiter<'_, R>]) -> u64 {
+    let mut workers = 0u64;
+    for waiter in waiters {
+        workers = workers.wrapping_add(u64::from(waiter.way.is_work()));
+    }
+    workers
+}
+
+/// Adds what was said at seats, where nothing was refused there.
+fn with_played(said: String, played: &[Played]) -> Result<String, StoryFault> {
+    let mut text = said;
+    for one in played {
+        match &one.said {
+            Ok(said) => {
+                text.push_str("; ")?;
+                text.push_str(said.as_str())?;
+            }
+            Err(fault) => return Err(*fault),
+        }
+    }
+    Ok(text)
 }

@@ -8,7 +8,7 @@ use pd_book::BookFault;
 use pd_desk::{Desk, DeskFault};
 use pd_seat::Seat;
 use pd_settings::Value;
-use pd_text::{LineEdit, Lines};
+use pd_text::Lines;
 use std::alloc::{AllocError, Global};
 use std::sync::Wait;
 
@@ -27,16 +27,8 @@ impl Table {
             return Err(StoryFault::Missing);
         };
         match word {
-            "add" => {
-                let name = name(alloc, words.word().as_bytes())?;
-                let lines = written(alloc, self.texts.as_slice(), words.word())?;
-                Ok(changed(alloc, desk.add(rt, seat, name, lines))?)
-            }
-            "edit" => {
-                let name = name(alloc, words.word().as_bytes())?;
-                let change = change(alloc, words)?;
-                Ok(changed(alloc, desk.edit(rt, seat, &name, &change))?)
-            }
+            "add" => add(rt, alloc, desk, seat, self.texts.as_slice(), words),
+            "edit" => change(rt, alloc, desk, seat, words),
             "remove" => {
                 let name = name(alloc, words.word().as_bytes())?;
                 Ok(changed(alloc, desk.remove(rt, seat, &name))?)
@@ -64,11 +56,33 @@ fn written(alloc: Global, texts: &[Written], word: &str) -> Result<Lines, StoryF
     Err(StoryFault::Missing)
 }
 
-/// The words that are left as an edit: its first line, how many lines go, and the line that comes.
-fn change(alloc: Global, mut words: Words<'_>) -> Result<LineEdit, StoryFault> {
+/// Adds a script, of a text that was written.
+fn add<R: Wait>(
+    rt: &R,
+    alloc: Global,
+    desk: &Desk,
+    seat: &mut Seat,
+    texts: &[Written],
+    mut words: Words<'_>,
+) -> Result<String, StoryFault> {
+    let name = name(alloc, words.word().as_bytes())?;
+    let lines = written(alloc, texts, words.word())?;
+    Ok(changed(alloc, desk.add(rt, seat, name, lines))?)
+}
+
+/// Edits a script: the words tell the first line, how many lines go, and the line that comes.
+fn change<R: Wait>(
+    rt: &R,
+    alloc: Global,
+    desk: &Desk,
+    seat: &mut Seat,
+    mut words: Words<'_>,
+) -> Result<String, StoryFault> {
+    let name = name(alloc, words.word().as_bytes())?;
     let from = words.number()?;
     let remove = words.number()?;
-    Ok(edit(alloc, from, remove, words.rest().as_bytes())?)
+    let edit = edit(alloc, from, remove, words.rest().as_bytes())?;
+    Ok(changed(alloc, desk.edit(rt, seat, &name, &edit))?)
 }
 
 /// `ok`, or the refusal of a change.

@@ -8,6 +8,8 @@ use crate::watched::{Short, Unwatched, work};
 use pd_book::{FinishFault, Job, Ruling, run_job};
 use pd_desk::{Desk, OpenGate};
 use pd_run::{Plain, Stepper};
+use pd_seat::Seat;
+use std::alloc::Global;
 use std::sync::Wait;
 use std::sync::atomic::Ordering;
 
@@ -145,25 +147,38 @@ impl Table {
             return Err(StoryFault::Missing);
         };
         let gate = StoryGate::new(rt, desk, robber);
-        let left = work(rt, alloc, desk, seat, &gate, &gate)?;
-        let before = decimal(alloc, gate.before.load(Ordering::SeqCst))?;
-        let after = decimal(alloc, gate.after.load(Ordering::SeqCst))?;
+        let left = work_noted(rt, alloc, desk, seat, &gate, how);
         let StoryGate { robber, .. } = gate;
         if let Some(seat) = robber.into_inner() {
             self.away.push(seat).or(Err(StoryFault::OutOfMemory))?;
         }
-        if how != "noted" {
-            return Ok(left);
-        }
-        let pieces = [
-            left.as_str(),
-            ", steps ",
-            before.as_str(),
-            " to ",
-            after.as_str(),
-        ];
-        Ok(joined(alloc, &pieces)?)
+        left
     }
+}
+
+/// Works by this gate, and tells how many steps were taken where that is asked for.
+fn work_noted<R: Wait>(
+    rt: &R,
+    alloc: Global,
+    desk: &Desk,
+    seat: &mut Seat,
+    gate: &StoryGate<'_, R>,
+    how: &str,
+) -> Result<String, StoryFault> {
+    let left = work(rt, alloc, desk, seat, gate, gate)?;
+    if how != "noted" {
+        return Ok(left);
+    }
+    let before = decimal(alloc, gate.before.load(Ordering::SeqCst))?;
+    let after = decimal(alloc, gate.after.load(Ordering::SeqCst))?;
+    let pieces = [
+        left.as_str(),
+        ", steps ",
+        before.as_str(),
+        " to ",
+        after.as_str(),
+    ];
+    Ok(joined(alloc, &pieces)?)
 }
 
 /// Why a job isn't ended, which is never want of memory at the seat that started it.

@@ -227,14 +227,25 @@ fn is_changed<R: Wait>(
     own: &[u8],
     way: Way,
 ) -> Result<bool, StoryFault> {
-    let lines = text(alloc, "0 socket(..., SOCK_STREAM, IPPROTO_TCP) = 3")?;
-    let is_added = desk.add(rt, seat, name(alloc, own)?, lines).is_ok();
+    let is_added = is_added(rt, alloc, desk, seat, own)?;
     let script = name(alloc, own)?;
     let is_edited = match way {
         Way::Change => is_edited(rt, alloc, desk, seat, &script)?,
         _ => true,
     };
     Ok(is_added && is_edited && desk.remove(rt, seat, &script).is_ok())
+}
+
+/// Adds a script; whether it isn't refused.
+fn is_added<R: Wait>(
+    rt: &R,
+    alloc: Global,
+    desk: &Desk,
+    seat: &mut Seat,
+    own: &[u8],
+) -> Result<bool, StoryFault> {
+    let lines = text(alloc, "0 socket(..., SOCK_STREAM, IPPROTO_TCP) = 3")?;
+    Ok(desk.add(rt, seat, name(alloc, own)?, lines).is_ok())
 }
 
 /// Edits a script, and starts and gives up a job; whether nothing is refused.
