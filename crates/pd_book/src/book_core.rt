@@ -15,6 +15,7 @@ ghost use Rattle.pd_book.specs.Refusals.{full, add_refusal, text_refusal, edit_r
 mod jobs;
 
 use crate::act::Act;
+use crate::facts::{acts_are_legal, edits_insert_lines, texts_have_lines};
 use crate::faults::BookFault;
 use crate::recording::{Records, record};
 use crate::report::Report;
@@ -167,7 +168,7 @@ impl Book {
         let Some(text) = text else {
             return Err(BookFault::OutOfMemory);
         };
-        let _first = text.lines().line(1);
+        texts_have_lines(&text);
         self.records.acts.reserve(self.records.tasks.len() + 1)?;
         let act = Act::Add(name.share()?, text.share()?);
         self.records.scripts.add(name, text)?;
@@ -210,7 +211,7 @@ impl Book {
         ensures err { IfErr result (λ e. text_refusal (present self.now.story.past name.now) edit.now ≡ Some e) }
         ensures lines { AreLines edit.now.insert }
     {
-        let _lines = edit.insert.len();
+        edits_insert_lines(edit);
         let Some(text) = self.text(name) else {
             return Err(BookFault::NoSuchScript);
         };
@@ -355,7 +356,7 @@ impl Book {
         ensures scratch { IfOk result (λ report. ScratchWhenAllAnswered self.now.story.opening self.now.story.past report) }
         ensures rows { IfOk result (λ report. RowsAreOfScratch self.now.story.opening self.now.story.past report) }
     {
-        let _acts = self.history();
+        acts_are_legal(self);
         self.report()
     }
 

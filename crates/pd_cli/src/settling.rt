@@ -10,7 +10,7 @@ use crate::command::Command;
 use crate::faults::ServeFault;
 use crate::listening::Listener;
 use crate::rendering::{Class, render};
-use pd_book::{Book, BookFault, Report, run_job, settling};
+use pd_book::{Book, BookFault, Report, acts_are_legal, run_job, settling};
 use pd_run::{Plain, Stepper};
 use std::alloc::{AllocError, Global};
 
@@ -21,7 +21,7 @@ pub fn at_rest(book: &Book)
     ensures starts { StartsAreOutstanding book.now.story }
     ensures settles { SettlesAll book.now.story }
 {
-    let _acts = book.history();
+    acts_are_legal(book);
     settling();
 }
 

@@ -13,7 +13,9 @@ use crate::comparing::is_own;
 use crate::faults::ShowFault;
 use crate::recording::{drop_job, make_room, note, record};
 use crate::seat::Seat;
-use pd_book::{Act, Book, BookFault, Done, FinishFault, Job, Report, Ruling, SharedEdit};
+use pd_book::{
+    Act, Book, BookFault, Done, FinishFault, Job, Report, Ruling, SharedEdit, acts_are_legal,
+};
 use pd_settings::{Key, Settings, Value};
 use pd_text::{LineEdit, Lines, Name, Text};
 use pd_track::Track;
@@ -90,7 +92,7 @@ impl Held {
         let text = Text::new(*self.notes.allocator(), lines)?;
         let act = Act::Add(name.share()?, text.share()?);
         self.book.add_shared(name, text)?;
-        let _acts = self.book.history();
+        acts_are_legal(&self.book);
         note(&mut self.notes, seat.number);
         record(&mut seat.own, act);
         Ok(())
@@ -128,7 +130,7 @@ impl Held {
         seat.own.reserve(seat.open_jobs.len() + 1)?;
         let act = Act::Edit(self.book.kept_name(name)?, edit.share()?);
         self.book.edit_shared(name, edit)?;
-        let _acts = self.book.history();
+        acts_are_legal(&self.book);
         note(&mut self.notes, seat.number);
         record(&mut seat.own, act);
         Ok(())
@@ -149,7 +151,7 @@ impl Held {
         seat.own.reserve(seat.open_jobs.len() + 1)?;
         let act = Act::Remove(self.book.kept_name(name)?);
         self.book.remove(name)?;
-        let _acts = self.book.history();
+        acts_are_legal(&self.book);
         note(&mut self.notes, seat.number);
         record(&mut seat.own, act);
         Ok(())
@@ -172,7 +174,7 @@ impl Held {
         let Some(key) = Key::named(key) else {
             return Ok(());
         };
-        let _acts = self.book.history();
+        acts_are_legal(&self.book);
         note(&mut self.notes, seat.number);
         record(&mut seat.own, Act::Set(key, value));
         Ok(())
@@ -208,7 +210,7 @@ impl Held {
         let Some(job) = self.book.start()? else {
             return Ok(None);
         };
-        let _acts = self.book.history();
+        acts_are_legal(&self.book);
         if let Some(act) = act {
             note(&mut self.notes, seat.number);
             record(&mut seat.own, act);
@@ -235,7 +237,7 @@ impl Held {
         }
         make_room(&mut seat.own, seat.open_jobs.as_slice(), done.number())?;
         let ruling = self.book.finish(done)?;
-        let _acts = self.book.history();
+        acts_are_legal(&self.book);
         note(&mut self.notes, seat.number);
         record(&mut seat.own, Act::Finish(done.number(), ruling));
         drop_job(&mut seat.open_jobs, done.number());
@@ -268,7 +270,7 @@ impl Held {
         }
         make_room(&mut seat.own, seat.open_jobs.as_slice(), number)?;
         self.book.abandon(number)?;
-        let _acts = self.book.history();
+        acts_are_legal(&self.book);
         note(&mut self.notes, seat.number);
         record(&mut seat.own, Act::Abandon(number));
         drop_job(&mut seat.open_jobs, number);

@@ -23,6 +23,15 @@ pub struct Progress {
     pub checkpoints: SharedList<Checkpoint>,
 }
 
+/// What a run came to, and its states on the way.
+#[derive(Drop)]
+pub struct Ended {
+    /// The verdict.
+    pub verdict: Verdict,
+    /// The states after each fourth event that passed, in order.
+    pub checkpoints: SharedList<Checkpoint>,
+}
+
 impl Progress {
     /// Before the first event.
     pub fn new(alloc: Global, state: RunState) -> Progress
@@ -42,29 +51,41 @@ impl Progress {
     /// # Errors
     /// `AllocError` where the stepper answers it, or memory for a kept state is refused.
     pub fn run<S: Stepper>(
-        &mut self,
+        mut self,
         events: &SharedList<Decided>,
         settings: &Settings,
         stepper: &mut S,
-    ) -> Result<Verdict, AllocError>
-        requires fourth { self.old.passed % 4 ≡ 0 }
-        requires within { self.old.passed ≤ length events.now }
+    ) -> Result<Ended, AllocError>
+        requires fourth { self.passed % 4 ≡ 0 }
+        requires within { self.passed ≤ length events.now }
         requires few { length events.now ≤ 4096 }
-        requires underway { IsUnderway self.old.passed self.old.state }
+        requires underway { IsUnderway self.passed self.state }
         requires room { S.counted stepper.old + length events.now < 2 ^ 64 }
-        ensures verdict { IfOk result (λ verdict. verdict ≡ verdict_from self.old.passed (events_behind self.old.passed events.now) self.old.state) }
-        ensures steps { OnOk result (S.counted stepper.new ≡ S.counted stepper.old + stepped_from (events_behind self.old.passed events.now) self.old.state) }
+        ensures verdict { IfOk result (λ ended. ended.verdict ≡ verdict_from self.passed (events_behind self.passed events.now) self.state) }
+        ensures checkpoints { IfOk result (λ ended. ended.checkpoints ≡ self.checkpoints ++ fourths 3 (states_from (events_behind self.passed events.now) self.state)) }
+        ensures steps { OnOk result (S.counted stepper.new ≡ S.counted stepper.old + stepped_from (events_behind self.passed events.now) self.state) }
         ensures few { OnOk result (S.counted stepper.new ≤ S.counted stepper.old + length events.now) }
-        ensures checkpoints { OnOk result (self.new.checkpoints ≡ self.old.checkpoints ++ fourths 3 (states_from (events_behind self.old.passed events.now) self.old.state)) }
     {
         runs_are_bounded();
         for i in self.passed..events.len() {
             match stepper.step(&mut self.state, &events.at(i).event, settings)? {
                 StepEnd::Go => self.pass()?,
-                StepEnd::Stop(verdict) => return Ok(verdict),
+                StepEnd::Stop(verdict) => return Ok(self.end(verdict)),
             }
         }
-        Ok(Verdict::Pass(self.passed))
+        let passed = self.passed;
+        Ok(self.end(Verdict::Pass(passed)))
+    }
+
+    /// The run has ended.
+    fn end(self, verdict: Verdict) -> Ended
+        ensures verdict { result.verdict ≡ verdict }
+        ensures checkpoints { result.checkpoints ≡ self.checkpoints }
+    {
+        Ended {
+            verdict,
+            checkpoints: self.checkpoints,
+        }
     }
 
     /// One more event has passed: each fourth state is kept.

@@ -115,11 +115,10 @@ fn go_on<S: Stepper>(
 {
     readings();
     runs_only_use();
-    let mut progress = progress;
-    let verdict = progress.run(reading.events(), &job.settings(), stepper)?;
+    let ended = progress.run(reading.events(), &job.settings(), stepper)?;
     Ok(Outcome {
-        verdict,
+        verdict: ended.verdict,
         reading,
-        checkpoints: progress.checkpoints,
+        checkpoints: ended.checkpoints,
     })
 }

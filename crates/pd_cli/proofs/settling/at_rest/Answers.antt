@@ -1,10 +1,10 @@
 use Rattle.pd_cli.proofs.settling.at_rest.Goals as goal
 
 pub returns-clause-turns : goal.returns-clause-turns
-returns-clause-turns c = c.settling.ensures.turns c.args.book.now.story.opening c.args.book.now.story.past c.history-acts.ensures.legal
+returns-clause-turns c = c.settling.ensures.turns c.args.book.now.story.opening c.args.book.now.story.past c.acts_are_legal.ensures
 
 pub returns-clause-starts : goal.returns-clause-starts
-returns-clause-starts c = c.settling.ensures.starts c.args.book.now.story c.history-acts.ensures.legal
+returns-clause-starts c = c.settling.ensures.starts c.args.book.now.story c.acts_are_legal.ensures
 
 pub returns-clause-settles : goal.returns-clause-settles
-returns-clause-settles c = c.settling.ensures.settles c.args.book.now.story (record { legal = c.history-acts.ensures.legal; none = c.requires })
+returns-clause-settles c = c.settling.ensures.settles c.args.book.now.story (record { legal = c.acts_are_legal.ensures; none = c.requires })

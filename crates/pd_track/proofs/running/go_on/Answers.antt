@@ -8,18 +8,18 @@ use Rattle.pd_track.proofs.Went.{Whole, whole, drop_map}
 use Rattle.pd_track.proofs.running.go_on.Given as given
 use Rattle.pd_track.proofs.running.go_on.Goals as goal
 
-came : (g : given.Over) (c : goal.After-drop-progress-3 g) → Whole c.args.job.now c.in_ok-verdict.verdict c.args.reading c.run.new.self.checkpoints (stepped_from (events_behind c.args.progress.passed c.events.result.now) c.args.progress.state)
+came : (g : given.Over) (c : goal.In_ok-ended g) → Whole c.args.job.now c.in_ok-ended.ended.verdict c.args.reading c.in_ok-ended.ended.checkpoints (stepped_from (events_behind c.args.progress.passed c.events.result.now) c.args.progress.state)
 came g c =
     let rest : events_behind c.args.progress.passed c.events.result.now ≡ drop c.args.progress.passed (script_events c.args.job.now.task.text) =
     drop_map c.args.progress.passed c.events.result.now
     ∙ (ap (λ ds. drop c.args.progress.passed (events_of ds)) (c.events.ensures.value ∙ ap (λ (r : DecidedScript). r.events) c.requires.reading)
     ∙ ap (λ (p : Parsed). drop c.args.progress.passed p.events) (c.readings.ensures c.args.job.now.task.text)) in
-    whole c.runs_only_use.ensures.notes c.args.job.now c.args.reading c.args.progress.passed c.args.progress.state c.args.progress.checkpoints c.run.new.self.checkpoints
-    (events_behind c.args.progress.passed c.events.result.now) c.in_ok-verdict.verdict (stepped_from (events_behind c.args.progress.passed c.events.result.now) c.args.progress.state)
-    c.requires.reading rest c.requires.passed c.requires.resumes c.in_ok-verdict.ensures.verdict c.in_ok-verdict.ensures.checkpoints refl
+    whole c.runs_only_use.ensures.notes c.args.job.now c.args.reading c.args.progress.passed c.args.progress.state c.args.progress.checkpoints c.in_ok-ended.ended.checkpoints
+    (events_behind c.args.progress.passed c.events.result.now) c.in_ok-ended.ended.verdict (stepped_from (events_behind c.args.progress.passed c.events.result.now) c.args.progress.state)
+    c.requires.reading rest c.requires.passed c.requires.resumes c.in_ok-ended.ensures.verdict c.in_ok-ended.ensures.checkpoints refl
 
 pub returns-clause-outcome : goal.returns-clause-outcome
 returns-clause-outcome g c = (came g c).outcome
 
 pub returns-clause-steps : goal.returns-clause-steps
-returns-clause-steps g c = c.in_ok-verdict.ensures.steps ∙ ap (λ n. g.S.Stepper.counted c.args.stepper.now + n) (came g c).steps
+returns-clause-steps g c = c.in_ok-ended.ensures.steps ∙ ap (λ n. g.S.Stepper.counted c.args.stepper.now + n) (came g c).steps

@@ -1,9 +1,8 @@
 -- A name that does not stand is not kept, and the book after an add is the replay of its acts.
-use Rattle.std.proofs.Common.{◌≡◌, ◌∙◌, ◌+◌, ◌≤◌, ◌<◌, List, refl, false, None, length, ap, sym, subst, reverse, arith, rules, ℕ}
+use Rattle.std.proofs.Common.{◌≡◌, ◌∙◌, ◌+◌, ◌≤◌, ◌<◌, refl, false, None, length, ap, sym, reverse, arith, rules}
 use Rattle.std.proofs.lemmas.List.{length-reverse}
 use Rattle.pd_book.specs.declared.act.Act.TheVariants as act
 use Rattle.pd_book.specs.Acts.{texts, stands}
-use Rattle.pd_book.specs.Legal.{IsText}
 use Rattle.pd_book.specs.Story.{Contents}
 use Rattle.pd_book.specs.Refusals.{full, taken_room}
 use Rattle.pd_book.proofs.Calls.{recorded, has_room}
@@ -20,7 +19,6 @@ invariant_of-self-2 c =
     let acts = c.self.inside.records.acts.items in
     let name = c.args.name in
     let text = c.in-Some-text.text in
-    let fits : IsText text = subst (λ (lines : List (List ℕ)). IsText lines) c.lines.ensures (c.line-first.ensures.fits, c.line-first.ensures.lines) in
     let free : full 1 c.args.self.now.story ≡ None = search rules in
     let room = has_room 1 c.args.self.now.story free in
     let few : length (reverse acts) + length c.self.inside.records.tasks.items + 1 ≤ 65536 = omega (arith, ap length c.self.invariant.tasks, ap (λ (x : Contents). taken_room x.story) c.self.view_is, room) in
@@ -28,7 +26,7 @@ invariant_of-self-2 c =
     let count : length (texts (reverse acts)) < 1024 = omega (arith, ap (λ (s : Contents). length (texts s.story.past)) c.self.view_is, c.count.ensures, c.if-count-ge-MAX_SCRIPTS.false) in
     recorded c.self.inside.opening (reverse acts) _ c.self.inside.settings _ c.self.inside.records.scripts _ c.self.inside.records.tasks.items c.self.inside.numbers _ _ (act.Add name text)
     c.self.invariant
-    (sym c.is_valid.ensures ∙ c.if-not-is_valid.false, absent, count, fits)
+    (sym c.is_valid.ensures ∙ c.if-not-is_valid.false, absent, count, c.texts_have_lines.ensures)
     refl refl c.self.invariant.settings
     (c.in_ok-add.ensures.ok ∙ cc (c.self.invariant.scripts))
     (c.record.ensures.past ∙ cc (c.in_ok-reserve.ensures.items, c.in_ok-share.ensures, c.in_ok-share-2.ensures))

@@ -11,7 +11,7 @@ fact_of P value (Ok x) e h = subst P (sym e) h
 fact_of P value (Err x) e h = tt
 
 pub returns-clause-current : goal.returns-clause-current
-returns-clause-current c = fact_of _ _ c.report.result c.report.ensures (current c.args.self.now.story.opening c.args.self.now.story.past c.history-acts.ensures.legal)
+returns-clause-current c = fact_of _ _ c.report.result c.report.ensures (current c.args.self.now.story.opening c.args.self.now.story.past c.acts_are_legal.ensures)
 
 pub returns-clause-scripts : goal.returns-clause-scripts
 returns-clause-scripts c = fact_of _ _ c.report.result c.report.ensures (rows_are_scripts c.args.self.now.story.opening c.args.self.now.story.past)
