@@ -1,6 +1,6 @@
 -- What steps of recorded events leave, and which packet leaves next.
 use Rattle.std.proofs.Common.{◌≡◌, ℕ, suc, ◌+◌, ◌-◌, ◌<◌, ◌≤◌, ◌==◌, max, nat_le, Bool, true, false, not, if◌then◌else◌, Option, Some, None, List, [], ◌∷◌, ◌++◌, length, slice_get, Result, Ok, Err, refl, sym, ap, subst, ◌∙◌, ◌⊎◌, inl, inr, rules, arith}
-use Rattle.std.specs.Prelude.{IfSome}
+use Rattle.std.specs.Prelude.{IfSome, option_and_then}
 use Rattle.std.proofs.lemmas.Bool.{le-leb}
 use Rattle.pd_script.specs.declared.timing.Time.{Time}
 use Rattle.pd_script.specs.declared.calls.Call.{Call}
@@ -11,7 +11,7 @@ use Rattle.pd_script.specs.declared.script_events.Event.{Event}
 use Rattle.pd_seg.specs.declared.answers.Answer.{Answer}
 use Rattle.pd_seg.specs.declared.segments.Sent.{Sent}
 use Rattle.pd_host.specs.ControlBlock.{ControlBlock}
-use Rattle.pd_host.specs.Expiries.{advanced, deadline_of, deadline_on, due_by, expired, segment_again}
+use Rattle.pd_host.specs.Expiries.{advanced, deadline_of, due_by, expired, segment_again}
 use Rattle.pd_host.specs.InputLaws.{AdvancesPutOutBehind}
 use Rattle.pd_host.specs.Laws.{AreInOrder}
 use Rattle.pd_host.specs.Sender.{without_oldest}
@@ -195,7 +195,7 @@ repeat_found : {S X : Type 0} (find : S → Option X) (act : X → S → S) (n m
     → repeated find act n s ≡ repeated find act m (act x s)
 repeat_found find act n m s x more is = rw more (ap (on_found (repeated find act m) act s) is)
 
-connection_of : (c : Option ControlBlock) (at : ℕ) → deadline_on c ≡ Some at → (b : ControlBlock) × (c ≡ Some b)
+connection_of : (c : Option ControlBlock) (at : ℕ) → option_and_then (λ (b : ControlBlock). b.timer.deadline) c ≡ Some at → (b : ControlBlock) × (c ≡ Some b)
 connection_of None at h = absurd cc
 connection_of (Some b) at h = (b, refl)
 
