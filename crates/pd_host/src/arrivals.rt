@@ -24,6 +24,7 @@ impl State {
     /// # Errors
     /// `Halted` by `Unsupported` where the segment isn't run; else `OutOfMemory` where memory is refused, or `Halted` by
     /// `Limit` where a packet finds the outbox full, whichever comes first.
+    #[inline(always)]
     pub fn arrive(&mut self, segment: &Segment, now: u64) -> Result<(), Ending>
         requires early { now < 2 ^ 62 }
         ensures { Gives (arrived segment.now now self.old) result self.new }

@@ -66,6 +66,7 @@ impl Host {
     /// # Errors
     /// What ended the host before; else `Halted` for a call that isn't run, and where more than 1,024 packets would stand
     /// untaken, and `OutOfMemory`.
+    #[inline(always)]
     pub fn call(&mut self, call: &Call, now: u64) -> Result<Answer, Ending>
         requires early { now < 2 ^ 62 }
         requires short { IsShort self.old.state }
@@ -179,6 +180,7 @@ impl Host {
     }
 
     /// Takes the oldest packet out, if there is one.
+    #[inline(always)]
     pub fn take(&mut self) -> Option<Sent>
         ensures oldest { result ≡ slice_get self.old.state.endpoint.outbox 0 }
         ensures rest { self.new ≡ without_oldest self.old }
@@ -273,6 +275,7 @@ impl Host {
     ///
     /// # Errors
     /// `AllocError` where the host has ended for want of memory, or a growth is refused.
+    #[inline(always)]
     pub fn held(&self) -> Result<Held, AllocError>
         ensures board { IfOk result (λ held. held.board ≡ board_of self.now.state.endpoint.connection) }
         ensures outbox { IfOk result (λ held. held.outbox ≡ self.now.state.endpoint.outbox) }

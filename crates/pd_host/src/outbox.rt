@@ -87,6 +87,7 @@ impl Outbox {
     }
 
     /// Takes the oldest packet out, if there is one.
+    #[inline(always)]
     pub fn take(&mut self) -> Option<Sent>
         ensures oldest { result ≡ slice_get self.old 0 }
         ensures rest { self.new ≡ drop 1 self.old }

@@ -31,6 +31,7 @@ pub struct Expect<'a> {
 /// expected one; None where they agree. The tolerance is in microseconds.
 ///
 /// Takes no memory.
+#[inline(always)]
 pub fn check_packet(expect: &Expect<'_>, sent: &Sent, tolerance: u64) -> Option<Kind>
     ensures value { result ≡ mismatch expect.now.packet.now expect.now.moments sent.now tolerance }
     ensures first { IsFirstFailing (Agrees expect.now.packet.now expect.now.moments sent.now tolerance) compared result }

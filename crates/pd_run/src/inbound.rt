@@ -13,6 +13,7 @@ use std::alloc::{AllocError, Global};
 ///
 /// # Errors
 /// `AllocError` where a growth is refused.
+#[inline(always)]
 pub fn segment_of(alloc: Global, packet: &Packet) -> Result<Segment, AllocError>
     requires fits { is_packet_over packet.now ≡ false }
     ensures { IfOk result (λ segment. segment ≡ segment_in packet.now) }

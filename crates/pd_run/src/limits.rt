@@ -32,6 +32,7 @@ const MAX_BLOCKS: usize = 4;
 const MAX_WRITE: u64 = 262_144;
 
 /// Whether some number of the event is over its limit.
+#[inline(always)]
 pub fn is_over_limit(event: &Event) -> bool
     ensures { result ≡ is_over_limit event.now }
 {

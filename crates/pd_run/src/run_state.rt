@@ -338,6 +338,7 @@ impl RunState {
     }
 
     /// Takes the oldest packet and compares it.
+    #[inline(always)]
     fn take(&mut self, event: &Event, packet: &Packet) -> StepEnd
         requires base { self.old.base < 2 ^ 61 }
         requires short { list_any is_long (written_times event.now.time) ≡ false }

@@ -176,6 +176,7 @@ impl<'a> Cursor<'a> {
     /// # Errors
     /// `Syntax` where no event goes on, and the cursor stands there; `OutOfMemory` where a growth is refused.
     #[tactic(auto, unfolding(crate::specs::Reading::event_at))]
+    #[inline(always)]
     pub fn event(&mut self, alloc: Global) -> Result<Event, Stop>
         ensures { Leaves result self.new (event_at self.old) }
     {
