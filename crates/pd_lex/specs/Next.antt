@@ -4,7 +4,8 @@ use Rattle.pd_lex.specs.declared.token.Place.{Place}
 use Rattle.pd_lex.specs.declared.token.Token.{Token}
 use Rattle.pd_lex.specs.declared.token.Lexed.{Lexed}
 use Rattle.pd_lex.specs.declared.token.Lexed.TheVariants as lexed
-use Rattle.pd_lex.specs.Places.{IsPlace, octets_from, between}
+use Rattle.pd_lex.specs.declared.token.Line.{Line}
+use Rattle.pd_lex.specs.Places.{IsPlace, octets_from, between, line_at}
 use Rattle.pd_lex.specs.Kinds.{stays_in_line}
 use Rattle.pd_lex.specs.Lexing.{lexeme_of}
 use Rattle.pd_lex.specs.Spellings.{IsLongest, IsStuck, Skips}
@@ -41,3 +42,7 @@ abbrev pub HasText : List (List ℕ) → Lexed → Type 0
 HasText lines (lexed.Token t) = stays_in_line t.kind ≡ true → t.text.now ≡ (lexeme_of lines t).text
 HasText lines lexed.End = Unit {0}
 HasText lines (lexed.Bad line) = Unit {0}
+
+-- a line that was looked up is the one of its number
+abbrev pub IsLineOf : List (List ℕ) → Line → Type 0
+IsLineOf lines l = (1 ≤ l.number) × (l.octets.now ≡ line_at lines l.number)

@@ -6,7 +6,7 @@ ghost use Rattle.pd_lex.specs.declared.scan.Piece.TheVariants.{Whole};
 ghost use Rattle.pd_lex.specs.declared.token.TokenKind.TheVariants.{Int, Symbol};
 ghost use Rattle.pd_lex.specs.Lexing.{IsNext};
 ghost use Rattle.pd_text.specs.Text.{AreLines};
-ghost use Rattle.pd_lex.specs.Next.{IsCut, HasLine, HasText};
+ghost use Rattle.pd_lex.specs.Next.{IsCut, HasLine, HasText, IsLineOf};
 ghost use Rattle.pd_lex.specs.Scanned.{IsLeftInLine};
 
 use crate::classes::{Class, class_of};
@@ -14,8 +14,8 @@ use crate::numbers::number_of;
 use crate::plain::{Plain, name, number_at, point, symbol_at};
 use crate::standing::behind_blanks;
 use crate::step::{Step, step_at};
-use crate::token::{Lexed, Place, Token, TokenKind};
-use pd_text::Lines;
+use crate::token::{Ahead, Lexed, Line, Place, Token};
+use pd_text::{Lines, have_lines};
 
 /// The first token from a place on, with the place behind it: blanks and comments are passed over.
 /// At a place of line 0 it starts at the text's first octet, past the end of a line at that line's
@@ -27,26 +27,54 @@ pub fn next_token<'a>(lines: &'a Lines, place: Place) -> Lexed<'a>
     ensures line { HasLine lines.now result }
     ensures text { HasText lines.now result }
 {
-    let mut next = Lexed::End;
-    read_next(lines, place, &mut next);
-    next
+    let mut ahead = Ahead::first(lines);
+    read_along(lines, place, &mut ahead);
+    ahead.next
 }
 
-/// `next_token`, put in the place of what was read before.
-pub fn read_next<'a>(lines: &'a Lines, place: Place, next: &mut Lexed<'a>)
-    ensures next { IsNext lines.now place next.new }
-    ensures cut { IsCut lines.now place next.new }
-    ensures line { HasLine lines.now next.new }
-    ensures text { HasText lines.now next.new }
+/// `next_token`, put in the place of what was read before. The line of the place is looked up only
+/// where it isn't the one that was looked up last, or has no token left.
+#[inline(always)]
+pub fn read_along<'a>(lines: &'a Lines, place: Place, ahead: &mut Ahead<'a>)
+    requires known { IsLineOf lines.now ahead.old.line }
+    ensures next { IsNext lines.now place ahead.new.next }
+    ensures cut { IsCut lines.now place ahead.new.next }
+    ensures line { HasLine lines.now ahead.new.next }
+    ensures text { HasText lines.now ahead.new.next }
+    ensures known { IsLineOf lines.now ahead.new.line }
 {
-    // A symbol that its octet tells, with blanks and newlines alone before it, needs no more.
+    have_lines(lines);
+    let Line { number, octets } = ahead.line;
+    if place.line == number {
+        let at = behind_blanks(octets, place.at);
+        if at < octets.len() {
+            let from = Place {
+                line: place.line,
+                at,
+            };
+            return read_at(lines, from, &octets[at..], &mut ahead.next);
+        }
+    }
+    read_past(lines, place, ahead);
+}
+
+/// `read_along` where a line is looked up. It stands apart, since it comes once a line.
+#[inline(never)]
+fn read_past<'a>(lines: &'a Lines, place: Place, ahead: &mut Ahead<'a>)
+    requires known { IsLineOf lines.now ahead.old.line }
+    ensures next { IsNext lines.now place ahead.new.next }
+    ensures cut { IsCut lines.now place ahead.new.next }
+    ensures line { HasLine lines.now ahead.new.next }
+    ensures text { HasText lines.now ahead.new.next }
+    ensures known { IsLineOf lines.now ahead.new.line }
+{
     let mut here = place;
     'lines: loop {
-        let Some(line) = lines.line(here.line) else {
-            return read_on(lines, here, next);
+        let Some(octets) = lines.line(here.line) else {
+            return read_on(lines, here, &mut ahead.next);
         };
-        let at = behind_blanks(line, here.at);
-        if at >= line.len() {
+        let at = behind_blanks(octets, here.at);
+        if at >= octets.len() {
             here = Place::line_start(here.line + 1);
             continue;
         }
@@ -54,29 +82,34 @@ pub fn read_next<'a>(lines: &'a Lines, place: Place, next: &mut Lexed<'a>)
             line: here.line,
             at,
         };
-        let rest = &line[at..];
-        let Some(octet) = symbol_at(rest) else {
-            return read_at(lines, from, rest, next);
+        ahead.line = Line {
+            number: here.line,
+            octets,
         };
-        *next = Lexed::Token(Token {
-            kind: TokenKind::Symbol,
-            symbol: octet,
-            number: 0,
-            text: &rest[..1],
-            from,
-            to: Place {
-                line: from.line,
-                at: at + 1,
-            },
-        });
-        return;
+        return read_at(lines, from, &octets[at..], &mut ahead.next);
     }
 }
 
-/// Reads a token that its first octet doesn't tell for a symbol, at a place in a line of which this
-/// much is left. It stands apart, since a symbol needs fewer registers.
-#[inline(never)]
+/// Reads the token at a place in a line, of which this much is left, by its first octet.
+#[inline(always)]
 fn read_at<'a>(lines: &'a Lines, from: Place, rest: &'a [u8], next: &mut Lexed<'a>)
+    requires left { IsLeftInLine lines.now from rest.now }
+    requires plain { AreLines lines.now }
+    ensures next { IsNext lines.now from next.new }
+    ensures cut { IsCut lines.now from next.new }
+    ensures line { HasLine lines.now next.new }
+    ensures text { HasText lines.now next.new }
+{
+    match class_of(rest[0]) {
+        Class::Symbol => put(lines, from, rest, symbol_at(rest), next),
+        _ => read_longer(lines, from, rest, next),
+    }
+}
+
+/// Reads a token that its first octet doesn't tell for a symbol. It stands apart, since a symbol
+/// needs fewer registers.
+#[inline(never)]
+fn read_longer<'a>(lines: &'a Lines, from: Place, rest: &'a [u8], next: &mut Lexed<'a>)
     requires left { IsLeftInLine lines.now from rest.now }
     requires plain { AreLines lines.now }
     ensures next { IsNext lines.now from next.new }

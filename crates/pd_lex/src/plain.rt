@@ -1,14 +1,15 @@
 //! The common tokens at the front of a line.
-ghost use Rattle.std.specs.Prelude.{◌≡◌, ◌≤◌, true, [], ◌∷◌, Some, length, take, fold, IfSome};
+ghost use Rattle.std.specs.Prelude.{◌≡◌, ◌≤◌, ◌<◌, true, [], ◌∷◌, Some, length, take, get_or, fold, IfSome};
 ghost use Rattle.std.specs.List.{prefix_len};
 ghost use Rattle.pd_lex.specs.Octets.{is_digit};
+ghost use Rattle.pd_lex.specs.Classes.{class_of};
+ghost use Rattle.pd_lex.specs.declared.classes.Class.TheVariants as classes;
 ghost use Rattle.pd_lex.specs.Pieces.{piece};
 ghost use Rattle.pd_lex.specs.Numbers.{wrapped_digit, capped_number};
 ghost use Rattle.pd_lex.specs.Scanned.{begins_name};
 ghost use Rattle.pd_lex.specs.declared.scan.Piece.TheVariants.{Whole};
 ghost use Rattle.pd_lex.specs.declared.token.TokenKind.TheVariants.{Int, Symbol};
 
-use crate::classes::{Class, class_of};
 use crate::scan::{digit, fraction, goes_on, name_len};
 use crate::token::TokenKind;
 
@@ -132,18 +133,15 @@ fn symbol(octet: u8) -> Option<Plain>
     })
 }
 
-/// The octet at the front, where it begins a Symbol and nothing else.
+/// The octet at the front, which begins a Symbol and nothing else.
 #[inline(always)]
-pub fn symbol_at(s: &[u8]) -> Option<u8>
-    ensures piece { IfSome result (λ _. Whole Symbol 1 ≡ piece s.now) }
-    ensures within { IfSome result (λ _. 1 ≤ length s.now) }
-    ensures symbol { IfSome result (λ octet. take 1 s.now ≡ octet ∷ []) }
+pub fn symbol_at(s: &[u8]) -> Option<Plain>
+    requires some { 0 < length s.now }
+    requires class { class_of (get_or s.now 0 0) ≡ classes.Symbol }
+    ensures piece { IfSome result (λ p. Whole p.kind p.len ≡ piece s.now) }
+    ensures within { IfSome result (λ p. p.len ≤ length s.now) }
+    ensures number { IfSome result (λ p. p.kind ≡ Int → p.number ≡ capped_number (take p.len s.now)) }
+    ensures symbol { IfSome result (λ p. p.kind ≡ Symbol → take p.len s.now ≡ p.symbol ∷ []) }
 {
-    let [octet, ..] = s else {
-        return None;
-    };
-    match class_of(*octet) {
-        Class::Symbol => Some(*octet),
-        _ => None,
-    }
+    symbol(s[0])
 }

@@ -9,7 +9,7 @@ ghost use Rattle.pd_script.specs.Cursor.{IsPeeked, Leaves, Moves};
 use crate::brackets::{MAX_DEPTH, OpenPairs};
 use crate::drafts::Inside;
 use crate::stops::Stop;
-use pd_lex::{Lexed, Place, read_next};
+use pd_lex::{Ahead, Lexed, Place, read_along};
 use pd_text::Lines;
 use std::marker::Model;
 
@@ -19,20 +19,20 @@ pub struct Cursor<'a> {
     /// The text.
     lines: &'a Lines,
     /// What stands next in it.
-    next: Lexed<'a>,
+    ahead: Ahead<'a>,
 }
 
 impl<'a> Model for Cursor<'a> {
     ghost use Rattle.std.specs.Prelude.{List};
     ghost use Rattle.pd_lex.specs.Tokens.{Item};
     ghost use Rattle.pd_script.specs.Cursor.{left};
-    ghost use Rattle.pd_lex.specs.Next.{HasText};
+    ghost use Rattle.pd_lex.specs.Next.{HasText, IsLineOf};
 
     ghost Value = { List Item };
 
-    ghost view = { λ c. left c.lines.now c.next };
+    ghost view = { λ c. left c.lines.now c.ahead.next };
 
-    ghost invariant = { λ c. HasText c.lines.now c.next };
+    ghost invariant = { λ c. HasText c.lines.now c.ahead.next × IsLineOf c.lines.now c.ahead.line };
 }
 
 impl<'a> Cursor<'a> {
@@ -42,9 +42,9 @@ impl<'a> Cursor<'a> {
     {
         let mut cursor = Cursor {
             lines,
-            next: Lexed::End,
+            ahead: Ahead::first(lines),
         };
-        read_next(lines, place, &mut cursor.next);
+        read_along(lines, place, &mut cursor.ahead);
         cursor
     }
 
@@ -53,7 +53,7 @@ impl<'a> Cursor<'a> {
     pub fn line(&self) -> usize
         ensures { result ≡ next_line self.now }
     {
-        match self.next {
+        match self.ahead.next {
             Lexed::Token(token) => token.from.line,
             Lexed::End => self.lines.len().max(1),
             Lexed::Bad(line) => line,
@@ -65,7 +65,7 @@ impl<'a> Cursor<'a> {
     pub fn next_place(&self) -> Place
         ensures { result ≡ next_place self.now }
     {
-        match self.next {
+        match self.ahead.next {
             Lexed::Token(token) => token.from,
             Lexed::End => Place {
                 line: self.lines.len().max(1) + 1,
@@ -76,12 +76,20 @@ impl<'a> Cursor<'a> {
     }
 
     /// Goes over the next token; at the end and at a bad place it stays.
-    #[inline(always)]
+    #[inline(never)]
     pub fn take(&mut self)
         ensures { self.new ≡ behind_token self.old }
     {
-        if let Lexed::Token(token) = self.next {
-            read_next(self.lines, token.to, &mut self.next);
+        self.take_here();
+    }
+
+    /// The same, put in place: for the loop over the tokens of arguments.
+    #[inline(always)]
+    fn take_here(&mut self)
+        ensures { self.new ≡ behind_token self.old }
+    {
+        if let Lexed::Token(token) = self.ahead.next {
+            read_along(self.lines, token.to, &mut self.ahead);
         }
     }
 
@@ -90,7 +98,7 @@ impl<'a> Cursor<'a> {
     pub fn peek(&self) -> &Lexed<'a>
         ensures { IsPeeked result.now self.now }
     {
-        &self.next
+        &self.ahead.next
     }
 }
 
@@ -103,7 +111,7 @@ impl<'a> Cursor<'a> {
     pub fn note_part(&mut self, pairs: OpenPairs) -> Result<OpenPairs, Stop>
         ensures { Leaves result self.new (note_part_at pairs self.old) }
     {
-        let Lexed::Token(token) = self.next else {
+        let Lexed::Token(token) = self.ahead.next else {
             return Err(Stop::Syntax);
         };
         let mut pairs = pairs;
@@ -119,12 +127,12 @@ impl<'a> Cursor<'a> {
     pub fn part(&mut self, inside: &mut Inside) -> Result<(), Stop>
         ensures { Moves result inside.new self.new (part_at inside.old self.old) }
     {
-        let Lexed::Token(token) = self.next else {
+        let Lexed::Token(token) = &self.ahead.next else {
             return Err(Stop::Syntax);
         };
-        inside.pairs.pass(&token, MAX_DEPTH)?;
-        inside.draft.add(&token);
-        self.take();
+        inside.pairs.pass(token, MAX_DEPTH)?;
+        inside.draft.add(token);
+        self.take_here();
         Ok(())
     }
 }

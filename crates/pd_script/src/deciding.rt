@@ -97,13 +97,11 @@ impl<'a> Cursor<'a> {
             Err(Stop::Syntax) => return Ok(NextEvent::Fault(self.line())),
             Err(Stop::OutOfMemory) => return Err(AllocError),
         };
-        if self.is_end() {
-            return Ok(NextEvent::Got(event, self.next_place(), None));
-        }
-        if !self.starts_event() {
+        let reach = self.reach();
+        if reach.is_some() && !self.starts_event() {
             return Ok(NextEvent::Fault(self.line()));
         }
-        Ok(NextEvent::Got(event, self.next_place(), Some(self.line())))
+        Ok(NextEvent::Got(event, self.next_place(), reach))
     }
 }
 

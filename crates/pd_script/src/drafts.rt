@@ -1,5 +1,5 @@
 //! Arguments, as far as they are read.
-ghost use Rattle.std.specs.Prelude.{◌≡◌};
+ghost use Rattle.std.specs.Prelude.{◌≡◌, false};
 
 use crate::brackets::OpenPairs;
 use crate::calls::Argument;
@@ -42,25 +42,28 @@ impl Draft {
         }
     }
 
-    /// The draft with one token more.
-    fn with(self, token: &Token) -> Draft
-        ensures { result ≡ longer_draft self (shown token.now) }
-    {
-        match self {
-            Draft::Empty => Draft::single(token),
-            Draft::Opened if is_any_int(token) => Draft::Numbered(token.number),
-            Draft::Numbered(n) if is_symbol(token, b']') => Draft::Element(n),
-            _ => Draft::Mixed,
-        }
-    }
-
     /// Takes one token more; a mixed draft stays as it is.
     pub fn add(&mut self, token: &Token)
         ensures { self.new ≡ longer_draft self.old (shown token.now) }
     {
-        if !matches!(self, Draft::Mixed) {
-            *self = self.with(token);
+        match *self {
+            Draft::Mixed => {}
+            Draft::Empty => *self = Draft::single(token),
+            _ => self.go_on(token),
         }
+    }
+
+    /// Takes one token more, not the first. It stands apart, since most drafts are empty or mixed.
+    #[inline(never)]
+    fn go_on(&mut self, token: &Token)
+        requires { is_empty self.old ≡ false }
+        ensures { self.new ≡ longer_draft self.old (shown token.now) }
+    {
+        *self = match *self {
+            Draft::Opened if is_any_int(token) => Draft::Numbered(token.number),
+            Draft::Numbered(n) if is_symbol(token, b']') => Draft::Element(n),
+            _ => Draft::Mixed,
+        };
     }
 
     /// The argument that the tokens make.

@@ -10,12 +10,12 @@ use Rattle.pd_script.proofs.cursor.Cursor.note_part.Goals as goal
 pub returns-in_err-pass : goal.returns-in_err-pass
 returns-in_err-pass c =
     let p = err_from_is_err_and c.from_residual.result c.from_residual.ensures.1 in
-    let is : c.self.inside.next ≡ lexed.Token c.in-Token.token = cc c.in-Token.is in
-    let old : c.args.self.now ≡ left c.self.inside.lines.now c.self.inside.next = cc c.self.view_is in
-    rw (p.1, p.2) (leaves_err c.in_err-pass.field-0.0 c.args.self.now (note_part_at c.args.pairs c.args.self.now) (note_err c.self.inside.lines.now c.self.inside.next c.in-Token.token c.args.self.now is c.self.invariant old c.args.pairs c.in_err-pass.ensures.err))
+    let is : c.self.inside.ahead.next ≡ lexed.Token c.in-Token.token = cc c.in-Token.is in
+    let old : c.args.self.now ≡ left c.self.inside.lines.now c.self.inside.ahead.next = cc c.self.view_is in
+    rw (p.1, p.2) (leaves_err c.in_err-pass.field-0.0 c.args.self.now (note_part_at c.args.pairs c.args.self.now) (note_err c.self.inside.lines.now c.self.inside.ahead.next c.in-Token.token c.args.self.now is c.self.invariant.0 old c.args.pairs c.in_err-pass.ensures.err))
 
 pub returns : goal.returns
 returns c =
-    let is : c.self.inside.next ≡ lexed.Token c.in-Token.token = cc c.in-Token.is in
-    let old : c.args.self.now ≡ left c.self.inside.lines.now c.self.inside.next = cc c.self.view_is in
-    note_ok c.self.inside.lines.now c.self.inside.next c.in-Token.token c.args.self.now is c.self.invariant old c.take.new.self c.args.pairs c.pass.new.self c.take.ensures c.in_ok-pass.ensures.ok
+    let is : c.self.inside.ahead.next ≡ lexed.Token c.in-Token.token = cc c.in-Token.is in
+    let old : c.args.self.now ≡ left c.self.inside.lines.now c.self.inside.ahead.next = cc c.self.view_is in
+    note_ok c.self.inside.lines.now c.self.inside.ahead.next c.in-Token.token c.args.self.now is c.self.invariant.0 old c.take.new.self c.args.pairs c.pass.new.self c.take.ensures c.in_ok-pass.ensures.ok

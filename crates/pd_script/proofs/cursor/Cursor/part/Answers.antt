@@ -10,12 +10,12 @@ use Rattle.pd_script.proofs.cursor.Cursor.part.Goals as goal
 pub returns-in_err-pass : goal.returns-in_err-pass
 returns-in_err-pass c =
     let p = err_from_is_err_and c.from_residual.result c.from_residual.ensures.1 in
-    let is : c.self.inside.next ≡ lexed.Token c.in-Token.token = cc c.in-Token.is in
-    let old : c.args.self.now ≡ left c.self.inside.lines.now c.self.inside.next = cc c.self.view_is in
-    rw (p.1, p.2) (moves_err c.in_err-pass.field-0.0 _ c.args.self.now (part_at c.args.inside.now c.args.self.now) (part_err c.self.inside.lines.now c.self.inside.next c.in-Token.token c.args.self.now is c.self.invariant old c.args.inside.now c.in_err-pass.ensures.err))
+    let is : c.self.inside.ahead.next ≡ lexed.Token c.in-Token.token = cc c.in-Token.is in
+    let old : c.args.self.now ≡ left c.self.inside.lines.now c.self.inside.ahead.next = cc c.self.view_is in
+    rw (p.1, p.2) (moves_err c.in_err-pass.field-0.0 _ c.args.self.now (part_at c.args.inside.now c.args.self.now) (part_err c.self.inside.lines.now c.self.inside.ahead.next c.in-Token.token c.args.self.now is c.self.invariant.0 old c.args.inside.now c.in_err-pass.ensures.err))
 
 pub returns : goal.returns
 returns c =
-    let is : c.self.inside.next ≡ lexed.Token c.in-Token.token = cc c.in-Token.is in
-    let old : c.args.self.now ≡ left c.self.inside.lines.now c.self.inside.next = cc c.self.view_is in
-    part_ok c.self.inside.lines.now c.self.inside.next c.in-Token.token c.args.self.now is c.self.invariant old c.take.new.self c.args.inside.now c.pass.new.self c.add.new.self c.take.ensures c.in_ok-pass.ensures.ok c.add.ensures
+    let is : c.self.inside.ahead.next ≡ lexed.Token c.in-Token.token = cc c.in-Token.is in
+    let old : c.args.self.now ≡ left c.self.inside.lines.now c.self.inside.ahead.next = cc c.self.view_is in
+    part_ok c.self.inside.lines.now c.self.inside.ahead.next c.in-Token.token c.args.self.now is c.self.invariant.0 old c.take_here.new.self c.args.inside.now c.pass.new.self c.add.new.self c.take_here.ensures c.in_ok-pass.ensures.ok c.add.ensures
