@@ -4,7 +4,6 @@ use Rattle.pd_lex.specs.declared.token.Place.{Place}
 use Rattle.pd_lex.specs.declared.token.Token.{Token}
 use Rattle.pd_lex.specs.declared.token.Lexed.{Lexed}
 use Rattle.pd_lex.specs.declared.token.Lexed.TheVariants as lexed
-use Rattle.pd_lex.specs.declared.token.Line.{Line}
 use Rattle.pd_lex.specs.Places.{IsPlace, octets_from, between, line_at}
 use Rattle.pd_lex.specs.Kinds.{stays_in_line}
 use Rattle.pd_lex.specs.Lexing.{lexeme_of}
@@ -43,6 +42,8 @@ HasText lines (lexed.Token t) = stays_in_line t.kind ≡ true → t.text.now ≡
 HasText lines lexed.End = Unit {0}
 HasText lines (lexed.Bad line) = Unit {0}
 
--- a line that was looked up is the one of its number
-abbrev pub IsLineOf : List (List ℕ) → Line → Type 0
-IsLineOf lines l = (1 ≤ l.number) × (l.octets.now ≡ line_at lines l.number)
+-- these are the octets of the line in which the place behind a token lies
+abbrev pub HasLineBehind : List (List ℕ) → Lexed → List ℕ → Type 0
+HasLineBehind lines (lexed.Token t) octets = (1 ≤ t.to.line) × (octets ≡ line_at lines t.to.line)
+HasLineBehind lines lexed.End octets = Unit {0}
+HasLineBehind lines (lexed.Bad line) octets = Unit {0}

@@ -13,6 +13,6 @@ mod step;
 mod token;
 
 pub use laws::{first_lines, items_behind_tokens, longest_pieces};
-pub use next::{next_token, read_along};
+pub use next::{look_ahead, next_token, read_along};
 pub use numbers::{digit_value, number, value_after};
-pub use token::{Ahead, Lexed, Line, Place, Token, TokenKind};
+pub use token::{Ahead, Lexed, Place, Token, TokenKind};

@@ -6,15 +6,16 @@ ghost use Rattle.pd_lex.specs.declared.scan.Piece.TheVariants.{Whole};
 ghost use Rattle.pd_lex.specs.declared.token.TokenKind.TheVariants.{Int, Symbol};
 ghost use Rattle.pd_lex.specs.Lexing.{IsNext};
 ghost use Rattle.pd_text.specs.Text.{AreLines};
-ghost use Rattle.pd_lex.specs.Next.{IsCut, HasLine, HasText, IsLineOf};
+ghost use Rattle.pd_lex.specs.Next.{IsCut, HasLine, HasText, HasLineBehind};
+ghost use Rattle.pd_lex.specs.Places.{line_at};
 ghost use Rattle.pd_lex.specs.Scanned.{IsLeftInLine};
 
 use crate::classes::{Class, class_of};
 use crate::numbers::number_of;
 use crate::plain::{Plain, name, number_at, point, symbol_at};
-use crate::standing::behind_blanks;
+use crate::standing::{behind_blanks, octets_of_line};
 use crate::step::{Step, step_at};
-use crate::token::{Ahead, Lexed, Line, Place, Token};
+use crate::token::{Ahead, Lexed, Place, Token};
 use pd_text::{Lines, have_lines};
 
 /// The first token from a place on, with the place behind it: blanks and comments are passed over.
@@ -27,51 +28,62 @@ pub fn next_token<'a>(lines: &'a Lines, place: Place) -> Lexed<'a>
     ensures line { HasLine lines.now result }
     ensures text { HasText lines.now result }
 {
-    let mut ahead = Ahead::first(lines);
-    read_along(lines, place, &mut ahead);
-    ahead.next
+    look_ahead(lines, place).next
 }
 
-/// `next_token`, put in the place of what was read before. The line of the place is looked up only
-/// where it isn't the one that was looked up last, or has no token left.
+/// `next_token`, with the line of the place behind it.
+pub fn look_ahead<'a>(lines: &'a Lines, place: Place) -> Ahead<'a>
+    ensures next { IsNext lines.now place result.next }
+    ensures cut { IsCut lines.now place result.next }
+    ensures line { HasLine lines.now result.next }
+    ensures text { HasText lines.now result.next }
+    ensures behind { HasLineBehind lines.now result.next result.line.now }
+{
+    let mut ahead = Ahead {
+        line: &[],
+        next: Lexed::End,
+    };
+    read_past(lines, place, &mut ahead);
+    ahead
+}
+
+/// The same, put in the place of what was read before, where the line of the place is known.
 #[inline(always)]
 pub fn read_along<'a>(lines: &'a Lines, place: Place, ahead: &mut Ahead<'a>)
-    requires known { IsLineOf lines.now ahead.old.line }
+    requires one { 1 ≤ place.line }
+    requires known { ahead.old.line.now ≡ line_at lines.now place.line }
     ensures next { IsNext lines.now place ahead.new.next }
     ensures cut { IsCut lines.now place ahead.new.next }
     ensures line { HasLine lines.now ahead.new.next }
     ensures text { HasText lines.now ahead.new.next }
-    ensures known { IsLineOf lines.now ahead.new.line }
+    ensures behind { HasLineBehind lines.now ahead.new.next ahead.new.line.now }
 {
     have_lines(lines);
-    let Line { number, octets } = ahead.line;
-    if place.line == number {
-        let at = behind_blanks(octets, place.at);
-        if at < octets.len() {
-            let from = Place {
-                line: place.line,
-                at,
-            };
-            return read_at(lines, from, &octets[at..], &mut ahead.next);
-        }
+    let octets = ahead.line;
+    let at = behind_blanks(octets, place.at);
+    if at >= octets.len() {
+        return read_past(lines, place, ahead);
     }
-    read_past(lines, place, ahead);
+    let from = Place {
+        line: place.line,
+        at,
+    };
+    read_at(lines, from, &octets[at..], ahead);
 }
 
-/// `read_along` where a line is looked up. It stands apart, since it comes once a line.
+/// Looks lines up until one has more than blanks. It stands apart, since it comes once a line.
 #[inline(never)]
 fn read_past<'a>(lines: &'a Lines, place: Place, ahead: &mut Ahead<'a>)
-    requires known { IsLineOf lines.now ahead.old.line }
     ensures next { IsNext lines.now place ahead.new.next }
     ensures cut { IsCut lines.now place ahead.new.next }
     ensures line { HasLine lines.now ahead.new.next }
     ensures text { HasText lines.now ahead.new.next }
-    ensures known { IsLineOf lines.now ahead.new.line }
+    ensures behind { HasLineBehind lines.now ahead.new.next ahead.new.line.now }
 {
     let mut here = place;
     'lines: loop {
         let Some(octets) = lines.line(here.line) else {
-            return read_on(lines, here, &mut ahead.next);
+            return read_on(lines, here, ahead);
         };
         let at = behind_blanks(octets, here.at);
         if at >= octets.len() {
@@ -82,72 +94,77 @@ fn read_past<'a>(lines: &'a Lines, place: Place, ahead: &mut Ahead<'a>)
             line: here.line,
             at,
         };
-        ahead.line = Line {
-            number: here.line,
-            octets,
-        };
-        return read_at(lines, from, &octets[at..], &mut ahead.next);
+        ahead.line = octets;
+        return read_at(lines, from, &octets[at..], ahead);
     }
 }
 
 /// Reads the token at a place in a line, of which this much is left, by its first octet.
 #[inline(always)]
-fn read_at<'a>(lines: &'a Lines, from: Place, rest: &'a [u8], next: &mut Lexed<'a>)
+fn read_at<'a>(lines: &'a Lines, from: Place, rest: &'a [u8], ahead: &mut Ahead<'a>)
     requires left { IsLeftInLine lines.now from rest.now }
     requires plain { AreLines lines.now }
-    ensures next { IsNext lines.now from next.new }
-    ensures cut { IsCut lines.now from next.new }
-    ensures line { HasLine lines.now next.new }
-    ensures text { HasText lines.now next.new }
+    requires known { ahead.old.line.now ≡ line_at lines.now from.line }
+    ensures next { IsNext lines.now from ahead.new.next }
+    ensures cut { IsCut lines.now from ahead.new.next }
+    ensures line { HasLine lines.now ahead.new.next }
+    ensures text { HasText lines.now ahead.new.next }
+    ensures behind { HasLineBehind lines.now ahead.new.next ahead.new.line.now }
 {
     match class_of(rest[0]) {
-        Class::Symbol => put(lines, from, rest, symbol_at(rest), next),
-        _ => read_longer(lines, from, rest, next),
+        Class::Symbol => put(lines, from, rest, symbol_at(rest), ahead),
+        _ => read_longer(lines, from, rest, ahead),
     }
 }
 
 /// Reads a token that its first octet doesn't tell for a symbol. It stands apart, since a symbol
 /// needs fewer registers.
 #[inline(never)]
-fn read_longer<'a>(lines: &'a Lines, from: Place, rest: &'a [u8], next: &mut Lexed<'a>)
+fn read_longer<'a>(lines: &'a Lines, from: Place, rest: &'a [u8], ahead: &mut Ahead<'a>)
     requires left { IsLeftInLine lines.now from rest.now }
     requires plain { AreLines lines.now }
-    ensures next { IsNext lines.now from next.new }
-    ensures cut { IsCut lines.now from next.new }
-    ensures line { HasLine lines.now next.new }
-    ensures text { HasText lines.now next.new }
+    requires known { ahead.old.line.now ≡ line_at lines.now from.line }
+    ensures next { IsNext lines.now from ahead.new.next }
+    ensures cut { IsCut lines.now from ahead.new.next }
+    ensures line { HasLine lines.now ahead.new.next }
+    ensures text { HasText lines.now ahead.new.next }
+    ensures behind { HasLineBehind lines.now ahead.new.next ahead.new.line.now }
 {
     match class_of(rest[0]) {
-        Class::Letter => put(lines, from, rest, name(rest), next),
-        Class::Digit => read_number(lines, from, rest, next),
-        _ => read_point(lines, from, rest, next),
+        Class::Letter => put(lines, from, rest, name(rest), ahead),
+        Class::Digit => read_number(lines, from, rest, ahead),
+        _ => read_point(lines, from, rest, ahead),
     }
 }
 
 /// Reads what begins with a digit. It stands apart, since a word needs fewer registers.
 #[inline(never)]
-fn read_number<'a>(lines: &'a Lines, from: Place, rest: &'a [u8], next: &mut Lexed<'a>)
+fn read_number<'a>(lines: &'a Lines, from: Place, rest: &'a [u8], ahead: &mut Ahead<'a>)
     requires left { IsLeftInLine lines.now from rest.now }
     requires plain { AreLines lines.now }
-    ensures next { IsNext lines.now from next.new }
-    ensures cut { IsCut lines.now from next.new }
-    ensures line { HasLine lines.now next.new }
-    ensures text { HasText lines.now next.new }
+    requires known { ahead.old.line.now ≡ line_at lines.now from.line }
+    ensures next { IsNext lines.now from ahead.new.next }
+    ensures cut { IsCut lines.now from ahead.new.next }
+    ensures line { HasLine lines.now ahead.new.next }
+    ensures text { HasText lines.now ahead.new.next }
+    ensures behind { HasLineBehind lines.now ahead.new.next ahead.new.line.now }
 {
-    put(lines, from, rest, number_at(rest), next);
+    put(lines, from, rest, number_at(rest), ahead);
 }
 
 /// Reads what begins with a point, or with an octet of no class.
 #[inline(never)]
-fn read_point<'a>(lines: &'a Lines, from: Place, rest: &'a [u8], next: &mut Lexed<'a>)
+fn read_point<'a>(lines: &'a Lines, from: Place, rest: &'a [u8], ahead: &mut Ahead<'a>)
     requires left { IsLeftInLine lines.now from rest.now }
     requires plain { AreLines lines.now }
-    ensures next { IsNext lines.now from next.new }
-    ensures cut { IsCut lines.now from next.new }
-    ensures line { HasLine lines.now next.new }
-    ensures text { HasText lines.now next.new }
+    requires known { ahead.old.line.now ≡ line_at lines.now from.line }
+    ensures next { IsNext lines.now from ahead.new.next }
+    ensures cut { IsCut lines.now from ahead.new.next }
+    ensures line { HasLine lines.now ahead.new.next }
+    ensures text { HasText lines.now ahead.new.next }
+    ensures behind { HasLineBehind lines.now ahead.new.next ahead.new.line.now }
 {
-    put(lines, from, rest, point(rest), next);
+    put(lines, from, rest, point(rest), ahead);
 }
 
 /// Puts the token that was found at the front of what is left of a line in the place of what was
@@ -158,23 +175,25 @@ fn put<'a>(
     from: Place,
     rest: &'a [u8],
     found: Option<Plain>,
-    next: &mut Lexed<'a>,
+    ahead: &mut Ahead<'a>,
 )
     requires left { IsLeftInLine lines.now from rest.now }
     requires plain { AreLines lines.now }
+    requires known { ahead.old.line.now ≡ line_at lines.now from.line }
     requires piece { IfSome found (λ p. Whole p.kind p.len ≡ piece rest.now) }
     requires within { IfSome found (λ p. p.len ≤ length rest.now) }
     requires number { IfSome found (λ p. p.kind ≡ Int → p.number ≡ capped_number (take p.len rest.now)) }
     requires symbol { IfSome found (λ p. p.kind ≡ Symbol → take p.len rest.now ≡ p.symbol ∷ []) }
-    ensures next { IsNext lines.now from next.new }
-    ensures cut { IsCut lines.now from next.new }
-    ensures line { HasLine lines.now next.new }
-    ensures text { HasText lines.now next.new }
+    ensures next { IsNext lines.now from ahead.new.next }
+    ensures cut { IsCut lines.now from ahead.new.next }
+    ensures line { HasLine lines.now ahead.new.next }
+    ensures text { HasText lines.now ahead.new.next }
+    ensures behind { HasLineBehind lines.now ahead.new.next ahead.new.line.now }
 {
     let Some(plain) = found else {
-        return read_on(lines, from, next);
+        return read_on(lines, from, ahead);
     };
-    *next = Lexed::Token(Token {
+    ahead.next = Lexed::Token(Token {
         kind: plain.kind,
         symbol: plain.symbol,
         number: plain.number,
@@ -189,11 +208,12 @@ fn put<'a>(
 
 /// Reads any token, also behind comments.
 #[inline(never)]
-fn read_on<'a>(lines: &'a Lines, place: Place, next: &mut Lexed<'a>)
-    ensures next { IsNext lines.now place next.new }
-    ensures cut { IsCut lines.now place next.new }
-    ensures line { HasLine lines.now next.new }
-    ensures text { HasText lines.now next.new }
+fn read_on<'a>(lines: &'a Lines, place: Place, ahead: &mut Ahead<'a>)
+    ensures next { IsNext lines.now place ahead.new.next }
+    ensures cut { IsCut lines.now place ahead.new.next }
+    ensures line { HasLine lines.now ahead.new.next }
+    ensures text { HasText lines.now ahead.new.next }
+    ensures behind { HasLineBehind lines.now ahead.new.next ahead.new.line.now }
 {
     let mut here = if place.line == 0 {
         Place::first()
@@ -202,7 +222,7 @@ fn read_on<'a>(lines: &'a Lines, place: Place, next: &mut Lexed<'a>)
     };
     'gaps: loop {
         let Some(line) = lines.line(here.line) else {
-            *next = Lexed::End;
+            ahead.next = Lexed::End;
             return;
         };
         let at = behind_blanks(line, here.at);
@@ -217,7 +237,8 @@ fn read_on<'a>(lines: &'a Lines, place: Place, next: &mut Lexed<'a>)
         match step_at(lines, from, &line[at..]) {
             Step::Gap(after) => here = after,
             Step::Token(kind, text, to) => {
-                *next = Lexed::Token(Token {
+                ahead.line = octets_of_line(lines, to.line);
+                ahead.next = Lexed::Token(Token {
                     kind,
                     symbol: first_octet(text),
                     number: number_of(kind, text),
@@ -228,7 +249,7 @@ fn read_on<'a>(lines: &'a Lines, place: Place, next: &mut Lexed<'a>)
                 return;
             }
             Step::Stray => {
-                *next = Lexed::Bad(from.line);
+                ahead.next = Lexed::Bad(from.line);
                 return;
             }
         }

@@ -36,3 +36,14 @@ pub fn rest_of_line<'a>(lines: &'a Lines, place: Place) -> Option<&'a [u8]>
         None => None,
     }
 }
+
+/// The octets of a line, counted from 1; none past the last line.
+pub fn octets_of_line<'a>(lines: &'a Lines, number: usize) -> &'a [u8]
+    requires { 1 ≤ number }
+    ensures { result.now ≡ line_at lines.now number }
+{
+    match lines.line(number) {
+        Some(octets) => octets,
+        None => &[],
+    }
+}

@@ -5,8 +5,6 @@ ghost use Rattle.pd_lex.specs.Numbers.{capped_number};
 ghost use Rattle.pd_lex.specs.Kinds.{stays_in_line};
 ghost use Rattle.pd_lex.specs.Places.{first_place};
 
-use pd_text::Lines;
-
 /// What a token is, in packetdrill's grammar.
 #[derive(Clone, Copy)]
 pub enum TokenKind {
@@ -89,53 +87,11 @@ pub enum Lexed<'a> {
     Bad(usize),
 }
 
-/// What stands next in a text, and the line of it that was looked up last.
+/// What stands next in a text, and the line of the place behind it.
 #[derive(Clone, Copy)]
 pub struct Ahead<'a> {
-    /// The line that was looked up last.
-    pub line: Line<'a>,
+    /// The octets of the line in which the place behind a token lies; none past the last line.
+    pub line: &'a [u8],
     /// What stands next.
     pub next: Lexed<'a>,
-}
-
-impl<'a> Ahead<'a> {
-    ghost use Rattle.pd_lex.specs.declared.token.Lexed.TheVariants as lexed;
-    ghost use Rattle.pd_lex.specs.Next.{IsLineOf};
-
-    /// The first line of a text, before anything was read.
-    pub fn first(lines: &'a Lines) -> Ahead<'a>
-        ensures line { IsLineOf lines.now result.line }
-        ensures next { result.next ≡ lexed.End }
-    {
-        Ahead {
-            line: Line::first(lines),
-            next: Lexed::End,
-        }
-    }
-}
-
-/// A line of a text that was looked up.
-#[derive(Clone, Copy)]
-pub struct Line<'a> {
-    /// Its number, counted from 1.
-    pub number: usize,
-    /// Its octets; none where the text has no such line.
-    pub octets: &'a [u8],
-}
-
-impl<'a> Line<'a> {
-    ghost use Rattle.pd_lex.specs.Next.{IsLineOf};
-
-    /// The first line of a text.
-    pub fn first(lines: &'a Lines) -> Line<'a>
-        ensures { IsLineOf lines.now result }
-    {
-        Line {
-            number: 1,
-            octets: match lines.line(1) {
-                Some(octets) => octets,
-                None => &[],
-            },
-        }
-    }
 }

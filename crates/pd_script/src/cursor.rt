@@ -9,7 +9,7 @@ ghost use Rattle.pd_script.specs.Cursor.{IsPeeked, Leaves, Moves};
 use crate::brackets::{MAX_DEPTH, OpenPairs};
 use crate::drafts::Inside;
 use crate::stops::Stop;
-use pd_lex::{Ahead, Lexed, Place, read_along};
+use pd_lex::{Ahead, Lexed, Place, look_ahead, read_along};
 use pd_text::Lines;
 use std::marker::Model;
 
@@ -26,13 +26,13 @@ impl<'a> Model for Cursor<'a> {
     ghost use Rattle.std.specs.Prelude.{List};
     ghost use Rattle.pd_lex.specs.Tokens.{Item};
     ghost use Rattle.pd_script.specs.Cursor.{left};
-    ghost use Rattle.pd_lex.specs.Next.{HasText, IsLineOf};
+    ghost use Rattle.pd_lex.specs.Next.{HasText, HasLineBehind};
 
     ghost Value = { List Item };
 
     ghost view = { λ c. left c.lines.now c.ahead.next };
 
-    ghost invariant = { λ c. HasText c.lines.now c.ahead.next × IsLineOf c.lines.now c.ahead.line };
+    ghost invariant = { λ c. HasText c.lines.now c.ahead.next × HasLineBehind c.lines.now c.ahead.next c.ahead.line.now };
 }
 
 impl<'a> Cursor<'a> {
@@ -40,12 +40,10 @@ impl<'a> Cursor<'a> {
     pub fn at(lines: &'a Lines, place: Place) -> Cursor<'a>
         ensures { result ≡ items lines.now place }
     {
-        let mut cursor = Cursor {
+        Cursor {
             lines,
-            ahead: Ahead::first(lines),
-        };
-        read_along(lines, place, &mut cursor.ahead);
-        cursor
+            ahead: look_ahead(lines, place),
+        }
     }
 
     /// The line in which the next token, the end or the bad place begins.

@@ -24,4 +24,5 @@ returns c =
       cut = record { skipped = here; longest = longest_token (octets_from lines from) (octets_from lines to) kind whole.1; from = left.place; behind = whole.0 };
       line = token_line lines c.requires.plain from to kind left.place whole.1;
       text = whole.3;
+      behind = (left.place.from_one, c.requires.known);
     }

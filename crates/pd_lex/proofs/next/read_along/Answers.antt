@@ -1,27 +1,26 @@
 -- Only blanks stand before what is read in the line that was looked up.
-use Rattle.std.proofs.Common.{◌≡◌, ◌≤◌, length, ap, arith}
+use Rattle.std.proofs.Common.{length, ap, arith}
 use Rattle.pd_lex.specs.declared.token.Place.{Place}
-use Rattle.pd_lex.specs.Places.{line_at}
 use Rattle.pd_lex.proofs.Blanks.{over_blanks, next_on, cut_on}
 use Rattle.pd_lex.proofs.TextLines.{line_there}
 use Rattle.pd_lex.proofs.next.read_along.Goals as goal
 
-pub returns-then-at-octets-clause-next : goal.returns-then-at-octets-clause-next
-returns-then-at-octets-clause-next c =
+pub returns-clause-next : goal.returns-clause-next
+returns-clause-next c =
     let lines = c.args.lines.now in
-    let one : 1 ≤ c.args.place.line = omega (arith, c.if-place-number.true, c.requires.known.0) in
-    let line : c.args.ahead.now.line.octets.now ≡ line_at lines c.args.place.line = cc (c.requires.known.1, c.if-place-number.true) in
-    let le = line_there lines c.args.place.line (omega (arith, c.if-at-octets.true, ap length line)) one in
+    let one = c.requires.one in
+    let line = c.requires.known in
+    let le = line_there lines c.args.place.line (omega (arith, c.if-at-octets.false, ap length line)) one in
     let from : Place = record { line = c.args.place.line; at = c.behind_blanks-at.result } in
-    let on = over_blanks lines c.have_lines.ensures c.args.place one le c.behind_blanks-at.result (rw line at c.behind_blanks-at.ensures.place) (rw line at c.if-at-octets.true) in
-    next_on lines c.args.place from on.same on.skipped c.read_at.new.next c.read_at.ensures.next
+    let on = over_blanks lines c.have_lines.ensures c.args.place one le c.behind_blanks-at.result (rw line at c.behind_blanks-at.ensures.place) (rw line at c.if-at-octets.false) in
+    next_on lines c.args.place from on.same on.skipped c.read_at.new.ahead.next c.read_at.ensures.next
 
-pub returns-then-at-octets-clause-cut : goal.returns-then-at-octets-clause-cut
-returns-then-at-octets-clause-cut c =
+pub returns-clause-cut : goal.returns-clause-cut
+returns-clause-cut c =
     let lines = c.args.lines.now in
-    let one : 1 ≤ c.args.place.line = omega (arith, c.if-place-number.true, c.requires.known.0) in
-    let line : c.args.ahead.now.line.octets.now ≡ line_at lines c.args.place.line = cc (c.requires.known.1, c.if-place-number.true) in
-    let le = line_there lines c.args.place.line (omega (arith, c.if-at-octets.true, ap length line)) one in
+    let one = c.requires.one in
+    let line = c.requires.known in
+    let le = line_there lines c.args.place.line (omega (arith, c.if-at-octets.false, ap length line)) one in
     let from : Place = record { line = c.args.place.line; at = c.behind_blanks-at.result } in
-    let on = over_blanks lines c.have_lines.ensures c.args.place one le c.behind_blanks-at.result (rw line at c.behind_blanks-at.ensures.place) (rw line at c.if-at-octets.true) in
-    cut_on lines c.args.place from on.same on.skipped c.read_at.new.next c.read_at.ensures.cut
+    let on = over_blanks lines c.have_lines.ensures c.args.place one le c.behind_blanks-at.result (rw line at c.behind_blanks-at.ensures.place) (rw line at c.if-at-octets.false) in
+    cut_on lines c.args.place from on.same on.skipped c.read_at.new.ahead.next c.read_at.ensures.cut

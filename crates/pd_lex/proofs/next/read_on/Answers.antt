@@ -23,7 +23,7 @@ gaps-init c = elim c.if-place-eq0.branch [
 pub returns-in_default : goal.returns-in_default
 returns-in_default c =
     let past : length c.args.lines.now < c.gaps.here.line = line_past c.args.lines.now c.gaps.here.line c.gaps.invariant.one c.in_default.ensures.line in
-    record { next = c.gaps.invariant.same ∙ items_past c.args.lines.now c.line.ensures.lines c.gaps.here past; cut = rw (octets_past c.args.lines.now c.gaps.here past) at c.gaps.invariant.skipped; line = tt; text = tt }
+    record { next = c.gaps.invariant.same ∙ items_past c.args.lines.now c.line.ensures.lines c.gaps.here past; cut = rw (octets_past c.args.lines.now c.gaps.here past) at c.gaps.invariant.skipped; line = tt; text = tt; behind = tt }
 
 pub overflow_add-here : goal.overflow_add-here
 overflow_add-here c =
@@ -84,6 +84,7 @@ returns-in-Token c =
       cut = record { skipped = Skips-over c.gaps.invariant.skipped on.skipped; longest = longest_token (octets_from lines from) (octets_from lines c.in-Token.to) c.in-Token.kind c.in-Token.ensures.1; from = on.place; behind = c.in-Token.ensures.0 };
       line = token_line lines c.in-Some.ensures.lines from c.in-Token.to c.in-Token.kind on.place c.in-Token.ensures.1;
       text = c.in-Token.ensures.3;
+      behind = (c.in-Token.ensures.0.from_one, c.octets_of_line-ahead.ensures);
     }
 
 pub returns-in-Stray : goal.returns-in-Stray
@@ -99,13 +100,17 @@ returns-in-Stray c =
       cut = record { at = from; skipped = Skips-over c.gaps.invariant.skipped on.skipped; stuck = stuck; place = on.place; line_is = refl };
       line = stuck_line lines c.in-Some.ensures.lines from on.place stuck;
       text = tt;
+      behind = tt;
     }
 
-pub invariant_of-next : goal.invariant_of-next
-invariant_of-next c =
+pub invariant_of-ahead : goal.invariant_of-ahead
+invariant_of-ahead c =
     let from : Place = record { line = c.gaps.here.line; at = c.behind_blanks-at.result } in
     record {
       symbol_is = λ symbol. rw c.first_octet.ensures (symbol_in c.args.lines.now from c.in-Token.to c.in-Token.kind c.in-Token.text.now c.in-Token.ensures.1 c.in-Token.ensures.3 symbol);
       number_is = c.number_of.ensures;
       in_line = c.in-Token.ensures.2;
     }
+
+pub octets_of_line-ahead-requires : goal.octets_of_line-ahead-requires
+octets_of_line-ahead-requires c = c.in-Token.ensures.0.from_one

@@ -1,15 +1,13 @@
--- The items from here on are those from the place on; only blanks were passed over, and no line was looked up yet.
+-- The items from here on are those from the place on; only blanks were passed over.
 use Rattle.std.proofs.Common.{◌≡◌, ◌+◌, ◌-◌, length}
 use Rattle.pd_lex.specs.Places.{octets_from}
 use Rattle.pd_lex.specs.Spellings.{Skips}
 use Rattle.pd_lex.specs.Lexing.{items}
-use Rattle.pd_lex.specs.Next.{IsLineOf}
 use Rattle.pd_lex.proofs.next.read_past.Given as goal
 
 abbrev pub invariant-lines : goal.invariant-lines
 invariant-lines l = record {
   same : items l.lines l.fn.place ≡ items l.lines l.here;
-  known : IsLineOf l.lines l.ahead.line;
   skipped : Skips (octets_from l.lines l.fn.place) (octets_from l.lines l.here);
 }
 
