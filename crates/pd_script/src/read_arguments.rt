@@ -25,7 +25,7 @@ impl<'a> Cursor<'a> {
     /// # Errors
     /// `Syntax` where an argument is empty or none goes on, and the cursor stands there; `OutOfMemory` where a growth is
     /// refused.
-    #[inline(never)]
+    #[inline(always)]
     pub fn arguments(&mut self, alloc: Global) -> Result<Arguments, Stop>
         ensures { Leaves result self.new (arguments_at self.old) }
     {

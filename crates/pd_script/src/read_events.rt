@@ -84,6 +84,7 @@ impl<'a> Cursor<'a> {
 
     /// Takes the result of a call.
     #[tactic(auto, unfolding(crate::specs::Reading::outcome_at))]
+    #[inline(always)]
     fn outcome(&mut self) -> Result<Outcome, Stop>
         ensures { Leaves result self.new (outcome_at self.old) }
     {
