@@ -5,7 +5,7 @@ use Rattle.std.proofs.lemmas.Bool.Decides.{nat_tests}
 use Rattle.pd_text.specs.Text.{fits_text, octets_of}
 use Rattle.pd_text.specs.Edit.{is_in_range, edited}
 use Rattle.pd_text.specs.declared.line_edit.LineEdit.{LineEdit}
-use Rattle.pd_text.proofs.Spanned.{both}
+use Rattle.pd_text.proofs.Placed.{both}
 use Rattle.pd_text.proofs.Ranges.{octets_append, octets_split}
 
 pub in_range : (lines : List (List ℕ)) (edit : LineEdit) → is_in_range lines edit ≡ true → (1 ≤ edit.from) × (edit.from + edit.remove ≤ length lines + 1)

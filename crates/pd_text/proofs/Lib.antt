@@ -1,5 +1,5 @@
 -- Lemmas on texts.
 pub mod SameLines
-pub mod Spanned
+pub mod Placed
 pub mod Ranges
 pub mod EditedLines

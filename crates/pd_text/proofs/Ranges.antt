@@ -4,7 +4,7 @@ use Rattle.std.specs.List.{list_all}
 use Rattle.std.proofs.lemmas.List.Sums.{sum_by-append}
 use Rattle.std.proofs.lemmas.List.{take-append-drop, length-take, length-drop}
 use Rattle.pd_text.specs.Text.{AreLines, is_line, octets_of}
-use Rattle.pd_text.proofs.Spanned.{both, octets_more}
+use Rattle.pd_text.proofs.Placed.{both, octets_more}
 
 pub is_line_at : (lines : List (List ℕ)) (i : ℕ) (line : List ℕ) → slice_get lines i ≡ Some line → AreLines lines → is_line line ≡ true
 is_line_at [] i line h a = absurd cc

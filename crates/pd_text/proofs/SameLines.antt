@@ -1,6 +1,7 @@
 -- Lines are equal one by one exactly where the lists of their octets are equal.
-use Rattle.std.proofs.Common.{◌≡◌, ℕ, zero, suc, ◌+◌, ◌≤◌, List, [], ◌∷◌, length, drop, Some, slice_get, min, Bool, true, false, cond, not, refl, sym, ap, ◌∙◌, arith}
+use Rattle.std.proofs.Common.{◌≡◌, ℕ, zero, suc, ◌+◌, ◌≤◌, List, [], ◌∷◌, length, drop, Some, slice_get, min, take, Bool, true, false, cond, not, refl, sym, ap, ◌∙◌, arith}
 use Rattle.std.specs.Str.{bytes_eq}
+use Rattle.std.proofs.lemmas.List.{length-drop, drop-drop}
 use Rattle.std.proofs.lemmas.Slice.Eq.{bytes_eq-Decides}
 use Rattle.pd_text.specs.Text.{front}
 
@@ -31,6 +32,23 @@ front_ended (suc i) (x ∷ xs) [] h = by_rest (drop i xs)
     by_rest [] = refl
     by_rest (z ∷ zs) = refl
 front_ended (suc i) (x ∷ xs) (y ∷ ys) h = front_ended i xs ys (omega (arith, h))
+
+front_same : (n : ℕ) (xs ys : List (List ℕ)) → take n xs ≡ take n ys → n ≤ length xs → n ≤ length ys → n + front (drop n xs) (drop n ys) ≡ front xs ys
+front_same zero xs ys h a b = omega arith
+front_same (suc n) [] ys h a b = absurd (omega (arith, a))
+front_same (suc n) (x ∷ xs) [] h a b = absurd (omega (arith, b))
+front_same (suc n) (x ∷ xs) (y ∷ ys) h a b =
+    let head : x ≡ y = cc in
+    let tail : take n xs ≡ take n ys = cc in
+    rw ((bytes_eq-Decides x y).1 head) (omega (arith, front_same n xs ys tail (omega (arith, a)) (omega (arith, b))))
+
+-- further lines that are equal
+pub front_more : (i n : ℕ) (xs ys : List (List ℕ)) → take n (drop i xs) ≡ take n (drop i ys) → i + n ≤ length xs → i + n ≤ length ys
+    → i + n + front (drop (i + n) xs) (drop (i + n) ys) ≡ i + front (drop i xs) (drop i ys)
+front_more i n xs ys h a b =
+    let rest = front_same n (drop i xs) (drop i ys) h (omega (arith, a, length-drop i xs)) (omega (arith, b, length-drop i ys)) in
+    let here : front (drop n (drop i xs)) (drop n (drop i ys)) ≡ front (drop (i + n) xs) (drop (i + n) ys) = rw (drop-drop n i xs, drop-drop n i ys) refl in
+    omega (arith, rest, here)
 
 -- ---- whole lists
 

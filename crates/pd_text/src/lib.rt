@@ -5,6 +5,7 @@ mod faults;
 mod line_edit;
 mod line_facts;
 mod line_list;
+mod packed;
 mod room;
 mod script_lines;
 mod script_name;

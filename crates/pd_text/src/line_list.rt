@@ -1,39 +1,35 @@
 //! Lists of lines, of any length.
 ghost use Rattle.std.specs.Prelude.{◌≡◌, ◌+◌, ◌-◌, ◌^◌, ◌≤◌, ◌<◌, ◌++◌, ◌∷◌, ◌↔◌, [], Some, length, take, drop, option_copied, slice_get, IfOk, OnOk, OnErr, IsTrue};
 ghost use Rattle.pd_text.specs.Text.{front, is_line, octets_of, AreLines};
+ghost use Rattle.pd_text.specs.Packed.{lines_from, are_ends};
 
+use crate::packed::{Packed, place, place_after, push_moved};
+use crate::room::MAX_LINES;
 use std::alloc::{AllocError, Global};
 use std::marker::Model;
 
-/// Where a line stands among the octets of its list.
-#[derive(Clone, Copy, PartialEq, Eq)]
-struct Span {
-    /// How many octets of the list lie before the line.
-    from: usize,
-    /// The same with the octets of the line.
-    to: usize,
-}
+/// How often the lines that a text may have are halved until one is left.
+const HALVINGS: usize = 12;
 
 /// A list of lines, each its octets without the newline.
 #[derive(Drop)]
 pub struct LineList {
-    /// The octets of all lines, without their newlines.
+    /// The octets of all lines, one after another, without their newlines.
     octets: Vec<u8>,
-    /// Where each line stands among them, in order.
-    spans: Vec<Span>,
+    /// How many octets the lines have up to the end of each.
+    ends: Vec<u32>,
 }
 
 impl Model for LineList {
-    ghost use Rattle.std.specs.Prelude.{◌≡◌, ◌+◌, List, ℕ, length, IsTrue};
-    ghost use Rattle.std.specs.List.{list_all};
-    ghost use Rattle.pd_text.specs.Text.{octets_of, AreLines};
-    ghost use Rattle.pd_text.specs.Spans.{lines_at, is_within};
+    ghost use Rattle.std.specs.Prelude.{List, ℕ, length, IsTrue};
+    ghost use Rattle.pd_text.specs.Text.{AreLines};
+    ghost use Rattle.pd_text.specs.Packed.{lines_from, are_ends};
 
     ghost Value = { List (List ℕ) };
 
-    ghost view = { λ l. lines_at l.octets.items l.spans.items };
+    ghost view = { λ l. lines_from 0 l.octets.items l.ends.items };
 
-    ghost invariant = { λ l. IsTrue (list_all (is_within (length l.octets.items)) l.spans.items) × AreLines (lines_at l.octets.items l.spans.items) × (octets_of (lines_at l.octets.items l.spans.items) ≡ length l.octets.items + length l.spans.items) };
+    ghost invariant = { λ l. IsTrue (are_ends 0 (length l.octets.items) l.ends.items) × AreLines (lines_from 0 l.octets.items l.ends.items) };
 }
 
 impl LineList {
@@ -43,25 +39,39 @@ impl LineList {
     {
         LineList {
             octets: Vec::new(alloc),
-            spans: Vec::new(alloc),
+            ends: Vec::new(alloc),
         }
     }
 
     /// Adds a line, which holds no newline.
     ///
     /// # Errors
-    /// `AllocError` where a growth is refused; the list is as before then.
+    /// `AllocError` where a growth is refused, or the lines would have 4,294,967,296 octets or more; the list is as before
+    /// then.
     pub fn push(&mut self, line: &[u8]) -> Result<(), AllocError>
         requires { IsTrue (is_line line.now) }
         ensures ok { OnOk result (self.new ≡ self.old ++ line.now ∷ []) }
         ensures same { OnErr result (self.new ≡ self.old) }
     {
-        self.spans.reserve(1)?;
-        let from = self.octets.len();
+        self.ends.reserve(1)?;
+        let end = place_after(self.octets.len(), line.len())?;
         self.octets.extend_from_slice(line)?;
-        let to = self.octets.len();
-        self.spans.push_reserved(Span { from, to });
+        self.ends.push_reserved(end);
         Ok(())
+    }
+
+    /// Its lines as they stand.
+    #[inline(always)]
+    fn packed(&self) -> Packed<'_>
+        ensures lines { lines_from 0 result.octets.now result.ends.now ≡ self.now }
+        ensures ends { IsTrue (are_ends 0 (length result.octets.now) result.ends.now) }
+        ensures count { length result.ends.now ≡ length self.now }
+        ensures are_lines { AreLines self.now }
+    {
+        Packed {
+            octets: self.octets.as_slice(),
+            ends: self.ends.as_slice(),
+        }
     }
 
     /// How many lines it has.
@@ -69,7 +79,7 @@ impl LineList {
         ensures len { result ≡ length self.now }
         ensures lines { AreLines self.now }
     {
-        self.spans.len()
+        self.ends.len()
     }
 
     /// How many octets its lines have, without their newlines.
@@ -85,7 +95,7 @@ impl LineList {
         ensures line { option_copied result ≡ slice_get self.now i }
         ensures lines { AreLines self.now }
     {
-        if i < self.spans.len() {
+        if i < self.len() {
             Some(self.at(i))
         } else {
             None
@@ -99,8 +109,7 @@ impl LineList {
         ensures line { slice_get self.now i ≡ Some result.now }
         ensures lines { AreLines self.now }
     {
-        let span = self.spans[i];
-        &self.octets[span.from..span.to]
+        self.packed().line(i)
     }
 
     /// Whether both have the same lines.
@@ -114,7 +123,7 @@ impl LineList {
     fn stands_as(&self, other: &LineList) -> bool
         ensures { IsTrue result → self.now ≡ other.now }
     {
-        self.octets == other.octets && self.spans == other.spans
+        self.octets == other.octets && self.ends == other.ends
     }
 
     /// How many of their first lines are equal; takes no memory.
@@ -122,7 +131,7 @@ impl LineList {
         ensures { result ≡ front self.now other.now }
     {
         let most = self.len().min(other.len());
-        'lines: for i in 0..most {
+        'lines: for i in self.same_by_halves(other, most)..most {
             if self.at(i) != other.at(i) {
                 return i;
             }
@@ -130,12 +139,22 @@ impl LineList {
         most
     }
 
-    /// A fact of lists: their octets, each line counted with one more for its end, are few enough
-    /// that those of some lines, without the ends, don't overflow.
-    fn have_few_octets(&self)
-        ensures { octets_of self.now < length self.now + 2 ^ 64 }
+    /// So many of at most `most` first lines that are equal: many lines at once, then half as many, down to one, as long as they
+    /// are the same octets at the same places.
+    fn same_by_halves(&self, other: &LineList, most: usize) -> usize
+        requires within { most ≤ length self.now }
+        requires beside { most ≤ length other.now }
+        ensures few { result ≤ most }
+        ensures same { result + front (drop result self.now) (drop result other.now) ≡ front self.now other.now }
     {
-        let _octets = self.octets();
+        let mut same = 0;
+        'halves: for halving in 0..=HALVINGS {
+            let step = MAX_LINES >> halving;
+            if step <= most - same && self.packed().stands_as(&other.packed(), same, same + step) {
+                same += step;
+            }
+        }
+        same
     }
 
     /// How many octets lines `from` up to `to` have, counted from 0, without their newlines.
@@ -143,18 +162,14 @@ impl LineList {
         requires { (from ≤ to) × (to ≤ length self.now) }
         ensures { result + (to - from) ≡ octets_of (take (to - from) (drop from self.now)) }
     {
-        self.have_few_octets();
-        let mut octets = 0;
-        'lines: for i in from..to {
-            octets += self.at(i).len();
-        }
-        octets
+        let lines = self.packed();
+        lines.start(to) - lines.start(from)
     }
 
     /// Adds lines `first` up to `end` of another list, counted from 0.
     ///
     /// # Errors
-    /// `AllocError` where a growth is refused; the lines before the refused one were added then.
+    /// As for `push`; the list is as before then.
     pub fn push_lines(
         &mut self,
         list: &LineList,
@@ -164,9 +179,14 @@ impl LineList {
         requires { (first ≤ end) × (end ≤ length list.now) }
         ensures { OnOk result (self.new ≡ self.old ++ take (end - first) (drop first list.now)) }
     {
-        'lines: for i in first..end {
-            self.push(list.at(i))?;
-        }
+        let lines = list.packed();
+        let octets = lines.part(first, end);
+        let from = place(lines.start(first))?;
+        let at = place(self.octets.len())?;
+        let _last = place_after(self.octets.len(), octets.len())?;
+        self.ends.reserve(end - first)?;
+        self.octets.extend_from_slice(octets)?;
+        push_moved(&mut self.ends, &lines.ends[first..end], from, at);
         Ok(())
     }
 
@@ -177,7 +197,7 @@ impl LineList {
     pub fn reserve(&mut self, lines: usize, octets: usize) -> Result<(), AllocError>
         ensures { self.new ≡ self.old }
     {
-        self.spans.reserve(lines)?;
+        self.ends.reserve(lines)?;
         self.octets.reserve(octets)
     }
 
@@ -186,7 +206,7 @@ impl LineList {
         ensures { self.new ≡ self.old }
     {
         self.octets.shrink_to_fit();
-        self.spans.shrink_to_fit();
+        self.ends.shrink_to_fit();
     }
 
     /// An equal list of its own.
@@ -199,9 +219,9 @@ impl LineList {
         let alloc = *self.octets.allocator();
         let mut octets = Vec::new(alloc);
         octets.extend_from_slice(self.octets.as_slice())?;
-        let mut spans = Vec::new(alloc);
-        spans.extend_from_slice(self.spans.as_slice())?;
-        Ok(LineList { octets, spans })
+        let mut ends = Vec::new(alloc);
+        ends.extend_from_slice(self.ends.as_slice())?;
+        Ok(LineList { octets, ends })
     }
 
     /// The allocator that its octets come from.

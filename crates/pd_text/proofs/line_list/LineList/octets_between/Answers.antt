@@ -1,15 +1,17 @@
--- The octets of a range, one line more.
-use Rattle.std.proofs.Common.{◌+◌, ◌-◌, arith}
-use Rattle.pd_text.proofs.Ranges.{range_octets, range_within}
+-- The octets of lines are those between two places.
+use Rattle.std.proofs.Common.{arith}
+use Rattle.pd_text.proofs.Placed.{start_order, some_octets}
 use Rattle.pd_text.proofs.line_list.LineList.octets_between.Goals as goal
 
-pub overflow_add-octets : goal.overflow_add-octets
-overflow_add-octets c =
-    let step = range_octets c.args.self.now c.args.from c.lines.i c.at.result.now (omega arith) c.at.ensures.line in
-    let within = range_within c.args.self.now c.args.from (c.lines.i + 1 - c.args.from) (omega (arith, c.requires)) in
-    omega (arith, step, within, c.lines.invariant, c.have_few_octets.ensures, c.requires)
+pub overflow_sub-result : goal.overflow_sub-result
+overflow_sub-result c =
+    let order = start_order c.packed-lines.result.ends.now c.args.from c.args.to _ c.requires.0 c.packed-lines.ensures.ends in
+    omega (arith, order, c.start.ensures, c.start-2.ensures)
 
-pub lines-preserved : goal.lines-preserved
-lines-preserved c =
-    let step = range_octets c.args.self.now c.args.from c.lines.i c.at.result.now (omega arith) c.at.ensures.line in
-    omega (arith, step, c.lines.invariant)
+pub returns : goal.returns
+returns c =
+    let octets = c.packed-lines.result.octets.now in
+    let ends = c.packed-lines.result.ends.now in
+    let order = start_order ends c.args.from c.args.to _ c.requires.0 c.packed-lines.ensures.ends in
+    let all = some_octets octets ends c.args.from c.args.to c.requires.0 (omega (arith, c.requires.1, c.packed-lines.ensures.count)) c.packed-lines.ensures.ends in
+    rw (← c.packed-lines.ensures.lines) (omega (arith, all, order, c.start.ensures, c.start-2.ensures))
