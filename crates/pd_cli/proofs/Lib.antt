@@ -17,3 +17,4 @@ pub mod Settled
 pub mod Telling
 pub mod Passage
 pub mod Possible
+pub mod Counting
