@@ -41,6 +41,7 @@ impl State {
     }
 
     /// What a ruling makes of a segment, but for its FIN.
+    #[inline(always)]
     fn rule(&mut self, ruling: Option<Ruling>, segment: &Segment, now: u64) -> Result<(), Ending>
         requires early { now < 2 ^ 62 }
         requires known { IfSome self.old.endpoint.connection (λ c. IfNone ruling (c.board.una ≤ segment.now.ack)) }

@@ -64,6 +64,7 @@ impl State {
     /// # Errors
     /// `Halted` by `Unsupported` for a `socket` that isn't the first, and for a `close` of 3 while a connection was begun
     /// that isn't accepted; for a `write` and a `close` of 4 those of `send`.
+    #[inline(always)]
     pub fn call(&mut self, request: Request, now: u64) -> Result<Answer, Ending>
         requires early { now < 2 ^ 62 }
         requires short { IsShort self.old }

@@ -22,6 +22,7 @@ impl Held {
     ///
     /// # Errors
     /// `AllocError` where a growth is refused, or the scoreboard has found no memory before.
+    #[inline(always)]
     pub fn of(endpoint: &Endpoint) -> Result<Held, AllocError>
         ensures board { IfOk result (λ held. held.board ≡ board_of endpoint.now.connection) }
         ensures outbox { IfOk result (λ held. held.outbox ≡ endpoint.now.outbox) }

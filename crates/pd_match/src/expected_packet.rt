@@ -39,6 +39,7 @@ pub fn check_packet(expect: &Expect<'_>, sent: &Sent, tolerance: u64) -> Option<
     first_difference(expect, sent, tolerance)
 }
 
+#[inline(always)]
 fn first_difference(expect: &Expect<'_>, sent: &Sent, tolerance: u64) -> Option<Kind>
     ensures { result ≡ mismatch expect.now.packet.now expect.now.moments sent.now tolerance }
 {

@@ -40,6 +40,7 @@ fn flags_of(written: pd_script::Flags) -> Flags
     }
 }
 
+#[inline(always)]
 fn options_of(alloc: Global, options: &Options) -> Result<SegOptions, AllocError>
     requires fits { are_options_over options.now ≡ false }
     ensures { IfOk result (λ list. list ≡ options_in options.now) }

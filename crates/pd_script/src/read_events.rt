@@ -14,6 +14,7 @@ use std::alloc::Global;
 impl<'a> Cursor<'a> {
     /// Takes a time, and answers the line of its first token with it.
     #[tactic(auto, using(crate::proofs::Symbols::one_octet), unfolding(crate::specs::Reading::time_at, pd_lex::specs::Lexing::lexeme_of))]
+    #[inline(always)]
     fn time(&mut self) -> Result<(usize, Time), Stop>
         ensures { Leaves result self.new (time_at self.old) }
     {
@@ -66,6 +67,7 @@ impl<'a> Cursor<'a> {
 
     /// Takes the end of a blocking call, if one is written.
     #[tactic(auto, unfolding(crate::specs::Reading::maybe_until_at))]
+    #[inline(always)]
     fn until(&mut self) -> Result<Option<Until>, Stop>
         ensures { Leaves result self.new (maybe_until_at self.old) }
     {
@@ -113,6 +115,7 @@ impl<'a> Cursor<'a> {
     }
 
     #[tactic(auto, unfolding(crate::specs::Reading::call_at))]
+    #[inline(always)]
     fn call(&mut self, alloc: Global) -> Result<Call, Stop>
         ensures { Leaves result self.new (call_at self.old) }
     {
@@ -132,6 +135,7 @@ impl<'a> Cursor<'a> {
     }
 
     #[tactic(auto, using(crate::proofs::Symbols::one_octet), unfolding(crate::specs::Reading::action_at, pd_lex::specs::Lexing::lexeme_of))]
+    #[inline(always)]
     fn action(&mut self, alloc: Global) -> Result<Action, Stop>
         ensures { Leaves result self.new (action_at self.old) }
     {

@@ -81,6 +81,7 @@ impl Sent {
     ///
     /// # Errors
     /// `AllocError` where a growth is refused.
+    #[inline(always)]
     pub fn copy(&self) -> Result<Sent, AllocError>
         ensures { IfOk result (λ copy. copy ≡ self.now) }
     {

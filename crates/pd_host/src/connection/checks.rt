@@ -9,6 +9,7 @@ use pd_seg::Segment;
 
 impl Connection {
     /// The ruling of the first check that rules; `None` for a segment that passes them all.
+    #[inline(always)]
     pub fn ruling(&self, segment: &Segment) -> Option<Ruling>
         ensures ruling { result ≡ ruling_of self.now segment.now }
         ensures known { IfNone result (self.now.board.una ≤ segment.now.ack) }
