@@ -10,8 +10,10 @@ program=$top/crates/$1/out/$1
 
 is_built() {
     [ -x "$program" ] || return 1
-    for name in $("$top/tools/crates_below.sh" "$1"); do
-        [ -z "$(find "$top/crates/$name" -name out -prune -o \( -name '*.rt' -o -name '*.antt' \) -newer "$program" -print -quit)" ] || return 1
+    names=$("$top/tools/crates_below.sh" "$1" 2>/dev/null) && [ -n "$names" ] || return 1
+    for name in $names; do
+        newer=$(find "$top/crates/$name" -name out -prune -o \( -name '*.rt' -o -name '*.antt' \) -newer "$program" -print -quit 2>/dev/null) &&
+            [ -z "$newer" ] || return 1
     done
 }
 

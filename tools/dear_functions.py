@@ -1,8 +1,9 @@
-"""Prints in Markdown which functions of a crate take longest to prove: dear_functions.py TOP CLONE CRATE
+"""Prints in Markdown what of a crate takes longest to prove: dear_functions.py TOP CLONE CRATE
 
 CLONE is a clean clone of the repository TOP. The crate's libraries come from TOP where they are proved there, and are
-proved in the clone where they are not. A function's time runs from the line before its own to its own, as
-`rt check --jobs 1` prints them over an empty out/.
+proved in the clone where they are not. `rt check --jobs 1` proves one thing after another and writes each part of what it
+proved into a file of its own below out/incremental. So a part took the time since the file before it was written, and a
+function takes what its parts took.
 """
 from __future__ import annotations
 
@@ -11,62 +12,95 @@ import shutil
 import subprocess
 import sys
 import time
+from collections import defaultdict
 from collections.abc import Iterable, Iterator
 from dataclasses import dataclass
 from pathlib import Path
 
 from crate_graph import dependencies, libraries_below
+from from_nothing import begin_with_nothing
 
 SHOWN = 10
-CHECKED = re.compile(r"checked (\S+), \d+ of \d+$")
+# The file of a part: a function's path, and the part's own name, which begins with a capital letter.
+PART = re.compile(r"Rattle-(?P<crate>\w+)-proofs\.(?P<path>.+?)(?:\.decls)?\.oantt$")
+# The parts of a function that are told apart: its steps and what is dropped on each way, its goals, and the rest.
+STEPS, GOALS = {"Lts", "Kinds", "Reads", "Tie"}, {"Proof"}
 
 
 @dataclass(frozen=True)
-class Line:
-    """A line of a check, and the seconds from the check's start to the line."""
+class Written:
+    """A file that a check wrote, and when, in seconds since some moment."""
 
     at: float
-    text: str
-
-
-@dataclass(frozen=True)
-class Function:
-    """A function, and the seconds that its proof took."""
-
     name: str
-    seconds: float
 
 
-def functions_of(lines: Iterable[Line]) -> Iterator[Function]:
-    """The functions that the lines of a check name, in their order.
+@dataclass
+class Cost:
+    """The seconds that a function took: for its steps, for its goals, and in all."""
 
-    >>> lines = [Line(2.0, "so far: 0 of 2 functions checked"), Line(5.0, "checked a::b, 1 of 2"), Line(6.5, "checked a::c, 2 of 2")]
-    >>> [(it.name, it.seconds) for it in functions_of(lines)]
-    [('a::b', 3.0), ('a::c', 1.5)]
+    steps: float = 0.0
+    goals: float = 0.0
+    whole: float = 0.0
+
+
+def function_of(name: str) -> tuple[str, str] | None:
+    """The function or lemma that a file is of, and the part of it.
+
+    >>> function_of("Rattle-pd_lex-proofs.next.next_token.Proof.decls.oantt")
+    ('next.next_token', 'Proof')
+    >>> function_of("Rattle-pd_lex-proofs.Cuts.oantt")
+    ('Cuts', '')
+    >>> function_of("Rattle-pd_lex.below.pd_text.specs.oantt")
     """
-    before = 0.0
-    for line in lines:
-        found = CHECKED.match(line.text)
-        if found:
-            yield Function(found[1], line.at - before)
-        before = line.at
+    found = PART.match(name)
+    if not found:
+        return None
+    path, point, part = found["path"].rpartition(".")
+    return (path, part) if point and part[0].isupper() else (found["path"], "")
 
 
-def table(crate: str, functions: list[Function], whole: float) -> Iterator[str]:
-    """The dearest functions. What is checked before the first one ends is no single function's."""
+def costs(began: float, files: Iterable[Written]) -> tuple[dict[str, Cost], float]:
+    """What each function took, and what was of no function.
 
-    def row(name: str, seconds: float) -> str:
-        return f"| {name} | {seconds:.1f} | {100 * seconds / whole:.0f} % |"
+    >>> files = [Written(9.0, "Rattle-a-proofs.f.Proof.oantt"), Written(4.0, "Rattle-a.specs.oantt"), Written(5.0, "Rattle-a-proofs.f.Lts.oantt")]
+    >>> costs(1.0, files)
+    ({'f': Cost(steps=1.0, goals=4.0, whole=5.0)}, 3.0)
+    """
+    found: dict[str, Cost] = defaultdict(Cost)
+    others = 0.0
+    before = began
+    for file in sorted(files, key=lambda it: it.at):
+        seconds, before = max(0.0, file.at - before), max(before, file.at)
+        function = function_of(file.name)
+        if function is None:
+            others += seconds
+            continue
+        cost = found[function[0]]
+        cost.whole += seconds
+        cost.steps += seconds if function[1] in STEPS else 0.0
+        cost.goals += seconds if function[1] in GOALS else 0.0
+    return dict(found), others
 
-    dearest = sorted(functions[1:], key=lambda it: -it.seconds)[:SHOWN]
-    others = sum(it.seconds for it in functions[1:]) - sum(it.seconds for it in dearest)
-    yield f"| function of `{crate}` | seconds | share |"
-    yield "|---|---|---|"
-    for it in dearest:
-        yield row(f"`{it.name.removeprefix(crate + '::')}`", it.seconds)
-    yield row(f"{len(functions) - 1 - len(dearest)} others", others)
-    yield row("what comes before, and the first function", whole - others - sum(it.seconds for it in dearest))
-    yield row(f"all {len(functions)}", whole)
+
+def table(crate: str, functions: dict[str, Cost], others: float) -> Iterator[str]:
+    """The dearest functions and lemmas, and what was of none: reading the libraries, the definitions, the compiled code."""
+    whole = others + sum(it.whole for it in functions.values())
+
+    def row(name: str, cost: Cost) -> str:
+        steps, goals = (f"{it:.1f}" if it else "" for it in (cost.steps, cost.goals))
+        return f"| {name} | {steps} | {goals} | {cost.whole:.1f} | {100 * cost.whole / whole:.0f} % |".replace("  ", " ")
+
+    ordered = sorted(functions.items(), key=lambda it: -it[1].whole)
+    rest = ordered[SHOWN:]
+    yield f"| function or lemma of `{crate}` | steps | goals | seconds | share |"
+    yield "|---|---|---|---|---|"
+    for name, cost in ordered[:SHOWN]:
+        yield row(f"`{name}`", cost)
+    sums = [sum(it) for it in zip(*((cost.steps, cost.goals, cost.whole) for _, cost in rest))] or [0.0, 0.0, 0.0]
+    yield row(f"{len(rest)} others", Cost(*sums))
+    yield row("what is of none", Cost(whole=others))
+    yield row("all", Cost(whole=whole))
 
 
 def prepare(top: Path, clone: Path, library: str) -> None:
@@ -76,26 +110,20 @@ def prepare(top: Path, clone: Path, library: str) -> None:
     if kept.is_dir():
         shutil.copytree(kept, folder / "out" / "rlib", symlinks=True)
     print(f"gate_times: preparing {library}", file=sys.stderr)
-    said = [it.text for it in run(["rt", "lib"], folder)]
-    if said[-1] != "status 0":
-        refuse(library, said)
+    run(["rt", "lib"], folder)
 
 
-def run(command: list[str], folder: Path) -> list[Line]:
-    """What a command says line by line, and a last line with its status."""
-    began = time.monotonic()
-    with subprocess.Popen(
-        command, cwd=folder, stdin=subprocess.DEVNULL, stdout=subprocess.PIPE, stderr=subprocess.STDOUT, text=True
-    ) as started:
-        assert started.stdout is not None
-        lines = [Line(time.monotonic() - began, text.rstrip("\n")) for text in started.stdout]
-    return [*lines, Line(time.monotonic() - began, f"status {started.returncode}")]
+def run(command: list[str], folder: Path) -> None:
+    """Runs a command, and ends this program where it fails."""
+    ran = subprocess.run(command, cwd=folder, stdin=subprocess.DEVNULL, stdout=subprocess.PIPE, stderr=subprocess.STDOUT, text=True)
+    if ran.returncode:
+        print(*ran.stdout.splitlines()[-6:], f"gate_times: {folder.name} isn't proved", sep="\n", file=sys.stderr)
+        sys.exit(2)
 
 
-def refuse(crate: str, said: list[str]) -> None:
-    """Ends this program, since a crate isn't proved."""
-    print(*said[-6:], f"gate_times: {crate} isn't proved", sep="\n", file=sys.stderr)
-    sys.exit(2)
+def files_below(folder: Path) -> Iterator[Written]:
+    for path in folder.rglob("*.oantt"):
+        yield Written(path.stat().st_mtime, path.name)
 
 
 def main(top: Path, clone: Path, crate: str) -> None:
@@ -104,13 +132,15 @@ def main(top: Path, clone: Path, crate: str) -> None:
         sys.exit(f"gate_times: crates.txt has no crate '{crate}'")
     for library in libraries_below(crate, uses):
         prepare(top, clone, library)
+    folder = clone / "crates" / crate
+    begin_with_nothing(folder)
     print(f"gate_times: checking {crate} with --jobs 1", file=sys.stderr)
-    lines = run(["rt", "check", "--jobs", "1"], clone / "crates" / crate)
-    functions = list(functions_of(lines))
-    if functions:
-        print(*table(crate, functions, lines[-1].at), sep="\n")
-    if lines[-1].text != "status 0":
-        refuse(crate, [it.text for it in lines])
+    began = time.time()
+    run(["rt", "check", "--jobs", "1"], folder)
+    functions, others = costs(began, files_below(folder / "out" / "incremental"))
+    if not functions:
+        sys.exit(f"gate_times: rt check wrote no file of a function below {folder.name}/out/incremental")
+    print(*table(crate, functions, others), sep="\n")
 
 
 if __name__ == "__main__":

@@ -10,7 +10,6 @@ import contextlib
 import ctypes
 import os
 import resource
-import shutil
 import subprocess
 import sys
 import time
@@ -20,6 +19,7 @@ from pathlib import Path
 from typing import NamedTuple
 
 from crate_graph import dependencies
+from from_nothing import begin_with_nothing
 from process_watch import Span, Watch, Work
 
 PAUSE = 0.5
@@ -98,7 +98,7 @@ def prove_library(folder: Path, *flags: str) -> bool:
 def unit_seconds(folder: Path) -> float | None:
     """The processor seconds of the unit's proof from nothing, where it is proved."""
     crate = folder / "crates" / UNIT_CRATE
-    shutil.rmtree(crate / "out", ignore_errors=True)
+    begin_with_nothing(crate)
     began = processor_seconds()
     return processor_seconds() - began if prove_library(crate, "--jobs", "1") else None
 
