@@ -1,7 +1,8 @@
 #!/bin/sh
 # Measures `pdsuite run` over a folder of generated scripts, on 1, 2 and 4 processors, with a worker each: its time, the
-# processor time of the client alone, and that of a loop that only reads these files. Or measures `pdsuite watch` over 500
-# scripts of 60 events: the time from the return of a save to its row on standard output, and to all of its report, 100 times.
+# processor time of the client alone, and that of a loop that only reads these files. The status is 1 where the client takes
+# more than four times as much, or a script doesn't pass. Or measures `pdsuite watch` over 500 scripts of 60 events: the
+# time from the return of a save to its row on standard output, and to all of its report, 100 times.
 #
 #   bench/suite.sh [SCRIPTS [EVENTS]]      100,000 scripts of 20 events if nothing is said. PDSUITE_PROGRAMS names the folder
 #                                          of another build, or PROGRAM that of pdregress and EXPLAIN that of pdexplain
@@ -64,6 +65,8 @@ import os
 import sys
 import time
 
+# How many times what a loop takes that only reads the files the client may take.
+MOST = 4
 client, processors, suite = sys.argv[1:]
 paths = [os.path.join(folder, name) for folder, _, names in os.walk(suite) for name in names]
 
@@ -77,19 +80,23 @@ def read_all() -> float:
 
 
 os.sched_setaffinity(0, sorted(os.sched_getaffinity(0))[: int(processors)])
+count = len(os.sched_getaffinity(0))
 reading = min(read_all() for _ in range(3))
 begin = time.process_time()
 sys.path.insert(0, client)
 sys.argv = ["pdsuite", "run", suite]
 from pdsuite.main import main
 
-main()
+status = main()
 own = time.process_time() - begin
-print(f"{processors} processors: the client {own:.2f} s, reading alone {reading:.2f} s: {own / reading:.2f} times")
+print(f"{count} processors: the client {own:.2f} s, reading alone {reading:.2f} s: {own / reading:.2f} times")
+sys.exit(status or own > MOST * reading)
 END
+failed=0
 for processors in 1 2 4; do
-    /usr/bin/python3 -I "$work/measure.py" "$top/client" "$processors" "$work/suite"
+    /usr/bin/python3 -I "$work/measure.py" "$top/client" "$processors" "$work/suite" || failed=1
 done
 if [ "$mode" = all ]; then
     measure_cluster
 fi
+exit "$failed"

@@ -1,6 +1,7 @@
 """Asks the program, in a run without scripts, which settings it takes."""
 
 from collections.abc import Callable, Iterable
+from contextlib import suppress
 
 from pdsuite.faults import Fault
 from pdsuite.programs import Ended, Program
@@ -9,31 +10,47 @@ from pdsuite.protocol import refusal_in, rows_in, set_and_show
 from pdsuite.settings import set_words
 from pdsuite.suite import Claim
 
-_TRIES = 2
+# Why the program refuses a key or its value; any other refusal ends the run.
+_REFUSALS = ("UnknownKey", "BadValue")
+
+# What was asked about already, and why it is refused, if it is.
+_Known = dict[tuple[str, str], str | None]
 
 
 def refused(claims: Iterable[Claim], start: Callable[[], Program]) -> list[str]:
     """The lines of the claims that the program refuses. Without claims it is still asked whether it answers."""
     each = list(claims)
-    for left in reversed(range(_TRIES)):
-        try:
-            with start() as program:
-                return _refused(each, program)
-        except (Ended, Unexpected) as error:
-            if not left:
-                raise Fault(str(error)) from error
-    raise AssertionError("there is at least one try")
+    known: _Known = {}
+    with suppress(Ended):  # a new run begins with what is left
+        return _refused(each, known, start)
+    try:
+        return _refused(each, known, start)
+    except Ended as end:
+        raise Fault(str(end)) from end
 
 
-def _refused(claims: list[Claim], program: Program) -> list[str]:
-    rows_in(program.ask(SHOW, 2 * LONGEST_LINE), b"", (), 0)
-    lines = []
-    known: dict[tuple[str, str], str | None] = {}
-    for claim in claims:
-        words = set_words(claim.key, claim.value)
-        if words not in known:
-            answer = program.ask(set_and_show(*words), 3 * LONGEST_LINE)
-            known[words] = refusal_in(answer)
-        if (reason := known[words]) is not None:
-            lines.append(claim.refused(reason))
-    return lines
+def _refused(claims: list[Claim], known: _Known, start: Callable[[], Program]) -> list[str]:
+    with start() as program:
+        _check(program.ask(SHOW, 2 * LONGEST_LINE), b"")
+        for claim in claims:
+            words = set_words(claim.key, claim.value)
+            if words not in known:
+                known[words] = _answer(words, program)
+    reasons = ((claim, known[set_words(claim.key, claim.value)]) for claim in claims)
+    return [claim.refused(reason) for claim, reason in reasons if reason is not None]
+
+
+def _answer(words: tuple[str, str], program: Program) -> str | None:
+    """Why the program refuses a key with its value, if it does."""
+    answer = program.ask(set_and_show(*words), 3 * LONGEST_LINE)
+    reason = refusal_in(answer)
+    _check(answer, answer.split(b"\n", 1)[0] + b"\n" if reason in _REFUSALS else b"")
+    return reason
+
+
+def _check(answer: bytes, before: bytes) -> None:
+    """Raises Ended where an answer is no report without scripts, behind what may stand before it."""
+    try:
+        rows_in(answer, before, (), 0)
+    except Unexpected as unexpected:
+        raise Ended(f"pdregress: {unexpected}") from unexpected

@@ -12,10 +12,10 @@ from collections.abc import Callable, Generator, Iterable, Iterator
 from concurrent.futures import CancelledError
 from contextlib import contextmanager, suppress
 from dataclasses import dataclass
+from importlib import import_module
 from itertools import islice
 from typing import Any
 
-import cloudpickle
 import dask
 from distributed import Client, Future
 from distributed.comm.addressing import resolve_address
@@ -24,7 +24,7 @@ from distributed.scheduler import KilledWorker
 import pdsuite
 from pdsuite import parcels
 from pdsuite.faults import Cut, Fault
-from pdsuite.octets import shown
+from pdsuite.octets import shown_text
 from pdsuite.parcels import Parcel, Programs
 from pdsuite.runs import Run, cut
 from pdsuite.settle import Mapper, Step, unrun
@@ -73,8 +73,9 @@ def _connected(address: str) -> Client:
     warnings.filterwarnings("ignore", "Large object of size")
     dask.config.set({"distributed.comm.timeouts.connect": _PATIENCE})
     # The code goes along, with every call.
+    pickle = import_module("cloudpickle")  # it declares no types
     for module in (pdsuite, parcels):
-        cloudpickle.register_pickle_by_value(module)
+        pickle.register_pickle_by_value(module)
     place = _shown(address)
     try:
         resolve_address(address)
@@ -255,4 +256,4 @@ def _unrun(run: Run, reason: str) -> list[Step]:
 
 def _shown(what: object) -> str:
     """In one line."""
-    return shown(" ".join(str(what).split()).encode("utf-8", "surrogateescape"), 200)
+    return shown_text(" ".join(str(what).split()), 200)

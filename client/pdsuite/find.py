@@ -99,5 +99,4 @@ def _file(path: str) -> Found:
 
 
 def _lost(path: str, error: OSError | ValueError) -> Found:
-    reason = why(error) if isinstance(error, OSError) else str(error)
-    return Found(path, os.path.abspath(path), "", reason)
+    return Found(path, os.path.abspath(path), "", why(error))

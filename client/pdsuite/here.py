@@ -1,6 +1,7 @@
 """This machine's processors as a mapper of runs: one program after another, each with so many threads."""
 
 from collections.abc import Generator, Iterable
+from contextlib import closing
 
 from pdsuite.explain import Explainer, explained
 from pdsuite.runs import Run
@@ -12,6 +13,7 @@ def here(start: Start, explainer: Explainer) -> Mapper:
 
     def settled(runs: Iterable[Run]) -> Generator[Step, None, None]:
         for run in runs:
-            yield from explained(settle(run, start), explainer)
+            with closing(settle(run, start)) as steps:
+                yield from explained(steps, explainer)
 
     return settled

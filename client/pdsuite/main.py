@@ -9,11 +9,12 @@ from pathlib import Path
 from typing import TypeVar
 
 import click
+from rich.text import Text
 
 from pdsuite.commands.list import list_scripts
 from pdsuite.commands.run import Wish, run
 from pdsuite.faults import Fault, why
-from pdsuite.octets import shown
+from pdsuite.octets import shown, shown_text
 from pdsuite.page.plots import MOST, Plots
 from pdsuite.reports.as_json import Json
 from pdsuite.reports.form import Form
@@ -41,8 +42,9 @@ class _Place(click.Path):
 
 def _print_version(context: click.Context, option: click.Parameter, on: bool) -> None:
     if on and not context.resilient_parsing:
-        for line in version():
-            click.echo(line)
+        with Screen(False, progress=False) as screen:
+            for line in version():
+                screen.show(Text(f"{line}\n"))
         context.exit()
 
 
@@ -221,9 +223,8 @@ def main() -> int:
         status = pdsuite.main(prog_name="pdsuite", standalone_mode=False)
         return status if isinstance(status, int) else 0
     except click.ClickException as error:
+        error.message = shown_text(error.message)
         error.show()
-    except click.exceptions.Abort:
-        pass
     except Stopped as stopped:
         return stopped.status
     except Fault as fault:

@@ -2,6 +2,7 @@
 
 import os
 import re
+from itertools import accumulate
 from pathlib import Path
 
 _PLAIN = re.compile(rb"[ -\[\]-~]*")
@@ -26,6 +27,11 @@ def shown(octets: bytes, most: int | None = None, also: str = "") -> str:
     return _cut(signs, most - len(_CUT)) + _CUT
 
 
+def shown_text(text: str, most: int | None = None) -> str:
+    """A text as people see it. Octets that aren't UTF-8 stand in it as Python's `surrogateescape` has them."""
+    return shown(text.encode("utf-8", "surrogateescape"), most)
+
+
 def shown_path(path: str | Path, also: str = "") -> str:
     """A path as people see it."""
     return shown(os.fsencode(path), also=also)
@@ -42,9 +48,5 @@ def _sign(character: str, also: str) -> str:
 
 def _cut(signs: list[str], most: int) -> str:
     """As many of the first signs as fit into so many octets; a sign is never halved."""
-    size = 0
-    for number, sign in enumerate(signs):
-        size += len(sign.encode())
-        if size > most:
-            return "".join(signs[:number])
-    return "".join(signs)
+    sizes = accumulate(len(sign.encode()) for sign in signs)
+    return "".join(sign for sign, size in zip(signs, sizes) if size <= most)

@@ -11,6 +11,7 @@ import signal
 import subprocess
 import sys
 import tempfile
+import time
 from collections.abc import Sequence
 from pathlib import Path
 from types import TracebackType
@@ -55,6 +56,7 @@ def locate(name: str) -> Path:
         [TOP / "tools/built.sh", name],
         stdin=subprocess.DEVNULL,
         capture_output=True,
+        process_group=0,  # a key of the terminal ends the client alone
     )
     if said.returncode:
         raise Fault(shown(said.stderr.strip()))
@@ -95,16 +97,19 @@ class Program:
                 process_group=0,
             )
         except (OSError, ValueError) as error:
-            reason = why(error) if isinstance(error, OSError) else str(error)
-            raise Ended(f"{shown_path(Path(words[0]))}: {reason}") from error
-        self._in, self._out, self._err = _pipes(self._process)
+            raise Ended(f"{shown_path(Path(words[0]))}: {why(error)}") from error
+        try:
+            self._in, self._out, self._err = _pipes(self._process)
+            self._selector = selectors.EpollSelector()
+        except OSError as error:
+            self._kill()
+            raise Ended(f"{self._name}: {why(error)}") from error
         self._unsent = b""
         # An empty line before what was said lets every line begin after a newline.
         self._got = bytearray(b"\n")
         self._said = b""
         self._kept = _KEPT
         self._is_last = False
-        self._selector = selectors.EpollSelector()
         for descriptor in (stop.fileno(), self._out, self._err):
             self._selector.register(descriptor, selectors.EVENT_READ)
 
@@ -226,7 +231,7 @@ class Program:
         except BlockingIOError:
             return b""
         except OSError:
-            octets = b""
+            octets = b""  # as at its end
         if not octets:
             self._selector.unregister(descriptor)
         return octets
@@ -236,7 +241,8 @@ class Program:
 
     def _last_words(self) -> str:
         """Why the program has ended: the last line that it said, else its status."""
-        while self._is_open(self._err) and self._work(_GRACE):
+        until = time.monotonic() + _GRACE
+        while self._is_open(self._err) and (left := until - time.monotonic()) > 0 and self._work(left):
             pass
         if line := self._last_line():
             return line
@@ -259,7 +265,9 @@ class Program:
     def _has_ended(self) -> bool:
         descriptor = os.pidfd_open(self._process.pid)
         try:
-            return bool(select.select([descriptor], [], [], _GRACE)[0])
+            poll = select.poll()
+            poll.register(descriptor, select.POLLIN)
+            return bool(poll.poll(_GRACE * 1_000))
         finally:
             os.close(descriptor)
 

@@ -19,8 +19,11 @@ class Report:
         self._form = form
         self._screen = screen
         self._waiting: dict[int, Outcome] = {}
-        screen.show(form.head(len(scripts)))
-        screen.advance(0, len(scripts))
+
+    def open(self) -> None:
+        """Shows what stands before all scripts."""
+        self._screen.show(self._form.head(len(self._scripts)))
+        self._screen.advance(0, len(self._scripts))
 
     def take(self, outcomes: Iterable[tuple[Script, Outcome]]) -> None:
         """Shows outcomes, as soon as all before them were shown."""

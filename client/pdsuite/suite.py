@@ -8,7 +8,7 @@ from pathlib import Path
 
 from pdsuite.faults import Fault
 from pdsuite.find import SUFFIX, Found
-from pdsuite.octets import shown, shown_path
+from pdsuite.octets import shown_path, shown_text
 from pdsuite.settings import Settings, Value, settings_of
 from pdsuite.text import Unfit, read_file
 
@@ -163,4 +163,4 @@ def _nearer(path: Path) -> Path:
 
 
 def _shown(text: str) -> str:
-    return shown(text.encode("utf-8", "surrogateescape"))
+    return shown_text(text)

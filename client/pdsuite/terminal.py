@@ -10,7 +10,10 @@ class Terminal:
     """What a terminal shows: text that stays, and below it how far the work is, or another line."""
 
     def __init__(self, color: bool, progress: bool) -> None:
-        self._console = Console(force_terminal=True, color_system="auto" if color else None, highlight=False)
+        # Where nothing is said of colours, rich heeds a NO_COLOR that is empty, too.
+        self._console = Console(
+            force_terminal=True, color_system="auto" if color else None, no_color=not color, highlight=False
+        )
         self._progress = self._progress_line() if progress else None
         self._task = None if self._progress is None else self._progress.add_task("scripts")
         self._live = self._bottom_line()

@@ -5,6 +5,8 @@ import stat
 from dataclasses import dataclass
 from pathlib import Path
 
+from pdsuite.faults import why
+
 LINES = 4_096
 OCTETS = 65_536
 # A carriage return before the end of a line doesn't count.
@@ -52,7 +54,7 @@ def read_file(path: str | Path, most: int) -> bytes:
     try:
         descriptor = os.open(path, _FLAGS)
     except (OSError, ValueError) as error:
-        raise Unfit(getattr(error, "strerror", None) or str(error)) from error
+        raise Unfit(why(error)) from error
     try:
         found = os.fstat(descriptor)
         if not stat.S_ISREG(found.st_mode):
@@ -62,7 +64,7 @@ def read_file(path: str | Path, most: int) -> bytes:
             return octets
         return octets + _read_up_to(descriptor, most - len(octets))
     except OSError as error:
-        raise Unfit(error.strerror or str(error)) from error
+        raise Unfit(why(error)) from error
     finally:
         os.close(descriptor)
 

@@ -80,3 +80,13 @@ def ends(process: "subprocess.Popen[bytes]", number: signal.Signals) -> tuple[in
     process.send_signal(number)
     out, err = process.communicate(timeout=HANGS)
     return process.returncode, out.decode(), err.decode()
+
+
+def wrapped(folder: Path, stand_in: Path, **before: str) -> Path:
+    """A folder of stand-ins, each of which is begun by what is named, in the language of the shell."""
+    folder.mkdir()
+    for name in ("pdregress", "pdexplain"):
+        (folder / f"{name}.py").symlink_to(stand_in / name)
+        (folder / name).write_text(f'#!/bin/sh\n{before.get(name, "")}\nexec "$0.py" "$@"\n')
+        (folder / name).chmod(0o755)
+    return folder

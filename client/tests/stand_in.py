@@ -42,6 +42,10 @@ def act(words: list[str]) -> None:
         case ["close"]:
             os.close(1)
             time.sleep(60)
+        case ["babble"]:
+            os.close(1)
+            while True:
+                print("y", file=sys.stderr)
         case ["stall", mark]:
             Path(mark).write_text(str(os.getpid()))
             time.sleep(60)

@@ -9,7 +9,7 @@ from pathlib import Path
 
 import pytest
 
-from tests.helpers import HANGS, PASSES, TOP, Call, ends, is_alive, write
+from tests.helpers import HANGS, PASSES, TOP, Call, ends, is_alive, wrapped, write
 
 BLOCK = b"script packet: x\nactual packet: y\n"
 BELOW = ["  script packet: x", "  actual packet: y"]
@@ -131,3 +131,13 @@ def test_each_row_of_the_examples_is_explained_by_the_built_program(programs: Pa
     assert len(heads) == 13
     assert all(": " in lines[it].split(".pkt:")[1].split(": ", 1)[1] and lines[it + 1].startswith("  ") for it in heads)
     assert (called.status, called.err) == (1, "")
+
+
+def test_only_scripts_that_do_not_pass_are_given_to_it(tmp_path: Path, stand_in: Path, call: Call) -> None:
+    folder = wrapped(tmp_path / "programs", stand_in)
+    (folder / "pdexplain").write_text('#!/bin/sh\ntee -a asked | "$0.py" "$@"\n')
+    for number in range(130):
+        write(tmp_path / "suite", **{f"s{number:03}": b"row limit 1\nwhy\n" if number in (70, 90) else PASSES})
+    called = call(folder, "run", "suite")
+    assert (called.totals, called.err) == ({"pass": 128, "limit": 2}, "")
+    assert (tmp_path / "asked").read_bytes() == b"add s0 2\nrow limit 1\nwhy\nadd s1 2\nrow limit 1\nwhy\n"

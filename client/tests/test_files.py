@@ -100,11 +100,23 @@ def test_a_full_disk_under_standard_output_is_a_line(words: list[str], stand_in:
     assert (done.returncode, done.stderr) == (2, b"pdsuite: standard output: No space left on device\n")
 
 
-def test_what_standard_output_does_not_take_still_stands_in_the_file(stand_in: Path, tmp_path: Path) -> None:
+@pytest.mark.parametrize("form", ["-v", "--tap", "--json"])
+def test_what_standard_output_does_not_take_still_stands_in_the_file(form: str, stand_in: Path, tmp_path: Path) -> None:
     write(tmp_path, a=PASSES)
     environment = {**os.environ, "PDSUITE_PROGRAMS": str(stand_in)}
-    command = [str(TOP / "pdsuite"), "run", "-v", "--junit", "out.xml", "."]
+    command = [str(TOP / "pdsuite"), "run", form, "--junit", "out.xml", "."]
     with open("/dev/full", "wb") as full:
         done = subprocess.run(command, cwd=tmp_path, env=environment, stdout=full, stderr=subprocess.PIPE)
     assert done.returncode == 2
     assert b'name="a.pkt"' in (tmp_path / "out.xml").read_bytes()
+
+
+def test_a_folder_that_cannot_be_written_whole_is_not_there(tmp_path: Path) -> None:
+    before = resource.getrlimit(resource.RLIMIT_FSIZE)
+    resource.setrlimit(resource.RLIMIT_FSIZE, (1_000, before[1]))
+    try:
+        with pytest.raises(Fault, match="new: File too large"):
+            files.write_folder(tmp_path / "new", [("a.pkt", b"x"), ("b/c.pkt", b"x" * 10_000)])
+    finally:
+        resource.setrlimit(resource.RLIMIT_FSIZE, before)
+    assert os.listdir(tmp_path) == []

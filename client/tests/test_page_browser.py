@@ -6,6 +6,7 @@ import subprocess
 from collections.abc import Iterator
 from dataclasses import dataclass
 from pathlib import Path
+from typing import Any
 
 import pytest
 from selenium import webdriver
@@ -64,13 +65,14 @@ class Browser:
 
     def texts(self, selector: str) -> list[str]:
         """The texts of the elements that a selector finds and that can be seen."""
-        texts = self.driver.execute_script(VISIBLE, selector)
+        texts = self.run(VISIBLE, selector)
         assert isinstance(texts, list)
         return texts
 
-    def run(self, script: str) -> object:
+    def run(self, script: str, *words: str) -> object:
         """What a script in the page answers."""
-        return self.driver.execute_script(script)
+        execute: Any = self.driver.execute_script
+        return execute(script, *words)
 
     def press(self, *keys: str) -> None:
         """Presses keys, whatever has the focus."""
@@ -90,11 +92,12 @@ def make(top: Path, programs: Path) -> Path:
 @pytest.fixture(scope="module")
 def driver(tmp_path_factory: pytest.TempPathFactory) -> Iterator[webdriver.Chrome]:
     """A browser without a window."""
-    options = webdriver.ChromeOptions()
+    options: Any = webdriver.ChromeOptions()
     for word in (*WORDS, f"--user-data-dir={tmp_path_factory.mktemp('profile')}"):
         options.add_argument(word)
     options.binary_location = "/usr/bin/chromium"
-    with webdriver.Chrome(service=Service("/usr/bin/chromedriver"), options=options) as chrome:
+    begin: Any = webdriver.Chrome
+    with begin(service=Service("/usr/bin/chromedriver"), options=options) as chrome:
         yield chrome
 
 

@@ -4,12 +4,14 @@ import os
 import pty
 import re
 import shutil
+import signal
 import subprocess
+import time
 from pathlib import Path
 
 import pytest
 
-from tests.helpers import PASSES, TOP, Call, write
+from tests.helpers import HANGS, PASSES, TOP, Call, write
 
 
 def test_it_runs_under_the_systems_python_whatever_comes_first_on_the_path(
@@ -62,11 +64,16 @@ def test_a_missing_package_is_named_with_the_line_that_installs_it(tmp_path: Pat
     assert (done.returncode, done.stderr) == (2, f"pdsuite: python3-nowhere isn't installed: {line}\n")
 
 
+def without_programs() -> dict[str, str]:
+    """The environment, which names no other programs."""
+    return {key: value for key, value in os.environ.items() if key != "PDSUITE_PROGRAMS"}
+
+
 @pytest.mark.parametrize("words", [["run", "client"], ["--version"]])
 def test_a_program_that_is_not_built_is_named_with_its_command(words: list[str], tmp_path: Path) -> None:
     command = copied(tmp_path)
     write(tmp_path / "client", a=PASSES)
-    environment = {key: value for key, value in os.environ.items() if key != "PDSUITE_PROGRAMS"}
+    environment = without_programs()
     done = subprocess.run([command, *words], cwd=tmp_path, env=environment, capture_output=True, text=True)
     said = "pdregress isn't built, or is older than its sources: run ./pdregress </dev/null"
     assert (done.returncode, done.stderr) == (2, f"pdsuite: {said}\n")
@@ -83,7 +90,7 @@ def test_a_program_older_than_its_sources_is_not_taken(stand_in: Path, tmp_path:
     for name in ("pdregress", "pdexplain"):
         shutil.copy(stand_in / name, tmp_path / f"crates/{name}/out/{name}")
     write(tmp_path / "suite", a=PASSES)
-    environment = {key: value for key, value in os.environ.items() if key != "PDSUITE_PROGRAMS"}
+    environment = without_programs()
 
     def status() -> int:
         return subprocess.run([command, "run", "suite"], cwd=tmp_path, env=environment, capture_output=True).returncode
@@ -130,8 +137,8 @@ def test_other_words_are_status_2(words: list[str], call: Call) -> None:
 def on_terminal(folder: Path, programs: Path, *words: str, **more: str) -> tuple[int, bytes]:
     """The status of a call whose standard output is a terminal, and what that shows."""
     near, far = pty.openpty()
-    environment = {**os.environ, "PDSUITE_PROGRAMS": str(programs), "TERM": "xterm-256color", **more}
-    environment = {key: value for key, value in environment.items() if key != "NO_COLOR" or value}
+    inherited = {key: value for key, value in os.environ.items() if key != "NO_COLOR"}
+    environment = {**inherited, "PDSUITE_PROGRAMS": str(programs), "TERM": "xterm-256color", **more}
     process = subprocess.Popen([TOP / "pdsuite", *words], cwd=folder, env=environment, stdout=far)
     os.close(far)
     shown = b""
@@ -206,3 +213,123 @@ def test_an_empty_word_is_no_path(word: str, words: list[str], stand_in: Path, t
     assert (called.status, called.out) == (2, "")
     assert called.err.splitlines()[-1] == f"Error: Invalid value for '{word}': it is empty, and so names no file."
     assert os.listdir(tmp_path) == ["a.pkt"]
+
+
+def test_an_empty_no_color_forbids_no_colours(stand_in: Path, tmp_path: Path) -> None:
+    write(tmp_path, a=b"row fail 1 seq\n")
+    _, shown = on_terminal(tmp_path, stand_in, "run", ".", NO_COLOR="")
+    assert b"\x1b[1;31mfail seq\x1b[0m\r\n" in shown
+
+
+def test_words_that_are_not_taken_are_shown_escaped(call: Call) -> None:
+    called = call(None, "run", b"--x\x07\xff\\y", ".")
+    assert (called.status, called.err.splitlines()[-1]) == (2, r"Error: No such option: --x\x07\xff\\y")
+
+
+def test_a_program_whose_crates_are_not_known_is_not_taken(stand_in: Path, tmp_path: Path) -> None:
+    command = copied(tmp_path)
+    for name in ("pdregress", "pdexplain"):
+        (tmp_path / f"crates/{name}/out").mkdir(parents=True)
+        shutil.copy(stand_in / name, tmp_path / f"crates/{name}/out/{name}")
+    write(tmp_path / "suite", a=PASSES)
+    environment = without_programs()
+    said = "pdregress isn't built, or is older than its sources: run ./pdregress </dev/null"
+    for lines in ("", "pdexplain:\n", "pdregress: gone\ngone:\n", None):
+        if lines is None:
+            (tmp_path / "crates.txt").unlink()
+        else:
+            (tmp_path / "crates.txt").write_text(lines)
+        done = subprocess.run([command, "run", "suite"], cwd=tmp_path, env=environment, capture_output=True, text=True)
+        assert (done.returncode, done.stdout) == (2, "")
+        assert done.stderr.splitlines()[-1].endswith(said)
+
+
+def with_tool(folder: Path, stand_in: Path, before: str) -> Path:
+    """A copy whose tools/built.sh notes whom it is asked about, and names the stand-ins."""
+    command = copied(folder)
+    text = f'#!/bin/sh\necho "$1" >>"{folder}/asked"\n{before}\necho "{stand_in}/$1"\n'
+    (folder / "tools/built.sh").write_text(text)
+    write(folder / "suite", a=PASSES, b=b"row fail 1 seq\n")
+    return command
+
+
+def test_whether_a_program_is_up_to_date_is_asked_once(tmp_path: Path, stand_in: Path) -> None:
+    command = with_tool(tmp_path, stand_in, "")
+    (tmp_path / "suite/pdsuite.toml").write_text('["a.pkt"]\nmss = 1000\n')
+    done = subprocess.run([command, "run", "suite"], cwd=tmp_path, env=without_programs(), capture_output=True)
+    assert (done.returncode, done.stderr) == (1, b"")
+    assert (tmp_path / "asked").read_text() == "pdregress\npdexplain\n"
+
+
+def test_a_key_of_the_terminal_that_ends_it_while_it_asks_has_its_status(tmp_path: Path, stand_in: Path) -> None:
+    command = with_tool(tmp_path, stand_in, f'touch "{tmp_path}/mark"\nsleep 0.5')
+    process = subprocess.Popen(
+        [command, "run", "suite"],
+        cwd=tmp_path,
+        env=without_programs(),
+        stdout=subprocess.PIPE,
+        stderr=subprocess.PIPE,
+        process_group=0,
+    )
+    until = time.monotonic() + HANGS
+    while not (tmp_path / "mark").exists():
+        assert time.monotonic() < until and process.poll() is None
+        time.sleep(0.01)
+    os.killpg(process.pid, signal.SIGINT)
+    assert process.communicate(timeout=HANGS) == (b"", b"")
+    assert process.returncode == 130
+
+
+@pytest.mark.parametrize(
+    ("words", "user", "calls"),
+    [
+        ([], 0, ["update", "install -y --no-install-recommends python3-nowhere"]),
+        (["--no-install"], 0, []),
+        ([], 1000, []),
+    ],
+)
+def test_the_gate_installs_what_is_missing_or_names_the_line(
+    words: list[str], user: int, calls: list[str], tmp_path: Path
+) -> None:
+    copied(tmp_path)
+    (tmp_path / "client/packages-test.txt").write_text("black\npython3-nowhere\n")
+    tools = {
+        "dpkg-query": "case $* in *nowhere) exit 1 ;; esac\necho installed",
+        "apt-get": f'echo "$*" >>"{tmp_path}/calls"',
+        "id": f"echo {user}",
+    }
+    (tmp_path / "bin").mkdir()
+    for name, text in tools.items():
+        (tmp_path / "bin" / name).write_text(f"#!/bin/sh\n{text}\n")
+        (tmp_path / "bin" / name).chmod(0o755)
+    environment = {**os.environ, "PATH": f"{tmp_path}/bin:{os.environ['PATH']}"}
+    command: list[str | Path] = [tmp_path / "tools/tests/client.sh", *words]
+    done = subprocess.run(command, env=environment, capture_output=True, text=True)
+    line = "FAILED client packages: apt-get install --no-install-recommends python3-nowhere"
+    assert done.stdout.splitlines() == ["missing packages: python3-nowhere", line, "0 passed, 1 failed"]
+    assert done.returncode == 1
+    said = tmp_path / "calls"
+    assert (said.read_text().splitlines() if said.exists() else []) == calls
+
+
+CODE = """
+import sys
+client, *sys.argv[1:] = sys.argv[1:]
+sys.path.insert(0, client)
+from pdsuite.main import main
+main()
+print(*sorted({"matplotlib", "distributed", "watchdog", "junitparser", "jinja2"} & sys.modules.keys()))
+"""
+
+
+@pytest.mark.parametrize(
+    ("words", "modules"), [([], ""), (["--junit", "out.xml"], "junitparser"), (["--html", "page"], "jinja2")]
+)
+def test_a_package_is_imported_only_where_it_is_used(
+    words: list[str], modules: str, stand_in: Path, tmp_path: Path
+) -> None:
+    write(tmp_path / "suite", a=PASSES)
+    environment = {**os.environ, "PDSUITE_PROGRAMS": str(stand_in)}
+    command = ["/usr/bin/python3", "-I", "-c", CODE, str(TOP / "client"), "run", *words, "suite"]
+    done = subprocess.run(command, cwd=tmp_path, env=environment, capture_output=True, text=True)
+    assert done.stdout.splitlines()[-1] == modules

@@ -161,3 +161,11 @@ def test_no_output_holds_a_control_character(stand_in: Path, tmp_path: Path, cal
     for words in (["-v"], ["--tap"], ["--json"], ["--github"]):
         out = call(stand_in, "run", *words, ".").out
         assert all(line.isprintable() for line in out.split("\n"))
+
+
+def test_scripts_that_are_not_run_are_errors_of_junit(stand_in: Path, tmp_path: Path, call: Call) -> None:
+    for number in range(70):
+        write(tmp_path, **{f"s{number:02}": b"row fail 1 seq\n" if number == 0 else b"\n"})
+    call(stand_in, "run", "--fail-fast", "--junit", "out.xml", ".")
+    (suite,) = JUnitXml.fromfile(str(tmp_path / "out.xml"))
+    assert (suite.tests, suite.failures, suite.errors, suite.skipped) == (70, 1, 6, 0)

@@ -114,7 +114,7 @@ def test_settings_change_verdicts_script_by_script(programs: Path, tmp_path: Pat
     assert called.rows == ["a/one.pkt:10: fail missing", "a/two.pkt: pass 10", "b/one.pkt:10: fail missing"]
     called = call(programs, "run", "--settings", "min_rto_us = 200_000", "a", "b")
     assert (called.status, called.totals) == (0, {"pass": 3})
-    assert call(None, "list", "a", "b").out == "a/one.pkt\na/two.pkt: min_rto_us = 200000\nb/one.pkt\n"
+    assert call(tmp_path / "nowhere", "list", "a", "b").out == "a/one.pkt\na/two.pkt: min_rto_us = 200000\nb/one.pkt\n"
 
 
 def test_refused_settings_are_named_before_any_script_runs(programs: Path, tmp_path: Path, call: Call) -> None:

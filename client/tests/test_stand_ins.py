@@ -8,12 +8,14 @@ from pathlib import Path
 
 import pytest
 
-from tests.helpers import HANGS, PASSES, TOP, Call, ends, is_alive, write
+from tests.helpers import HANGS, PASSES, TOP, Call, ends, is_alive, wrapped, write
+from tests.watching import Watching
 
 REASONS = {
     b"crash": "pdregress was ended by SIGSEGV",
     b"exit": "pdregress ended with status 3",
     b"close": "pdregress closed its output",
+    b"babble": "y",
     b"fault 11 HistoryFull": "pdregress: 11 HistoryFull",
     b"fault 12 NoWorkers": "pdregress: 12 NoWorkers",
     b"fault 17 Read": "pdregress: 17 Read",
@@ -153,3 +155,106 @@ def test_a_reader_that_goes_away_ends_it_without_a_traceback(tmp_path: Path, sta
     _, err = process.communicate(timeout=HANGS)
     assert (process.returncode, err) == (2, b"")
     assert not is_alive(int((tmp_path / "mark").read_text()))
+
+
+def test_a_program_stands_in_a_process_group_of_its_own(tmp_path: Path, stand_in: Path) -> None:
+    write(tmp_path, t=b"stall mark\n")
+    process = start(stand_in, tmp_path)
+    number = int((tmp_path / "mark").read_text())
+    assert os.getpgid(number) == number
+    assert ends(process, signal.SIGINT)[0] == 130
+    assert not is_alive(number)
+
+
+def test_programs_end_where_the_client_is_killed(tmp_path: Path, stand_in: Path) -> None:
+    write(tmp_path, a=PASSES)
+    with Watching(tmp_path, stand_in, ".") as watching:
+        started = watching.programs()
+        os.kill(watching.process, signal.SIGKILL)
+        until = time.monotonic() + HANGS
+        while any(map(is_alive, started)):
+            assert time.monotonic() < until
+            time.sleep(0.01)
+    assert started
+
+
+@pytest.mark.parametrize("words", [(), ("--workers", "3")])
+def test_each_group_of_settings_is_one_run_with_its_words(
+    words: tuple[str, ...], tmp_path: Path, stand_in: Path, call: Call
+) -> None:
+    folder = wrapped(tmp_path / "programs", stand_in, pdregress='echo "$*" >>words')
+    write(tmp_path / "suite", a=PASSES, c=PASSES)
+    write(tmp_path / "suite/in", b=PASSES)
+    (tmp_path / "suite/pdsuite.toml").write_text("root = true\n")
+    (tmp_path / "suite/in/pdsuite.toml").write_text("mss = 1000\n")
+    assert call(folder, "run", *words, "suite").totals == {"pass": 3}
+    workers = words[1] if words else str(min(len(os.sched_getaffinity(0)), 64))
+    run = f"--workers {workers} --cache 1"
+    assert (tmp_path / "words").read_text().splitlines() == ["", run, f"{run} --settings mss = 1000"]
+
+
+def test_it_reads_while_it_writes(tmp_path: Path, stand_in: Path, call: Call) -> None:
+    loud = "head -c 3000000 /dev/zero | tr '\\0' y >&2; echo >&2"
+    folder = wrapped(tmp_path / "programs", stand_in, pdregress=loud)
+    for number in range(64):
+        write(tmp_path / "suite", **{f"s{number}": PASSES + b"x" * 60_000})
+    called = call(folder, "run", "suite")
+    assert (called.status, called.totals) == (0, {"pass": 64})
+
+
+def test_a_program_that_ends_once_while_it_is_asked_for_settings(stand_in: Path, tmp_path: Path, call: Call) -> None:
+    once = "[ -e once ] || { touch once; kill -9 $$; }"
+    folder = wrapped(tmp_path / "programs", stand_in, pdregress=once)
+    write(tmp_path / "suite", a=PASSES)
+    called = call(folder, "run", "suite")
+    assert (called.status, called.totals) == (0, {"pass": 1})
+
+
+ANSWERS = [
+    ("refused 11 HistoryFull", "refused 11 HistoryFull"),
+    ("hello", 'answered "hello", which isn\'t the row that is due'),
+]
+
+
+@pytest.mark.parametrize(("answer", "reason"), ANSWERS, ids=[it[0] for it in ANSWERS])
+def test_another_answer_to_a_setting_says_nothing_of_it(
+    answer: str, reason: str, stand_in: Path, tmp_path: Path, call: Call
+) -> None:
+    (tmp_path / "pdexplain").symlink_to(stand_in / "pdexplain")
+    (tmp_path / "pdregress").write_text(
+        "#!/bin/sh\nwhile read -r word more; do case $word in\n"
+        f'    set) echo "{answer}" ;;\n    add) exit 3 ;;\n'
+        "    show) echo total 0 pass 0 fail 0 syntax 0 unsupported 0 limit 0 pending 0 ;;\nesac; done\n"
+    )
+    (tmp_path / "pdregress").chmod(0o755)
+    write(tmp_path / "suite", a=PASSES)
+    called = call(tmp_path, "run", "--settings", "mss = 1000", "suite")
+    assert (called.status, called.out, called.err) == (2, "", f"pdsuite: pdregress: {reason}\n")
+
+
+def test_a_signal_that_was_ignored_stays_ignored(tmp_path: Path, stand_in: Path) -> None:
+    write(tmp_path, t=b"stall mark\n")
+    before = signal.signal(signal.SIGINT, signal.SIG_IGN)  # as a shell has it for what runs in the background
+    try:
+        process = start(stand_in, tmp_path)
+    finally:
+        signal.signal(signal.SIGINT, before)
+    process.send_signal(signal.SIGINT)
+    assert ends(process, signal.SIGTERM)[0] == 143
+    assert not is_alive(int((tmp_path / "mark").read_text()))
+
+
+@pytest.mark.parametrize("words", [["run", "-v", "."], ["run", "--tap", "."], ["list", "."], ["--version"]])
+def test_without_a_reader_it_ends_in_silence(words: list[str], stand_in: Path, tmp_path: Path) -> None:
+    for number in range(130):
+        write(tmp_path, **{f"s{number:03}": PASSES})
+    environment = {**os.environ, "PDSUITE_PROGRAMS": str(stand_in)}
+    reader, writer = os.pipe()
+    os.close(reader)
+    done = subprocess.run(
+        [TOP / "pdsuite", *words], cwd=tmp_path, env=environment, stdout=writer, stderr=subprocess.PIPE, text=True
+    )
+    os.close(writer)
+    assert done.returncode == 2
+    lost = f"pdsuite: {stand_in}/pdrecord: no program (PDSUITE_PROGRAMS names the folder); nothing is recorded\n"
+    assert done.stderr in ("", lost)

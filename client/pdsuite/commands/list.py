@@ -6,7 +6,7 @@ from pathlib import Path
 from rich.text import Text
 
 from pdsuite.commands.choice import scripts_of
-from pdsuite.octets import shown, shown_path
+from pdsuite.octets import shown_path, shown_text
 from pdsuite.runs import Script
 from pdsuite.screen import Screen
 from pdsuite.settings import Settings, shown_value
@@ -31,4 +31,4 @@ def _line(script: Script) -> str:
 
 def _shown(settings: Settings) -> str:
     text = ", ".join(f"{key} = {shown_value(value)}" for key, value in settings)
-    return shown(text.encode("utf-8", "surrogateescape"))
+    return shown_text(text)

@@ -103,6 +103,7 @@ def _run(
     texts: dict[int, Text] = {}
     ended: Stopped | Cut | None = None
     try:
+        report.open()
         with closing(mapper(runs_of(scripts))) as steps:
             heard = steps if drawing is None else _kept(steps, texts)
             ended = _take(heard, report, checking, screen, wish.fail_fast)

@@ -6,7 +6,7 @@ from dataclasses import dataclass
 
 from pdsuite.imports.convert import Imported, Left
 from pdsuite.imports.findings import Finding, Heading, Reason
-from pdsuite.octets import shown, shown_path
+from pdsuite.octets import shown_path, shown_text
 from pdsuite.settings import shown_value
 
 _MOST = 120
@@ -69,7 +69,7 @@ def _reason(reason: Reason) -> str:
 
 
 def _shown(text: str) -> str:
-    return shown(text.encode("utf-8", "surrogateescape"), _MOST)
+    return shown_text(text, _MOST)
 
 
 def _table(heading: str, words: Iterable[str]) -> Iterator[str]:

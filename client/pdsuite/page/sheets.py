@@ -4,7 +4,7 @@ from collections.abc import Iterator, Mapping
 from dataclasses import dataclass
 
 from pdsuite.block import block
-from pdsuite.octets import shown, shown_path
+from pdsuite.octets import shown, shown_path, shown_text
 from pdsuite.page.diagrams import Diagram
 from pdsuite.page.links import file_of
 from pdsuite.page.packets import Mark, Packet, Part, columns
@@ -229,4 +229,4 @@ def _number(told: Cause, key: str) -> int:
 
 def _safe(text: str) -> str:
     """What the program has made safe to print, and anything else as it is shown."""
-    return text if text.isprintable() else shown(text.encode("utf-8", "surrogateescape"))
+    return text if text.isprintable() else shown_text(text)
