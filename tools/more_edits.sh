@@ -81,13 +81,14 @@ build() {
     done
 }
 
-# One lane: tries the crates that no other lane has taken, one after another.
+# One lane: tries the crates that no other lane has taken, one after another, with one check at a time. (Else each lane would
+# begin as many as all of the memory holds.)
 try_crates() {
     tried=
     trap '[ -z "$tried" ] || kill "$tried" 2>/dev/null; exit 1' TERM
     for crate in "$@"; do
         mkdir "$work/taken/$crate" 2>/dev/null || continue
-        rt must-fail "$crate" </dev/null >"$work/said/$crate" 2>&1 &
+        RT_JOBS=1 rt must-fail "$crate" </dev/null >"$work/said/$crate" 2>&1 &
         tried=$!
         wait "$tried" || true
         cat "$work/said/$crate"

@@ -73,5 +73,6 @@ fi
 check layout black -q --check --config pyproject.toml . ../pdsuite
 check style flake8 . ../pdsuite
 check types mypy --config-file pyproject.toml pdsuite tests
+check "types of ./pdsuite" mypy --config-file pyproject.toml ../pdsuite
 tests
 finish
