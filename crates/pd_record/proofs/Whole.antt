@@ -53,12 +53,16 @@ is_recording text lines settings count tracks script is h right = record {
   right = subst (λ (p : Parsed). IsRight p.header.items (events_of tracks) settings lines count) (sym is) right;
 }
 
+-- a reason to refuse it is the only one
+only_reason : (outcome : Answers Tracked) (refusal : NotRecorded) → outcome ≡ Err refusal → IfErr outcome (λ other. other ≡ refusal)
+only_reason outcome refusal is = subst (λ (o : Answers Tracked). IfErr o (λ other. other ≡ refusal)) (sym is) refl
+
 refuses : (outcome : Answers Tracked) (refusal : NotRecorded) → (refusal ≢ OutOfMemory → outcome ≡ Err refusal) → Refuses outcome refusal
 refuses outcome (Stopped v) h = h (λ e. absurd cc)
-refuses outcome TooLarge h = tt
+refuses outcome TooLarge h = only_reason outcome TooLarge (h (λ e. absurd cc))
 refuses outcome TooManyEvents h = h (λ e. absurd cc)
 refuses outcome TooLongGap h = h (λ e. absurd cc)
-refuses outcome Differs h = tt
+refuses outcome Differs h = only_reason outcome Differs (h (λ e. absurd cc))
 refuses outcome OutOfMemory h = tt
 
 -- a refusal that is handed on

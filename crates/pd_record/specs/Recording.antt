@@ -1,5 +1,5 @@
 -- The recording of a whole script.
-use Rattle.std.specs.Prelude.{◌≡◌, ℕ, List, [], ◌∷◌, ◌++◌, map, length, Option, Some, None, Ok, Err}
+use Rattle.std.specs.Prelude.{◌≡◌, ℕ, List, [], ◌∷◌, ◌++◌, map, length, Option, Some, None, Ok, Err, IfErr}
 use Rattle.pd_settings.specs.declared.fields.Settings.{Settings}
 use Rattle.pd_script.specs.Script.{script_of}
 use Rattle.pd_script.specs.declared.parsing.Parsed.{Parsed}
@@ -79,10 +79,10 @@ pub record IsRecording (text : List (List ℕ)) (settings : Settings) (recording
   pub recorded : recording_of text settings ≡ Ok tracks
   pub right : IsRight (script_of text).header.items (events_of tracks) settings recording count
 
--- why a text isn't recorded: it is no script, or its recording is refused. Where the recording is too large or differs from
--- what was recorded, and for want of memory, nothing more is said
+-- why a text isn't recorded: it is no script, or its recording is refused. Where the recording is too large, or differs from
+-- what was recorded, there is no other reason to refuse it; for want of memory nothing more is said
 abbrev pub Refuses : Answers Tracked → NotRecorded → Type 0
 Refuses outcome OutOfMemory = Unit {0}
-Refuses outcome Differs = Unit {0}
-Refuses outcome TooLarge = Unit {0}
+Refuses outcome Differs = IfErr outcome (λ other. other ≡ Differs)
+Refuses outcome TooLarge = IfErr outcome (λ other. other ≡ TooLarge)
 Refuses outcome refusal = outcome ≡ Err refusal
