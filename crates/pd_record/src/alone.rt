@@ -62,24 +62,16 @@ pub fn parts_alone(lines: &Lines, from: Place, until: Place) -> Option<Parts> {
     };
     for at in from.at..line.len() {
         match line[at] {
-            octet if may_open(octet) => return None,
+            b'/' | b'"' | b'`' | b'%' => return None,
             b' ' | b'\t' | b'\r' => draft.is_apart = true,
             octet => {
                 if !draft.read(octet, at) {
                     return None;
                 }
-                if let Reading::Packet = draft.reading {
-                    return draft.parts_of_packet(line, from.line, at);
-                }
             }
         }
     }
     Some(draft.parts(from.line))
-}
-
-/// Whether an octet could begin a comment, a text in quotes or code.
-fn may_open(octet: u8) -> bool {
-    matches!(octet, b'/' | b'"' | b'`' | b'%')
 }
 
 impl Draft {
@@ -125,17 +117,6 @@ impl Draft {
             }
             _ => {}
         }
-    }
-
-    /// The parts of a packet, whose direction stands at a place of its line: what comes after that is looked at only for what
-    /// could begin a comment.
-    fn parts_of_packet(&self, line: &[u8], number: usize, from: usize) -> Option<Parts> {
-        for at in from..line.len() {
-            if may_open(line[at]) {
-                return None;
-            }
-        }
-        Some(self.parts(number))
     }
 
     /// The parts, in a line.
