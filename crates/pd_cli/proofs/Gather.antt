@@ -6,9 +6,8 @@ use Rattle.std.proofs.lemmas.Bool.Decides.{nat_tests}
 use Rattle.std.proofs.Math.Seq.{take-append_seam, drop-append_seam}
 use Rattle.pd_text.specs.Text.{fits_text, octets_of, is_line}
 use Rattle.pd_cli.specs.Pieces.{NoNewline}
-use Rattle.pd_cli.specs.Requests.{is_nothing}
+use Rattle.pd_cli.specs.Taking.{is_nothing, TakesLines, LinesFault, AsksLine, HasRequest, Gives, FaultIn}
 use Rattle.pd_cli.specs.Commands.{Item, does, fitted, edit_of, with_lines, items, commands}
-use Rattle.pd_cli.specs.Taking.{TakesLines, LinesFault, AsksLine, HasRequest, Gives, FaultIn}
 use Rattle.pd_cli.specs.declared.requests.Request.{Request}
 use Rattle.pd_cli.specs.declared.requests.Request.TheVariants as asks
 use Rattle.pd_cli.specs.declared.command.Command.{Command}

@@ -16,7 +16,8 @@ use Rattle.pd_book.specs.Turns.{after_turn}
 use Rattle.pd_cli.specs.Report.{rendered}
 use Rattle.pd_cli.specs.Output.{acted, effect, report}
 use Rattle.pd_cli.specs.Steps.{Turns}
-use Rattle.pd_cli.specs.StepLines.{Counted, AreNumbered, IsOfTurn, AreOfTurns, HearsAll, HearsTurn, HearsSettling, HearsNumbered}
+use Rattle.pd_cli.specs.StepLines.{Counted, AreNumbered}
+use Rattle.pd_cli.specs.Hearing.{IsOfTurn, AreOfTurns, HearsAll, HearsTurn, HearsSettling, HearsNumbered}
 use Rattle.pd_cli.specs.declared.command.Command.{Command}
 use Rattle.pd_cli.specs.declared.command.Command.TheVariants.{Add, Edit, Remove, Set, Show, Settle}
 use Rattle.pd_cli.specs.declared.faults.ServeFault.{ServeFault}

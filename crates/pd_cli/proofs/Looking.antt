@@ -7,7 +7,8 @@ use Rattle.pd_cli.specs.Blocks.{MaySay, AreBlocks, is_looked_into, names_of}
 use Rattle.pd_cli.specs.ExplainProgram.{FinishesExplaining}
 use Rattle.pd_cli.specs.Program.{settings_in, Runs, status_of, said_of, Says}
 use Rattle.pd_cli.specs.ProgramFaults.{fault_line}
-use Rattle.pd_cli.specs.StepLines.{Counted, AreNumbered, HearsAll, SaysMore}
+use Rattle.pd_cli.specs.StepLines.{Counted, AreNumbered}
+use Rattle.pd_cli.specs.Hearing.{HearsAll, SaysMore}
 use Rattle.pd_cli.specs.declared.exits.Exit.{Exit}
 use Rattle.pd_cli.specs.declared.program_faults.ProgramFault.{ProgramFault}
 use Rattle.pd_cli.specs.declared.program_faults.ProgramFault.TheVariants.{Serving}

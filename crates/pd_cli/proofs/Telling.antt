@@ -3,7 +3,8 @@ use Rattle.std.proofs.Common.{◌≡◌, ℕ, Bool, true, false, List, [], ◌�
 use Rattle.std.specs.Io.KnownBytes.{Appends}
 use Rattle.pd_cli.specs.Program.{settings_in, Runs, status_of, said_of, Says}
 use Rattle.pd_cli.specs.ProgramFaults.{fault_line}
-use Rattle.pd_cli.specs.StepLines.{Counted, AreNumbered, HearsAll, SaysMore, step_line, step_lines}
+use Rattle.pd_cli.specs.StepLines.{Counted, AreNumbered, step_line, step_lines}
+use Rattle.pd_cli.specs.Hearing.{HearsAll, SaysMore}
 use Rattle.pd_cli.specs.StepProgram.{FinishesTelling}
 use Rattle.pd_cli.specs.declared.exits.Exit.{Exit}
 use Rattle.pd_cli.specs.declared.program_faults.ProgramFault.{ProgramFault}

@@ -21,3 +21,4 @@ pub mod Steps
 pub mod TakenLines
 pub mod Taking
 pub mod Words
+pub mod Hearing

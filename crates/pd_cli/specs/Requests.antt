@@ -1,5 +1,5 @@
 -- What the line of a command asks for.
-use Rattle.std.specs.Prelude.{ℕ, Bool, true, false, ◌&&◌, nat_le, List, [], ◌∷◌, length, if◌then◌else◌, codes}
+use Rattle.std.specs.Prelude.{ℕ, ◌&&◌, nat_le, List, [], ◌∷◌, length, if◌then◌else◌, codes}
 use Rattle.std.specs.Str.{bytes_eq}
 use Rattle.pd_cli.specs.Words.{words_of, is_count, number_of, value_of}
 use Rattle.pd_cli.specs.declared.requests.Request.{Request}
@@ -45,14 +45,3 @@ request_by (word ∷ words) =
 -- what a line asks for; one of more than 256 octets is bad
 abbrev pub request_of : List ℕ → Request
 request_of line = if nat_le (length line) 256 then request_by (words_of line) else Bad
-
--- a line without words is passed by
-abbrev pub is_nothing : Request → Bool
-is_nothing Nothing = true
-is_nothing Bad = false
-is_nothing (Add name count) = false
-is_nothing (Edit name from remove count) = false
-is_nothing (Remove name) = false
-is_nothing (Set key value) = false
-is_nothing Show = false
-is_nothing Settle = false

@@ -1,13 +1,24 @@
 -- How commands come off the front of an input.
-use Rattle.std.specs.Prelude.{◌≡◌, ℕ, ◌≤◌, ◌<◌, false, List, [], ◌∷◌, length, take, drop, Option, Some, None}
+use Rattle.std.specs.Prelude.{◌≡◌, ℕ, ◌≤◌, ◌<◌, false, List, [], ◌∷◌, length, take, drop, Option, Some, None, Bool, true}
 use Rattle.std.specs.Str.Lines.{lines}
-use Rattle.pd_cli.specs.Requests.{is_nothing}
 use Rattle.pd_cli.specs.Commands.{Item, does, stops, fitted, items, items_at, commands}
 use Rattle.pd_cli.specs.declared.requests.Request.{Request}
 use Rattle.pd_cli.specs.declared.command.Command.{Command}
 use Rattle.pd_cli.specs.declared.command.Command.TheVariants.{Settle}
 use Rattle.pd_cli.specs.declared.faults.ServeFault.{ServeFault}
 use Rattle.pd_cli.specs.declared.faults.ServeFault.TheVariants.{BadCommand, Truncated, Read, OutOfMemory}
+use Rattle.pd_cli.specs.declared.requests.Request.TheVariants.{Nothing, Bad, Add, Edit, Remove, Set, Show, Settle}
+
+-- a line without words is passed by
+abbrev pub is_nothing : Request → Bool
+is_nothing Nothing = true
+is_nothing Bad = false
+is_nothing (Add name count) = false
+is_nothing (Edit name from remove count) = false
+is_nothing (Remove name) = false
+is_nothing (Set key value) = false
+is_nothing Show = false
+is_nothing Settle = false
 
 -- the lines of a command are taken
 abbrev pub TakesLines : ℕ → Option (List (List ℕ)) → List ℕ → List ℕ → Type 0

@@ -30,7 +30,7 @@ pub(crate) struct Blocks<'a, 'b, E> {
 impl<'a, 'b, E: Write> Listener for Blocks<'a, 'b, E> {
     ghost use Rattle.std.specs.Prelude.{◌≡◌, ℕ, List};
     ghost use Rattle.pd_cli.specs.Blocks.{MaySay, names_of};
-    ghost use Rattle.pd_cli.specs.StepLines.{SaysMore};
+    ghost use Rattle.pd_cli.specs.Hearing.{SaysMore};
 
     ghost hears = { λ old new job. (new.err.ghost_name ≡ old.err.ghost_name) × (names_of new.only.now ≡ names_of old.only.now) × (block : List ℕ) × MaySay (names_of old.only.now) job block × SaysMore old.told new.told (E.contents old.err.now) (E.contents new.err.now) block };
 

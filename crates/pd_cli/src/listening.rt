@@ -49,7 +49,8 @@ pub(crate) struct StepLines<'a, E> {
 
 impl<'a, E: Write> Listener for StepLines<'a, E> {
     ghost use Rattle.std.specs.Prelude.{◌≡◌};
-    ghost use Rattle.pd_cli.specs.StepLines.{SaysMore, step_line};
+    ghost use Rattle.pd_cli.specs.StepLines.{step_line};
+    ghost use Rattle.pd_cli.specs.Hearing.{SaysMore};
 
     ghost hears = { λ old new job. (new.err.ghost_name ≡ old.err.ghost_name) × SaysMore old.told new.told (E.contents old.err.now) (E.contents new.err.now) (step_line job) };
 

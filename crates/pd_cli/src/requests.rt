@@ -1,7 +1,8 @@
 //! What the line of a command asks for.
 ghost use Rattle.std.specs.Prelude.{◌≡◌, ◌&&◌, ℕ, Some, None, IfOk, if◌then◌else◌, map};
 ghost use Rattle.pd_cli.specs.Words.{words_of, is_count, number_of};
-ghost use Rattle.pd_cli.specs.Requests.{request_of, request_by, adds, edits, removes, sets, alone, is_nothing};
+ghost use Rattle.pd_cli.specs.Requests.{request_of, request_by, adds, edits, removes, sets, alone};
+ghost use Rattle.pd_cli.specs.Taking.{is_nothing};
 
 use crate::numbers::{count, value};
 use pd_settings::Value;

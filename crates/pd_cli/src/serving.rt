@@ -3,7 +3,8 @@ ghost use Rattle.std.specs.Prelude.{◌≡◌, ◌≤◌, ℕ, List, Ok, IfOk, I
 ghost use Rattle.std.specs.Io.KnownBytes.{Appends};
 ghost use Rattle.pd_cli.specs.Output.{effect, Serves};
 ghost use Rattle.pd_cli.specs.Steps.{IsQuiet, Fails, Does, Ends};
-ghost use Rattle.pd_cli.specs.StepLines.{Counted, AreNumbered, HearsAll, HearsNumbered};
+ghost use Rattle.pd_cli.specs.StepLines.{Counted, AreNumbered};
+ghost use Rattle.pd_cli.specs.Hearing.{HearsAll, HearsNumbered};
 
 use crate::acts::{add, edit, remove, set};
 use crate::command::{Command, next_command};

@@ -4,7 +4,7 @@ ghost use Rattle.pd_book.specs.Turns.{TurnsSettle, StartsAreOutstanding, Settles
 ghost use Rattle.pd_cli.specs.Report.{rendered};
 ghost use Rattle.pd_cli.specs.Output.{effect, report, all_pass};
 ghost use Rattle.pd_cli.specs.Steps.{IsQuiet, Turns, SettlesTo, Fails};
-ghost use Rattle.pd_cli.specs.StepLines.{HearsTurn, HearsSettling, HearsNumbered};
+ghost use Rattle.pd_cli.specs.Hearing.{HearsTurn, HearsSettling, HearsNumbered};
 
 use crate::command::Command;
 use crate::faults::ServeFault;

@@ -4,7 +4,8 @@ ghost use Rattle.std.specs.Io.KnownBytes.{Appends};
 ghost use Rattle.pd_cli.specs.ProgramFaults.{fault_line};
 ghost use Rattle.pd_cli.specs.ProgramWords.{pdsteps, settings_text, word_faults};
 ghost use Rattle.pd_cli.specs.Program.{settings_in, Runs, status_of, said_of, Says, Refuses};
-ghost use Rattle.pd_cli.specs.StepLines.{Counted, AreNumbered, SaysMore, step_lines};
+ghost use Rattle.pd_cli.specs.StepLines.{Counted, AreNumbered, step_lines};
+ghost use Rattle.pd_cli.specs.Hearing.{SaysMore};
 ghost use Rattle.pd_cli.specs.StepProgram.{FinishesTelling};
 
 use crate::exits::Exit;

@@ -4,7 +4,8 @@ ghost use Rattle.std.specs.Io.KnownBytes.{Appends};
 ghost use Rattle.clap.specs.Words.{kind_of};
 ghost use Rattle.pd_cli.specs.ProgramFaults.{fault_line, line_of};
 ghost use Rattle.pd_cli.specs.ProgramWords.{pdregress, settings_text, worker_count, word_faults};
-ghost use Rattle.pd_cli.specs.StepLines.{Counted, AreNumbered, HearsAll};
+ghost use Rattle.pd_cli.specs.StepLines.{Counted, AreNumbered};
+ghost use Rattle.pd_cli.specs.Hearing.{HearsAll};
 ghost use Rattle.pd_cli.specs.Program.{settings_in, Runs, status_of, Says, Refuses, Finishes};
 
 use crate::chosen::Options;

@@ -3,7 +3,8 @@ use Rattle.std.proofs.Common.{◌≡◌, inl, inr, ℕ, Err, Option, Some, None,
 use Rattle.pd_book.specs.declared.act.Act.{Act}
 use Rattle.pd_book.specs.declared.act.Act.TheVariants.{Start, Finish, Abandon}
 use Rattle.pd_seat.specs.Seats.{SeatView, with_act}
-use Rattle.pd_desk.specs.Work.{with_acts, none, finished, not_ended, begun, abandoned, Worked, Left, Works, IsWant, EndsJob, AbandonsJob}
+use Rattle.pd_desk.specs.Work.{with_acts, none, finished, not_ended, begun, abandoned, Worked, Left, Works}
+use Rattle.pd_desk.specs.Inner.{IsWant, EndsJob, AbandonsJob}
 use Rattle.pd_desk.specs.declared.faults.DeskFault.{DeskFault}
 use Rattle.pd_desk.specs.declared.faults.DeskFault.TheVariants.{OutOfMemory}
 

@@ -4,3 +4,4 @@ pub use Rattle.pd_seat.specs.Closing
 pub mod Desk
 pub mod Work
 pub mod Faults
+pub mod Inner

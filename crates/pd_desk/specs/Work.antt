@@ -1,9 +1,9 @@
 -- What a worker leaves in its seat.
-use Rattle.std.specs.Prelude.{◌≡◌, ◌⊎◌, ℕ, List, [], ◌∷◌, ◌++◌, Result, Ok, Err}
+use Rattle.std.specs.Prelude.{◌≡◌, ℕ, List, [], ◌∷◌, ◌++◌, Result, Ok, Err}
 use Rattle.pd_book.specs.declared.act.Act.{Act}
 use Rattle.pd_book.specs.declared.act.Act.TheVariants.{Start, Finish, Abandon}
 use Rattle.pd_book.specs.declared.act.Ruling.{Ruling}
-use Rattle.pd_seat.specs.Seats.{SeatView, with_act}
+use Rattle.pd_seat.specs.Seats.{SeatView}
 use Rattle.pd_desk.specs.declared.faults.DeskFault.{DeskFault}
 use Rattle.pd_desk.specs.declared.faults.DeskFault.TheVariants.{NoWorkers, Differs, HistoryFull, OutOfMemory}
 
@@ -42,15 +42,3 @@ Works seat (Err HistoryFull) seat' = Worked seat seat'
 Works seat (Err OutOfMemory) seat' = Left seat seat'
 Works seat (Err NoWorkers) seat' = seat' ≡ seat
 Works seat (Err Differs) seat' = ⊥
-
--- no room for a start, or no memory
-abbrev pub IsWant : DeskFault → Type 0
-IsWant fault = (fault ≡ HistoryFull) ⊎ (fault ≡ OutOfMemory)
-
--- the job was finished, or not ended
-abbrev pub EndsJob : ℕ → SeatView → SeatView → Type 0
-EndsJob number seat seat' = ((ruling : Ruling) × (seat' ≡ with_act seat (Finish number ruling))) ⊎ (seat' ≡ seat)
-
--- the job was abandoned, or not ended
-abbrev pub AbandonsJob : ℕ → SeatView → SeatView → Type 0
-AbandonsJob number seat seat' = (seat' ≡ with_act seat (Abandon number)) ⊎ (seat' ≡ seat)

@@ -2,7 +2,8 @@
 ghost use Rattle.std.specs.Prelude.{◌≡◌, ◌≢◌, ◌+◌, ◌≤◌, ◌<◌, ◌^◌, ◌⊎◌, true, IfOk, IfErr, IfSome, IfNone, OnOk, OnErr};
 ghost use Rattle.pd_seat.specs.Seats.{with_act, IsShown};
 ghost use Rattle.pd_desk.specs.Desk.{IsCurrent};
-ghost use Rattle.pd_desk.specs.Work.{Works, IsWant, EndsJob, AbandonsJob};
+ghost use Rattle.pd_desk.specs.Work.{Works};
+ghost use Rattle.pd_desk.specs.Inner.{IsWant, EndsJob, AbandonsJob};
 
 use crate::desk::Desk;
 use crate::faults::DeskFault;

@@ -8,3 +8,4 @@ pub mod Pasted
 pub mod Shown
 pub mod Windows
 pub mod Rules
+pub mod Inner

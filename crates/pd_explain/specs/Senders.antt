@@ -1,6 +1,5 @@
 -- How a sender stands, and why it sent no packet that a script expects.
-use Rattle.std.specs.Prelude.{◌==◌, Bool, ◌&&◌, not, false, ℕ, Option, option_map, if◌then◌else◌}
-use Rattle.pd_script.specs.declared.timing.Time.{Time}
+use Rattle.std.specs.Prelude.{◌==◌, Bool, ◌&&◌, not, false, if◌then◌else◌}
 use Rattle.pd_script.specs.declared.script_events.Action.{Action}
 use Rattle.pd_script.specs.declared.script_events.Action.TheVariants.{Outbound}
 use Rattle.pd_host.specs.ConnStates.{conn_state}
@@ -9,9 +8,6 @@ use Rattle.pd_host.specs.Figures.{figures_in}
 use Rattle.pd_host.specs.Sender.{Sender}
 use Rattle.pd_host.specs.declared.holds.Hold.{Hold}
 use Rattle.pd_host.specs.declared.holds.Hold.TheVariants.{Reset, NotEstablished}
-use Rattle.pd_run.specs.Step.{Running, tolerance_of}
-use Rattle.pd_run.specs.Times.{moments_of}
-use Rattle.pd_explain.specs.declared.failures.Awaited.{Awaited}
 use Rattle.pd_explain.specs.declared.failures.Standing.{Standing}
 use Rattle.pd_explain.specs.declared.reasons.Reason.{Reason}
 use Rattle.pd_explain.specs.declared.reasons.Reason.TheVariants.{NoOctets, Held}
@@ -30,10 +26,3 @@ abbrev pub reason_of : Action → Hold → Reason
 reason_of expected Reset = Held Reset
 reason_of expected NotEstablished = Held NotEstablished
 reason_of expected hold = if is_answer expected then NoOctets else Held hold
-
--- when a packet with a time is awaited
-abbrev pub awaited_of : Time → Running → Option Awaited
-awaited_of time r = option_map awaited (moments_of r.base time)
-  where
-    awaited : ℕ × ℕ → Awaited
-    awaited moments = record { first = moments.0; last = moments.1; tolerance = tolerance_of r }

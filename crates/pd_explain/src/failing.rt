@@ -7,7 +7,8 @@ ghost use Rattle.pd_print.specs.Answers.{answer_text};
 ghost use Rattle.pd_run.specs.Limits.{is_long, written_times};
 ghost use Rattle.pd_run.specs.Times.{moments_of};
 ghost use Rattle.pd_explain.specs.Failures.{is_failure, ShowsPackets, IsFailureOf};
-ghost use Rattle.pd_explain.specs.Senders.{standing_of, awaited_of, reason_of};
+ghost use Rattle.pd_explain.specs.Senders.{standing_of, reason_of};
+ghost use Rattle.pd_explain.specs.Inner.{awaited_of};
 ghost use Rattle.pd_explain.specs.Shown.{shown};
 
 use crate::columns::{Pair, event_of, event_sent, pair_of};

@@ -83,13 +83,8 @@ first_ruling (None ∷ checks) = first_ruling checks
 -- what becomes of a later segment; one that passes all checks has no ruling
 abbrev pub ruling_of : ControlBlock → Segment → Option Ruling
 ruling_of c segment = first_ruling (
-    check_contents c segment
-    ∷ check_window c segment
-    ∷ check_rst c segment
-    ∷ check_ack_flag segment
-    ∷ check_handshake c segment
-    ∷ check_ack c segment
-    ∷ [])
+    check_contents c segment ∷ check_window c segment ∷ check_rst c segment
+    ∷ check_ack_flag segment ∷ check_handshake c segment ∷ check_ack c segment ∷ [])
 
 -- an RST ends the connection for good (RFC 9293, section 3.10.7.4, second check; in the handshake too: own profile): its
 -- timer stops, and nothing is sent any more

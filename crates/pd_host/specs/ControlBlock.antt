@@ -1,6 +1,5 @@
 -- A connection's transmission control block.
-use Rattle.std.specs.Prelude.{ℕ, ◌-◌, ◌≤◌, Bool, Option, None, Some, IfNone, if◌then◌else◌}
-use Rattle.std.specs.Option.{ForSome}
+use Rattle.std.specs.Prelude.{ℕ, ◌-◌, Bool, Option, None, Some, if◌then◌else◌}
 use Rattle.pd_board.specs.Scoreboard.{Scoreboard}
 use Rattle.pd_timer.specs.Timer.{Timer}
 use Rattle.pd_host.specs.declared.established.Established.{Established}
@@ -54,12 +53,3 @@ rcv_nxt c = next_from (peer_fin_in c.established)
 -- the number after the last octet of data that is queued; the FIN is the octet behind it
 abbrev pub data_end : ControlBlock → ℕ
 data_end c = if c.fin then c.board.end - 1 else c.board.end
-
--- no shift count is above 14 (RFC 7323, section 2.3)
-abbrev pub IsScalable : Option Scaling → Type 0
-IsScalable scaling = ForSome scaling (λ s. (s.own ≤ 14) × (s.peer ≤ 14))
-
--- what holds of every connection: no shift count is above 14, and in the handshake no octet behind our SYN is acknowledged
-pub record IsConnection (scaling : Option Scaling) (una : ℕ) (established : Option Established) : Type 0 where
-  pub shifts : IsScalable scaling
-  pub handshake : IfNone established (una ≤ 1)

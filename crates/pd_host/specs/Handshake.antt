@@ -86,10 +86,7 @@ is_listening _ = false
 abbrev pub is_opening : Listener → Segment → Bool
 is_opening listener segment =
     is_listening listener
-    && (is_syn_alone segment.flags
-    && (segment.start == 0
-    && (length_of segment == 0
-    && is_mss_run (offered_mss segment.options))))
+    && (is_syn_alone segment.flags && (segment.start == 0 && (length_of segment == 0 && is_mss_run (offered_mss segment.options))))
 
 -- SMSS is the lesser of the setting and the peer's MSS, which is 536 where it names none (RFC 9293, section 3.7.1)
 abbrev pub smss_of : Settings → Offers → ℕ

@@ -73,6 +73,5 @@ is_open _ = false
 -- it back
 abbrev pub OpenHoldsSend : Type 0
 OpenHoldsSend =
-    (c : ControlBlock) (e : Established)
-    → 1 ≤ c.board.next → c.board.next ≤ c.board.top → c.board.top ≤ c.board.end
+    (c : ControlBlock) (e : Established) → 1 ≤ c.board.next → c.board.next ≤ c.board.top → c.board.top ≤ c.board.end
     → is_open (hold_at c e) ≡ is_some (ordinary_segment c e)

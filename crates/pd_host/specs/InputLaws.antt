@@ -19,21 +19,14 @@ use Rattle.pd_host.specs.declared.sender_state.State.{State}
 -- RFC 5961, section 3.2)
 abbrev pub OutsideIsHarmless : Type 0
 OutsideIsHarmless =
-    (segment : Segment) (now : ℕ) (s t : State) (c : ControlBlock)
-    → s.endpoint.connection ≡ Some c
-    → is_in_window c segment ≡ false
-    → arrived segment now s ≡ Ok t
-    → t.endpoint.connection ≡ Some c
+    (segment : Segment) (now : ℕ) (s t : State) (c : ControlBlock) → s.endpoint.connection ≡ Some c
+    → is_in_window c segment ≡ false → arrived segment now s ≡ Ok t → t.endpoint.connection ≡ Some c
 
 -- nothing but an RST at RCV.NXT resets a connection (RFC 5961, section 3)
 abbrev pub OnlyAnExactRstResets : Type 0
 OnlyAnExactRstResets =
-    (segment : Segment) (now : ℕ) (s t : State) (c d : ControlBlock)
-    → s.endpoint.connection ≡ Some c
-    → t.endpoint.connection ≡ Some d
-    → c.reset ≡ false
-    → d.reset ≡ true
-    → arrived segment now s ≡ Ok t
+    (segment : Segment) (now : ℕ) (s t : State) (c d : ControlBlock) → s.endpoint.connection ≡ Some c
+    → t.endpoint.connection ≡ Some d → c.reset ≡ false → d.reset ≡ true → arrived segment now s ≡ Ok t
     → (segment.flags.rst ≡ true) × (segment.start ≡ rcv_nxt c)
 
 -- what was put out at a moment stands behind the packets that nobody has taken, and carries that moment
@@ -52,8 +45,7 @@ CallsPutOutBehind = (call : Call) (now : ℕ) (s t : State) (answer : Answer) �
 -- what the expiries up to a moment put out stands behind the others, in the order of its moments, none of them later
 abbrev pub AdvancesPutOutBehind : Type 0
 AdvancesPutOutBehind =
-    (until : ℕ) (s t : State)
-    → advanced until s ≡ Ok t
+    (until : ℕ) (s t : State) → advanced until s ≡ Ok t
     → (packets : List Sent) × AreInOrder until packets × (t.endpoint.outbox ≡ s.endpoint.outbox ++ packets)
 
 -- the same state with other settings held
@@ -71,24 +63,19 @@ RebindingKeepsUp = (b settings : Settings) (now : ℕ) (s : State) → IsUpTo b 
 -- other settings that agree on all that was consulted up to after an arrival give that arrival
 abbrev pub OnlyUsesMatter : Type 0
 OnlyUsesMatter =
-    (segment : Segment) (now : ℕ) (s t : State) (settings : Settings)
-    → arrived segment now s ≡ Ok t
-    → Agree t.uses s.settings settings
-    → arrived segment now (rebound settings s) ≡ Ok (rebound settings t)
+    (segment : Segment) (now : ℕ) (s t : State) (settings : Settings) → arrived segment now s ≡ Ok t
+    → Agree t.uses s.settings settings → arrived segment now (rebound settings s) ≡ Ok (rebound settings t)
 
 -- and that call, with its answer
 abbrev pub CallsOnlyUse : Type 0
 CallsOnlyUse =
-    (call : Call) (now : ℕ) (s t : State) (answer : Answer) (settings : Settings)
-    → called call now s ≡ Ok (t, answer)
-    → Agree t.uses s.settings settings
-    → called call now (rebound settings s) ≡ Ok (rebound settings t, answer)
+    (call : Call) (now : ℕ) (s t : State) (answer : Answer) (settings : Settings) → called call now s ≡ Ok (t, answer)
+    → Agree t.uses s.settings settings → called call now (rebound settings s) ≡ Ok (rebound settings t, answer)
 
 -- expiries consult none
 abbrev pub AdvancesUseNone : Type 0
 AdvancesUseNone =
-    (until : ℕ) (s t : State) (settings : Settings)
-    → advanced until s ≡ Ok t
+    (until : ℕ) (s t : State) (settings : Settings) → advanced until s ≡ Ok t
     → advanced until (rebound settings s) ≡ Ok (rebound settings t)
 
 -- settings stay as they are, and what was consulted stays noted

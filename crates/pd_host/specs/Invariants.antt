@@ -136,20 +136,12 @@ CallsStayInRange =
 -- section 3.10.7.4, second check)
 pub record EndsForGood : Type 0 where
   pub arrivals :
-      (segment : Segment) (now : ℕ) (s : State) (c : ControlBlock)
-      → s.endpoint.connection ≡ Some c
-      → c.reset ≡ true
-      → arrived segment now s ≡ Err Unsupported
+      (segment : Segment) (now : ℕ) (s : State) (c : ControlBlock) → s.endpoint.connection ≡ Some c
+      → c.reset ≡ true → arrived segment now s ≡ Err Unsupported
   pub expiries :
-      (now until : ℕ) (s : State) (c : ControlBlock)
-      → IsLawful now s
-      → s.endpoint.connection ≡ Some c
-      → c.reset ≡ true
-      → advanced until s ≡ Ok s
+      (now until : ℕ) (s : State) (c : ControlBlock) → IsLawful now s
+      → s.endpoint.connection ≡ Some c → c.reset ≡ true → advanced until s ≡ Ok s
   pub calls :
-      (call : Call) (now : ℕ) (s t : State) (answer : Answer) (c d : ControlBlock)
-      → s.endpoint.connection ≡ Some c
-      → t.endpoint.connection ≡ Some d
-      → c.reset ≡ true
-      → called call now s ≡ Ok (t, answer)
+      (call : Call) (now : ℕ) (s t : State) (answer : Answer) (c d : ControlBlock) → s.endpoint.connection ≡ Some c
+      → t.endpoint.connection ≡ Some d → c.reset ≡ true → called call now s ≡ Ok (t, answer)
       → (d.reset ≡ true) × (t.endpoint.outbox ≡ s.endpoint.outbox)

@@ -24,3 +24,4 @@ pub mod Outcome
 pub mod Bare
 pub mod Figures
 pub mod Holds
+pub mod Inner

@@ -97,8 +97,7 @@ pub record ControlsCongestion : Type 0 where
       (c : ControlBlock) (e : Established) (segment : Span)
       → ordinary_segment c e ≡ Some segment → segment.end ≤ c.board.una + e.congestion.cwnd
   pub ordinary :
-      (now : ℕ) (s t : State)
-      → ordinary now s ≡ Ok t
+      (now : ℕ) (s t : State) → ordinary now s ≡ Ok t
       → (packets : List Sent)
       × AllByRecursion (λ p. end_with_fin p.segment ≤ edge_of s.endpoint.connection) packets
       × (t.endpoint.outbox ≡ s.endpoint.outbox ++ packets)
@@ -136,24 +135,21 @@ PutsOutOne s t = (packet : Sent) × (t.endpoint.outbox ≡ s.endpoint.outbox ++ 
 -- sending and expiries go on at most n times
 pub record SendsOneByOne : Type 0 where
   pub ordinary :
-      (now : ℕ) (segment : Span) (s : State)
-      → found s.endpoint.connection ≡ Some segment
+      (now : ℕ) (segment : Span) (s : State) → found s.endpoint.connection ≡ Some segment
       → PutsOutOne s (sent_ordinarily now segment s.endpoint.connection s)
   pub filling :
       (now : ℕ) (filling : Filling) (sent : NextSegment) (t : OnTheWay)
       → next_found filling t.1 t.0.endpoint.connection ≡ Some sent
       → PutsOutOne t.0 (one_filled now filling sent t.0.endpoint.connection t).0
   pub expiries :
-      (until at : ℕ) (s : State)
-      → due_by until (deadline_of s) ≡ Some at
+      (until at : ℕ) (s : State) → due_by until (deadline_of s) ≡ Some at
       → PutsOutOne s (expired at s.endpoint.connection s)
 
 -- where sending comes to its end, nothing more is found; no expiry is due up to the moment up to which all were performed
 pub record SendsAllThatMay : Type 0 where
   pub ordinary : (now : ℕ) (s t : State) → ordinary now s ≡ Ok t → found t.endpoint.connection ≡ None
   pub filling :
-      (now : ℕ) (filling : Filling) (s t : State)
-      → filled now filling s ≡ Ok t
+      (now : ℕ) (filling : Filling) (s t : State) → filled now filling s ≡ Ok t
       → (on_the_way : ℕ)
       × (filled_from now filling (s, pipe_of s.endpoint.connection) ≡ Ok (t, on_the_way))
       × (next_found filling on_the_way t.endpoint.connection ≡ None)
@@ -171,8 +167,7 @@ pub record TimesOnce : Type 0 where
       (now : ℕ) (segment : Span) (c : ControlBlock) (t : Timing)
       → c.timed ≡ Some t → overlaps t.segment segment ≡ false → (clocked now segment c).timed ≡ Some t
   pub begun :
-      (now : ℕ) (segment : Span) (c : ControlBlock) (t : Timing)
-      → c.timed ≡ None
+      (now : ℕ) (segment : Span) (c : ControlBlock) (t : Timing) → c.timed ≡ None
       → (clocked now segment c).timed ≡ Some t
       → (t.segment ≡ segment) × (t.sent_at ≡ now) × (c.board.top ≤ segment.start)
   pub expiry : (at : ℕ) (c : ControlBlock) → (block_expired at c c.established).timed ≡ None
@@ -227,35 +222,23 @@ pub record MeasuresWhatIsSentOnce : Type 0 where
 -- nothing is queued then any more, neither by a call nor by an arrival or an expiry
 pub record EndsWithFin : Type 0 where
   pub covered :
-      (c : ControlBlock) (segment : Span)
-      → (data_of c segment).flags.fin ≡ true
+      (c : ControlBlock) (segment : Span) → (data_of c segment).flags.fin ≡ true
       → (c.fin ≡ true) × (segment.start < c.board.end) × (c.board.end ≤ segment.end)
   pub before : (c : ControlBlock) (segment : Span) → (data_of c segment).end ≤ data_end c
   pub closed :
-      (call : Call) (now : ℕ) (s t : State) (answer : Answer) (c d : ControlBlock)
-      → s.endpoint.connection ≡ Some c
-      → t.endpoint.connection ≡ Some d
-      → c.fin ≡ false
-      → d.fin ≡ true
-      → called call now s ≡ Ok (t, answer)
+      (call : Call) (now : ℕ) (s t : State) (answer : Answer) (c d : ControlBlock) → s.endpoint.connection ≡ Some c
+      → t.endpoint.connection ≡ Some d → c.fin ≡ false → d.fin ≡ true → called call now s ≡ Ok (t, answer)
       → request_of call ≡ Some (On 4 Close)
   pub last :
-      (call : Call) (now : ℕ) (s t : State) (answer : Answer) (c : ControlBlock)
-      → s.endpoint.connection ≡ Some c
-      → stream_of c ≡ stream.Closed
-      → called call now s ≡ Ok (t, answer)
-      → t.endpoint.connection ≡ Some c
+      (call : Call) (now : ℕ) (s t : State) (answer : Answer) (c : ControlBlock) → s.endpoint.connection ≡ Some c
+      → stream_of c ≡ stream.Closed → called call now s ≡ Ok (t, answer) → t.endpoint.connection ≡ Some c
   pub arrivals :
-      (segment : Segment) (now : ℕ) (s t : State) (c d : ControlBlock)
-      → s.endpoint.connection ≡ Some c
-      → t.endpoint.connection ≡ Some d
-      → arrived segment now s ≡ Ok t
+      (segment : Segment) (now : ℕ) (s t : State) (c d : ControlBlock) → s.endpoint.connection ≡ Some c
+      → t.endpoint.connection ≡ Some d → arrived segment now s ≡ Ok t
       → (d.fin ≡ c.fin) × (d.board.end ≡ c.board.end)
   pub expiries :
-      (until : ℕ) (s t : State) (c d : ControlBlock)
-      → s.endpoint.connection ≡ Some c
-      → t.endpoint.connection ≡ Some d
-      → advanced until s ≡ Ok t
+      (until : ℕ) (s t : State) (c d : ControlBlock) → s.endpoint.connection ≡ Some c
+      → t.endpoint.connection ≡ Some d → advanced until s ≡ Ok t
       → (d.fin ≡ c.fin) × (d.board.end ≡ c.board.end)
 
 -- Octets that the peer has (RFC 2018, section 5; RFC 6675, section 4)
@@ -281,17 +264,11 @@ recovers (Some c) = is_recovering c.established
 -- an expiry always does
 pub record EndsRecovery : Type 0 where
   pub with_sack :
-      (now : ℕ) (segment : Segment) (c : ControlBlock) (s t : State) (e : Established)
-      → c.established ≡ Some e
-      → c.sack ≡ true
-      → e.congestion.recovering ≡ true
-      → taken now segment c s c.established ≡ Ok t
+      (now : ℕ) (segment : Segment) (c : ControlBlock) (s t : State) (e : Established) → c.established ≡ Some e
+      → c.sack ≡ true → e.congestion.recovering ≡ true → taken now segment c s c.established ≡ Ok t
       → (recovers t.endpoint.connection ≡ false) ↔ (e.congestion.recovery_point ≤ segment.ack)
   pub without_sack :
-      (now : ℕ) (segment : Segment) (c : ControlBlock) (s t : State) (e : Established)
-      → c.established ≡ Some e
-      → c.sack ≡ false
-      → e.congestion.recovering ≡ true
-      → taken now segment c s c.established ≡ Ok t
+      (now : ℕ) (segment : Segment) (c : ControlBlock) (s t : State) (e : Established) → c.established ≡ Some e
+      → c.sack ≡ false → e.congestion.recovering ≡ true → taken now segment c s c.established ≡ Ok t
       → (recovers t.endpoint.connection ≡ false) ↔ (0 < newly_acked c segment)
   pub expiry : (at : ℕ) (e : Established) (c : ControlBlock) → is_recovering (expired_by at e c).established ≡ false

@@ -2,7 +2,8 @@
 ghost use Rattle.std.specs.Prelude.{◌≡◌, ◌+◌, ◌≤◌, ◌<◌, ◌^◌, true, is_some, max, Some};
 ghost use Rattle.pd_host.specs.Arrivals.{reset_of, with_peer_fin};
 ghost use Rattle.pd_host.specs.Calls.{stream_of, with_stream, with_nagle, free_of, with_queued, with_fin};
-ghost use Rattle.pd_host.specs.ControlBlock.{IsScalable, peer_fin_in, rcv_nxt};
+ghost use Rattle.pd_host.specs.ControlBlock.{peer_fin_in, rcv_nxt};
+ghost use Rattle.pd_host.specs.Inner.{IsScalable};
 ghost use Rattle.pd_host.specs.Handshake.{offered_mss, is_mss_run, smss_of, scaling_of, block_begun, window_in, syn_acked, established_with, established_by};
 ghost use Rattle.pd_host.specs.Sending.{is_recovering};
 ghost use Rattle.pd_host.specs.declared.streams.Stream.TheVariants.{Open as StreamOpen, Closed as StreamClosed};
@@ -70,7 +71,8 @@ pub struct Connection {
 }
 
 impl Model for Connection {
-    ghost use Rattle.pd_host.specs.ControlBlock.{ControlBlock, IsConnection};
+    ghost use Rattle.pd_host.specs.ControlBlock.{ControlBlock};
+    ghost use Rattle.pd_host.specs.Inner.{IsConnection};
 
     ghost Value = { ControlBlock };
 

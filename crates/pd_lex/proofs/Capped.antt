@@ -5,7 +5,8 @@ use Rattle.std.proofs.lemmas.Bool.Decides.{nat_tests}
 use Rattle.std.proofs.Math.Nat.{le-mul_of_pos_right}
 use Rattle.std.specs.Char.{digit_value}
 use Rattle.std.specs.Str.Parse.{digits_value, digits_value_after}
-use Rattle.pd_lex.specs.Numbers.{capped_digit, wrapped_digit}
+use Rattle.pd_lex.specs.Numbers.{capped_digit}
+use Rattle.pd_lex.specs.Scanned.{wrapped_digit}
 
 abbrev pub most : ℕ
 most = 2 ^ 64 - 1

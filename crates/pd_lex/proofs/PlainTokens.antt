@@ -12,8 +12,7 @@ use Rattle.pd_lex.specs.declared.classes.Class.TheVariants as classes
 use Rattle.pd_lex.specs.Classes.{begins_more, class_of}
 use Rattle.pd_lex.specs.Octets.{is_digit, is_word, is_blank, is_printable}
 use Rattle.pd_lex.specs.Pieces.{fraction_len, word_piece, piece, front, token}
-use Rattle.pd_lex.specs.Numbers.{first_octet, wrapped_digit}
-use Rattle.pd_lex.specs.Scanned.{begins_name}
+use Rattle.pd_lex.specs.Scanned.{first_octet, wrapped_digit, begins_name}
 use Rattle.pd_lex.specs.Spellings.{IsSymbol, IsSpelled}
 use Rattle.pd_lex.specs.Kinds.{stays_in_line}
 use Rattle.pd_lex.specs.Places.{octets_from, before, between}

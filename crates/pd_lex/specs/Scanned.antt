@@ -1,5 +1,5 @@
 -- What the steps of the lexer answer, against what is left of the text.
-use Rattle.std.specs.Prelude.{◌≡◌, ℕ, ◌+◌, ◌^◌, ◌<◌, ◌≤◌, Bool, true, false, not, ◌&&◌, nat_eq, List, [], ◌∷◌, length, take, drop, codes, Option, Some, None, if◌then◌else◌}
+use Rattle.std.specs.Prelude.{◌≡◌, ℕ, ◌+◌, ◌^◌, ◌<◌, ◌≤◌, Bool, true, false, not, ◌&&◌, nat_eq, List, [], ◌∷◌, length, take, drop, codes, Option, Some, None, if◌then◌else◌, ◌*◌, ◌%◌}
 use Rattle.std.specs.List.{prefix_len, starts_with}
 use Rattle.pd_lex.specs.declared.token.TokenKind.{TokenKind}
 use Rattle.pd_lex.specs.declared.token.TokenKind.TheVariants.{Hex, Word, Str, Cmd, Code, Symbol}
@@ -14,6 +14,7 @@ use Rattle.pd_lex.specs.Kinds.{stays_in_line}
 use Rattle.pd_lex.specs.Octets.{is_digit, is_word, is_inside_line}
 use Rattle.pd_lex.specs.Places.{octets_from, between, line_at, IsPlace}
 use Rattle.pd_lex.specs.Pieces.{is_hex, opener_len, gap, token, stray, front}
+use Rattle.std.specs.Char.{digit_value}
 
 -- how many octets of the line a piece or its opener has
 abbrev pub piece_len : Piece → ℕ
@@ -77,3 +78,12 @@ abbrev pub IsClosing : Opener → Place → Step → Type 0
 IsClosing o q (steps.Gap r) = (opener_kind o ≡ None) × (r ≡ q)
 IsClosing o q (steps.Token kind text r) = (opener_kind o ≡ Some kind) × (r ≡ q)
 IsClosing o q steps.Stray = ⊥
+
+-- a number with one decimal digit more, modulo 2^64
+abbrev pub wrapped_digit : ℕ → ℕ → ℕ
+wrapped_digit n digit = (n * 10 % 2 ^ 64 + digit_value digit) % 2 ^ 64
+
+-- the octet at the front, or 0
+abbrev pub first_octet : List ℕ → ℕ
+first_octet [] = 0
+first_octet (b ∷ s) = b

@@ -1,6 +1,7 @@
 //! The next token of a text.
 ghost use Rattle.std.specs.Prelude.{◌≡◌, ◌≤◌, true, [], ◌∷◌, length, take, IfSome};
-ghost use Rattle.pd_lex.specs.Numbers.{first_octet, capped_number};
+ghost use Rattle.pd_lex.specs.Numbers.{capped_number};
+ghost use Rattle.pd_lex.specs.Scanned.{first_octet, IsLeftInLine};
 ghost use Rattle.pd_lex.specs.Pieces.{piece};
 ghost use Rattle.pd_lex.specs.declared.scan.Piece.TheVariants.{Whole};
 ghost use Rattle.pd_lex.specs.declared.token.TokenKind.TheVariants.{Int, Symbol};
@@ -8,7 +9,6 @@ ghost use Rattle.pd_lex.specs.Lexing.{IsNext};
 ghost use Rattle.pd_text.specs.Text.{AreLines};
 ghost use Rattle.pd_lex.specs.Next.{IsCut, HasLine, HasText, HasLineBehind};
 ghost use Rattle.pd_lex.specs.Places.{line_at};
-ghost use Rattle.pd_lex.specs.Scanned.{IsLeftInLine};
 
 use crate::classes::{Class, class_of};
 use crate::numbers::number_of;

@@ -2,7 +2,8 @@
 ghost use Rattle.std.specs.Prelude.{◌≡◌, ◌≤◌, fold, length};
 ghost use Rattle.std.specs.Char.{digit_value};
 ghost use Rattle.pd_lex.specs.declared.token.TokenKind.TheVariants.{Int};
-ghost use Rattle.pd_lex.specs.Numbers.{capped_digit, wrapped_digit, capped_number};
+ghost use Rattle.pd_lex.specs.Numbers.{capped_digit, capped_number};
+ghost use Rattle.pd_lex.specs.Scanned.{wrapped_digit};
 
 use crate::token::TokenKind;
 

@@ -5,8 +5,8 @@ ghost use Rattle.pd_lex.specs.Octets.{is_digit};
 ghost use Rattle.pd_lex.specs.Classes.{class_of};
 ghost use Rattle.pd_lex.specs.declared.classes.Class.TheVariants as classes;
 ghost use Rattle.pd_lex.specs.Pieces.{piece};
-ghost use Rattle.pd_lex.specs.Numbers.{wrapped_digit, capped_number};
-ghost use Rattle.pd_lex.specs.Scanned.{begins_name};
+ghost use Rattle.pd_lex.specs.Numbers.{capped_number};
+ghost use Rattle.pd_lex.specs.Scanned.{wrapped_digit, begins_name};
 ghost use Rattle.pd_lex.specs.declared.scan.Piece.TheVariants.{Whole};
 ghost use Rattle.pd_lex.specs.declared.token.TokenKind.TheVariants.{Int, Symbol};
 

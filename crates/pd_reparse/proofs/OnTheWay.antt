@@ -13,9 +13,9 @@ use Rattle.pd_script.proofs.Laws.{rest_is, ok}
 use Rattle.pd_script.specs.declared.deciding.NextEvent.TheVariants.{Got, End, Fault}
 use Rattle.pd_reparse.specs.declared.decided.Decided.{Decided}
 use Rattle.pd_reparse.specs.declared.steps.Step.TheVariants.{Goes}
-use Rattle.pd_reparse.specs.Steps.{IsStep}
+use Rattle.pd_reparse.specs.Steps.{IsStep, in_front}
 use Rattle.pd_script.specs.Next.{next_place, reach_of, got, next_in}
-use Rattle.pd_reparse.specs.Reading.{with_decided, none_decided, decided_in, in_front}
+use Rattle.pd_reparse.specs.Reading.{with_decided, none_decided, decided_in}
 
 -- ---- what the next event tells
 

@@ -13,7 +13,8 @@ use Rattle.pd_script.proofs.Apart.{or-left}
 use Rattle.pd_reparse.specs.declared.decided.Decided.{Decided}
 use Rattle.pd_script.specs.Header.{Heading}
 use Rattle.pd_script.specs.Laws.{ItemsStandThere}
-use Rattle.pd_reparse.specs.Reading.{DecidedScript, DecidedEvents, decided_in, reading_in, reading_of, kept_of, last_place, in_front, IsReadOn, IsReadingOfFirst}
+use Rattle.pd_reparse.specs.Reading.{DecidedScript, DecidedEvents, decided_in, reading_in, reading_of, kept_of, last_place, IsReadingOfFirst}
+use Rattle.pd_reparse.specs.Steps.{in_front, IsReadOn}
 use Rattle.pd_reparse.proofs.Stays.{tally_below, Stay, IsAt}
 use Rattle.pd_reparse.proofs.First.{again_in, kept_is, tally_short, header_parts}
 

@@ -21,7 +21,8 @@ use Rattle.pd_script.proofs.Laws.{ok, next-same}
 use Rattle.pd_script.proofs.GrammarLaws.{Reads-event}
 use Rattle.pd_reparse.specs.declared.decided.Decided.{Decided}
 use Rattle.pd_script.specs.Next.{reach_of}
-use Rattle.pd_reparse.specs.Reading.{decided, with_decided, none_decided, decided_in, is_within, last_place, in_front}
+use Rattle.pd_reparse.specs.Reading.{decided, with_decided, none_decided, decided_in, is_within, last_place}
+use Rattle.pd_reparse.specs.Steps.{in_front}
 use Rattle.pd_reparse.proofs.Common.{shared}
 
 -- ---- the token that decides an event lies within its line

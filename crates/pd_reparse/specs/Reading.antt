@@ -1,5 +1,5 @@
 -- What a text is read as, with what decided each event.
-use Rattle.std.specs.Prelude.{◌≡◌, ℕ, zero, suc, ◌≤◌, nat_le, Bool, false, List, [], ◌∷◌, ◌++◌, take, drop, length, map, count_by, Option, Some, None, Ok, Err, if◌then◌else◌}
+use Rattle.std.specs.Prelude.{◌≡◌, ℕ, zero, suc, ◌≤◌, nat_le, Bool, false, List, [], ◌∷◌, take, length, map, count_by, Option, Some, None, Ok, Err, if◌then◌else◌}
 use Rattle.pd_text.specs.Text.{AreLines}
 use Rattle.pd_lex.specs.declared.token.Place.{Place}
 use Rattle.pd_lex.specs.Places.{first_place}
@@ -58,10 +58,6 @@ reading_of lines = reading_in (items lines first_place)
 abbrev pub events_of : List Decided → List Event
 events_of ds = map (λ (d : Decided). d.event) ds
 
--- and without the first so many
-abbrev pub events_behind : ℕ → List Decided → List Event
-events_behind n ds = events_of (drop n ds)
-
 -- a reading without what decided its events
 abbrev pub script_part : DecidedScript → Parsed
 script_part r = record { header = r.header; events = events_of r.events; fault = r.fault }
@@ -71,10 +67,6 @@ abbrev pub last_place : Place → List Decided → Place
 last_place place [] = place
 last_place place (d ∷ ds) = last_place d.after ds
 
--- events in front of those that are found further on
-abbrev pub in_front : List Decided → DecidedEvents → DecidedEvents
-in_front ds found = record { events = ds ++ found.events; fault = found.fault }
-
 -- a line at or below the first so many; no line is none of them
 abbrev pub is_within : ℕ → Option ℕ → Bool
 is_within same None = false
@@ -83,10 +75,6 @@ is_within same (Some line) = nat_le line same
 -- how many events the first lines of a text decide
 unfoldable pub kept_of : ℕ → DecidedScript → ℕ
 kept_of same r = count_by (λ (d : Decided). is_within same d.reach) r.events
-
--- a header, some events, and behind them those of the items, at most so many
-abbrev pub IsReadOn : DecidedScript → Heading → List Decided → ℕ → List Item → Type 0
-IsReadOn r header front more ts = r ≡ record { header = header; events = front ++ (decided_in more ts).events; fault = (decided_in more ts).fault }
 
 -- the reading is that of some text whose first lines are those of this one
 pub record IsReadingOfFirst (same : ℕ) (lines : List (List ℕ)) (r : DecidedScript) : Type 0 where

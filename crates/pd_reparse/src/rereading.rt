@@ -1,8 +1,8 @@
 //! Reading a text, whole or from the first event that an edit can have changed.
 ghost use Rattle.std.specs.Prelude.{◌≡◌, ◌-◌, ◌<◌, length, IfOk};
 ghost use Rattle.pd_lex.specs.Lexing.{items};
-ghost use Rattle.pd_reparse.specs.Reading.{IsReadingOfFirst, IsReadOn, reading_of, kept_of};
-ghost use Rattle.pd_reparse.specs.Steps.{IsStep};
+ghost use Rattle.pd_reparse.specs.Reading.{IsReadingOfFirst, reading_of, kept_of};
+ghost use Rattle.pd_reparse.specs.Steps.{IsReadOn, IsStep};
 
 use crate::decided::Decided;
 use crate::kept::Reread;

@@ -26,7 +26,8 @@ use Rattle.pd_host.specs.declared.sender_state.State.{State}
 use Rattle.pd_match.specs.Calls.{result_mismatch}
 use Rattle.pd_match.specs.Packets.{mismatch}
 use Rattle.pd_match.specs.declared.kinds.Kind.{Kind}
-use Rattle.pd_run.specs.Consulted.{uses_of, rebound_run, InputsOnlyUse, StepsNote, StepsOnlyUse, RunsOnlyUse}
+use Rattle.pd_run.specs.Consulted.{uses_of, rebound_run, StepsNote, StepsOnlyUse, RunsOnlyUse}
+use Rattle.pd_run.specs.Inner.{InputsOnlyUse}
 use Rattle.pd_run.specs.Inbound.{segment_in}
 use Rattle.pd_run.specs.Laws.{ToleranceStays}
 use Rattle.pd_run.specs.Limits.{is_over_limit}

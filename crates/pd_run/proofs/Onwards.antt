@@ -4,7 +4,8 @@ use Rattle.std.proofs.lemmas.Option.{slice_get-map}
 use Rattle.pd_settings.specs.declared.fields.Settings.{Settings}
 use Rattle.pd_script.specs.Script.{script_of}
 use Rattle.pd_script.specs.declared.parsing.Parsed.{Parsed}
-use Rattle.pd_run.specs.Consulted.{rebound_run, InputsOnlyUse, PassesBy, RunsGoOnUnder}
+use Rattle.pd_run.specs.Consulted.{rebound_run, PassesBy, RunsGoOnUnder}
+use Rattle.pd_run.specs.Inner.{InputsOnlyUse}
 use Rattle.pd_run.specs.Run.{start_of, verdict_in, stepped_in, states_of, verdict_from, stepped_from, states_from}
 use Rattle.pd_run.specs.Step.{Running}
 use Rattle.pd_run.proofs.Consulted.{has_begun, states_begun, runs_only_use}

@@ -26,7 +26,7 @@ use Rattle.pd_host.specs.declared.sender_state.State.{State}
 use Rattle.pd_match.specs.Calls.{result_mismatch}
 use Rattle.pd_match.specs.Packets.{mismatch}
 use Rattle.pd_run.specs.Inbound.{segment_in}
-use Rattle.pd_run.specs.Laws.{SenderIsLawful}
+use Rattle.pd_run.specs.Inner.{SenderIsLawful}
 use Rattle.pd_run.specs.Limits.{is_write, is_count_over, is_action_over}
 use Rattle.pd_run.specs.Step.{Running, tolerance_of, noted, on_step, with_state, acts_at, acted, arrives, on_arrival, answers, on_answer, on_expiry, expires, awaited, taken, performed, step}
 use Rattle.pd_run.specs.Times.{moments_of, base_after, is_in_reach}

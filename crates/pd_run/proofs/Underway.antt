@@ -1,8 +1,8 @@
 -- How far along a run is.
 use Rattle.std.proofs.Common.{◌≡◌, ◌+◌, ◌*◌, ◌≤◌, Option, Some, None, is_none, find, refl, subst, arith}
 use Rattle.pd_script.specs.declared.script_header.HeaderItem.{HeaderItem}
-use Rattle.pd_run.specs.Consulted.{InputsOnlyUse}
-use Rattle.pd_run.specs.Laws.{SenderIsLawful, IsUnderway, StartsUnderway, StepsGoOn, RebindingGoesOn, IsHeldUnder, StartsHeld, StepsStayHeld}
+use Rattle.pd_run.specs.Inner.{InputsOnlyUse, SenderIsLawful}
+use Rattle.pd_run.specs.Laws.{IsUnderway, StartsUnderway, StepsGoOn, RebindingGoesOn, IsHeldUnder, StartsHeld, StepsStayHeld}
 use Rattle.pd_run.specs.Run.{tolerance_in}
 use Rattle.pd_run.specs.Step.{KeepsTime}
 use Rattle.pd_run.proofs.Bounds.{IsWithin, given, step_within}

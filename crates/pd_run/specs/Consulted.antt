@@ -5,7 +5,7 @@ use Rattle.pd_settings.specs.declared.fields.Settings.{Settings}
 use Rattle.pd_settings.specs.declared.use_set.UseSet.{UseSet}
 use Rattle.pd_script.specs.Script.{script_of}
 use Rattle.pd_script.specs.declared.script_events.Event.{Event}
-use Rattle.pd_host.specs.InputLaws.{OnlyUsesMatter, CallsOnlyUse, AdvancesUseNone, ArrivalsNote, CallsNote, AdvancesNote, rebound_host}
+use Rattle.pd_host.specs.InputLaws.{rebound_host}
 use Rattle.pd_run.specs.Run.{verdict_from, stepped_from, verdict_of, stepped_of, states_of}
 use Rattle.pd_run.specs.Step.{Running, step}
 
@@ -18,38 +18,24 @@ uses_of r = record r.host.state.uses { tolerance_us = r.host.state.uses.toleranc
 abbrev pub rebound_run : Settings → Running → Running
 rebound_run settings r = record r { host = rebound_host settings r.host }
 
--- what the sender says of its settings
-pub record InputsOnlyUse : Type 0 where
-  pub arrivals : OnlyUsesMatter
-  pub calls : CallsOnlyUse
-  pub advances : AdvancesUseNone
-  pub arrivals_note : ArrivalsNote
-  pub calls_note : CallsNote
-  pub advances_note : AdvancesNote
-
 -- settings stay as they are in a step, and what was consulted stays noted
 abbrev pub StepsNote : Type 0
 StepsNote =
-    (r s : Running) (e : Event)
-    → step r e ≡ Ok s
+    (r s : Running) (e : Event) → step r e ≡ Ok s
     → (s.host.state.settings ≡ r.host.state.settings) × Includes (uses_of s) (uses_of r)
 
 -- other settings that agree on all that was consulted up to after a step give that step
 abbrev pub StepsOnlyUse : Type 0
 StepsOnlyUse =
-    (r s : Running) (e : Event) (settings : Settings)
-    → step r e ≡ Ok s
-    → Agree (uses_of s) r.host.state.settings settings
-    → step (rebound_run settings r) e ≡ Ok (rebound_run settings s)
+    (r s : Running) (e : Event) (settings : Settings) → step r e ≡ Ok s
+    → Agree (uses_of s) r.host.state.settings settings → step (rebound_run settings r) e ≡ Ok (rebound_run settings s)
 
 -- other settings that agree on all that the first events of a text consulted give the same first steps: the states after
 -- them are equal but for the settings held in them
 abbrev pub RunsOnlyUse : Type 0
 RunsOnlyUse =
-    (text : List (List ℕ)) (a b : Settings) (n : ℕ) (s : Running)
-    → slice_get (states_of text a) n ≡ Some s
-    → Agree (uses_of s) a b
-    → take (suc n) (states_of text b) ≡ map (rebound_run b) (take (suc n) (states_of text a))
+    (text : List (List ℕ)) (a b : Settings) (n : ℕ) (s : Running) → slice_get (states_of text a) n ≡ Some s
+    → Agree (uses_of s) a b → take (suc n) (states_of text b) ≡ map (rebound_run b) (take (suc n) (states_of text a))
 
 -- a run of a text under settings passes through this state behind its first n + 1 events, and its verdict and steps are
 -- those of going on from there
@@ -62,7 +48,5 @@ pub record PassesBy (text : List (List ℕ)) (settings : Settings) (n : ℕ) (s 
 -- the settings held replaced
 abbrev pub RunsGoOnUnder : Type 0
 RunsGoOnUnder =
-    (text : List (List ℕ)) (a b : Settings) (n : ℕ) (s : Running)
-    → slice_get (states_of text a) n ≡ Some s
-    → Agree (uses_of s) a b
-    → PassesBy text b n (rebound_run b s)
+    (text : List (List ℕ)) (a b : Settings) (n : ℕ) (s : Running) → slice_get (states_of text a) n ≡ Some s
+    → Agree (uses_of s) a b → PassesBy text b n (rebound_run b s)

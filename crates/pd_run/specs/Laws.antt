@@ -10,9 +10,7 @@ use Rattle.pd_script.specs.declared.script_header.HeaderItem.{HeaderItem}
 use Rattle.pd_seg.specs.declared.answers.Answer.{Answer}
 use Rattle.pd_seg.specs.declared.segments.Sent.{Sent}
 use Rattle.pd_host.specs.Expiries.{advanced, deadline_of}
-use Rattle.pd_host.specs.Growth.{ExpiriesQueueNothing, ArrivalsQueueOurSyn, CallsQueueWhatTheyAsk}
-use Rattle.pd_host.specs.InputLaws.{RebindingKeepsUp}
-use Rattle.pd_host.specs.Laws.{IsUpTo, StartsUpToDate, AdvancesKeepUp, ArrivalsKeepUp, CallsKeepUp, TakingKeepsUp}
+use Rattle.pd_host.specs.Laws.{IsUpTo}
 use Rattle.pd_host.specs.Sender.{queued_to}
 use Rattle.pd_host.specs.declared.sender_state.State.{State}
 use Rattle.pd_match.specs.Agreement.{Agrees, IsResult}
@@ -22,27 +20,11 @@ use Rattle.pd_run.specs.Consulted.{rebound_run}
 use Rattle.pd_run.specs.Step.{Running, KeepsTime, tolerance_of, noted, answers, awaited, step}
 use Rattle.pd_run.specs.Times.{moments_of}
 
--- what runs rest on: the sender stays up to date, and no input queues more than it names
-pub record SenderIsLawful : Type 0 where
-  pub start : StartsUpToDate
-  pub advances : AdvancesKeepUp
-  pub arrivals : ArrivalsKeepUp
-  pub calls : CallsKeepUp
-  pub taking : TakingKeepsUp
-  pub rebinding : RebindingKeepsUp
-  pub queued_by_expiries : ExpiriesQueueNothing
-  pub queued_by_arrivals : ArrivalsQueueOurSyn
-  pub queued_by_calls : CallsQueueWhatTheyAsk
-
 -- where an expected packet passes, one had left: the oldest that nobody had taken agrees with it in every field
 abbrev pub PassedPacketsAgree : Type 0
 PassedPacketsAgree =
-    (r s : Running) (e : Event) (p : Packet)
-    → e.action ≡ Outbound p
-    → step r e ≡ Ok s
-    → (t : Running)
-    × (sent : Sent)
-    × (awaited (noted r) e ≡ Ok t)
+    (r s : Running) (e : Event) (p : Packet) → e.action ≡ Outbound p → step r e ≡ Ok s
+    → (t : Running) × (sent : Sent) × (awaited (noted r) e ≡ Ok t)
     × (slice_get t.host.state.endpoint.outbox 0 ≡ Some sent)
     × AllByRecursion (Agrees p (moments_of t.base e.time) sent (tolerance_of t)) compared
 
@@ -55,31 +37,20 @@ untaken r = r.host.state.endpoint.outbox
 abbrev pub AreAwaited : Running → List Sent → Type 0
 AreAwaited r packets =
     (packets ≡ untaken r)
-    ⊎ ((at : ℕ)
-    × (s : State)
-    × (untaken r ≡ [])
-    × (deadline_of r.host.state ≡ Some at)
-    × (advanced at r.host.state ≡ Ok s)
-    × (packets ≡ s.endpoint.outbox))
+    ⊎ ((at : ℕ) × (s : State) × (untaken r ≡ []) × (deadline_of r.host.state ≡ Some at)
+    × (advanced at r.host.state ≡ Ok s) × (packets ≡ s.endpoint.outbox))
 
 -- where an expected packet passes, the oldest of these is taken, and all others stay
 abbrev pub PassedPacketsAreTaken : Type 0
 PassedPacketsAreTaken =
-    (r s : Running) (e : Event) (p : Packet)
-    → e.action ≡ Outbound p
-    → step r e ≡ Ok s
-    → (t : Running)
-    × (sent : Sent)
-    × (awaited (noted r) e ≡ Ok t)
-    × AreAwaited r (untaken t)
-    × (untaken t ≡ sent ∷ untaken s)
+    (r s : Running) (e : Event) (p : Packet) → e.action ≡ Outbound p → step r e ≡ Ok s
+    → (t : Running) × (sent : Sent) × (awaited (noted r) e ≡ Ok t)
+    × AreAwaited r (untaken t) × (untaken t ≡ sent ∷ untaken s)
 
 -- where a call passes, the sender answered the written result
 abbrev pub PassedCallsAnswer : Type 0
 PassedCallsAnswer =
-    (r s : Running) (e : Event) (call : Call)
-    → e.action ≡ Calls call
-    → step r e ≡ Ok s
+    (r s : Running) (e : Event) (call : Call) → e.action ≡ Calls call → step r e ≡ Ok s
     → (t : State) × (answer : Answer) × (answers r e call ≡ Ok (t, answer)) × IsResult call.result answer
 
 -- no event changes the tolerance

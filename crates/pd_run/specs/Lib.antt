@@ -12,3 +12,4 @@ pub mod Laws
 pub mod Consulted
 pub mod Why
 pub mod Stops
+pub mod Inner

@@ -1,6 +1,5 @@
 -- One event of a run: its checks in order, and what it does.
-use Rattle.std.specs.Prelude.{◌≡◌, ℕ, ◌==◌, max, Bool, not, ◌||◌, length, slice_get, Option, Some, None, is_none, unwrap_or, Result, Ok, Err, alloc_error, if◌then◌else◌}
-use Rattle.std.specs.declared.alloc.AllocError.{AllocError}
+use Rattle.std.specs.Prelude.{◌≡◌, ℕ, ◌==◌, max, Bool, not, ◌||◌, length, slice_get, Option, Some, None, is_none, unwrap_or, Result, Ok, Err, if◌then◌else◌}
 use Rattle.pd_settings.specs.declared.fields.Settings.{Settings}
 use Rattle.pd_script.specs.declared.calls.Call.{Call}
 use Rattle.pd_script.specs.declared.packets.Packet.{Packet}
@@ -55,10 +54,6 @@ pub record KeepsTime (now : ℕ) (s : State) : Type 0 where
   pub begun : Settings
   pub up_to : IsUpTo begun now s
 
--- the sender of a run that goes on is up to date at the run's clock
-abbrev pub IsUpToDate : Sender → ℕ → Type 0
-IsUpToDate host clock = host.ended ≡ None → KeepsTime clock host.state
-
 -- what follows a step: goes on from its state, or stops with its verdict
 abbrev pub on_step : {A : Type 0} → (Running → A) → (Verdict → A) → Result Running Verdict → A
 on_step go stop (Ok r) = go r
@@ -68,11 +63,6 @@ on_step go stop (Err v) = stop v
 abbrev pub verdict_by : ℕ → Halt → Verdict
 verdict_by line halt.Unsupported = Unsupported line
 verdict_by line halt.Limit = Limit line
-
--- how a step ends there where the sender has ended
-abbrev pub ended_by : ℕ → Ending → Result StepEnd AllocError
-ended_by line (Halted h) = Ok (Stop (verdict_by line h))
-ended_by line OutOfMemory = Err alloc_error
 
 -- what was compared agrees, or the event fails by what differs first
 abbrev pub judged : ℕ → Running → Option Kind → Result Running Verdict

@@ -44,6 +44,5 @@ line_of _ = None
 -- a law: a run with a verdict at a line stops there, by a reason with this verdict
 abbrev pub VerdictsHaveReasons : Type 0
 VerdictsHaveReasons =
-    (n line : ℕ) (es : List Event) (r : Running)
-    → line_of (verdict_from n es r) ≡ Some line
+    (n line : ℕ) (es : List Event) (r : Running) → line_of (verdict_from n es r) ≡ Some line
     → (stop : Stopped) × (stop_from line n es r ≡ Some stop) × (verdict_at line stop.why ≡ verdict_from n es r)

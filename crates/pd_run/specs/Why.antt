@@ -89,9 +89,7 @@ ReasonsGiveVerdicts = (r : Running) (e : Event) → option_map (verdict_at e.lin
 -- first field, in the order of comparison, that doesn't agree with the expected one
 abbrev pub DifferencesAreFirst : Type 0
 DifferencesAreFirst =
-    (r q : Running) (e : Event) (p : Packet) (k : Kind) (sent : Sent)
-    → e.action ≡ Outbound p
-    → why r e ≡ Some (Differs k sent q)
+    (r q : Running) (e : Event) (p : Packet) (k : Kind) (sent : Sent) → e.action ≡ Outbound p → why r e ≡ Some (Differs k sent q)
     → (awaited (noted r) e ≡ Ok q)
     × (slice_get q.host.state.endpoint.outbox 0 ≡ Some sent)
     × IsFirstFailing (Agrees p (moments_of q.base e.time) sent (tolerance_of q)) compared (Some k)

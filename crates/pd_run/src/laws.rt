@@ -1,6 +1,7 @@
 //! Laws of runs: functions whose contracts are the laws; they call those that they rest on.
-ghost use Rattle.pd_run.specs.Consulted.{InputsOnlyUse, StepsNote, StepsOnlyUse, RunsOnlyUse, RunsGoOnUnder};
-ghost use Rattle.pd_run.specs.Laws.{SenderIsLawful, PassedPacketsAgree, PassedPacketsAreTaken, PassedCallsAnswer, ToleranceStays, StartsUnderway, StepsGoOn, RebindingGoesOn, StartsHeld, StepsStayHeld};
+ghost use Rattle.pd_run.specs.Consulted.{StepsNote, StepsOnlyUse, RunsOnlyUse, RunsGoOnUnder};
+ghost use Rattle.pd_run.specs.Inner.{InputsOnlyUse, SenderIsLawful};
+ghost use Rattle.pd_run.specs.Laws.{PassedPacketsAgree, PassedPacketsAreTaken, PassedCallsAnswer, ToleranceStays, StartsUnderway, StepsGoOn, RebindingGoesOn, StartsHeld, StepsStayHeld};
 ghost use Rattle.pd_run.specs.Stops.{VerdictsHaveReasons};
 ghost use Rattle.pd_run.specs.Why.{ReasonsGiveVerdicts, DifferencesAreFirst};
 

@@ -46,7 +46,8 @@ pub struct RunState {
 }
 
 impl Model for RunState {
-    ghost use Rattle.pd_run.specs.Step.{Running, IsUpToDate};
+    ghost use Rattle.pd_run.specs.Step.{Running};
+    ghost use Rattle.pd_run.specs.Inner.{IsUpToDate};
 
     ghost Value = { Running };
 

@@ -2,7 +2,8 @@
 ghost use Rattle.std.specs.Prelude.{◌≡◌, ◌+◌, ◌-◌, ◌<◌, ◌^◌, ℕ, Some, IfOk, OnErr};
 ghost use Rattle.pd_host.specs.Sender.{IsShort};
 ghost use Rattle.pd_host.specs.declared.halts.Ending.TheVariants.{OutOfMemory};
-ghost use Rattle.pd_run.specs.Step.{ended_by, Steps};
+ghost use Rattle.pd_run.specs.Step.{Steps};
+ghost use Rattle.pd_run.specs.Inner.{ended_by};
 
 use crate::run_state::RunState;
 use crate::verdicts::Verdict;

@@ -5,7 +5,7 @@ use Rattle.std.specs.Char.{digit_value}
 use Rattle.std.specs.Str.Parse.{digits_value_after}
 use Rattle.std.proofs.lemmas.List.{length-take, length-append, length-replicate, drop_all, drop_more, get_or-take, get_or_append_left, get_or-append_right, get_or-replicate, get_or_past}
 use Rattle.std.proofs.lemmas.Bool.{cases_lt}
-use Rattle.pd_lex.specs.Numbers.{wrapped_digit}
+use Rattle.pd_lex.specs.Scanned.{wrapped_digit}
 use Rattle.pd_lex.proofs.Capped.{most, few_is, capped_is}
 use Rattle.pd_script.specs.Values.{number, whole_len, whole_digits, six_decimals, microseconds}
 

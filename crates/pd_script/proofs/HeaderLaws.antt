@@ -12,9 +12,9 @@ use Rattle.pd_lex.specs.Kinds.{stays_in_line}
 use Rattle.pd_lex.specs.Lexing.{items, lexeme_of}
 use Rattle.pd_lex.specs.Next.{IsTokenAt}
 use Rattle.pd_script.specs.declared.script_header.HeaderItem.{HeaderItem}
-use Rattle.pd_script.specs.Items.{is_header, given, next_is}
-use Rattle.pd_script.specs.Header.{Heading, header_item, behind, HasEnd, IsItemAt}
-use Rattle.pd_script.specs.Cursor.{shown}
+use Rattle.pd_script.specs.Items.{is_header, next_is}
+use Rattle.pd_script.specs.Cursor.{given, IsItemAt, shown}
+use Rattle.pd_script.specs.Header.{Heading, header_item, behind, HasEnd}
 use Rattle.pd_script.specs.Script.{header_of, header_end, header_in, behind_header}
 use Rattle.pd_script.proofs.Placed.{token_behind}
 use Rattle.pd_script.proofs.Taking.{alike}

@@ -1,5 +1,5 @@
 -- A cursor over the items of a text.
-use Rattle.std.specs.Prelude.{◌≡◌, ℕ, List, [], ◌∷◌, length, max, Result, Ok, Err, ⊤}
+use Rattle.std.specs.Prelude.{◌≡◌, ℕ, List, [], ◌∷◌, length, max, Result, Ok, Err, ⊤, true, Bool, Option, Some, None, if◌then◌else◌}
 use Rattle.pd_lex.specs.declared.token.Token.{Token}
 use Rattle.pd_lex.specs.declared.token.Lexed.{Lexed}
 use Rattle.pd_lex.specs.declared.token.Lexed.TheVariants as lexed
@@ -9,6 +9,10 @@ use Rattle.pd_lex.specs.Next.{HasText}
 use Rattle.pd_script.specs.declared.stops.Stop.{Stop}
 use Rattle.pd_script.specs.declared.stops.Stop.TheVariants as stops
 use Rattle.pd_script.specs.Reader.{Read}
+use Rattle.pd_lex.specs.declared.token.Place.{Place}
+use Rattle.pd_script.specs.Items.{is_header}
+use Rattle.pd_script.specs.declared.script_header.HeaderItem.{HeaderItem}
+use Rattle.pd_script.specs.Header.{header_item, behind}
 
 -- the items that are left: the next, as the lexer answered it, and those behind it
 abbrev pub left : List (List ℕ) → Lexed → List Item
@@ -41,3 +45,15 @@ abbrev pub SkipsNote : {X : Type 0} → Result X Stop → List Item → Read (Li
 SkipsNote (Ok x) rest read = read ≡ Ok ([], rest)
 SkipsNote (Err stops.Syntax) rest read = read ≡ Err rest
 SkipsNote (Err stops.OutOfMemory) rest read = Unit {0}
+
+-- at a place of a text a header item stands, with this place behind it
+pub record IsItemAt (lines : List (List ℕ)) (place : Place) (item : HeaderItem) (after : Place) : Type 0 where
+  pub token : Item
+  pub next : items lines place ≡ token ∷ items lines after
+  pub test : is_header token ≡ true
+  pub value : header_item token ≡ item
+  pub end : behind place token ≡ after
+
+-- what an item that passes a test stands for
+abbrev pub given : {A : Type 0} → (Item → Bool) → (Item → A) → Item → Option A
+given test value t = if test t then Some (value t) else None

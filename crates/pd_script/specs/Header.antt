@@ -1,5 +1,5 @@
 -- The header of a script.
-use Rattle.std.specs.Prelude.{◌≡◌, codes, ℕ, ◌&&◌, nat_le, nat_eq, true, List, ◌∷◌, length, take, drop, fold, if◌then◌else◌}
+use Rattle.std.specs.Prelude.{◌≡◌, codes, ℕ, ◌&&◌, nat_le, nat_eq, List, length, take, drop, fold, if◌then◌else◌}
 use Rattle.std.specs.List.{starts_with}
 use Rattle.pd_lex.specs.declared.token.TokenKind.{TokenKind}
 use Rattle.pd_lex.specs.declared.token.TokenKind.TheVariants as kinds
@@ -7,7 +7,7 @@ use Rattle.pd_lex.specs.declared.token.Place.{Place}
 use Rattle.pd_lex.specs.Places.{first_place, place_after}
 use Rattle.pd_lex.specs.Tokens.{Item, lexeme, ending, bad, line_of}
 use Rattle.pd_lex.specs.Lexing.{items}
-use Rattle.pd_script.specs.Items.{is_digits, is_header}
+use Rattle.pd_script.specs.Items.{is_digits}
 use Rattle.pd_script.specs.Values.{number}
 use Rattle.pd_script.specs.declared.script_header.HeaderItem.{HeaderItem}
 use Rattle.pd_script.specs.declared.script_header.HeaderKind.{HeaderKind}
@@ -54,11 +54,3 @@ place_behind ts = fold behind first_place ts
 -- a header ends behind the last of its items; one without items at the text's first place
 abbrev pub HasEnd : List Item → Heading → Type 0
 HasEnd ts header = header.end ≡ place_behind (take (length header.items) ts)
-
--- at a place of a text a header item stands, with this place behind it
-pub record IsItemAt (lines : List (List ℕ)) (place : Place) (item : HeaderItem) (after : Place) : Type 0 where
-  pub token : Item
-  pub next : items lines place ≡ token ∷ items lines after
-  pub test : is_header token ≡ true
-  pub value : header_item token ≡ item
-  pub end : behind place token ≡ after

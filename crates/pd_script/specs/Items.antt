@@ -1,5 +1,5 @@
 -- What an item of a text can be for the grammar.
-use Rattle.std.specs.Prelude.{ℕ, ◌&&◌, ◌||◌, ◌==◌, nat_le, nat_lt, Bool, true, false, List, [], ◌∷◌, length, is_some, Option, Some, None, if◌then◌else◌}
+use Rattle.std.specs.Prelude.{ℕ, ◌&&◌, ◌||◌, ◌==◌, nat_le, nat_lt, Bool, true, false, List, [], ◌∷◌, length, is_some}
 use Rattle.std.specs.List.{list_all}
 use Rattle.std.specs.Str.{bytes_eq}
 use Rattle.pd_lex.specs.declared.token.TokenKind.{TokenKind}
@@ -46,10 +46,6 @@ abbrev pub text_of : Item → List ℕ
 text_of (lexeme x) = x.text
 text_of (ending line) = []
 text_of (bad line) = []
-
--- what an item that passes a test stands for
-abbrev pub given : {A : Type 0} → (Item → Bool) → (Item → A) → Item → Option A
-given test value t = if test t then Some (value t) else None
 
 -- the end of the text
 abbrev pub is_end : Item → Bool

@@ -2,10 +2,10 @@
 ghost use Rattle.std.specs.Prelude.{◌≡◌, false, IfOk, IfSome, IfNone};
 ghost use Rattle.pd_lex.specs.Places.{first_place};
 ghost use Rattle.pd_lex.specs.Lexing.{items};
-ghost use Rattle.pd_script.specs.Items.{is_header, given, next_is};
-ghost use Rattle.pd_script.specs.Header.{header_item, HasEnd, IsItemAt};
+ghost use Rattle.pd_script.specs.Items.{is_header, next_is};
+ghost use Rattle.pd_script.specs.Cursor.{given, IsItemAt, shown};
+ghost use Rattle.pd_script.specs.Header.{header_item, HasEnd};
 ghost use Rattle.pd_script.specs.Script.{header_in, behind_header};
-ghost use Rattle.pd_script.specs.Cursor.{shown};
 
 use crate::script_header::{Header, HeaderItem, HeaderKind};
 use pd_lex::{Lexed, Place, Token, TokenKind, next_token};

@@ -4,7 +4,7 @@ ghost use Rattle.std.specs.List.{list_all};
 ghost use Rattle.pd_lex.specs.Octets.{is_digit};
 ghost use Rattle.pd_script.specs.Items.{is_digits};
 ghost use Rattle.pd_script.specs.Values.{hex_number, whole_len, microseconds};
-ghost use Rattle.pd_lex.specs.Numbers.{wrapped_digit};
+ghost use Rattle.pd_lex.specs.Scanned.{wrapped_digit};
 
 use pd_lex::{digit_value, number, value_after};
 

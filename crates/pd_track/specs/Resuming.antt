@@ -1,5 +1,5 @@
 -- A run that goes on where an earlier one is taken up.
-use Rattle.std.specs.Prelude.{◌≡◌, ℕ, ◌+◌, ◌≤◌, ◌%◌, ◌++◌, length, map, drop, List, None, Ok}
+use Rattle.std.specs.Prelude.{◌≡◌, ℕ, ◌+◌, ◌≤◌, ◌%◌, ◌++◌, length, map, drop, List, None, Ok, Option, Some}
 use Rattle.pd_settings.specs.declared.fields.Settings.{Settings}
 use Rattle.pd_script.specs.Script.{script_of}
 use Rattle.pd_script.specs.declared.script_events.Event.{Event}
@@ -9,7 +9,7 @@ use Rattle.pd_run.specs.Run.{start_of, verdict_of, stepped_of, states_of, verdic
 use Rattle.pd_run.specs.Step.{Running}
 use Rattle.pd_run.specs.declared.verdicts.Verdict.{Verdict}
 use Rattle.pd_reparse.specs.Reading.{DecidedScript, reading_of}
-use Rattle.pd_track.specs.Reuse.{AreHeld, fourths}
+use Rattle.pd_track.specs.Reuse.{AreHeld, fourths, Source, Handed, kept}
 use Rattle.pd_track.specs.declared.task.Task.{Task}
 
 -- the events that a text is
@@ -39,3 +39,12 @@ pub record IsOutcome (task : Task) (came : Verdict) (reading : DecidedScript) (c
   pub read : reading ≡ reading_of task.text
   pub kept : map (rebound_run task.settings) checkpoints ≡ fourths 3 (states_of task.text task.settings)
   pub held : AreHeld task.settings checkpoints
+
+-- how many events of a track's text another text keeps: none without a track
+abbrev pub kept_of_track : Option Source → List (List ℕ) → ℕ
+kept_of_track None text = 0
+kept_of_track (Some track) text = kept track.text text
+
+-- how many events of its track's text a job keeps
+abbrev pub kept_before : Handed → ℕ
+kept_before job = kept_of_track job.track job.task.text

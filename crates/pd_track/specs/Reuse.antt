@@ -48,15 +48,6 @@ greatest p (suc n) = if p (suc n) then suc n else greatest p n
 abbrev pub kept : List (List ℕ) → List (List ℕ) → ℕ
 kept old new = kept_of (front old new) (reading_of old)
 
--- how many events of a track's text another text keeps: none without a track
-abbrev pub kept_of_track : Option Source → List (List ℕ) → ℕ
-kept_of_track None text = 0
-kept_of_track (Some track) text = kept track.text text
-
--- how many events of its track's text a job keeps
-abbrev pub kept_before : Handed → ℕ
-kept_before job = kept_of_track job.track job.task.text
-
 -- how many events a run got through
 abbrev pub reached : List (List ℕ) → Settings → ℕ
 reached text settings = length (states_of text settings)

@@ -1,6 +1,6 @@
 //! Runs under way, which keep each fourth state.
 ghost use Rattle.std.specs.Prelude.{◌≡◌, ◌+◌, ◌-◌, ◌<◌, ◌≤◌, ◌^◌, ◌%◌, ◌==◌, ◌++◌, ◌∷◌, [], ℕ, length, map, IfOk, OnOk, if◌then◌else◌};
-ghost use Rattle.pd_reparse.specs.Reading.{events_behind};
+ghost use Rattle.pd_reparse.specs.Steps.{events_behind};
 ghost use Rattle.pd_run.specs.Laws.{IsUnderway};
 ghost use Rattle.pd_run.specs.Run.{verdict_from, stepped_from, states_from};
 ghost use Rattle.pd_track.specs.Reuse.{fourths};

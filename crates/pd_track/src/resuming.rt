@@ -5,8 +5,8 @@ ghost use Rattle.pd_reparse.specs.Reading.{reading_of, kept_of};
 ghost use Rattle.pd_run.specs.Consulted.{rebound_run};
 ghost use Rattle.pd_run.specs.Run.{states_of};
 ghost use Rattle.pd_settings.specs.Uses.{agrees};
-ghost use Rattle.pd_track.specs.Reuse.{AreHeld, from, from_track, serves, uses, greatest, fourths, kept, kept_before};
-ghost use Rattle.pd_track.specs.Resuming.{BeginsIn, Resumes};
+ghost use Rattle.pd_track.specs.Reuse.{AreHeld, from, from_track, serves, uses, greatest, fourths, kept};
+ghost use Rattle.pd_track.specs.Resuming.{kept_before, BeginsIn, Resumes};
 
 use crate::checkpoint::Checkpoint;
 use crate::job::Job;

@@ -1,8 +1,8 @@
 //! Running a job.
 ghost use Rattle.std.specs.Prelude.{◌≡◌, ◌+◌, ◌-◌, ◌<◌, ◌≤◌, ◌^◌, ℕ, length, map, drop, IfOk, IfErr, OnOk};
 ghost use Rattle.pd_reparse.specs.Reading.{reading_of, events_of};
-ghost use Rattle.pd_track.specs.Reuse.{from, steps, kept_before};
-ghost use Rattle.pd_track.specs.Resuming.{Resumes, IsOutcome, script_events};
+ghost use Rattle.pd_track.specs.Reuse.{from, steps};
+ghost use Rattle.pd_track.specs.Resuming.{kept_before, Resumes, IsOutcome, script_events};
 
 use crate::checkpoint::Checkpoint;
 use crate::done::{Done, Unfinished};

@@ -1,6 +1,6 @@
 //! The segments that the handshake and its checks put out.
 ghost use Rattle.std.specs.Prelude.{◌≡◌, ◌≤◌, IfOk};
-ghost use Rattle.pd_host.specs.ControlBlock.{IsScalable};
+ghost use Rattle.pd_host.specs.Inner.{IsScalable};
 ghost use Rattle.pd_host.specs.Packets.{own_count, shifted_window, ack_of, syn_ack_of, refusal_of};
 
 use super::Connection;

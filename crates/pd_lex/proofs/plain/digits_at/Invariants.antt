@@ -3,7 +3,7 @@ use Rattle.std.proofs.Common.{◌≡◌, ◌+◌, ◌-◌, ◌≤◌, length, ta
 use Rattle.std.specs.Prelude.{fold}
 use Rattle.std.specs.List.{prefix_len}
 use Rattle.pd_lex.specs.Octets.{is_digit}
-use Rattle.pd_lex.specs.Numbers.{wrapped_digit}
+use Rattle.pd_lex.specs.Scanned.{wrapped_digit}
 use Rattle.pd_lex.proofs.plain.digits_at.Given as goal
 
 abbrev pub invariant-loop-rest : goal.invariant-loop-rest

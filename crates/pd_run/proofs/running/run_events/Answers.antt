@@ -2,7 +2,7 @@
 use Rattle.std.proofs.Common.{◌≡◌, ◌≤◌, ◌+◌, ◌*◌, ◌∷◌, Ok, List, drop, subst, sym, ap, ◌∙◌, arith}
 use Rattle.std.proofs.lemmas.List.{drop_more}
 use Rattle.pd_script.specs.declared.script_events.Event.{Event}
-use Rattle.pd_run.specs.Laws.{SenderIsLawful}
+use Rattle.pd_run.specs.Inner.{SenderIsLawful}
 use Rattle.pd_run.specs.Run.{stepped_from}
 use Rattle.pd_run.specs.Step.{KeepsTime, step, Steps}
 use Rattle.pd_run.specs.declared.stepping.StepEnd.TheVariants.{Go}

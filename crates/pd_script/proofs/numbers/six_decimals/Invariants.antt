@@ -1,7 +1,7 @@
 -- The number goes on by the decimals that are left.
 use Rattle.std.proofs.Common.{◌≡◌, drop}
 use Rattle.std.specs.Prelude.{fold}
-use Rattle.pd_lex.specs.Numbers.{wrapped_digit}
+use Rattle.pd_lex.specs.Scanned.{wrapped_digit}
 use Rattle.pd_script.proofs.Capped.{first_six}
 use Rattle.pd_script.proofs.numbers.six_decimals.Given as goal
 

@@ -1,7 +1,8 @@
 -- The run that went on comes to what the whole run does.
 use Rattle.std.proofs.Common.{◌≡◌, ◌+◌, ◌∙◌, ap, refl, drop}
 use Rattle.pd_script.specs.declared.parsing.Parsed.{Parsed}
-use Rattle.pd_reparse.specs.Reading.{DecidedScript, events_of, events_behind}
+use Rattle.pd_reparse.specs.Reading.{DecidedScript, events_of}
+use Rattle.pd_reparse.specs.Steps.{events_behind}
 use Rattle.pd_run.specs.Run.{stepped_from}
 use Rattle.pd_track.specs.Resuming.{script_events}
 use Rattle.pd_track.proofs.Went.{Whole, whole, drop_map}

@@ -1,7 +1,8 @@
 -- The sender is up to date at the moment of the call.
 use Rattle.std.proofs.Common.{◌≡◌, sym, ap, subst, ◌∙◌}
 use Rattle.pd_host.specs.Sender.{Sender}
-use Rattle.pd_run.specs.Step.{Running, KeepsTime, IsUpToDate}
+use Rattle.pd_run.specs.Step.{Running, KeepsTime}
+use Rattle.pd_run.specs.Inner.{IsUpToDate}
 use Rattle.pd_run.proofs.Bounds.{host_after_call, acts_later}
 use Rattle.pd_run.proofs.Timed.{keeps_time}
 use Rattle.pd_run.proofs.run_state.RunState.why_answered.Goals as goal

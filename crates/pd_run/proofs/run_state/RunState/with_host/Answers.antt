@@ -1,6 +1,7 @@
 -- The run is up to date on an equal host.
 use Rattle.std.proofs.Common.{◌∙◌, ap, sym, subst}
-use Rattle.pd_run.specs.Step.{Running, IsUpToDate}
+use Rattle.pd_run.specs.Step.{Running}
+use Rattle.pd_run.specs.Inner.{IsUpToDate}
 use Rattle.pd_run.proofs.run_state.RunState.with_host.Goals as goal
 
 pub invariant_of-result : goal.invariant_of-result

@@ -1,6 +1,6 @@
 -- What is left from here, and what was done, make the whole run.
 use Rattle.std.proofs.Common.{◌≡◌, ◌+◌, ◌-◌, ◌%◌, ◌++◌}
-use Rattle.pd_reparse.specs.Reading.{events_behind}
+use Rattle.pd_reparse.specs.Steps.{events_behind}
 use Rattle.pd_run.specs.Laws.{IsUnderway}
 use Rattle.pd_run.specs.Run.{verdict_from, stepped_from, states_from}
 use Rattle.pd_track.specs.Reuse.{fourths}
