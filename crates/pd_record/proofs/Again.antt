@@ -16,6 +16,7 @@ use Rattle.pd_host.specs.Calls.{called}
 use Rattle.pd_host.specs.Expiries.{advanced}
 use Rattle.pd_host.specs.InputLaws.{AdvancesPutOutBehind}
 use Rattle.pd_host.specs.Sender.{then_on}
+use Rattle.pd_host.specs.SendingLaws.{SendsOneByOne}
 use Rattle.pd_host.specs.declared.halts.Halt.{Halt}
 use Rattle.pd_host.specs.declared.sender_state.State.{State}
 use Rattle.pd_print.specs.Sent.{packet_of}
@@ -23,8 +24,11 @@ use Rattle.pd_run.specs.Laws.{IsUnderway, StartsUnderway, StepsGoOn}
 use Rattle.pd_run.specs.Run.{start_of}
 use Rattle.pd_run.specs.Step.{Running, step, tolerance_of}
 use Rattle.pd_run.specs.Times.{moment_of, moments_of, is_in_reach}
+use Rattle.pd_run.specs.Why.{ReasonsGiveVerdicts}
 use Rattle.pd_run.specs.declared.verdicts.Verdict.{Verdict}
-use Rattle.pd_record.specs.Recording.{Tracked, records, closed, tracks_of, recording_in, events_in, events_taken, events_of_all, events_of, IsRecording}
+use Rattle.pd_record.specs.Following.{RecordingsFollowRuns}
+use Rattle.pd_record.specs.Recording.{Tracked, records, closed, tracks_of, recording_in, events_in, events_taken, events_of_all, events_of}
+use Rattle.pd_record.specs.Answered.{IsRecording}
 use Rattle.pd_record.specs.Sameness.{unplaced, AreTheSame, kinds_of, IsReadAs}
 use Rattle.pd_record.specs.Tape.{Tape, Took, Answers, then_do, unless, blank_from, gone_to, stepped, recorded_as, event_at, refusal_at, taken, leaves_next, departs, with_unmet, comes, comes_on, left_by, with_base, acts_at, inputs, arrives, answered, answer_at, with_answer, calls, based_after, meets, meets_oldest, ruling_at, performed, recorded}
 use Rattle.pd_record.specs.declared.refusals.NotRecorded.TheVariants.{Stopped}
@@ -44,7 +48,7 @@ abbrev pub Repeats : Event → ℕ → Running → Running → Type 0
 Repeats x n r s = (e : Event) → unplaced x ≡ unplaced e → (took : Took) × (recorded (calm n r) e ≡ Ok (calm (n + 1) s, took)) × (events_taken took ≡ e ∷ [])
 
 -- the tape after a step
-abbrev gone : Tape → Running → Tape
+abbrev pub gone : Tape → Running → Tape
 gone t s = record t { run = s; count = t.count + 1 }
 
 -- ---- what was recorded at a moment
@@ -219,16 +223,18 @@ one_again x n r s repeats ready later = record { repeats = (s, repeats, refl); r
 -- what the proof rests on
 pub record Bases : Type 0 where
   pub behind : AdvancesPutOutBehind
+  pub one_by_one : SendsOneByOne
   pub starts : StartsUnderway
   pub steps : StepsGoOn
+  pub reasons : ReasonsGiveVerdicts
 
-abbrev Went : {X : Type 0} → (X → List Event) → Tape → Tape × X → Type 0
+abbrev pub Went : {X : Type 0} → (X → List Event) → Tape → Tape × X → Type 0
 Went seen t y = AreAgain (seen y.1) t.count t.run y.0.count y.0.run
 
 module _ (laws : Bases) where
   -- ---- packets that leave
 
-  packet_went : (t : Tape) (line : ℕ) (may : ℕ → Bool) (sent : Sent) (y : Tape × Recorded) → IsReady t.count t.run → leaves_next may t.run ≡ Some sent
+  pub packet_went : (t : Tape) (line : ℕ) (may : ℕ → Bool) (sent : Sent) (y : Tape × Recorded) → IsReady t.count t.run → leaves_next may t.run ≡ Some sent
       → departs t line sent ≡ Ok y
       → Went alone t y × ((until : ℕ) → ((at : ℕ) → may at ≡ true → at ≤ until) → t.run.clock ≤ until → y.0.run.clock ≤ until)
   packet_went t line may sent y ready next h =
@@ -275,7 +281,7 @@ module _ (laws : Bases) where
   all_leave zero line until before t y ready early h = absurd cc
   all_leave (suc n) line until before t y ready early h = one_leaves (comes n line until) until (all_leave n line until) line before t y _ refl ready early h
 
-  left_went : (line until : ℕ) (t : Tape) (y : Tape × List Recorded) → IsReady t.count t.run → t.run.clock ≤ until → left_by line until t ≡ Ok y
+  pub left_went : (line until : ℕ) (t : Tape) (y : Tape × List Recorded) → IsReady t.count t.run → t.run.clock ≤ until → left_by line until t ≡ Ok y
       → Went events_in t y × (y.0.run.clock ≤ until) × (leaves_next (λ due. nat_le due until) y.0.run ≡ None)
   left_went line until t y ready early h =
       let all = all_leave 4096 line until [] t y ready early h in
@@ -357,10 +363,10 @@ module _ (laws : Bases) where
   performed_went t e y Command ready h = absurd cc
   performed_went t e y Code ready h = absurd cc
 
-  event_went : (t : Tape) (e : Event) (y : Tape × Took) → IsReady t.count t.run → recorded t e ≡ Ok y → Went events_taken t y
+  pub event_went : (t : Tape) (e : Event) (y : Tape × Took) → IsReady t.count t.run → recorded t e ≡ Ok y → Went events_taken t y
   event_went t e y ready h = performed_went t e y e.action ready (no_refusal (performed t e e.action) (ruling_at t e) y h).1
 
-  events_went : (es : List Event) (takes : List Took) (t : Tape) (y : Tape × List Took) → IsReady t.count t.run → records es takes t ≡ Ok y
+  pub events_went : (es : List Event) (takes : List Took) (t : Tape) (y : Tape × List Took) → IsReady t.count t.run → records es takes t ≡ Ok y
       → (more : List Took) × (y.1 ≡ takes ++ more) × AreAgain (events_of_all more) t.count t.run y.0.count y.0.run
   events_went [] takes t y ready h =
       subst (λ (z : Tape × List Took). (more : List Took) × (z.1 ≡ takes ++ more) × AreAgain (events_of_all more) t.count t.run z.0.count z.0.run) (given (t, takes) y h)
@@ -448,16 +454,17 @@ tracks_again laws header other events es settings tracks kinds h same = go (star
     go (Err v) is = absurd (let refused : tracks_of header events settings ≡ Err (Stopped v) = ap (from_start events) is in cc)
 
 -- so a recording is its own recording
-pub recorded_again : Bases → (header : List HeaderItem) (events : List Event) (settings : Settings) (tracks : Tracked) (text : List (List ℕ))
+pub recorded_again : Bases → RecordingsFollowRuns → (header : List HeaderItem) (events : List Event) (settings : Settings) (tracks : Tracked) (text : List (List ℕ))
     → tracks_of header events settings ≡ Ok tracks → IsReadAs header (events_of tracks) text
     → IsRecording text settings text (length (events_of tracks))
-recorded_again laws header events settings tracks text h read =
+recorded_again laws follow header events settings tracks text h read =
     let p : Parsed = script_of text in
     let second = tracks_again laws header p.header.items events p.events settings tracks (sym read.header) h (sym read.events) in
     let whole : recording_in settings p ≡ tracks_of p.header.items p.events settings = rw read.whole refl in
     record {
       tracks = second.0;
       recorded = whole ∙ second.1;
+      follows = λ n passes. follow text settings n second.0 passes (whole ∙ second.1);
       right = record {
         read = record { whole = read.whole; header = refl; events = ap (map unplaced) (sym second.2) };
         passes = passes_as_read header events settings tracks text h read;

@@ -11,7 +11,8 @@ use Rattle.pd_run.specs.Laws.{IsUnderway}
 use Rattle.pd_run.specs.Limits.{is_long, written_times}
 use Rattle.pd_run.specs.Step.{Running}
 use Rattle.pd_run.specs.Times.{moment_of, base_after}
-use Rattle.pd_record.specs.Tape.{Tape, Sound, IsReached, refusal_at, with_unmet}
+use Rattle.pd_record.specs.Tape.{Tape, refusal_at, with_unmet}
+use Rattle.pd_record.specs.Inner.{Sound, IsReached}
 use Rattle.pd_record.specs.declared.refusals.NotRecorded.TheVariants.{TooManyEvents, TooLongGap}
 
 -- what isn't refused is no 4,097th event, and comes at most 3,600 seconds after the one before

@@ -30,10 +30,10 @@ use Rattle.pd_run.specs.declared.verdicts.Verdict.{Verdict}
 use Rattle.pd_run.specs.declared.verdicts.Verdict.TheVariants.{Fail, Unsupported, Limit}
 use Rattle.pd_record.specs.Tape.{oldest_of, or_expired, due_where, leaves_next}
 
-abbrev ok : Running → Result Running Verdict
+abbrev pub ok : Running → Result Running Verdict
 ok r = Ok r
 
-given : (r s : Running) → ok r ≡ ok s → r ≡ s
+pub given : (r s : Running) → ok r ≡ ok s → r ≡ s
 given r s h = cc
 
 -- what a step that goes on passed
@@ -57,7 +57,7 @@ step_passes r s e h = checked (is_over_limit e) (is_run e) (is_backwards r.base 
 abbrev Acted : Running → Running → Event → Type 0
 Acted r s e = (s.base ≡ moment_of r.base e.time) × (s.clock ≡ acts_at r e)
 
-agreed : (line : ℕ) (r s : Running) (kind : Option Kind) → judged line r kind ≡ Ok s → r ≡ s
+pub agreed : (line : ℕ) (r s : Running) (kind : Option Kind) → judged line r kind ≡ Ok s → r ≡ s
 agreed line r s None h = given r s h
 agreed line r s (Some kind) h = absurd cc
 
@@ -91,7 +91,7 @@ took e p q s (Some sent) is h =
     let same : next ≡ s = agreed e.line next s (mismatch p (moments_of q.base e.time) sent (tolerance_of q)) h in
     (sent, is, sym (ap (λ (x : Running). x.base) same), sym (ap (λ (x : Running). x.clock) same))
 
-both : (go : Running → Result Running Verdict) (came : Result Running Verdict) (s : Running) → on_step go (λ v. Err v) came ≡ Ok s
+pub both : (go : Running → Result Running Verdict) (came : Result Running Verdict) (s : Running) → on_step go (λ v. Err v) came ≡ Ok s
     → (t : Running) × (came ≡ Ok t) × (go t ≡ Ok s)
 both go (Ok t) s h = (t, refl, h)
 both go (Err v) s h = absurd cc
@@ -106,23 +106,26 @@ pub after_packet : (r s : Running) (e : Event) (p : Packet) → e.action ≡ Out
 after_packet r s e p is h = after_leaving r s e p (subst (λ (a : Action). performed r e a ≡ Ok s) is (step_passes r s e h).3)
 
 -- what was awaited: the packet stood there, or the next expiry sent it
-abbrev Awaited : Running → Running → Event → Type 0
+abbrev pub Awaited : Running → Running → Event → Type 0
 Awaited r q e = (length r.host.state.endpoint.outbox ≡ 0) × (at : ℕ) × (t : State) × (deadline_of r.host.state ≡ Some at) × (advanced at r.host.state ≡ Ok t) × (q ≡ record (with_state r t) { clock = at })
+    × (is_in_reach (moments_of r.base e.time) (tolerance_of r) at ≡ true)
 
 on_time : (r q : Running) (e : Event) (at : ℕ) (came : Result State Halt) → on_expiry r e at came ≡ Ok q → (t : State) × (came ≡ Ok t) × (q ≡ record (with_state r t) { clock = at })
 on_time r q e at (Ok t) h = (t, refl, sym (given (record (with_state r t) { clock = at }) q h))
 on_time r q e at (Err halt) h = absurd cc
 
-in_reach : (b : Bool) (v : Verdict) (came : Result Running Verdict) (q : Running) → (if b then came else Err v) ≡ Ok q → came ≡ Ok q
-in_reach true v came q h = h
+in_reach : (b : Bool) (v : Verdict) (came : Result Running Verdict) (q : Running) → (if b then came else Err v) ≡ Ok q → (came ≡ Ok q) × (b ≡ true)
+in_reach true v came q h = (h, refl)
 in_reach false v came q h = absurd cc
 
 expired_at : (r q : Running) (e : Event) (o : Option ℕ) → deadline_of r.host.state ≡ o → expires r e o ≡ Ok q
     → (at : ℕ) × (t : State) × (deadline_of r.host.state ≡ Some at) × (advanced at r.host.state ≡ Ok t) × (q ≡ record (with_state r t) { clock = at })
+    × (is_in_reach (moments_of r.base e.time) (tolerance_of r) at ≡ true)
 expired_at r q e None is h = absurd cc
 expired_at r q e (Some at) is h =
-    let came = on_time r q e at (advanced at r.host.state) (in_reach (is_in_reach (moments_of r.base e.time) (tolerance_of r) at) (Fail e.line Missing) (on_expiry r e at (advanced at r.host.state)) q h) in
-    (at, came.0, is, came.1, came.2)
+    let reached = in_reach (is_in_reach (moments_of r.base e.time) (tolerance_of r) at) (Fail e.line Missing) (on_expiry r e at (advanced at r.host.state)) q h in
+    let came = on_time r q e at (advanced at r.host.state) reached.0 in
+    (at, came.0, is, came.1, came.2, reached.1)
 
 pub which_awaited : (r q : Running) (e : Event) → awaited r e ≡ Ok q → (q ≡ r) ⊎ Awaited r q e
 which_awaited r q e h = go (length r.host.state.endpoint.outbox == 0) refl h
@@ -132,11 +135,11 @@ which_awaited r q e h = go (length r.host.state.endpoint.outbox == 0) refl h
     go true is k =
         let came = expired_at r q e (deadline_of r.host.state) refl k in
         let none : length r.host.state.endpoint.outbox ≡ 0 = search rules in
-        inr (none, came.0, came.1, came.2, came.3, came.4)
+        inr (none, came.0, came.1, came.2, came.3, came.4, came.5)
 
 -- ---- which packet leaves next
 
-no_items : (xs : List Sent) → length xs ≡ 0 → xs ≡ []
+pub no_items : (xs : List Sent) → length xs ≡ 0 → xs ≡ []
 no_items [] h = refl
 no_items (x ∷ xs) h = absurd (omega (arith, h))
 
@@ -144,7 +147,7 @@ first_in_order : (now : ℕ) (xs : List Sent) (p : Sent) → AreInOrder now xs �
 first_in_order now [] p h is = absurd cc
 first_in_order now (q ∷ xs) p h is = let same : q ≡ p = cc in subst (λ (x : Sent). x.at ≤ now) same h.0
 
-none_in : (xs : List Sent) → slice_get xs 0 ≡ None → length xs ≡ 0
+pub none_in : (xs : List Sent) → slice_get xs 0 ≡ None → length xs ≡ 0
 none_in [] h = refl
 none_in (x ∷ xs) h = absurd cc
 
@@ -180,10 +183,10 @@ first_or_due may r sent None is h = inr (due_next may r sent (deadline_of r.host
 pub what_leaves : (may : ℕ → Bool) (r : Running) (sent : Sent) → leaves_next may r ≡ Some sent → Stands r sent ⊎ Expires may r sent
 what_leaves may r sent h = first_or_due may r sent (slice_get r.host.state.endpoint.outbox 0) refl h
 
-stands_next : (may : ℕ → Bool) (r : Running) (sent : Sent) → Stands r sent → leaves_next may r ≡ Some sent
+pub stands_next : (may : ℕ → Bool) (r : Running) (sent : Sent) → Stands r sent → leaves_next may r ≡ Some sent
 stands_next may r sent h = ap (λ (o : Option Sent). or_expired r.host.state o (due_where may (deadline_of r.host.state))) h
 
-expires_next : (may other : ℕ → Bool) (r : Running) (sent : Sent) (h : Expires may r sent) → other h.1 ≡ true → leaves_next other r ≡ Some sent
+pub expires_next : (may other : ℕ → Bool) (r : Running) (sent : Sent) (h : Expires may r sent) → other h.1 ≡ true → leaves_next other r ≡ Some sent
 expires_next may other r sent h comes =
     let due : due_where other (deadline_of r.host.state) ≡ Some h.1 = ap (due_where other) h.3 ∙ ap (λ (b : Bool). if b then Some h.1 else None) comes in
     ap (λ (o : Option Sent). or_expired r.host.state o (due_where other (deadline_of r.host.state))) h.0
@@ -214,9 +217,10 @@ one_sent s at empty due =
     let x : Sent = record { segment = segment_again c.0 c.0.established; at = at } in
     (x, refl, ap (λ (o : Option ControlBlock). (expired at o s).endpoint.outbox) c.1 ∙ ap (λ (list : List Sent). list ++ x ∷ []) (no_items s.endpoint.outbox empty))
 
-pub sent_at_expiry : AdvancesPutOutBehind → (s t : State) (at : ℕ) (sent : Sent) → length s.endpoint.outbox ≡ 0 → deadline_of s ≡ Some at
-    → advanced at s ≡ Ok t → slice_get t.endpoint.outbox 0 ≡ Some sent → sent.at ≡ at
-sent_at_expiry behind s t at sent empty due went first =
+-- the expiries up to the next one send a packet first that carries its moment
+pub first_sent : AdvancesPutOutBehind → (s t : State) (at : ℕ) → length s.endpoint.outbox ≡ 0 → deadline_of s ≡ Some at
+    → advanced at s ≡ Ok t → (x : Sent) × (x.at ≡ at) × (slice_get t.endpoint.outbox 0 ≡ Some x)
+first_sent behind s t at empty due went =
     let one = one_sent s at empty due in
     let after : State = expire at s in
     let many : places_left s ≡ suc 1023 = omega (arith, empty) in
@@ -227,7 +231,13 @@ sent_at_expiry behind s t at sent empty due went first =
     repeat_found (find_due at) expire (places_left s) 1023 s at many found ∙ ap (λ (n : ℕ). repeated (find_due at) expire n after) few in
     let more = behind at after t (sym onward ∙ went) in
     let outbox : t.endpoint.outbox ≡ one.0 ∷ more.0 = more.2 ∙ ap (λ (list : List Sent). list ++ more.0) one.2 in
-    let same : Some sent ≡ Some one.0 = sym first ∙ ap (λ (list : List Sent). slice_get list 0) outbox in
+    (one.0, one.1, ap (λ (list : List Sent). slice_get list 0) outbox)
+
+pub sent_at_expiry : AdvancesPutOutBehind → (s t : State) (at : ℕ) (sent : Sent) → length s.endpoint.outbox ≡ 0 → deadline_of s ≡ Some at
+    → advanced at s ≡ Ok t → slice_get t.endpoint.outbox 0 ≡ Some sent → sent.at ≡ at
+sent_at_expiry behind s t at sent empty due went first =
+    let one = first_sent behind s t at empty due went in
+    let same : Some sent ≡ Some one.0 = sym first ∙ one.2 in
     let equal : sent ≡ one.0 = cc in
     ap (λ (x : Sent). x.at) equal ∙ one.1
 

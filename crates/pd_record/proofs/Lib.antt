@@ -7,5 +7,10 @@ pub mod Leaves
 pub mod Passing
 pub mod Lines
 pub mod Again
+pub mod Freed
+pub mod FreedArrivals
+pub mod FreedCalls
+pub mod Meeting
+pub mod Followed
 pub mod Whole
 pub mod Right

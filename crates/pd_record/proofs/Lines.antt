@@ -186,7 +186,7 @@ same_start xs ys settings r same h =
 
 -- ---- whole texts
 
-verdict_begun : (settings : Settings) (p : Parsed) (r : Running) → p.fault ≡ None → start_of p.header.items settings ≡ Ok r
+pub verdict_begun : (settings : Settings) (p : Parsed) (r : Running) → p.fault ≡ None → start_of p.header.items settings ≡ Ok r
     → verdict_in settings p ≡ verdict_from 0 p.events r
 verdict_begun settings p r fault start = rw (fault, start) refl
 

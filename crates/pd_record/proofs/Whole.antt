@@ -6,9 +6,12 @@ use Rattle.pd_script.specs.Script.{script_of}
 use Rattle.pd_script.specs.declared.parsing.Parsed.{Parsed}
 use Rattle.pd_script.specs.declared.script_events.Event.{Event}
 use Rattle.pd_run.specs.Run.{verdict_in}
-use Rattle.pd_record.specs.Recording.{Tracked, records, tracks_of, recording_in, recording_of, events_of, IsRight, IsRecording, Refuses}
+use Rattle.pd_record.specs.Following.{RecordingsFollowRuns}
+use Rattle.pd_record.specs.Recording.{Tracked, records, tracks_of, recording_in, recording_of, events_of}
+use Rattle.pd_record.specs.Answered.{IsRight, IsRecording, Refuses}
 use Rattle.pd_record.specs.Scripts.{IsRead, events_placed}
-use Rattle.pd_record.specs.Tape.{Tape, Took, Answers, Gives, then_do, recorded}
+use Rattle.pd_record.specs.Tape.{Tape, Took, Answers, then_do, recorded}
+use Rattle.pd_record.specs.Inner.{Gives}
 use Rattle.pd_record.specs.declared.refusals.NotRecorded.{NotRecorded}
 use Rattle.pd_record.specs.declared.refusals.NotRecorded.TheVariants.{Stopped, TooLarge, TooManyEvents, TooLongGap, Differs, OutOfMemory}
 use Rattle.pd_record.specs.declared.scripts.Script.{Script}
@@ -46,10 +49,12 @@ pub is_recording : (text lines : List (List ℕ)) (settings : Settings) (count :
     → IsRead (script_of text) (Some script)
     → tracks_of script.header.items (events_placed script.events.items) settings ≡ Ok tracks
     → IsRight script.header.items (events_of tracks) settings lines count
+    → RecordingsFollowRuns
     → IsRecording text settings lines count
-is_recording text lines settings count tracks script is h right = record {
+is_recording text lines settings count tracks script is h right follow = record {
   tracks = tracks;
   recorded = recorded_as_read text settings script is ∙ h;
+  follows = λ n passes. follow text settings n tracks passes (recorded_as_read text settings script is ∙ h);
   right = subst (λ (p : Parsed). IsRight p.header.items (events_of tracks) settings lines count) (sym is) right;
 }
 

@@ -4,4 +4,7 @@ pub mod Scripts
 pub mod Standings
 pub mod Tape
 pub mod Recording
+pub mod Following
+pub mod Answered
 pub mod Traces
+pub mod Inner

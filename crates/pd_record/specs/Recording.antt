@@ -1,16 +1,13 @@
 -- The recording of a whole script.
-use Rattle.std.specs.Prelude.{◌≡◌, ℕ, List, [], ◌∷◌, ◌++◌, map, length, Option, Some, None, Ok, Err, IfErr}
+use Rattle.std.specs.Prelude.{ℕ, List, [], ◌∷◌, ◌++◌, map, Option, Some, None, Ok, Err}
 use Rattle.pd_settings.specs.declared.fields.Settings.{Settings}
 use Rattle.pd_script.specs.Script.{script_of}
 use Rattle.pd_script.specs.declared.parsing.Parsed.{Parsed}
 use Rattle.pd_script.specs.declared.script_events.Event.{Event}
 use Rattle.pd_script.specs.declared.script_header.HeaderItem.{HeaderItem}
-use Rattle.pd_run.specs.Run.{verdict_of}
-use Rattle.pd_run.specs.declared.verdicts.Verdict.TheVariants.{Pass, Syntax}
-use Rattle.pd_record.specs.Sameness.{IsReadAs}
+use Rattle.pd_run.specs.declared.verdicts.Verdict.TheVariants.{Syntax}
 use Rattle.pd_record.specs.Tape.{Tape, Took, Answers, then_do, begun, left_by, recorded}
-use Rattle.pd_record.specs.declared.refusals.NotRecorded.{NotRecorded}
-use Rattle.pd_record.specs.declared.refusals.NotRecorded.TheVariants.{Stopped, TooLarge, Differs, OutOfMemory}
+use Rattle.pd_record.specs.declared.refusals.NotRecorded.TheVariants.{Stopped}
 use Rattle.pd_record.specs.declared.tape.Own.{Own}
 use Rattle.pd_record.specs.declared.tape.Recorded.{Recorded}
 
@@ -65,24 +62,3 @@ events_of_all (took ∷ others) = events_taken took ++ events_of_all others
 -- all recorded events, in their order
 abbrev pub events_of : Tracked → List Event
 events_of tracks = events_of_all tracks.takes ++ events_in tracks.rest
-
--- a text is read as a header and events, and passes with their number
-pub record IsRight (header : List HeaderItem) (events : List Event) (settings : Settings) (recording : List (List ℕ)) (count : ℕ) : Type 0 where
-  pub read : IsReadAs header events recording
-  pub passes : verdict_of recording settings ≡ Pass count
-  pub number : count ≡ length events
-
--- a text, with a number of events, is the recording of another one under settings: it is read as that one's header and exactly
--- the recorded events, and passes with their number
-pub record IsRecording (text : List (List ℕ)) (settings : Settings) (recording : List (List ℕ)) (count : ℕ) : Type 0 where
-  pub tracks : Tracked
-  pub recorded : recording_of text settings ≡ Ok tracks
-  pub right : IsRight (script_of text).header.items (events_of tracks) settings recording count
-
--- why a text isn't recorded: it is no script, or its recording is refused. Where the recording is too large, or differs from
--- what was recorded, there is no other reason to refuse it; for want of memory nothing more is said
-abbrev pub Refuses : Answers Tracked → NotRecorded → Type 0
-Refuses outcome OutOfMemory = Unit {0}
-Refuses outcome Differs = IfErr outcome (λ other. other ≡ Differs)
-Refuses outcome TooLarge = IfErr outcome (λ other. other ≡ TooLarge)
-Refuses outcome refusal = outcome ≡ Err refusal

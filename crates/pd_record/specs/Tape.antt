@@ -1,6 +1,5 @@
 -- What is recorded, event by event.
-use Rattle.std.specs.Prelude.{◌≡◌, ◌≢◌, ℕ, zero, suc, ◌+◌, ◌-◌, ◌*◌, ◌≤◌, max, nat_le, nat_lt, not, Bool, slice_get, List, [], ◌∷◌, ◌++◌, Option, Some, None, unwrap_or, is_none, Result, Ok, Err, if◌then◌else◌}
-use Rattle.std.specs.List.{AllByRecursion}
+use Rattle.std.specs.Prelude.{ℕ, zero, suc, ◌+◌, ◌-◌, max, nat_le, nat_lt, not, Bool, slice_get, List, [], ◌∷◌, ◌++◌, Option, Some, None, unwrap_or, is_none, Result, Ok, Err, if◌then◌else◌}
 use Rattle.pd_settings.specs.declared.fields.Settings.{Settings}
 use Rattle.pd_script.specs.declared.calls.Call.{Call}
 use Rattle.pd_script.specs.declared.packets.Packet.{Packet}
@@ -22,7 +21,6 @@ use Rattle.pd_match.specs.declared.kinds.Kind.TheVariants.{Backwards}
 use Rattle.pd_print.specs.Answers.{outcome_of}
 use Rattle.pd_print.specs.Sent.{packet_of}
 use Rattle.pd_record.specs.Standings.{standing_of}
-use Rattle.pd_run.specs.Laws.{IsUnderway}
 use Rattle.pd_run.specs.Limits.{is_over_limit}
 use Rattle.pd_run.specs.Run.{start_of}
 use Rattle.pd_run.specs.Shapes.{is_run}
@@ -31,7 +29,7 @@ use Rattle.pd_run.specs.Times.{moment_of, moments_of, is_backwards, is_in_reach,
 use Rattle.pd_run.specs.declared.verdicts.Verdict.{Verdict}
 use Rattle.pd_run.specs.declared.verdicts.Verdict.TheVariants as verdict
 use Rattle.pd_record.specs.declared.refusals.NotRecorded.{NotRecorded}
-use Rattle.pd_record.specs.declared.refusals.NotRecorded.TheVariants.{Stopped, TooManyEvents, TooLongGap, OutOfMemory}
+use Rattle.pd_record.specs.declared.refusals.NotRecorded.TheVariants.{Stopped, TooManyEvents, TooLongGap}
 use Rattle.pd_record.specs.declared.tape.Own.{Own}
 use Rattle.pd_record.specs.declared.tape.Recorded.{Recorded}
 use Rattle.pd_record.specs.declared.tape.Reply.{Reply}
@@ -245,30 +243,3 @@ performed t e _ = Err (Stopped (verdict.Unsupported e.line))
 -- what is recorded of an event of the script
 abbrev pub recorded : Tape → Event → Answers (Tape × Took)
 recorded t e = unless (performed t e e.action) (ruling_at t e)
-
--- ---- what is said of code
-
--- what was recorded and the tape after it, or why nothing is; for want of memory nothing is said
-abbrev pub Gives : {A B : Type 0} → (A → B) → Answers (Tape × B) → Result A NotRecorded → Tape → Type 0
-Gives seen outcome (Ok x) new = outcome ≡ Ok (new, seen x)
-Gives seen outcome (Err refusal) new = refusal ≢ OutOfMemory → outcome ≡ Err refusal
-
--- the same where the tape stays as it is
-abbrev pub Finds : {A : Type 0} → Answers A → Result A NotRecorded → Type 0
-Finds outcome (Ok x) = outcome ≡ Ok x
-Finds outcome (Err refusal) = refusal ≢ OutOfMemory → outcome ≡ Err refusal
-
--- the same of a step, which records nothing
-abbrev pub Goes : Answers Tape → Result (Unit {0}) NotRecorded → Tape → Type 0
-Goes outcome (Ok done) new = outcome ≡ Ok new
-Goes outcome (Err refusal) new = refusal ≢ OutOfMemory → outcome ≡ Err refusal
-
--- a moment that a recording can come to
-abbrev pub IsReached : ℕ → Type 0
-IsReached at = at ≤ 3600000000 * 4097
-
--- the run of a tape goes on, at most 4,096 events were recorded, and the moments lie within their reach
-pub record Sound (t : Tape) : Type 0 where
-  pub run : IsUnderway t.count t.run
-  pub few : t.count ≤ 4096
-  pub unmet : AllByRecursion IsReached t.unmet

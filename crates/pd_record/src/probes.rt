@@ -4,7 +4,8 @@ ghost use Rattle.pd_host.specs.Calls.{called};
 ghost use Rattle.pd_host.specs.Expiries.{advanced};
 ghost use Rattle.pd_host.specs.Outcome.{Answers};
 ghost use Rattle.pd_host.specs.Sender.{IsShort, then_on};
-ghost use Rattle.pd_record.specs.Tape.{Finds, answered, next_packet};
+ghost use Rattle.pd_record.specs.Tape.{answered, next_packet};
+ghost use Rattle.pd_record.specs.Inner.{Finds};
 
 use crate::refusals::NotRecorded;
 use pd_host::{Ending, Halt, Host, growth_is_lawful};

@@ -4,7 +4,8 @@ ghost use Rattle.std.specs.List.{list_any};
 ghost use Rattle.pd_run.specs.Limits.{is_long, written_times};
 ghost use Rattle.pd_run.specs.Step.{tolerance_of};
 ghost use Rattle.pd_run.specs.Times.{moment_of, moments_of, is_in_reach};
-ghost use Rattle.pd_record.specs.Tape.{Finds, Gives, Goes, IsReached, Sound, acts_at, answer_at, arrives, begun, calls, departs, event_at, expects, inputs, leaves_next, left_by, recorded, refusal_at, ruling_at, stepped, taken, with_base, with_unmet};
+ghost use Rattle.pd_record.specs.Tape.{acts_at, answer_at, arrives, begun, calls, departs, event_at, expects, inputs, leaves_next, left_by, recorded, refusal_at, ruling_at, stepped, taken, with_base, with_unmet};
+ghost use Rattle.pd_record.specs.Inner.{Finds, Gives, Goes, IsReached, Sound};
 
 use crate::outcomes::outcome_of;
 use crate::probes::{answer_of, next_packet};

@@ -1,9 +1,10 @@
 //! Records scripts.
 ghost use Rattle.std.specs.Prelude.{◌≡◌, ◌≢◌, IfErr, IfOk, IsOk, IsTrue, length};
 ghost use Rattle.pd_script.specs.Script.{script_of};
-ghost use Rattle.pd_record.specs.Recording.{IsRecording, Refuses, recording_of};
+ghost use Rattle.pd_record.specs.Recording.{recording_of};
+ghost use Rattle.pd_record.specs.Answered.{IsRecording, Refuses};
 ghost use Rattle.pd_record.specs.Sameness.{IsReadAs};
-ghost use Rattle.pd_record.specs.Tape.{Finds};
+ghost use Rattle.pd_record.specs.Inner.{Finds};
 
 use crate::recordings::Recording;
 use crate::refusals::NotRecorded;
@@ -11,8 +12,8 @@ use crate::sameness::same_script;
 use crate::scripts::read_script;
 use crate::tracks::{events_of, record_script};
 use crate::transcripts::write_tracks;
-use pd_host::advances_are_lawful;
-use pd_run::{run_all, runs_are_bounded};
+use pd_host::{advances_are_lawful, sending_goes_one_by_one};
+use pd_run::{run_all, runs_are_bounded, verdicts_have_reasons};
 use pd_script::{Event, Header};
 use pd_settings::Settings;
 use pd_text::Lines;
@@ -33,6 +34,8 @@ pub fn record(alloc: Global, lines: &Lines, settings: &Settings) -> Result<Recor
 {
     runs_are_bounded();
     advances_are_lawful();
+    sending_goes_one_by_one();
+    verdicts_have_reasons();
     let Some(script) = read_script(alloc, lines)? else {
         let verdict = run_all(alloc, lines, settings)?;
         return Err(NotRecorded::Stopped(verdict));

@@ -2,7 +2,7 @@
 ghost use Rattle.std.specs.Prelude.{◌≡◌, ◌≤◌, ◌++◌, ◌∷◌, [], length, IfOk, OnOk};
 ghost use Rattle.pd_record.specs.Recording.{event_in, events_in, events_of, events_of_all, events_taken, records, tracks_of};
 ghost use Rattle.pd_record.specs.Scripts.{events_placed};
-ghost use Rattle.pd_record.specs.Tape.{Finds, Gives, Sound};
+ghost use Rattle.pd_record.specs.Inner.{Finds, Gives, Sound};
 
 use crate::recorder::Recorder;
 use crate::refusals::NotRecorded;

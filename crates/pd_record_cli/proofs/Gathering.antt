@@ -9,7 +9,8 @@ use Rattle.pd_cli.specs.Commands.{fitted}
 use Rattle.pd_cli.specs.Input.{IfKnown, to_come}
 use Rattle.pd_cli.specs.TakenLines.{TakesLine}
 use Rattle.pd_cli.specs.declared.intake.Taken.TheVariants.{Whole, Long, End}
-use Rattle.pd_record_cli.specs.ScriptInput.{Gathers, is_dropped, script_in, with_line, without_trace}
+use Rattle.pd_record_cli.specs.ScriptInput.{is_dropped, script_in, without_trace}
+use Rattle.pd_record_cli.specs.Inner.{Gathers, with_line}
 
 -- one line more
 

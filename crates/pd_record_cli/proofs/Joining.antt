@@ -9,7 +9,8 @@ use Rattle.std.specs.List.{slice_get}
 use Rattle.std.specs.Option.{option_copied}
 use Rattle.std.proofs.lemmas.List.Elements.{filter-append}
 use Rattle.pd_record_cli.specs.ScriptInput.{is_dropped, without_trace}
-use Rattle.pd_record_cli.specs.Written.{GoesOn, IsWritten, joined}
+use Rattle.pd_record_cli.specs.Written.{IsWritten, joined}
+use Rattle.pd_record_cli.specs.Inner.{GoesOn}
 
 joined_more : (lines : List (List ℕ)) (line : List ℕ) → joined lines ++ (line ++ 10 ∷ []) ≡ joined (lines ++ line ∷ [])
 joined_more lines line = flat_map_more (λ (l : List ℕ). l ++ 10 ∷ []) [] lines line

@@ -3,3 +3,4 @@ pub mod RecordProgram
 pub mod RecordWords
 pub mod ScriptInput
 pub mod Written
+pub mod Inner

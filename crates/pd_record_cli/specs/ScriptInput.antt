@@ -1,5 +1,5 @@
 -- The script that an input is.
-use Rattle.std.specs.Prelude.{◌≡◌, ℕ, not, Bool, true, false, nat_le, ◌&&◌, List, [], ◌∷◌, ◌++◌, length, filter, Option, option_and_then, if◌then◌else◌}
+use Rattle.std.specs.Prelude.{ℕ, not, Bool, nat_le, ◌&&◌, List, length, filter, Option}
 use Rattle.std.specs.Str.Lines.{lines}
 use Rattle.pd_cli.specs.Commands.{fitted}
 use Rattle.pd_record.specs.Traces.{is_trace}
@@ -15,12 +15,3 @@ without_trace lines = filter (λ line. not (is_dropped line)) lines
 -- the script that an input is: its lines without those of a trace, where these are within the limits of a text
 abbrev pub script_in : List ℕ → Option (List (List ℕ))
 script_in input = fitted (without_trace (lines input))
-
--- the lines gathered so far with one more, unless that is dropped
-abbrev pub with_line : List ℕ → Option (List (List ℕ)) → Option (List (List ℕ))
-with_line line gathered = if is_dropped line then gathered else option_and_then (λ texts. fitted (texts ++ line ∷ [])) gathered
-
--- the first line of what is to come was gathered, or there is none
-abbrev pub Gathers : Bool → Option (List (List ℕ)) → Option (List (List ℕ)) → List ℕ → List ℕ → Type 0
-Gathers true gathered more old new = (line : List ℕ) × (lines old ≡ line ∷ lines new) × (more ≡ with_line line gathered)
-Gathers false gathered more old new = (lines old ≡ []) × (more ≡ gathered)

@@ -2,7 +2,8 @@
 ghost use Rattle.std.specs.Prelude.{◌≡◌, ◌++◌, ◌∷◌, [], true, false, IfOk, IfErr, OnOk};
 ghost use Rattle.pd_record_cli.specs.RecordProgram.{IsStop};
 ghost use Rattle.pd_record_cli.specs.ScriptInput.{is_dropped};
-ghost use Rattle.pd_record_cli.specs.Written.{GoesOn, IsWritten};
+ghost use Rattle.pd_record_cli.specs.Written.{IsWritten};
+ghost use Rattle.pd_record_cli.specs.Inner.{GoesOn};
 
 use crate::script_input::is_dropped;
 use pd_cli::ServeFault;

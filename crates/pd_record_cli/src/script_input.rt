@@ -3,7 +3,8 @@ ghost use Rattle.std.specs.Prelude.{◌≡◌, ◌<◌, IfOk, IfErr, IfSome, OnO
 ghost use Rattle.pd_cli.specs.Input.{IfKnown, to_come, work_left};
 ghost use Rattle.pd_cli.specs.Pieces.{NoNewline};
 ghost use Rattle.pd_cli.specs.TakenLines.{IsIo};
-ghost use Rattle.pd_record_cli.specs.ScriptInput.{Gathers, is_dropped, script_in, with_line};
+ghost use Rattle.pd_record_cli.specs.ScriptInput.{is_dropped, script_in};
+ghost use Rattle.pd_record_cli.specs.Inner.{Gathers, with_line};
 
 use pd_cli::{Gathered, Intake, ServeFault, Taken, text_of};
 use pd_record::is_trace;

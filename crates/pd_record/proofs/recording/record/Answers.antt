@@ -3,7 +3,8 @@ use Rattle.std.proofs.Common.{◌≡◌, ◌≢◌, ℕ, List, length, Some, Ok,
 use Rattle.pd_settings.specs.declared.fields.Settings.{Settings}
 use Rattle.pd_script.specs.Script.{script_of}
 use Rattle.pd_script.specs.declared.script_events.Event.{Event}
-use Rattle.pd_record.specs.Recording.{Tracked, recording_of, tracks_of, events_of, IsRecording}
+use Rattle.pd_record.specs.Recording.{Tracked, recording_of, tracks_of, events_of}
+use Rattle.pd_record.specs.Answered.{IsRecording}
 use Rattle.pd_record.specs.Sameness.{IsReadAs}
 use Rattle.pd_record.specs.Scripts.{IsRead, events_placed}
 use Rattle.pd_record.specs.declared.refusals.NotRecorded.TheVariants.{OutOfMemory}
@@ -28,7 +29,7 @@ right_lists laws text lines settings count tracks script placed list compared is
 
 pub returns-then-branch-clause-recorded : goal.returns-then-branch-clause-recorded
 returns-then-branch-clause-recorded c =
-    let laws : Bases = record { behind = c.advances_are_lawful.ensures.packets; starts = c.runs_are_bounded.ensures.start; steps = c.runs_are_bounded.ensures.step } in
+    let laws : Bases = record { behind = c.advances_are_lawful.ensures.packets; one_by_one = c.sending_goes_one_by_one.ensures; starts = c.runs_are_bounded.ensures.start; steps = c.runs_are_bounded.ensures.step; reasons = c.verdicts_have_reasons.ensures.reasons } in
     let read : IsRead (script_of c.args.lines.now) (Some c.in-Some.script) = subst (IsRead (script_of c.args.lines.now)) c.in-Some.is c.in_ok-script.ensures.read in
     (right_lists laws c.args.lines.now c.in-Ok.recording.lines c.args.settings.now c.in-Ok.recording.events c.in_ok-tracks.tracks c.in-Some.script
     c.as_slice.result.now c.in_ok-events.events.items c.as_slice-2.result.now read c.as_slice.ensures.value c.in_ok-tracks.ensures
@@ -36,7 +37,7 @@ returns-then-branch-clause-recorded c =
 
 pub returns-then-branch-clause-again : goal.returns-then-branch-clause-again
 returns-then-branch-clause-again c =
-    let laws : Bases = record { behind = c.advances_are_lawful.ensures.packets; starts = c.runs_are_bounded.ensures.start; steps = c.runs_are_bounded.ensures.step } in
+    let laws : Bases = record { behind = c.advances_are_lawful.ensures.packets; one_by_one = c.sending_goes_one_by_one.ensures; starts = c.runs_are_bounded.ensures.start; steps = c.runs_are_bounded.ensures.step; reasons = c.verdicts_have_reasons.ensures.reasons } in
     let read : IsRead (script_of c.args.lines.now) (Some c.in-Some.script) = subst (IsRead (script_of c.args.lines.now)) c.in-Some.is c.in_ok-script.ensures.read in
     (right_lists laws c.args.lines.now c.in-Ok.recording.lines c.args.settings.now c.in-Ok.recording.events c.in_ok-tracks.tracks c.in-Some.script
     c.as_slice.result.now c.in_ok-events.events.items c.as_slice-2.result.now read c.as_slice.ensures.value c.in_ok-tracks.ensures

@@ -2,7 +2,7 @@
 use Rattle.std.proofs.Common.{◌≡◌, ◌≤◌, ◌+◌, ◌*◌, [], drop}
 use Rattle.pd_record.specs.Recording.{records}
 use Rattle.pd_record.specs.Scripts.{events_placed}
-use Rattle.pd_record.specs.Tape.{Sound}
+use Rattle.pd_record.specs.Inner.{Sound}
 use Rattle.pd_record.proofs.tracks.record_events.Given as goal
 
 abbrev pub invariant-loop-placed : goal.invariant-loop-placed

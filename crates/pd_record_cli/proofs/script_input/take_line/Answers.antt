@@ -3,7 +3,7 @@ use Rattle.pd_cli.specs.Input.{to_come}
 use Rattle.pd_cli.specs.TakenLines.{TakesLine}
 use Rattle.pd_cli.specs.declared.intake.Taken.TheVariants.{Whole}
 use Rattle.pd_cli.proofs.Known.{known_map}
-use Rattle.pd_record_cli.specs.ScriptInput.{Gathers}
+use Rattle.pd_record_cli.specs.Inner.{Gathers}
 use Rattle.pd_record_cli.proofs.Gathering.{gathers_whole}
 use Rattle.pd_record_cli.proofs.script_input.take_line.Goals as goal
 

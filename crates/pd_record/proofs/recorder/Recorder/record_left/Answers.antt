@@ -1,6 +1,7 @@
 -- Each turn records the packet that leaves next, until none does.
 use Rattle.std.proofs.Common.{◌≡◌, ◌≢◌, ◌+◌, ◌-◌, Some, None, nat_le, sym, ap, subst, ◌∙◌, arith}
-use Rattle.pd_record.specs.Tape.{Tape, Sound, leaves_next, left_by}
+use Rattle.pd_record.specs.Tape.{Tape, leaves_next, left_by}
+use Rattle.pd_record.specs.Inner.{Sound}
 use Rattle.pd_record.specs.declared.refusals.NotRecorded.TheVariants.{OutOfMemory}
 use Rattle.pd_record.proofs.Bounds.{unmet_sound}
 use Rattle.pd_record.proofs.Leaving.{none_left, comes_zero, comes_over, comes_got, comes_refused}

@@ -3,7 +3,8 @@ use Rattle.std.proofs.Common.{◌≡◌, ◌<◌, Ok, subst, sym, arith}
 use Rattle.pd_run.specs.Step.{step, Steps}
 use Rattle.pd_run.specs.declared.stepping.StepEnd.TheVariants.{Go}
 use Rattle.pd_run.proofs.Steps.{tells}
-use Rattle.pd_record.specs.Tape.{Tape, Sound}
+use Rattle.pd_record.specs.Tape.{Tape}
+use Rattle.pd_record.specs.Inner.{Sound}
 use Rattle.pd_record.proofs.recorder.Recorder.step.Goals as goal
 
 pub returns-clause-sound : goal.returns-clause-sound

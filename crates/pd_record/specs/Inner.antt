@@ -1,0 +1,32 @@
+-- Definitions that contracts of private functions cite and no public one does.
+use Rattle.std.specs.Prelude.{◌≡◌, ◌≢◌, ℕ, ◌*◌, ◌≤◌, Result, Ok, Err}
+use Rattle.std.specs.List.{AllByRecursion}
+use Rattle.pd_run.specs.Laws.{IsUnderway}
+use Rattle.pd_record.specs.declared.refusals.NotRecorded.{NotRecorded}
+use Rattle.pd_record.specs.declared.refusals.NotRecorded.TheVariants.{OutOfMemory}
+use Rattle.pd_record.specs.Tape.{Tape, Answers}
+
+-- what was recorded and the tape after it, or why nothing is; for want of memory nothing is said
+abbrev pub Gives : {A B : Type 0} → (A → B) → Answers (Tape × B) → Result A NotRecorded → Tape → Type 0
+Gives seen outcome (Ok x) new = outcome ≡ Ok (new, seen x)
+Gives seen outcome (Err refusal) new = refusal ≢ OutOfMemory → outcome ≡ Err refusal
+
+-- the same where the tape stays as it is
+abbrev pub Finds : {A : Type 0} → Answers A → Result A NotRecorded → Type 0
+Finds outcome (Ok x) = outcome ≡ Ok x
+Finds outcome (Err refusal) = refusal ≢ OutOfMemory → outcome ≡ Err refusal
+
+-- the same of a step, which records nothing
+abbrev pub Goes : Answers Tape → Result (Unit {0}) NotRecorded → Tape → Type 0
+Goes outcome (Ok done) new = outcome ≡ Ok new
+Goes outcome (Err refusal) new = refusal ≢ OutOfMemory → outcome ≡ Err refusal
+
+-- a moment that a recording can come to
+abbrev pub IsReached : ℕ → Type 0
+IsReached at = at ≤ 3600000000 * 4097
+
+-- the run of a tape goes on, at most 4,096 events were recorded, and the moments lie within their reach
+pub record Sound (t : Tape) : Type 0 where
+  pub run : IsUnderway t.count t.run
+  pub few : t.count ≤ 4096
+  pub unmet : AllByRecursion IsReached t.unmet
