@@ -56,7 +56,7 @@ gone t s = record t { run = s; count = t.count + 1 }
 -- the state after it, and what it is
 abbrev pub IsTaken : Tape → ℕ → ℕ → Action → Tape × Recorded → Running → Type 0
 IsTaken t line at action y s =
-    (step t.run (event_at t line at action) ≡ Ok s) × (refusal_at t at ≡ None) × (y ≡ (gone t s, recorded_as at (event_at t line at action) (gone t s)))
+    (step t.run (event_at t line at action) ≡ Ok s) × (refusal_at t at ≡ None) × (y ≡ (gone t s, recorded_as at (event_at t line at action)))
 
 stepped_to : (t u : Tape) (came : Result Running Verdict) → gone_to t came ≡ Ok u → (s : Running) × (came ≡ Ok s) × (u ≡ gone t s)
 stepped_to t u (Ok s) h = (s, refl, sym (given (gone t s) u h))
@@ -65,18 +65,18 @@ stepped_to t u (Err v) h = absurd cc
 pub was_taken : (t : Tape) (line at : ℕ) (action : Action) (y : Tape × Recorded) → taken t line at action ≡ Ok y → (s : Running) × IsTaken t line at action y s
 was_taken t line at action y h =
     let e = event_at t line at action in
-    let free = no_refusal (then_do (λ (u : Tape). ok (u, recorded_as at e u)) (stepped t e)) (refusal_at t at) y h in
-    let b = both (λ (u : Tape). ok (u, recorded_as at e u)) (stepped t e) y free.1 in
+    let free = no_refusal (then_do (λ (u : Tape). ok (u, recorded_as at e)) (stepped t e)) (refusal_at t at) y h in
+    let b = both (λ (u : Tape). ok (u, recorded_as at e)) (stepped t e) y free.1 in
     let went = stepped_to t b.0 (step t.run e) b.1 in
-    let is : y ≡ (gone t went.0, recorded_as at e (gone t went.0)) = sym (given (b.0, recorded_as at e b.0) y b.2) ∙ ap (λ (u : Tape). (u, recorded_as at e u)) went.2 in
+    let is : y ≡ (gone t went.0, recorded_as at e) = sym (given (b.0, recorded_as at e) y b.2) ∙ ap (λ (u : Tape). (u, recorded_as at e)) went.2 in
     (went.0, (went.1, free.0, is))
 
 pub take_it : (t : Tape) (line at : ℕ) (action : Action) (s : Running) → step t.run (event_at t line at action) ≡ Ok s → refusal_at t at ≡ None
-    → taken t line at action ≡ Ok (gone t s, recorded_as at (event_at t line at action) (gone t s))
+    → taken t line at action ≡ Ok (gone t s, recorded_as at (event_at t line at action))
 take_it t line at action s h free =
     let e = event_at t line at action in
-    ap (unless (then_do (λ (u : Tape). ok (u, recorded_as at e u)) (stepped t e))) free
-    ∙ ap (λ (came : Result Running Verdict). then_do (λ (u : Tape). ok (u, recorded_as at e u)) (gone_to t came)) h
+    ap (unless (then_do (λ (u : Tape). ok (u, recorded_as at e)) (stepped t e))) free
+    ∙ ap (λ (came : Result Running Verdict). then_do (λ (u : Tape). ok (u, recorded_as at e)) (gone_to t came)) h
 
 -- an event at another line is the same at that line
 same_event : (x e : Event) → unplaced x ≡ unplaced e → record x { line = e.line } ≡ e
@@ -117,7 +117,7 @@ arrival_again n at line r s p base clock h free none e same =
     let c : Tape = calm n r in
     let x : Event = event_at c e.line at (Inbound p) in
     let goes : step r x ≡ Ok s = step_unplaced r s (event_at c line at (Inbound p)) x refl h in
-    let own : Own = own_of (recorded_as at x (gone c s)) in
+    let own : Own = own_of (recorded_as at x) in
     let ruled : recorded c x ≡ inputs (arrives e.line (acts_at c x) p) c x = ap (unless (performed c x (Inbound p))) (no_ruling n r s x goes) in
     let moment : inputs (arrives e.line (acts_at c x) p) c x ≡ inputs_at at (arrives e.line at p) c x =
     ap (λ (m : ℕ). inputs_at m (arrives e.line m p) c x) (acts_then n at e.line r (Inbound p) base clock) in
@@ -148,7 +148,7 @@ call_again n at line r s call answer base clock answers h free none e same =
     let made : Call = with_answer call answer in
     let x : Event = event_at c e.line at (Calls made) in
     let goes : step r x ≡ Ok s = step_unplaced r s (event_at c line at (Calls made)) x refl h in
-    let own : Own = answer_own made answer (recorded_as at x (gone c s)) in
+    let own : Own = answer_own made answer (recorded_as at x) in
     let ruled : recorded c x ≡ inputs (calls e.line (acts_at c x) made) c x = ap (unless (performed c x (Calls made))) (no_ruling n r s x goes) in
     let moment : inputs (calls e.line (acts_at c x) made) c x ≡ inputs_at at (calls e.line at made) c x =
     ap (λ (m : ℕ). inputs_at m (calls e.line m made) c x) (acts_then n at e.line r (Calls made) base clock) in
@@ -171,10 +171,10 @@ packet_again behind n line r s may sent next base h free e same =
     let action : Action = Outbound (packet_of sent.segment) in
     let x : Event = event_at c e.line sent.at action in
     let goes : step r x ≡ Ok s = step_unplaced r s (event_at c line sent.at action) x refl h in
-    let own : Own = own_of (recorded_as sent.at x (gone c s)) in
+    let own : Own = own_of (recorded_as sent.at x) in
     let ruled : recorded c x ≡ meets c x (leaves_next (is_in_reach (moments_of r.base x.time) (tolerance_of r)) r) = ap (unless (performed c x action)) (no_ruling n r s x goes) in
     let after : Tape × Recorded → Answers (Tape × Took) = λ y. ok (based_after x.time (Some sent.at) y.0, took [] (Some (own_of y.1))) in
-    let left : departs c e.line sent ≡ Ok (gone c s, recorded_as sent.at x (gone c s)) = take_it c e.line sent.at action s goes free in
+    let left : departs c e.line sent ≡ Ok (gone c s, recorded_as sent.at x) = take_it c e.line sent.at action s goes free in
     let again : recorded c x ≡ Ok (calm (n + 1) s, took [] (Some own)) =
     ruled ∙ (ap (meets c x) (met_again behind may r sent (tolerance_of r) next)
     ∙ (ap (then_do after) left
@@ -308,7 +308,7 @@ module _ (laws : Bases) where
       let base : t.run.base ≤ at = omega (arith, early, ready.timely) in
       let repeats : Repeats x t.count t.run was.0 = arrival_again t.count at line t.run was.0 p base early was.1.0 was.1.1 none in
       let after = ready_after t.count t.run was.0 x ready was.1.0 acted.0 acted.1 in
-      let z : Tape × Own = (gone t was.0, own_of (recorded_as at x (gone t was.0))) in
+      let z : Tape × Own = (gone t was.0, own_of (recorded_as at x)) in
       let is : z ≡ y = ap (λ (w : Tape × Recorded). (w.0, own_of w.1)) (sym was.1.2) ∙ given (b.0.0, own_of b.0.1) y b.2 in
       subst (Went owned t) is (one_again x t.count t.run was.0 repeats after.0 after.1)
 
@@ -325,7 +325,7 @@ module _ (laws : Bases) where
       let repeats : Repeats x t.count t.run was.0 =
       call_again t.count at line t.run was.0 call a.0 base early (λ other. answer_anew t t.count line other at call a.0 refl a.1) was.1.0 was.1.1 none in
       let after = ready_after t.count t.run was.0 x ready was.1.0 acted.0 acted.1 in
-      let z : Tape × Own = seen a.0 (gone t was.0, recorded_as at x (gone t was.0)) in
+      let z : Tape × Own = seen a.0 (gone t was.0, recorded_as at x) in
       let is : z ≡ y = ap (seen a.0) (sym was.1.2) ∙ given (seen a.0 b.0) y b.2 in
       subst (Went owned t) is (one_again x t.count t.run was.0 repeats after.0 after.1)
 

@@ -161,7 +161,7 @@ module _ (laws : Bases) where
       let u : Running = was.0 in
       let n = met t.run u x packet (step_passes t.run u x was.1.0).3 in
       let alike = same_before r s t.run u e x sent n.0 (sym f.state) f.clock m.1 n.1 in
-      let left : Tape × Recorded = (gone t u, recorded_as sent.at x (gone t u)) in
+      let left : Tape × Recorded = (gone t u, recorded_as sent.at x) in
       let went = packet_went laws t e.line may sent b.0 f.ready next b.1 in
       let its : after left ≡ y = ap after (sym was.1.2) ∙ given (after b.0) y b.2 in
       subst (Goes r s [] e (Outbound p)) its (record {
@@ -285,7 +285,7 @@ arrival_own line at p q z ready early none h =
     let x : Event = event_at q line at (Inbound p) in
     let base : q.run.base ≤ at = omega (arith, early, ready.timely) in
     let so = acts_now (ArrivesAt p) q.run was.0 x at (acts_then q line at (Inbound p) base early) none (arrival_in q.run was.0 x p (step_passes q.run was.0 x was.1.0).3) in
-    let its : (gone q was.0, own_of (recorded_as at x (gone q was.0))) ≡ z = ap (λ (w : Tape × Recorded). (w.0, own_of w.1)) (sym was.1.2) ∙ given (b.0.0, own_of b.0.1) z b.2 in
+    let its : (gone q was.0, own_of (recorded_as at x)) ≡ z = ap (λ (w : Tape × Recorded). (w.0, own_of w.1)) (sym was.1.2) ∙ given (b.0.0, own_of b.0.1) z b.2 in
     subst (OwnActs (ArrivesAt p) at (Inbound p) q) its
     (record { after = was.0; acts_so = so.0; clock = so.1; written = so.2; tape = refl; input = refl; packet = refl })
 
@@ -300,7 +300,7 @@ call_own line at call q z ready early none h =
     let x : Event = event_at q line at (Calls made) in
     let base : q.run.base ≤ at = omega (arith, early, ready.timely) in
     let so = acts_now (CalledAt made) q.run was.0 x at (acts_then q line at (Calls made) base early) none (call_in q.run was.0 x made (step_passes q.run was.0 x was.1.0).3) in
-    let its : seen a.0 (gone q was.0, recorded_as at x (gone q was.0)) ≡ z = ap (seen a.0) (sym was.1.2) ∙ given (seen a.0 b.0) z b.2 in
+    let its : seen a.0 (gone q was.0, recorded_as at x) ≡ z = ap (seen a.0) (sym was.1.2) ∙ given (seen a.0 b.0) z b.2 in
     subst (OwnActs (CalledAt call) at (Calls call) q) its
     (record { after = was.0; acts_so = so.0; clock = so.1; written = so.2; tape = refl; input = refl; packet = refl })
 

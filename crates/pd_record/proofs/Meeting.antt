@@ -267,7 +267,7 @@ module _ (laws : Bases) where
       ap (advanced until) (sym front) ∙ before_next until t.run m.1.before a its.1 came in
       let freed = came_by (in_front (sent ∷ [])) (advanced until (in_front (sent ∷ []) s.host.state)) (advanced until s.host.state) a (advanced_freed (sent ∷ []) until s.host.state) from_there in
       let state : b.0.0.run.host.state ≡ s.host.state = ap (λ (z : Tape × Recorded). z.0.run.host.state) was.1.2 in
-      let event : b.0.1 ≡ recorded_as sent.at x (gone t s) = ap (λ (z : Tape × Recorded). z.1) was.1.2 in
+      let event : b.0.1 ≡ recorded_as sent.at x = ap (λ (z : Tape × Recorded). z.1) was.1.2 in
       let rest = goes (before ++ b.0.1 ∷ []) (with_unmet b.0.0 sent.at) y freed.0 first.0.ready within (ap (advanced until) state ∙ freed.1) b.2 in (
         b.0.1 ∷ rest.0,
         sent ∷ rest.1,

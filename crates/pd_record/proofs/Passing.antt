@@ -77,9 +77,9 @@ step_goes t u e (Err v) is h = absurd cc
 pub taken_goes : (t : Tape) (line at : ℕ) (action : Action) (y : Tape × Recorded) → taken t line at action ≡ Ok y → Went alone t y
 taken_goes t line at action y h =
     let e = event_at t line at action in
-    let free = no_refusal (then_do (λ (u : Tape). ok (u, recorded_as at e u)) (stepped t e)) (refusal_at t at) y h in
-    let b = both (λ (u : Tape). ok (u, recorded_as at e u)) (stepped t e) y free.1 in
-    subst (Went alone t) (given (b.0, recorded_as at e b.0) y b.2) (b.0.run, step_goes t b.0 e (step t.run e) refl b.1, refl)
+    let free = no_refusal (then_do (λ (u : Tape). ok (u, recorded_as at e)) (stepped t e)) (refusal_at t at) y h in
+    let b = both (λ (u : Tape). ok (u, recorded_as at e)) (stepped t e) y free.1 in
+    subst (Went alone t) (given (b.0, recorded_as at e) y b.2) (b.0.run, step_goes t b.0 e (step t.run e) refl b.1, refl)
 
 -- ---- packets that leave
 

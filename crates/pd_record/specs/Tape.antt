@@ -20,7 +20,6 @@ use Rattle.pd_match.specs.Calls.{result_mismatch}
 use Rattle.pd_match.specs.declared.kinds.Kind.TheVariants.{Backwards}
 use Rattle.pd_print.specs.Answers.{outcome_of}
 use Rattle.pd_print.specs.Sent.{packet_of}
-use Rattle.pd_record.specs.Standings.{standing_of}
 use Rattle.pd_run.specs.Limits.{is_over_limit}
 use Rattle.pd_run.specs.Run.{start_of}
 use Rattle.pd_run.specs.Shapes.{is_run}
@@ -92,14 +91,14 @@ gone_to t (Err v) = Err (Stopped v)
 abbrev pub stepped : Tape → Event → Answers Tape
 stepped t e = gone_to t (step t.run e)
 
--- an event of the recording, with the sender after its step
-abbrev pub recorded_as : ℕ → Event → Tape → Recorded
-recorded_as at e t = record { event = e; at = at; standing = standing_of t.run.host }
+-- an event of the recording, with its moment
+abbrev pub recorded_as : ℕ → Event → Recorded
+recorded_as at e = record { event = e; at = at }
 
 -- what happens at a moment is recorded; halts are told at a line of the script
 abbrev pub taken : Tape → ℕ → ℕ → Action → Answers (Tape × Recorded)
 taken t line at action =
-    unless (then_do (λ u. Ok (u, recorded_as at (event_at t line at action) u)) (stepped t (event_at t line at action))) (refusal_at t at)
+    unless (then_do (λ u. Ok (u, recorded_as at (event_at t line at action))) (stepped t (event_at t line at action))) (refusal_at t at)
 
 -- ---- packets that leave
 

@@ -41,6 +41,8 @@ pub struct Recorder {
     base: u64,
     /// The moments of the packets that were recorded and that no expected packet has met, the oldest first.
     unmet: VecDeque<u64>,
+    /// How the sender stood after each recorded event, where a trace tells it.
+    standings: Option<Vec<Standing>>,
 }
 
 impl Model for Recorder {
@@ -52,11 +54,16 @@ impl Model for Recorder {
 }
 
 impl Recorder {
-    /// Before the first event.
+    /// Before the first event; for a trace it notes how the sender stands after each one that it records.
     ///
     /// # Errors
     /// `Stopped` at the first header item that isn't run; `OutOfMemory`.
-    pub fn new(alloc: Global, header: &Header, settings: &Settings) -> Result<Recorder, NotRecorded>
+    pub fn new(
+        alloc: Global,
+        header: &Header,
+        settings: &Settings,
+        with_trace: bool,
+    ) -> Result<Recorder, NotRecorded>
         ensures begins { Finds (begun header.now.items settings.now) result }
         ensures sound { IfOk result (λ recorder. Sound recorder) }
         ensures base { IfOk result (λ recorder. recorder.base ≡ 0) }
@@ -72,6 +79,7 @@ impl Recorder {
             count: 0,
             base: 0,
             unmet: VecDeque::new(alloc),
+            standings: with_trace.then(|| Vec::new(alloc)),
         })
     }
 
@@ -80,6 +88,12 @@ impl Recorder {
         ensures { result ≡ self.now.count }
     {
         self.count
+    }
+
+    /// How the sender stood after each recorded event, in order; nothing where no trace was asked for.
+    pub fn into_standings(self) -> Option<Vec<Standing>> {
+        let Recorder { standings, .. } = self;
+        standings
     }
 
     /// The present moment of the recording, in microseconds since the start of the run.
@@ -330,11 +344,18 @@ impl Recorder {
         }
         let event = self.event_at(line, at, action);
         self.step(&event)?;
-        Ok(Recorded {
-            event,
-            at,
-            standing: Standing::of(self.run.host()),
-        })
+        self.keep_standing()?;
+        Ok(Recorded { event, at })
+    }
+
+    /// Notes how the sender stands, where a trace tells it.
+    fn keep_standing(&mut self) -> Result<(), AllocError>
+        ensures { self.new ≡ self.old }
+    {
+        if let Some(standings) = &mut self.standings {
+            standings.push(Standing::of(self.run.host()))?;
+        }
+        Ok(())
     }
 
     /// Takes the step of a recorded event.

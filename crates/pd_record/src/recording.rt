@@ -19,13 +19,19 @@ use pd_settings::Settings;
 use pd_text::Lines;
 use std::alloc::{AllocError, Global};
 
-/// Records a script under settings. The recording is read again before it is answered.
+/// Records a script under settings, for a trace with how the sender stands after each event. The recording is read again before
+/// it is answered.
 ///
 /// # Errors
 /// `Stopped` where the text is no script, or its run doesn't begin or stops at an event for another reason than what the event
 /// expects; `TooManyEvents`, `TooLongGap` and `TooLarge` where the recording would be over these limits; `OutOfMemory`; and
 /// `Differs` where the text isn't read as what was recorded, which is a fault of this program.
-pub fn record(alloc: Global, lines: &Lines, settings: &Settings) -> Result<Recording, NotRecorded>
+pub fn record(
+    alloc: Global,
+    lines: &Lines,
+    settings: &Settings,
+    with_trace: bool,
+) -> Result<Recording, NotRecorded>
     ensures recorded { IfOk result (λ recording. IsRecording lines.now settings.now recording.lines recording.events) }
 
     // Recording it gives the same events.
@@ -40,7 +46,13 @@ pub fn record(alloc: Global, lines: &Lines, settings: &Settings) -> Result<Recor
         let verdict = run_all(alloc, lines, settings)?;
         return Err(NotRecorded::Stopped(verdict));
     };
-    let tracks = record_script(alloc, &script.header, script.events.as_slice(), settings)?;
+    let tracks = record_script(
+        alloc,
+        &script.header,
+        script.events.as_slice(),
+        settings,
+        with_trace,
+    )?;
     let written = write_tracks(alloc, lines, &script, &tracks);
     let events = events_of(alloc, tracks)?;
     let recording = match written {

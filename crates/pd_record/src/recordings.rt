@@ -9,7 +9,7 @@ pub struct Recording {
     pub lines: Lines,
     /// How many events it has.
     pub events: usize,
-    /// What a trace tells of each of its events, in order.
+    /// What a trace tells of each of its events, in order; nothing where no trace was asked for.
     pub marks: Vec<Mark>,
 }
 

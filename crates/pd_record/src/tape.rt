@@ -32,15 +32,13 @@ impl Standing {
     }
 }
 
-/// An event that was recorded, with the sender after the input or expiry that it belongs to.
+/// An event that was recorded.
 #[derive(Drop)]
 pub struct Recorded {
     /// The event: its time counts from the event recorded before, and its packet or result is the sender's.
     pub event: Event,
     /// Its moment, in microseconds since the start of the run.
     pub at: u64,
-    /// How the sender stands.
-    pub standing: Standing,
 }
 
 /// What is recorded of one event of a script.

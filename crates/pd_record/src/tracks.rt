@@ -7,7 +7,7 @@ ghost use Rattle.pd_record.specs.Inner.{Finds, Gives, Sound};
 use crate::recorder::Recorder;
 use crate::refusals::NotRecorded;
 use crate::scripts::Placed;
-use crate::tape::{Own, Recorded, Take};
+use crate::tape::{Own, Recorded, Standing, Take};
 use pd_script::{Event, Header};
 use pd_settings::Settings;
 use std::alloc::{AllocError, Global};
@@ -22,6 +22,8 @@ pub struct Tracks {
     pub rest: Vec<Recorded>,
     /// How many events are recorded in all.
     pub count: usize,
+    /// How the sender stood after each of them, in order, where a trace tells it.
+    pub standings: Option<Vec<Standing>>,
 }
 
 impl Model for Tracks {
@@ -42,11 +44,12 @@ pub fn record_script(
     header: &Header,
     events: &[Placed],
     settings: &Settings,
+    with_trace: bool,
 ) -> Result<Tracks, NotRecorded>
     requires few { length events.now ≤ 4096 }
     ensures { Finds (tracks_of header.now.items (events_placed events.now) settings.now) result }
 {
-    let mut recorder = Recorder::new(alloc, header, settings)?;
+    let mut recorder = Recorder::new(alloc, header, settings, with_trace)?;
     let takes = record_events(alloc, &mut recorder, events)?;
     let now = recorder.clock();
     let rest = recorder.record_left(alloc, 0, now)?;
@@ -54,6 +57,7 @@ pub fn record_script(
         takes,
         rest,
         count: recorder.count(),
+        standings: recorder.into_standings(),
     })
 }
 

@@ -20,7 +20,11 @@ pub fn write_tracks(
     tracks: &Tracks,
 ) -> Result<Recording, NotRecorded> {
     let mut layouts = LayoutReader::new(alloc, lines)?;
-    let mut writer = Writer::new(alloc, lines);
+    let standings = match &tracks.standings {
+        Some(list) => list.as_slice(),
+        None => &[],
+    };
+    let mut writer = Writer::new(alloc, lines, standings);
     for _ in script.header.as_slice() {
         writer.put_item(&layouts.read_item(alloc)?)?;
     }

@@ -7,7 +7,7 @@ use crate::gaps::Piece;
 use crate::layouts::Layout;
 use crate::recordings::{Mark, Recording};
 use crate::refusals::NotRecorded;
-use crate::tape::{Own, Recorded, Reply};
+use crate::tape::{Own, Recorded, Reply, Standing};
 use crate::traces::is_trace;
 use pd_print::{Direction, write_answer, write_event, write_time};
 use pd_script::{Action, Time};
@@ -24,16 +24,19 @@ pub struct Writer<'a> {
     list: LineList,
     /// The octets of the line or lines that are being written.
     line: Vec<u8>,
+    /// How the sender stood after each event, where a trace tells it.
+    standings: &'a [Standing],
     /// What a trace tells of each event so far.
     marks: Vec<Mark>,
 }
 
 impl<'a> Writer<'a> {
-    /// Before the first line of the recording of a text.
-    pub fn new(alloc: Global, source: &'a Lines) -> Writer<'a> {
+    /// Before the first line of the recording of a text; for a trace with how the sender stood after each event.
+    pub fn new(alloc: Global, source: &'a Lines, standings: &'a [Standing]) -> Writer<'a> {
         Writer {
             alloc,
             source,
+            standings,
             list: LineList::new(alloc),
             line: Vec::new(alloc),
             marks: Vec::new(alloc),
@@ -175,12 +178,15 @@ impl<'a> Writer<'a> {
         Ok(())
     }
 
-    /// Marks the event whose line was ended.
+    /// Marks the event whose line was ended, where a trace tells of it.
     fn mark(&mut self, recorded: &Recorded) -> Result<(), AllocError> {
+        let Some(standing) = self.standings.get(self.marks.len()) else {
+            return Ok(());
+        };
         self.marks.push(Mark {
             lines: self.list.len(),
             at: recorded.at,
-            standing: recorded.standing,
+            standing: *standing,
         })?;
         Ok(())
     }

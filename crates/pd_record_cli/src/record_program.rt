@@ -103,7 +103,7 @@ fn outcome_of(
     let Some(lines) = &input.lines else {
         return refusal_of(alloc, NotRecorded::TooLarge, input);
     };
-    match record(alloc, lines, settings) {
+    match record(alloc, lines, settings, with_trace) {
         Ok(recording) => Ok(Outcome::Recorded(octets_of(alloc, &recording, with_trace)?)),
         Err(refusal) => refusal_of(alloc, refusal, input),
     }
