@@ -1,12 +1,11 @@
 #!/usr/bin/env -S python3 -I
 """Records scripts and tests what holds of every recording: it passes, and recording it again gives the same octets.
 
-    recordings.py PDRECORD PDREGRESS [COUNT]
-
-The scripts are those of crates/pd_cases/data and COUNT random ones (200 if no number is given). Prints a line for each
-test that fails and `N passed, M failed` last. The two programs are paths of built ones.
+The scripts are those of crates/pd_cases/data and random ones. Prints a line for each test that fails and `N passed, M failed`
+last.
 """
 
+import argparse
 import random
 import re
 import subprocess
@@ -247,12 +246,15 @@ def check(programs: Programs, scripts: list[Script]) -> tuple[int, int]:
 
 def main(words: list[str]) -> int:
     """Runs the tests."""
-    if len(words) not in (2, 3):
-        print(__doc__, file=sys.stderr)
-        return 2
-    programs = Programs(words[0], words[1])
-    count = int(words[2]) if len(words) == 3 else 200
-    passed, failed = check(programs, [*cases(), *random_scripts(count)])
+    parser = argparse.ArgumentParser(description=__doc__, formatter_class=argparse.RawDescriptionHelpFormatter)
+    parser.add_argument("--every", type=int, default=1, metavar="N", help="take only each Nth script")
+    parser.add_argument("pdrecord", help="the path of the built pdrecord")
+    parser.add_argument("pdregress", help="the path of the built pdregress")
+    parser.add_argument("count", type=int, nargs="?", default=200, help="how many random scripts, 200 if left out")
+    chosen = parser.parse_args(words)
+    programs = Programs(chosen.pdrecord, chosen.pdregress)
+    scripts = [*cases(), *random_scripts(chosen.count)]
+    passed, failed = check(programs, scripts[:: chosen.every])
     print(f"{passed} passed, {failed} failed")
     return 1 if failed else 0
 
