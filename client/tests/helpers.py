@@ -4,6 +4,7 @@ import os
 import re
 import signal
 import subprocess
+import time
 from collections.abc import Callable
 from dataclasses import dataclass
 from pathlib import Path
@@ -73,6 +74,14 @@ def is_alive(number: int) -> bool:
         return Path(f"/proc/{number}/stat").read_text().rsplit(") ")[1][0] != "Z"
     except (ProcessLookupError, FileNotFoundError):
         return False
+
+
+def wait_for(mark: Path, process: "subprocess.Popen[bytes] | None" = None) -> None:
+    """Waits until a program that stalls has written its mark; a process that is to start it may not end before."""
+    until = time.monotonic() + HANGS
+    while not mark.exists() or not mark.read_text():
+        assert time.monotonic() < until and (process is None or process.poll() is None)
+        time.sleep(0.01)
 
 
 def ends(process: "subprocess.Popen[bytes]", number: signal.Signals) -> tuple[int, str, str]:

@@ -16,7 +16,7 @@ import pytest
 from pdsuite.faults import Fault
 from pdsuite.packages import need
 from tests.clusters import LocalCluster
-from tests.helpers import FAILS, HANGS, PASSES, TOP, Call, ends, write
+from tests.helpers import FAILS, HANGS, PASSES, TOP, Call, ends, wait_for, write
 
 pytest.importorskip("distributed", reason="python3-distributed isn't installed")
 
@@ -74,14 +74,6 @@ def first_row(process: "subprocess.Popen[bytes]") -> bytes:
     """The first line that is printed: the answer of the run that holds it is here."""
     assert process.stdout is not None
     return process.stdout.readline()
-
-
-def wait_for(mark: Path) -> None:
-    """Waits until a program that stalls says so."""
-    until = time.monotonic() + HANGS
-    while not mark.exists() or not mark.read_text():
-        assert time.monotonic() < until
-        time.sleep(0.01)
 
 
 @pytest.mark.parametrize("form", ["-v", "--json"])

@@ -4,12 +4,11 @@ import json
 import os
 import signal
 import subprocess
-import time
 from pathlib import Path
 
 import pytest
 
-from tests.helpers import HANGS, PASSES, TOP, Call, ends, is_alive, wrapped, write
+from tests.helpers import PASSES, TOP, Call, ends, is_alive, wait_for, wrapped, write
 
 BLOCK = b"script packet: x\nactual packet: y\n"
 BELOW = ["  script packet: x", "  actual packet: y"]
@@ -114,10 +113,7 @@ def test_a_signal_ends_it_too_and_the_rows_are_shown(stand_in: Path, tmp_path: P
     process = subprocess.Popen(
         [TOP / "pdsuite", "run", "."], cwd=tmp_path, env=environment, stdout=subprocess.PIPE, stderr=subprocess.PIPE
     )
-    until = time.monotonic() + HANGS
-    while not (tmp_path / "mark").exists() or not (tmp_path / "mark").read_text():
-        assert time.monotonic() < until and process.poll() is None
-        time.sleep(0.01)
+    wait_for(tmp_path / "mark", process)
     status, out, err = ends(process, signal.SIGTERM)
     assert (status, err) == (143, "")
     assert out.startswith("a.pkt:1: fail seq\n  row fail 1 seq\ntotal 2 pass 1 fail 1 ")

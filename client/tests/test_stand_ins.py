@@ -8,7 +8,7 @@ from pathlib import Path
 
 import pytest
 
-from tests.helpers import HANGS, PASSES, TOP, Call, ends, is_alive, wrapped, write
+from tests.helpers import HANGS, PASSES, TOP, Call, ends, is_alive, wait_for, wrapped, write
 from tests.watching import Watching
 
 REASONS = {
@@ -121,10 +121,7 @@ def start(stand_in: Path, folder: Path, *words: str) -> "subprocess.Popen[bytes]
         stdout=subprocess.PIPE,
         stderr=subprocess.PIPE,
     )
-    until = time.monotonic() + HANGS
-    while not (folder / "mark").exists() or not (folder / "mark").read_text():
-        assert time.monotonic() < until and process.poll() is None
-        time.sleep(0.01)
+    wait_for(folder / "mark", process)
     return process
 
 

@@ -13,7 +13,7 @@ from pathlib import Path
 
 import pytest
 
-from tests.helpers import FAILS, HANGS, PASSES, TOP, Call, is_alive, write
+from tests.helpers import FAILS, HANGS, PASSES, TOP, Call, is_alive, wait_for, write
 from tests.test_random_changes import act
 from tests.watching import Watching
 
@@ -349,8 +349,7 @@ def test_a_terminal_has_a_last_line_that_tells_what_passes_and_what_is_running(s
 def test_a_signal_before_the_first_report_ends_it_with_its_own_status(stand_in: Path, tmp_path: Path) -> None:
     write(tmp_path, a=b"stall mark\n")
     watching = Watching(tmp_path, stand_in, ".")
-    while not (tmp_path / "mark").exists() or not (tmp_path / "mark").read_text():
-        time.sleep(0.01)
+    wait_for(tmp_path / "mark")
     ended = watching.ends(signal.SIGTERM)
     assert (ended.status, ended.out, ended.err) == (143, "", "")
     assert not is_alive(int((tmp_path / "mark").read_text()))

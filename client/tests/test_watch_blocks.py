@@ -8,7 +8,7 @@ from pathlib import Path
 
 import pytest
 
-from tests.helpers import HANGS, PASSES, Call, is_alive, write
+from tests.helpers import HANGS, PASSES, Call, is_alive, wait_for, write
 from tests.watching import Watching
 
 BLOCK = b"script packet: x\nactual packet: y\n"
@@ -100,8 +100,7 @@ def test_a_row_is_shown_before_it_is_explained_and_a_signal_ends_that(stand_in: 
     with Watching(tmp_path, stand_in, ".") as watching:
         write(tmp_path, a=b"row fail 1 seq\nstall\n")
         watching.await_out("a.pkt:1: fail seq\n")
-        while not (tmp_path / "mark").exists() or not (tmp_path / "mark").read_text():
-            time.sleep(0.01)
+        wait_for(tmp_path / "mark")
         assert without_totals(watching.out) == ["total", "a.pkt:1: fail seq"]
         ended = watching.ends(signal.SIGTERM)
     row = "a.pkt:1: fail seq"
@@ -114,8 +113,7 @@ def test_a_row_that_stays_is_not_shown_without_its_block(stand_in: Path, tmp_pat
     write(tmp_path, a=b"row fail 1 seq\nwhy\n")
     with Watching(tmp_path, stand_in, ".") as watching:
         write(tmp_path, a=b"row fail 1 seq\nstall\n")
-        while not (tmp_path / "mark").exists() or not (tmp_path / "mark").read_text():
-            time.sleep(0.01)
+        wait_for(tmp_path / "mark")
         ended = watching.ends(signal.SIGTERM)
     assert without_totals(ended.out) == ["a.pkt:1: fail seq: so it is", "  why", "total"]
     assert (ended.status, ended.err) == (1, "")
