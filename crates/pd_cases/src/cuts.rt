@@ -1,60 +1,39 @@
 //! Tables of cuts: a text that grows octet by octet, and its verdict at each.
-use crate::pieces::{add, decimal, halves, joined};
+use crate::pieces::halves;
 use crate::rows::Row;
-use crate::scripts::{added, compare_report};
-use crate::tally::Tally;
-use crate::unread::Unread;
-use std::alloc::Global;
+use crate::trial::Trial;
+use crate::unread::Read;
 
-/// The lines of the text before the row to come, and the number of its line.
-#[derive(Drop)]
-pub struct Cuts {
-    alloc: Global,
-    text: Vec<u8>,
-    line: u64,
-}
-
-impl Cuts {
-    pub fn new(alloc: Global) -> Cuts {
-        Cuts {
-            alloc,
-            text: Vec::new(alloc),
-            line: 1,
-        }
-    }
-
-    /// Compares the verdict behind each octet of a row `VERDICT | LINE`. Where a text that ends there isn't read, from
-    /// a `$` to a `^`, it is a fault of this line.
-    pub fn take(&mut self, tally: &mut Tally, row: Row<'_>) -> Result<(), Unread> {
-        let Some((whole, octets)) = halves(row.text, " | ") else {
-            return Err(Unread::Because("a row has a verdict and a |"));
+impl Trial {
+    /// Compares the verdict after each octet of a row `VERDICT | LINE`, the line of this number. Where a text that ends
+    /// there isn't read, from a `$` to a `^`, it is a fault of this line.
+    pub fn check_cuts(&mut self, line: u64, row: &Row<'_>) -> Read {
+        let Some((verdict, octets)) = halves(row.text, " | ") else {
+            return Err("a row has a verdict and a |");
         };
-        let line = decimal(self.alloc, self.line)?;
-        let cut = joined(self.alloc, &["syntax ", line.as_str()])?;
         let mut is_read = true;
-        for octet in octets.bytes() {
-            match octet {
+        for octet in octets.as_bytes() {
+            match *octet {
                 b'^' => is_read = true,
                 b'$' => is_read = false,
-                _ if is_read => self.grow(tally, whole, octet, row)?,
-                _ => self.grow(tally, cut.as_str(), octet, row)?,
+                octet if is_read => self.grow(octet, verdict, line, row),
+                octet => self.grow(octet, "", line, row),
             }
         }
-        self.line = self.line.saturating_add(1);
-        Ok(add(&mut self.text, b"\n")?)
+        self.script.add(b"\n");
+        Ok(())
     }
 
-    /// Adds an octet to the text and compares its verdict.
-    fn grow(
-        &mut self,
-        tally: &mut Tally,
-        verdict: &str,
-        octet: u8,
-        row: Row<'_>,
-    ) -> Result<(), Unread> {
-        add(&mut self.text, &[octet])?;
-        let input = added(self.alloc, self.text.as_slice())?;
-        let row = row.at(self.text.len() as u64);
-        compare_report(self.alloc, tally, verdict, input.as_slice(), row)
+    /// Adds an octet to the script and compares its verdict; without one it is a fault of this line.
+    fn grow(&mut self, octet: u8, verdict: &str, line: u64, row: &Row<'_>) {
+        self.script.add(&[octet]);
+        let row = &row.at(self.script.as_slice().len() as u64);
+        if !verdict.is_empty() {
+            self.compare_report(verdict, row);
+            return;
+        }
+        self.wanted.output.add(b"a syntax ");
+        self.wanted.output.add_number(line, "\n");
+        self.compare_class("syntax", row);
     }
 }

@@ -1,107 +1,94 @@
 //! Readers that give little or fail, and writers that take little or fail: a fault stops the run, and what was written
 //! before it is a prefix.
 use crate::rows::Row;
-use crate::said::{Pace, STEADY, run_at};
 use crate::stored::{INPUT, OUTPUT};
-use crate::tally::Tally;
-use std::alloc::{AllocError, Global};
+use crate::trial::{Pace, STEADY, Trial};
 
 const READ: &[u8] = b"pdregress: 17 Read\n";
 
 const WRITE: &[u8] = b"pdregress: 18 Write\n";
 
-/// Fails each read in turn, of readers that give so many octets a call, and then one that is never made.
-pub fn check_reads(
-    alloc: Global,
-    tally: &mut Tally,
-    most: usize,
-    row: Row<'_>,
-) -> Result<(), AllocError> {
-    let calls = reads_of(INPUT.len(), most);
-    for call in 1..=calls {
-        check_fault(alloc, tally, reading(most, call), READ, row.at(call))?;
-    }
-    let said = run_at(alloc, &[], INPUT, reading(most, calls.saturating_add(1)))?;
-    let is_whole = said.is_whole(OUTPUT) && said.reads == calls;
-    tally.check(is_whole && said.asked <= 4096, row)
-}
-
-/// A call for each piece of an input, and one that tells the end.
-fn reads_of(octets: usize, most: usize) -> u64 {
-    let rounded = octets.saturating_add(most.saturating_sub(1));
-    let pieces = rounded.checked_div(most).unwrap_or(0);
-    (pieces as u64).saturating_add(1)
-}
-
-fn reading(most: usize, call: u64) -> Pace {
-    let mut pace = STEADY;
-    pace.given = most;
-    pace.read_fails = call;
-    pace
-}
-
-fn writing(most: usize, call: u64) -> Pace {
-    let mut pace = STEADY;
-    pace.taken = most;
-    pace.write_fails = call;
-    pace
-}
-
-/// Fails each write in turn, of writers that take so many octets a call; one that takes none is a fault of itself.
-pub fn check_writes(
-    alloc: Global,
-    tally: &mut Tally,
-    most: usize,
-    row: Row<'_>,
-) -> Result<(), AllocError> {
-    if most == 0 {
-        return check_fault(alloc, tally, writing(0, 0), WRITE, row);
-    }
-    let said = run_at(alloc, &[], INPUT, writing(most, 0))?;
-    tally.check(said.is_whole(OUTPUT), row)?;
-    for call in 1..=said.writes {
-        check_fault(alloc, tally, writing(most, call), WRITE, row.at(call))?;
-    }
-    Ok(())
-}
-
-/// Runs the program on streams that fail, and checks that it tells this fault and stops.
-fn check_fault(
-    alloc: Global,
-    tally: &mut Tally,
-    pace: Pace,
-    fault: &[u8],
-    row: Row<'_>,
-) -> Result<(), AllocError> {
-    let said = run_at(alloc, &[], INPUT, pace)?;
-    let is_told = said.status == 2 && said.errors.as_slice() == fault;
-    let is_prefix = said.is_prefix(OUTPUT) && said.output.len() < OUTPUT.len();
-    let is_stopped = pace.read_fails == 0 || said.reads == pace.read_fails;
-    tally.check(is_told && is_prefix && is_stopped, row)
-}
-
-/// The status stands where the error text can't be written.
-pub fn check_unheard(alloc: Global, tally: &mut Tally, row: Row<'_>) -> Result<(), AllocError> {
-    let mut pace = STEADY;
-    pace.heard = 0;
-    let said = run_at(alloc, &[], b"bye\n", pace)?;
-    let is_silent = said.output.is_empty() && said.errors.is_empty();
-    tally.check(said.status == 2 && is_silent, row)
-}
-
 /// How many reads a run makes at most.
 const READS: u64 = 1_048_576;
 
-/// Newlines for ever are read up to the limit on reads, and the read that tells the end counts too.
-pub fn check_newlines(alloc: Global, tally: &mut Tally, row: Row<'_>) -> Result<(), AllocError> {
-    let mut pace = reading(1, 0);
-    pace.is_endless = true;
-    let said = run_at(alloc, &[], b"\n", pace)?;
-    let is_told = said.status == 2 && said.output.is_empty() && said.errors.as_slice() == READ;
-    tally.check(is_told && said.reads == READS, row)?;
+impl Trial {
+    /// Fails each read in turn, of readers that give so many octets a call, and then one that is never made: there is a
+    /// call for each piece of the input, and one that tells the end.
+    pub fn check_reads(&mut self, most: usize, row: &Row<'_>) {
+        let mut pace = STEADY;
+        pace.given = most;
+        let octets = INPUT.len().saturating_add(most.saturating_sub(1));
+        let pieces = octets.checked_div(most).unwrap_or(0) as u64;
+        for piece in 0..=pieces {
+            pace.read_fails = piece.saturating_add(1);
+            self.check_fault(pace, READ, &row.at(pace.read_fails));
+        }
+        pace.read_fails = pieces.saturating_add(2);
+        self.run_stored(pace);
+        let is_whole = self.said.is(OUTPUT, b"", 0);
+        let is_read = self.reads == pieces.saturating_add(1) && self.asked <= 4096;
+        self.tally.check(is_whole && is_read, row);
+    }
 
-    let mut input: Vec<u8> = Vec::new(alloc);
-    input.resize(1_048_575usize, b'\n')?;
-    let said = run_at(alloc, &[], input.as_slice(), reading(1, 0))?;
-    tally.check(said.status == 0 && said.reads == READS, row.at(READS))
+    /// Fails each write in turn, of writers that take so many octets a call; one that takes none is a fault of itself.
+    pub fn check_writes(&mut self, most: usize, row: &Row<'_>) {
+        let mut pace = STEADY;
+        pace.taken = most;
+        if most == 0 {
+            self.check_fault(pace, WRITE, row);
+            return;
+        }
+        self.run_stored(pace);
+        self.tally.check(self.said.is(OUTPUT, b"", 0), row);
+        for call in 1..=self.writes {
+            pace.write_fails = call;
+            self.check_fault(pace, WRITE, &row.at(call));
+        }
+    }
+
+    /// Runs the program on streams that fail, and checks that it tells this fault and stops.
+    fn check_fault(&mut self, pace: Pace, fault: &[u8], row: &Row<'_>) {
+        self.run_stored(pace);
+        let said = self.said.output.as_slice();
+        let is_told = self.said.status == 2 && self.said.errors.as_slice() == fault;
+        let is_prefix = OUTPUT.starts_with(said) && said.len() < OUTPUT.len();
+        let is_stopped = pace.read_fails == 0 || self.reads == pace.read_fails;
+        self.tally.check(is_told && is_prefix && is_stopped, row);
+    }
+
+    /// Runs the program on the stored input and streams of this pace.
+    fn run_stored(&mut self, pace: Pace) {
+        self.clear();
+        self.input.add(INPUT);
+        self.run(pace);
+    }
+
+    /// The status stands where the error text can't be written.
+    pub fn check_unheard(&mut self, row: &Row<'_>) {
+        let mut pace = STEADY;
+        pace.heard = 0;
+        self.input.add(b"bye\n");
+        self.run(pace);
+        self.tally.check(self.said.is(b"", b"", 2), row);
+    }
+
+    /// Newlines for ever are read up to the limit on reads, and the read that tells the end counts too.
+    pub fn check_newlines(&mut self, row: &Row<'_>) {
+        let mut pace = STEADY;
+        pace.given = 1;
+        pace.is_endless = true;
+        self.input.add(b"\n");
+        self.run(pace);
+        let is_told = self.said.is(b"", READ, 2);
+        self.tally.check(is_told && self.reads == READS, row);
+
+        pace.is_endless = false;
+        self.input.octets.clear();
+        for _piece in 0..1_025 {
+            self.input.add(&[b'\n'; 1_023]);
+        }
+        self.run(pace);
+        let is_read = self.said.status == 0 && self.reads == READS;
+        self.tally.check(is_read, &row.at(READS));
+    }
 }

@@ -11,8 +11,8 @@ mod memory;
 mod names;
 mod octets;
 mod pieces;
+mod places;
 mod rows;
-mod said;
 mod scripts;
 mod settings;
 mod stored;
@@ -21,9 +21,11 @@ mod streams;
 mod suite;
 mod tables;
 mod tally;
+mod trial;
 mod unread;
 
 use crate::suite::Suite;
+use std::alloc::AllocError;
 use std::process::ExitCode;
 use std::rt::Files;
 use std::{fs, io};
@@ -32,7 +34,8 @@ use std::{fs, io};
 const STOPPED: u8 = 2;
 
 fn main(rt: HostRuntime) -> ExitCode {
-    match check_all(&rt) {
+    let mut suite = Suite::new(rt.alloc());
+    match check_all(&rt, &mut suite) {
         Ok(true) => ExitCode::from(0),
         Ok(false) => ExitCode::from(1),
         Err(error) => {
@@ -43,16 +46,35 @@ fn main(rt: HostRuntime) -> ExitCode {
 }
 
 /// Checks the files that standard input names, and tells whether all of them are as wanted.
-fn check_all(rt: &(impl Input + Print + Files + AllocGlobal)) -> io::Result<bool> {
-    let mut suite = Suite::new(rt.alloc());
+fn check_all(
+    rt: &(impl Input + Print + Files + AllocGlobal),
+    suite: &mut Suite,
+) -> io::Result<bool> {
     for file in rt.lines(rt.alloc()) {
-        let file = file?;
-        let text = fs::read_to_string(rt, file.as_str())?;
-        suite.take_file(file.as_str(), text.as_str())?;
-        rt.print(suite.tally.told.as_str())?;
-        suite.tally.told.clear();
+        check_file(rt, suite, file?.as_str())?;
     }
-    suite.end()?;
-    rt.print(suite.tally.told.as_str())?;
-    Ok(suite.tally.wrong == 0)
+    suite.end();
+    print(rt, suite)?;
+    Ok(suite.trial.tally.wrong == 0)
+}
+
+fn check_file(
+    rt: &(impl Print + Files + AllocGlobal),
+    suite: &mut Suite,
+    file: &str,
+) -> io::Result<()> {
+    let text = fs::read_to_string(rt, file)?;
+    suite.take_file(file, text.as_str());
+    print(rt, suite)
+}
+
+/// Prints what was told since the last time.
+fn print(rt: &impl Print, suite: &mut Suite) -> io::Result<()> {
+    if suite.is_short() {
+        return Err(AllocError.into());
+    }
+    let told = &mut suite.trial.tally.told.octets;
+    rt.write_all(told.as_slice())?;
+    told.clear();
+    Ok(())
 }

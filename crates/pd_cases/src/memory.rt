@@ -1,9 +1,7 @@
 //! Want of memory in a run of the program: it is told, what was written is a prefix, and the next run says all. In
 //! the gate there is memory; outside it this check is run with each allocation refused in turn.
 use crate::rows::Row;
-use crate::said::run;
-use crate::tally::Tally;
-use std::alloc::{AllocError, Global};
+use crate::trial::{STEADY, Trial, UNTRIED};
 
 const INPUT: &[u8] = b"add a 9
 0 socket(..., SOCK_STREAM, IPPROTO_TCP) = 3
@@ -34,34 +32,21 @@ total 1 pass 0 fail 1 syntax 0 unsupported 0 limit 0 pending 0
 total 0 pass 0 fail 0 syntax 0 unsupported 0 limit 0 pending 0
 ";
 
-/// How a run ended.
-#[derive(Clone, Copy)]
-enum Ending {
-    Whole,
-    /// At a fault, with a prefix written.
-    Prefix,
-    Wrong,
-}
-
-/// Runs the program.
-fn attempt(alloc: Global) -> Ending {
-    let Ok(said) = run(alloc, &["--settings", "tolerance_us = 5000"], INPUT) else {
-        return Ending::Prefix;
-    };
-    if said.is_whole(OUTPUT) {
-        Ending::Whole
-    } else if said.status == 2 && said.is_prefix(OUTPUT) {
-        Ending::Prefix
-    } else {
-        Ending::Wrong
+impl Trial {
+    /// Runs the program, and once more where it found no memory.
+    pub fn check_memory(&mut self, row: &Row<'_>) {
+        self.words.add(b"\0--settings\0tolerance_us = 5000");
+        self.input.add(INPUT);
+        self.run(STEADY);
+        if self.is_prefix() {
+            self.run(STEADY);
+        }
+        self.tally.check(self.said.is(OUTPUT, b"", 0), row);
     }
-}
 
-/// Runs the program, and once more where it found no memory.
-pub fn check_memory(alloc: Global, tally: &mut Tally, row: Row<'_>) -> Result<(), AllocError> {
-    let last = match attempt(alloc) {
-        Ending::Prefix => attempt(alloc),
-        first => first,
-    };
-    tally.check(matches!(last, Ending::Whole), row)
+    /// Whether it ended at a fault or wasn't tried, with a prefix written.
+    fn is_prefix(&self) -> bool {
+        let is_stopped = self.said.status == 2 || self.said.status == UNTRIED;
+        is_stopped && OUTPUT.starts_with(self.said.output.as_slice())
+    }
 }

@@ -1,144 +1,48 @@
-//! Tables of places: each octet but the newline at one place of a text.
-use crate::escapes::unescape;
-use crate::pieces::{add, halves, word};
-use crate::rows::Row;
-use crate::scripts::{added, compare_report};
-use crate::tally::Tally;
-use crate::unread::Unread;
-use std::alloc::{AllocError, Global};
+//! Octets that are put together. That no memory was found for some is remembered, so what adds them has no error.
+use std::alloc::Global;
 
-/// The place whose lines are being read.
 #[derive(Drop)]
-pub struct Places<'a> {
-    alloc: Global,
-    place: Option<Place<'a>>,
+pub struct Octets {
+    pub octets: Vec<u8>,
+    /// Whether no memory was found for some of them.
+    pub is_short: bool,
 }
 
-impl<'a> Places<'a> {
-    pub fn new(alloc: Global) -> Places<'a> {
-        Places { alloc, place: None }
-    }
-
-    /// Takes a line: `=` begins a place, which ends the one before, and others are its exceptions.
-    pub fn take(&mut self, tally: &mut Tally, row: Row<'a>) -> Result<(), Unread> {
-        let (mark, rest) = word(row.text);
-        if mark == "=" {
-            self.end(tally)?;
-            self.place = Some(Place::of(self.alloc, row, rest)?);
-            return Ok(());
-        }
-        match &mut self.place {
-            Some(place) => place.except(mark, rest),
-            None => Err(Unread::Because("a place begins with =")),
-        }
-    }
-
-    /// Checks the last place.
-    pub fn end(&mut self, tally: &mut Tally) -> Result<(), Unread> {
-        match self.place.take() {
-            Some(place) => place.check(tally),
-            None => Ok(()),
-        }
-    }
-}
-
-/// A text with an octet left open, the verdict with most octets there, and the exceptions.
-#[derive(Drop)]
-struct Place<'a> {
-    alloc: Global,
-    row: Row<'a>,
-    front: Vec<u8>,
-    back: Vec<u8>,
-    most: &'a str,
-    /// The verdict with an octet that is neither a blank nor printable; empty: as with most.
-    strange: &'a str,
-    excepted: &'a str,
-    octets: Vec<u8>,
-}
-
-impl<'a> Place<'a> {
-    /// The place of a row `= VERDICT: TEXT`, in which `@` is the octet.
-    fn of(alloc: Global, row: Row<'a>, rest: &'a str) -> Result<Place<'a>, Unread> {
-        let Some((most, text)) = halves(rest, ": ") else {
-            return Err(Unread::Because("a place has a verdict"));
-        };
-        let Some((front, back)) = halves(text, "@") else {
-            return Err(Unread::Because("a place has an @"));
-        };
-        let front = unescape(alloc, front)?;
-        let back = unescape(alloc, back)?;
-        Ok(Place {
-            alloc,
-            row,
-            front,
-            back,
-            most,
-            strange: "",
-            excepted: "",
+impl Octets {
+    pub fn new(alloc: Global) -> Octets {
+        Octets {
             octets: Vec::new(alloc),
-        })
+            is_short: false,
+        }
     }
 
-    /// Takes a row `- VERDICT: OCTETS`, the verdict with these octets, or `* VERDICT`, that with strange ones.
-    fn except(&mut self, mark: &str, rest: &'a str) -> Result<(), Unread> {
-        match mark {
-            "*" => {
-                self.strange = rest;
-                Ok(())
+    pub fn as_slice(&self) -> &[u8] {
+        self.octets.as_slice()
+    }
+
+    pub fn add(&mut self, octets: &[u8]) {
+        if self.octets.extend_from_slice(octets).is_err() {
+            self.is_short = true;
+        }
+    }
+
+    /// Adds these texts, one after the other.
+    pub fn add_all(&mut self, texts: &[&str]) {
+        for text in texts {
+            self.add(text.as_bytes());
+        }
+    }
+
+    /// Adds a number in decimal digits, and a text.
+    pub fn add_number(&mut self, number: u64, text: &str) {
+        let mut scale = 10_000_000_000_000_000_000u64;
+        for _digit in 0..20 {
+            let digit = number.checked_div(scale).unwrap_or(0) % 10;
+            if number >= scale || scale == 1 {
+                self.add(&[b'0'.saturating_add(digit as u8)]);
             }
-            "-" => self.except_octets(rest),
-            _ => Err(Unread::Because("a line of a place begins with = - or *")),
+            scale /= 10;
         }
-    }
-
-    fn except_octets(&mut self, rest: &'a str) -> Result<(), Unread> {
-        let Some((verdict, octets)) = halves(rest, ": ") else {
-            return Err(Unread::Because("an exception has octets"));
-        };
-        self.excepted = verdict;
-        self.octets = unescape(self.alloc, octets)?;
-        Ok(())
-    }
-
-    fn verdict(&self, octet: u8) -> &'a str {
-        if self.octets.contains(&octet) {
-            return self.excepted;
-        }
-        let is_plain = matches!(octet, b' '..=b'~' | b'\t' | b'\r');
-        if is_plain || self.strange.is_empty() {
-            self.most
-        } else {
-            self.strange
-        }
-    }
-
-    fn input(&self, octet: u8) -> Result<Vec<u8>, AllocError> {
-        let mut text = Vec::new(self.alloc);
-        add(&mut text, self.front.as_slice())?;
-        add(&mut text, &[octet])?;
-        add(&mut text, self.back.as_slice())?;
-        added(self.alloc, text.as_slice())
-    }
-
-    /// Compares the verdict with each octet.
-    fn check(&self, tally: &mut Tally) -> Result<(), Unread> {
-        for octet in 0..=255u8 {
-            if octet != b'\n' {
-                self.check_octet(tally, octet)?;
-            }
-        }
-        Ok(())
-    }
-
-    fn check_octet(&self, tally: &mut Tally, octet: u8) -> Result<(), Unread> {
-        let input = self.input(octet)?;
-        let row = self.row.at(u64::from(octet));
-        compare_report(
-            self.alloc,
-            tally,
-            self.verdict(octet),
-            input.as_slice(),
-            row,
-        )
+        self.add(text.as_bytes());
     }
 }

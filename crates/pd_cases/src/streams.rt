@@ -1,32 +1,19 @@
 //! A reader and a writer over memory that give and take so many octets a call, and fail at a call.
-use std::alloc::Global;
+use crate::octets::Octets;
 use std::io;
 use std::io::{Read, Write};
 
 /// A reader of these octets, at most `most` a call; the call of number `fails_at`, from 1, fails.
 #[derive(Drop)]
 pub struct Source<'a> {
-    octets: &'a [u8],
-    most: usize,
-    fails_at: u64,
+    pub octets: &'a [u8],
+    pub most: usize,
+    pub fails_at: u64,
     /// Whether it gives its first octets again at each call, for ever.
-    is_endless: bool,
+    pub is_endless: bool,
     pub calls: u64,
     /// The greatest number of octets that a call asked for.
     pub asked: usize,
-}
-
-impl<'a> Source<'a> {
-    pub fn new(octets: &'a [u8], most: usize, fails_at: u64, is_endless: bool) -> Source<'a> {
-        Source {
-            octets,
-            most,
-            fails_at,
-            is_endless,
-            calls: 0,
-            asked: 0,
-        }
-    }
 }
 
 impl<'a> Read for Source<'a> {
@@ -47,32 +34,21 @@ impl<'a> Read for Source<'a> {
 
 /// A writer that keeps what it takes, at most `most` octets a call; the call of number `fails_at`, from 1, fails.
 #[derive(Drop)]
-pub struct Sink {
-    pub taken: Vec<u8>,
-    most: usize,
-    fails_at: u64,
+pub struct Sink<'a> {
+    pub taken: &'a mut Octets,
+    pub most: usize,
+    pub fails_at: u64,
     pub calls: u64,
 }
 
-impl Sink {
-    pub fn new(alloc: Global, most: usize, fails_at: u64) -> Sink {
-        Sink {
-            taken: Vec::new(alloc),
-            most,
-            fails_at,
-            calls: 0,
-        }
-    }
-}
-
-impl Write for Sink {
+impl<'a> Write for Sink<'a> {
     fn write(&mut self, buf: &[u8]) -> io::Result<usize> {
         self.calls = self.calls.saturating_add(1);
         if self.fails_at == self.calls {
             return Err(io::ErrorKind::BrokenPipe.into());
         }
         let count = self.most.min(buf.len());
-        self.taken.extend_from_slice(&buf[..count])?;
+        self.taken.octets.extend_from_slice(&buf[..count])?;
         Ok(count)
     }
 
