@@ -1,6 +1,8 @@
 //! Reads texts both ways and keeps what differs.
-use crate::machine::{Reading, read};
-use crate::product::{Steps, parsed, stepped};
+use crate::machine::Machine;
+use crate::octets::Octets;
+use crate::product::{Steps, read_whole};
+use crate::reading::Reading;
 use crate::rereading::Outcome;
 use crate::stops::Stop;
 use crate::texts::text;
@@ -10,160 +12,104 @@ use std::alloc::{AllocError, Global};
 /// How many octets of differences are said, roughly.
 const MAX_SAID: usize = 5_000;
 
-/// How many texts were compared, how many differ, and what is to be printed.
+/// What was read last, how much was compared, how much of it differs, and what is to be printed.
 #[derive(Drop)]
 pub struct Comparison {
     pub alloc: Global,
+    /// What the slow reader read, and the product whole and event by event.
+    pub machine: Machine,
+    whole: Reading,
+    pub steps: Steps,
     texts: usize,
     /// How many edited scripts were read again, and how many of their events were kept.
     edits: usize,
     kept: usize,
     pub wrong: usize,
-    pub said: String,
+    pub said: Octets,
 }
 
 impl Comparison {
     pub fn new(alloc: Global) -> Comparison {
         Comparison {
             alloc,
+            machine: Machine::new(alloc),
+            whole: Reading::new(alloc),
+            steps: Steps::new(alloc),
             texts: 0,
             edits: 0,
             kept: 0,
             wrong: 0,
-            said: String::new(alloc),
+            said: Octets::new(alloc),
         }
     }
 
-    /// Reads a text both ways, and gives what the slow reader reads.
-    pub fn compare(&mut self, octets: &[u8]) -> Result<Reading, Stop> {
+    /// Why something couldn't be read or said, if so.
+    pub fn stop(&self) -> Option<Stop> {
+        let is_short = self.whole.is_short | self.steps.reading.is_short | self.said.is_short;
+        if is_short | self.machine.reading.is_short {
+            return Some(Stop::OutOfMemory);
+        }
+        self.machine.stop
+    }
+
+    /// Reads a text both ways, and compares what is read.
+    pub fn compare(&mut self, octets: &[u8]) -> Result<(), Stop> {
+        self.machine.read(octets);
         let lines = text(self.alloc, octets)?;
-        let slow = read(self.alloc, &lines)?;
-        self.compare_product(octets, &lines, &slow)?;
-        Ok(slow)
-    }
-
-    /// Compares what the product reads in a text with what the slow reader reads.
-    fn compare_product(
-        &mut self,
-        octets: &[u8],
-        lines: &Lines,
-        slow: &Reading,
-    ) -> Result<(), AllocError> {
-        let whole = parsed(self.alloc, lines)?;
-        let steps = stepped(self.alloc, lines)?;
+        self.read_product(&lines)?;
         self.texts = self.texts.saturating_add(1);
-        if whole.is_same(slow) && steps.reading.is_same(slow) {
-            return Ok(());
+        let slow = &self.machine.reading;
+        if !self.whole.is_same(slow) || !self.steps.reading.is_same(slow) {
+            self.wrong = self.wrong.saturating_add(1);
+            self.say_difference(octets);
         }
-        self.wrong = self.wrong.saturating_add(1);
-        self.say_difference(octets, slow, &whole, &steps.reading)
+        Ok(())
     }
 
     /// Reads a text both ways, and says what is read.
     pub fn check(&mut self, octets: &[u8]) -> Result<(), Stop> {
-        let slow = self.compare(octets)?;
-        Ok(self.say_reading(&slow)?)
-    }
-
-    /// Reads a text both ways, and says where its events stand.
-    pub fn check_steps(&mut self, octets: &[u8]) -> Result<(), Stop> {
         self.compare(octets)?;
-        let lines = text(self.alloc, octets)?;
-        let steps = stepped(self.alloc, &lines)?;
-        Ok(self.say_steps(&steps)?)
-    }
-
-    pub fn say(&mut self, text: &str) -> Result<(), AllocError> {
-        self.said.push_str(text)
-    }
-
-    /// Says a number, with a space in front.
-    pub fn say_number(&mut self, number: usize) -> Result<(), AllocError> {
-        write!(self.said, " {number}")
-    }
-
-    /// Says the line of a fault or `-`, and how many items a header has and how many events there are.
-    fn say_reading(&mut self, reading: &Reading) -> Result<(), AllocError> {
-        match reading.fault {
-            Some(line) => self.say_number(line)?,
-            None => self.say(" -")?,
-        }
-        self.say_number(reading.header.len())?;
-        self.say_number(reading.events.len())
-    }
-
-    /// Says the place behind the header; of each event its line, the place behind it, and the line of what follows if
-    /// it isn't the end; and the fault, if there is one.
-    fn say_steps(&mut self, steps: &Steps) -> Result<(), AllocError> {
-        self.say_number(steps.start.line)?;
-        self.say_number(steps.start.at)?;
-        for step in steps.events.iter() {
-            self.say(" |")?;
-            self.say_number(step.line)?;
-            self.say_number(step.after.line)?;
-            self.say_number(step.after.at)?;
-            if let Some(line) = step.reach {
-                self.say_number(line)?;
-            }
-        }
-        if let Some(line) = steps.reading.fault {
-            self.say(" fault")?;
-            self.say_number(line)?;
-        }
+        self.said.say_reading("", &self.machine.reading);
         Ok(())
     }
 
-    fn say_difference(
-        &mut self,
-        octets: &[u8],
-        slow: &Reading,
-        whole: &Reading,
-        steps: &Reading,
-    ) -> Result<(), AllocError> {
-        if self.said.len() > MAX_SAID {
-            return Ok(());
+    /// Has the product read a text, whole and event by event.
+    fn read_product(&mut self, lines: &Lines) -> Result<(), AllocError> {
+        read_whole(self.alloc, lines, &mut self.whole)?;
+        self.steps.read(self.alloc, lines)
+    }
+
+    fn say_difference(&mut self, octets: &[u8]) {
+        if self.said.as_slice().len() > MAX_SAID {
+            return;
         }
-        self.say(" DIFFERS: whole")?;
-        self.say_reading(whole)?;
-        self.say(", by events")?;
-        self.say_reading(steps)?;
-        self.say(", slowly")?;
-        self.say_reading(slow)?;
-        self.say(", in: ")?;
+        self.said.say_reading(" DIFFERS: whole", &self.whole);
+        self.said.say_reading(", by events", &self.steps.reading);
+        self.said.say_reading(", slowly", &self.machine.reading);
+        self.said.add(b", in: ");
         for octet in octets {
-            self.said.push(*octet as char)?;
+            self.said.say_character(*octet);
         }
-        self.say("\n")
+        self.said.add(b"\n");
     }
 
     /// Notes what came of an edited script that was read again.
-    pub fn note_edit(&mut self, outcome: Outcome) -> Result<(), AllocError> {
+    pub fn note_edit(&mut self, outcome: Outcome) {
         self.edits = self.edits.saturating_add(1);
         self.kept = self.kept.saturating_add(outcome.kept);
         if !outcome.is_right {
             self.wrong = self.wrong.saturating_add(1);
-            self.say(" DIFFERS")?;
+            self.said.add(b" DIFFERS");
         }
-        Ok(())
-    }
-
-    /// Notes an edit, and says how many first lines it left and how many events are kept.
-    pub fn say_edit(&mut self, outcome: Outcome) -> Result<(), AllocError> {
-        self.note_edit(outcome)?;
-        self.say_number(outcome.same)?;
-        self.say_number(outcome.kept)
     }
 
     /// Says how much was compared.
-    pub fn say_totals(&mut self) -> Result<(), AllocError> {
-        self.say("edited scripts read again:")?;
-        self.say_number(self.edits)?;
-        self.say(", events kept:")?;
-        self.say_number(self.kept)?;
-        self.say("\ntexts in all:")?;
-        self.say_number(self.texts)?;
-        self.say(", of which are read in two ways:")?;
-        self.say_number(self.wrong)?;
-        self.say("\n")
+    pub fn say_totals(&mut self) {
+        let said = &mut self.said;
+        said.say_number("edited scripts read again:", self.edits);
+        said.say_number(", events kept:", self.kept);
+        said.say_number("\ntexts in all:", self.texts);
+        said.say_number(", of which are read in two ways:", self.wrong);
+        said.add(b"\n");
     }
 }

@@ -17,8 +17,8 @@ impl Dice {
         ((self.state >> 33) as u32).checked_rem(bound).unwrap_or(0)
     }
 
-    /// Once in so many draws.
-    pub fn is_once_in(&mut self, draws: u32) -> bool {
-        self.below(draws) == 0
+    /// The same, for what is counted by a `usize`.
+    pub fn index(&mut self, bound: usize) -> usize {
+        self.below(u32::try_from(bound).unwrap_or(0)) as usize
     }
 }

@@ -1,20 +1,121 @@
-//! What scripts write of an event or a header item, compared part by part.
+//! What scripts write of header items and events, as numbers that can be compared.
+use pd_reparse::{Decided, Reading};
 use pd_script::{
     Action, Argument, Call, HeaderKind, Options, Outcome, Packet, PacketOption, Time, Until,
 };
+use std::alloc::Global;
 
-pub fn is_same_action(one: &Action, other: &Action) -> bool {
-    match (one, other) {
-        (Action::Inbound(one), Action::Inbound(other)) => is_same_packet(one, other),
-        (Action::Outbound(one), Action::Outbound(other)) => is_same_packet(one, other),
-        (Action::Call(one), Action::Call(other)) => is_same_call(one, other),
-        (Action::Command, Action::Command) | (Action::Code, Action::Code) => true,
-        _ => false,
+#[derive(Drop)]
+pub struct Numbers {
+    numbers: Vec<u64>,
+    /// Whether no memory was found for some of them.
+    is_short: bool,
+}
+
+impl Numbers {
+    /// All that a text was read as.
+    pub fn of(alloc: Global, reading: &Reading) -> Numbers {
+        let mut numbers = Numbers {
+            numbers: Vec::new(alloc),
+            is_short: false,
+        };
+        let (header, events) = (reading.header(), reading.events());
+        numbers.add(&[header.len() as u64, events.len() as u64]);
+        for item in header.as_slice() {
+            let [kind, number] = header_numbers(item.kind);
+            numbers.add(&[item.line as u64, kind, number]);
+        }
+        let end = header.end();
+        let fault = line_number(reading.fault());
+        numbers.add(&[end.line as u64, end.at as u64, fault]);
+        for i in 0..events.len() {
+            numbers.add_decided(events.at(i));
+        }
+        numbers
+    }
+
+    pub fn is_same(&self, other: &Numbers) -> bool {
+        let is_whole = !self.is_short && !other.is_short;
+        is_whole && self.numbers.as_slice() == other.numbers.as_slice()
+    }
+
+    fn add(&mut self, numbers: &[u64]) {
+        if self.numbers.extend_from_slice(numbers).is_err() {
+            self.is_short = true;
+        }
+    }
+
+    fn add_decided(&mut self, decided: &Decided) {
+        let event = &decided.event;
+        let after = decided.after;
+        self.add(&[
+            after.line as u64,
+            after.at as u64,
+            line_number(decided.reach),
+        ]);
+        self.add(&[event.line as u64]);
+        self.add(&time_numbers(event.time));
+        self.add(&until_numbers(event.until));
+        match &event.action {
+            Action::Inbound(packet) => self.add_packet(1, packet),
+            Action::Outbound(packet) => self.add_packet(2, packet),
+            Action::Call(call) => self.add_call(call),
+            Action::Command => self.add(&[4]),
+            Action::Code => self.add(&[5]),
+        }
+    }
+
+    fn add_packet(&mut self, kind: u64, packet: &Packet) {
+        let flags = packet.flags;
+        self.add(&[kind, flags.syn as u64, flags.fin as u64, flags.rst as u64]);
+        self.add(&[flags.psh as u64, flags.ack as u64, flags.other as u64]);
+        self.add(&[
+            u64::from(packet.start),
+            u64::from(packet.end),
+            u64::from(packet.length),
+        ]);
+        self.add(&[field_number(packet.ack), field_number(packet.win)]);
+        match &packet.options {
+            Options::Absent => self.add(&[0]),
+            Options::Any => self.add(&[1]),
+            Options::Listed(list) => {
+                self.add(&[2, list.as_slice().len() as u64]);
+                for option in list.as_slice() {
+                    self.add_option(option);
+                }
+            }
+        }
+    }
+
+    /// Which option it is, and its numbers; of a `sack` how many blocks it has, and they.
+    fn add_option(&mut self, option: &PacketOption) {
+        match option {
+            PacketOption::Mss(octets) => self.add(&[0, *octets]),
+            PacketOption::Wscale(bits) => self.add(&[1, *bits]),
+            PacketOption::SackOk => self.add(&[2]),
+            PacketOption::Nop => self.add(&[3]),
+            PacketOption::Eol => self.add(&[4]),
+            PacketOption::Timestamp(value, echo) => self.add(&[5, *value, *echo]),
+            PacketOption::Sack(blocks) => {
+                self.add(&[6, blocks.len() as u64]);
+                for block in blocks.as_slice() {
+                    self.add(&[block.left, block.right]);
+                }
+            }
+        }
+    }
+
+    fn add_call(&mut self, call: &Call) {
+        self.add(&[3, call.function as u64, call.arguments.len() as u64]);
+        for argument in call.arguments.as_slice() {
+            self.add(&argument_numbers(*argument));
+        }
+        self.add(&outcome_numbers(call.result));
     }
 }
 
 /// Which kind of time it is, and its numbers.
-pub fn time_numbers(time: Time) -> [u64; 3] {
+fn time_numbers(time: Time) -> [u64; 3] {
     match time {
         Time::Any => [0, 0, 0],
         Time::Absolute(at) => [1, at, at],
@@ -24,7 +125,7 @@ pub fn time_numbers(time: Time) -> [u64; 3] {
     }
 }
 
-pub fn until_numbers(until: Option<Until>) -> [u64; 2] {
+fn until_numbers(until: Option<Until>) -> [u64; 2] {
     match until {
         None => [0, 0],
         Some(Until::Absolute(at)) => [1, at],
@@ -33,7 +134,7 @@ pub fn until_numbers(until: Option<Until>) -> [u64; 2] {
 }
 
 /// Which kind of header item it is, and its number.
-pub fn header_numbers(kind: HeaderKind) -> [u64; 2] {
+fn header_numbers(kind: HeaderKind) -> [u64; 2] {
     match kind {
         HeaderKind::Tolerance(microseconds) => [0, microseconds],
         HeaderKind::OtherOption => [1, 0],
@@ -41,73 +142,20 @@ pub fn header_numbers(kind: HeaderKind) -> [u64; 2] {
     }
 }
 
-fn is_same_packet(one: &Packet, other: &Packet) -> bool {
-    one.flags.syn == other.flags.syn
-        && one.flags.fin == other.flags.fin
-        && one.flags.rst == other.flags.rst
-        && one.flags.psh == other.flags.psh
-        && one.flags.ack == other.flags.ack
-        && one.flags.other == other.flags.other
-        && one.start == other.start
-        && one.end == other.end
-        && one.length == other.length
-        && one.ack == other.ack
-        && one.win == other.win
-        && are_same_options(&one.options, &other.options)
-}
-
-fn are_same_options(one: &Options, other: &Options) -> bool {
-    let (one, other) = match (one, other) {
-        (Options::Listed(one), Options::Listed(other)) => (one.as_slice(), other.as_slice()),
-        (Options::Absent, Options::Absent) | (Options::Any, Options::Any) => return true,
-        _ => return false,
-    };
-    for (option, wanted) in one.iter().zip(other.iter()) {
-        if !is_same_option(option, wanted) {
-            return false;
-        }
-    }
-    one.len() == other.len()
-}
-
-fn is_same_option(one: &PacketOption, other: &PacketOption) -> bool {
-    if option_numbers(one) != option_numbers(other) {
-        return false;
-    }
-    let (PacketOption::Sack(one), PacketOption::Sack(other)) = (one, other) else {
-        return true;
-    };
-    for (block, wanted) in one.as_slice().iter().zip(other.as_slice().iter()) {
-        if block.left != wanted.left || block.right != wanted.right {
-            return false;
-        }
-    }
-    true
-}
-
-/// Which option it is, and its numbers; of a `sack` how many blocks it has.
-fn option_numbers(option: &PacketOption) -> [u64; 3] {
-    match option {
-        PacketOption::Mss(octets) => [0, *octets, 0],
-        PacketOption::Wscale(bits) => [1, *bits, 0],
-        PacketOption::SackOk => [2, 0, 0],
-        PacketOption::Nop => [3, 0, 0],
-        PacketOption::Eol => [4, 0, 0],
-        PacketOption::Timestamp(value, echo) => [5, *value, *echo],
-        PacketOption::Sack(blocks) => [6, blocks.len() as u64, 0],
+/// Whether a field is written, and which number.
+fn field_number(field: Option<u32>) -> u64 {
+    match field {
+        None => 0,
+        Some(number) => u64::from(number).saturating_add(1),
     }
 }
 
-fn is_same_call(one: &Call, other: &Call) -> bool {
-    let (arguments, others) = (one.arguments.as_slice(), other.arguments.as_slice());
-    for (argument, wanted) in arguments.iter().zip(others.iter()) {
-        if argument_numbers(*argument) != argument_numbers(*wanted) {
-            return false;
-        }
+/// Whether there is such a line, and which.
+fn line_number(line: Option<usize>) -> u64 {
+    match line {
+        None => 0,
+        Some(line) => (line as u64).saturating_add(1),
     }
-    arguments.len() == others.len()
-        && one.function as u8 == other.function as u8
-        && outcome_numbers(one.result) == outcome_numbers(other.result)
 }
 
 fn argument_numbers(argument: Argument) -> [u64; 2] {

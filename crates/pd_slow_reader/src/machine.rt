@@ -1,229 +1,205 @@
 //! A reader that keeps all ways to read a script at once, token by token.
 use crate::grammar::{Name, Part, RULES};
-use crate::items::{Item, Token, items};
-use crate::measures::{MAX_EVENTS, Measures};
+use crate::items::{Items, Token};
+use crate::measures::Measures;
+use crate::reading::Reading;
 use crate::stops::Stop;
-use crate::texts::octets_of;
-use pd_text::Lines;
-use std::alloc::{AllocError, Global};
+use std::alloc::Global;
+
+/// The greatest number of events of a script.
+const MAX_EVENTS: usize = 4_096;
 
 /// More parts are never written out before one token.
 const MAX_PARTS: usize = 1_000;
 
-/// What a text is read as, by the lines in which its parts begin.
-#[derive(Drop)]
-pub struct Reading {
-    /// The line at which no script goes on.
-    pub fault: Option<usize>,
-    /// The options and commands before the events.
-    pub header: Vec<usize>,
-    /// The events, before a fault those whose next token stands before it.
-    pub events: Vec<usize>,
+/// The parts of a rule that have to come yet.
+#[derive(Clone, Copy)]
+struct Rest {
+    parts: &'static [Part],
+    /// The number of the rest that has to come after them, from 1; 0 where nothing has to.
+    after: usize,
 }
 
-impl Reading {
-    pub fn new(alloc: Global) -> Reading {
-        Reading {
-            fault: None,
-            header: Vec::new(alloc),
-            events: Vec::new(alloc),
-        }
-    }
-
-    pub fn is_same(&self, other: &Reading) -> bool {
-        self.fault == other.fault
-            && self.header.as_slice() == other.header.as_slice()
-            && self.events.as_slice() == other.events.as_slice()
-    }
-
-    /// Adds a token's line, if it is of the header or the first of an event.
-    fn add(&mut self, line: usize, events: usize) -> Result<(), AllocError> {
-        if events == 0 {
-            self.header.push(line)?;
-        } else if events > self.events.len() {
-            self.events.push(line)?;
-        }
-        Ok(())
-    }
-
-    /// The reading of a text that is refused in this line, in the event that began last or right behind it.
-    fn refused(self, line: usize) -> Reading {
-        let Reading {
-            header,
-            mut events,
-            ..
-        } = self;
-        events.pop();
-        Reading {
-            fault: Some(line),
-            header,
-            events,
-        }
-    }
-}
-
-/// One way to read what has come: the parts that have to come yet, the next one last.
-#[derive(Drop)]
-struct State {
-    pending: Vec<Part>,
+/// One way to read what has come.
+#[derive(Clone, Copy)]
+struct Way {
+    rest: Rest,
     measures: Measures,
 }
 
-impl State {
-    fn first(alloc: Global) -> Result<State, AllocError> {
-        let mut pending = Vec::new(alloc);
-        pending.push(Part::Of(Name::Script))?;
-        Ok(State {
-            pending,
-            measures: Measures::new(),
-        })
-    }
-
-    /// The state that has these parts to come first.
-    fn with(&self, way: &[Part]) -> Result<State, AllocError> {
-        let mut pending = Vec::new(*self.pending.allocator());
-        for part in self.pending.as_slice() {
-            pending.push(*part)?;
-        }
-        for back in 1..=way.len() {
-            if let Some(part) = way.get(way.len().wrapping_sub(back)) {
-                pending.push(*part)?;
-            }
-        }
-        Ok(State {
-            pending,
-            measures: self.measures,
-        })
-    }
-
-    /// The same way behind this token, if it may come next.
-    fn behind(self, token: Token) -> Option<State> {
-        let State {
-            mut pending,
-            measures,
-        } = self;
-        match pending.pop()? {
-            Part::One(test) => {
-                let measures = measures.behind(test, token)?;
-                Some(State { pending, measures })
-            }
-            Part::Of(_) => None,
-        }
-    }
-
-    /// Counts an event that begins, if it may begin.
-    fn count(&mut self, name: Name) -> bool {
-        if !name.is(Name::Event) {
-            return true;
-        }
-        self.measures.events = self.measures.events.saturating_add(1);
-        self.measures.events <= MAX_EVENTS
-    }
+#[derive(Drop)]
+pub struct Machine {
+    /// The rests of rules that stand around others.
+    rests: Vec<Rest>,
+    /// The ways that have to be written out.
+    open: Vec<Way>,
+    /// The ways with one token to come next, or nothing more.
+    ready: Vec<Way>,
+    /// What was read.
+    pub reading: Reading,
+    /// Why something couldn't be read.
+    pub stop: Option<Stop>,
 }
 
-/// The same ways to read, each with one token to come next, or nothing more.
-fn written_out(alloc: Global, states: Vec<State>) -> Result<Vec<State>, Stop> {
-    let mut left = states;
-    let mut ready = Vec::new(alloc);
-    for _part in 0..MAX_PARTS {
-        let Some(state) = left.pop() else {
-            return Ok(ready);
+impl Machine {
+    pub fn new(alloc: Global) -> Machine {
+        Machine {
+            rests: Vec::new(alloc),
+            open: Vec::new(alloc),
+            ready: Vec::new(alloc),
+            reading: Reading::new(alloc),
+            stop: None,
+        }
+    }
+
+    /// Reads a text. Each part can be written where it is asked for, so items begin a script as long as a way is left.
+    pub fn read(&mut self, text: &[u8]) {
+        self.begin();
+        let mut items = Items::of(text);
+        for _item in 0..=text.len() {
+            self.write_out();
+            let Some(token) = items.next() else {
+                if !items.rest.is_empty() || !self.is_whole() {
+                    self.refuse(items.line);
+                }
+                return;
+            };
+            self.go_on(token);
+            if self.open.is_empty() {
+                self.refuse(token.line);
+                return;
+            }
+            self.note(token.line);
+        }
+    }
+
+    /// The one way to begin: a whole script has to come.
+    fn begin(&mut self) {
+        self.reading.clear();
+        self.rests.clear();
+        self.open.clear();
+        self.ready.clear();
+        let rest = Rest {
+            parts: &[],
+            after: 0,
         };
-        write_out_next(&mut left, &mut ready, state)?;
+        self.write_out_name(Name::Script, rest, Measures::new());
     }
-    Err(Stop::TooManyParts)
-}
 
-/// Writes out the next part of a way to read; one that stands before a token is ready.
-fn write_out_next(
-    left: &mut Vec<State>,
-    ready: &mut Vec<State>,
-    state: State,
-) -> Result<(), AllocError> {
-    let mut state = state;
-    match state.pending.pop() {
-        None => ready.push(state)?,
-        Some(Part::Of(name)) => {
-            if state.count(name) {
-                push_ways(left, &state, name)?;
+    /// Adds a way that has to be written out.
+    fn push(&mut self, rest: Rest, measures: Measures) {
+        if self.open.push(Way { rest, measures }).is_err() {
+            self.stop = Some(Stop::OutOfMemory);
+        }
+    }
+
+    /// Writes out all ways, each up to one token to come next, or nothing more.
+    fn write_out(&mut self) {
+        for _part in 0..MAX_PARTS {
+            let Some(way) = self.open.pop() else {
+                return;
+            };
+            self.write_out_next(way);
+        }
+        self.stop = Some(Stop::TooManyParts);
+    }
+
+    /// Writes out the next part of a way; at the end of a rule the rest that stands around it goes on.
+    fn write_out_next(&mut self, way: Way) {
+        let Rest { parts, after } = way.rest;
+        let around = self.rests.get(after.wrapping_sub(1)).copied();
+        match (parts, around) {
+            ([part, parts @ ..], _) => match *part {
+                Part::Of(name) => self.write_out_name(name, Rest { parts, after }, way.measures),
+                Part::One(_) => self.keep(way),
+            },
+            ([], Some(rest)) => self.push(rest, way.measures),
+            ([], None) => self.keep(way),
+        }
+    }
+
+    /// Keeps a way that is written out.
+    fn keep(&mut self, way: Way) {
+        if self.ready.push(way).is_err() {
+            self.stop = Some(Stop::OutOfMemory);
+        }
+    }
+
+    /// Adds each way to write what has this name, with this rest to come after it.
+    fn write_out_name(&mut self, name: Name, rest: Rest, measures: Measures) {
+        let mut measures = measures;
+        if name.is(Name::Event) {
+            measures.events = measures.events.saturating_add(1);
+        }
+        if measures.events > MAX_EVENTS {
+            return;
+        }
+        let after = self.number(rest);
+        for rule in RULES {
+            if rule.0.is(name) {
+                let parts = rule.1;
+                self.push(Rest { parts, after }, measures);
             }
         }
-        Some(test) => {
-            state.pending.push(test)?;
-            ready.push(state)?;
+    }
+
+    /// The number of a rest, from 1; where it has no parts, of what has to come after it.
+    fn number(&mut self, rest: Rest) -> usize {
+        if rest.parts.is_empty() {
+            return rest.after;
+        }
+        if self.rests.push(rest).is_err() {
+            self.stop = Some(Stop::OutOfMemory);
+        }
+        self.rests.len()
+    }
+
+    /// Goes on with this token in each way that it fits.
+    fn go_on(&mut self, token: Token) {
+        for _way in 0..self.ready.len() {
+            let Some(way) = self.ready.pop() else {
+                return;
+            };
+            let Rest { parts, after } = way.rest;
+            let [part, parts @ ..] = parts else {
+                continue;
+            };
+            let mut measures = way.measures;
+            let Part::One(test) = *part else {
+                continue;
+            };
+            if measures.take(test, token) {
+                self.push(Rest { parts, after }, measures);
+            }
         }
     }
-    Ok(())
-}
 
-fn push_ways(states: &mut Vec<State>, state: &State, name: Name) -> Result<(), AllocError> {
-    for rule in RULES {
-        if rule.0.is(name) {
-            states.push(state.with(rule.1)?)?;
+    /// Notes the line of a token, if it is of the header or the first of an event.
+    fn note(&mut self, line: usize) {
+        let mut begun = 0usize;
+        for way in self.open.as_slice() {
+            begun = begun.max(way.measures.events);
+        }
+        if begun == 0 {
+            self.reading.add_item(line);
+        } else if begun > self.reading.events.len() {
+            self.reading.add_event(line);
         }
     }
-    Ok(())
-}
 
-/// The ways that go on with this token.
-fn behind(alloc: Global, ready: Vec<State>, token: Token) -> Result<Vec<State>, AllocError> {
-    let mut states = Vec::new(alloc);
-    for state in ready {
-        if let Some(state) = state.behind(token) {
-            states.push(state)?;
+    /// Whether some way has nothing more to come.
+    fn is_whole(&self) -> bool {
+        for way in self.ready.as_slice() {
+            if way.rest.parts.is_empty() {
+                return true;
+            }
         }
+        false
     }
-    Ok(states)
-}
 
-/// How many events have begun.
-fn begun(states: &[State]) -> usize {
-    let mut most = 0usize;
-    for state in states {
-        most = most.max(state.measures.events);
+    /// Refuses the text in this line, in the event that began last or right after it.
+    fn refuse(&mut self, line: usize) {
+        let _ = self.reading.events.pop();
+        self.reading.fault = Some(line);
     }
-    most
-}
-
-/// Whether some way has nothing more to come.
-fn is_whole(ready: &[State]) -> bool {
-    for state in ready {
-        if state.pending.is_empty() {
-            return true;
-        }
-    }
-    false
-}
-
-/// Reads a text. Each part can be written where it is asked for, so items begin a script as long as a way is left.
-pub fn read(alloc: Global, lines: &Lines) -> Result<Reading, Stop> {
-    let octets = octets_of(alloc, lines)?;
-    let items = items(alloc, octets.as_slice(), lines.len())?;
-    read_items(alloc, items.as_slice())
-}
-
-fn read_items(alloc: Global, items: &[Item]) -> Result<Reading, Stop> {
-    let mut reading = Reading::new(alloc);
-    let mut states = first_states(alloc)?;
-    for item in items {
-        let ready = written_out(alloc, states)?;
-        let token = match *item {
-            Item::Token(token) => token,
-            Item::End(_) if is_whole(ready.as_slice()) => return Ok(reading),
-            Item::End(line) | Item::Bad(line) => return Ok(reading.refused(line)),
-        };
-        states = behind(alloc, ready, token)?;
-        if states.is_empty() {
-            return Ok(reading.refused(token.line));
-        }
-        reading.add(token.line, begun(states.as_slice()))?;
-    }
-    Err(Stop::TooManyParts)
-}
-
-/// The one way to begin: a whole script has to come.
-fn first_states(alloc: Global) -> Result<Vec<State>, AllocError> {
-    let mut states = Vec::new(alloc);
-    states.push(State::first(alloc)?)?;
-    Ok(states)
 }

@@ -12,8 +12,11 @@ mod grammar;
 mod items;
 mod machine;
 mod measures;
+mod octets;
 mod product;
+mod reading;
 mod rereading;
+mod saying;
 mod spelling;
 mod stops;
 mod texts;
@@ -25,7 +28,8 @@ use std::rt::Files;
 use stops::Stop;
 
 fn main(rt: HostRuntime) -> ExitCode {
-    match compare_all(&rt) {
+    let mut comparison = Comparison::new(rt.alloc());
+    match compare_all(&rt, &mut comparison) {
         Ok(0) => ExitCode::SUCCESS,
         Ok(_) => ExitCode::from(1),
         Err(stop) => {
@@ -36,14 +40,34 @@ fn main(rt: HostRuntime) -> ExitCode {
 }
 
 /// Carries out the lines of the input; returns how many texts are read in two ways.
-fn compare_all(rt: &(impl Input + Print + Files + AllocGlobal)) -> Result<usize, Stop> {
-    let mut comparison = Comparison::new(rt.alloc());
+fn compare_all(
+    rt: &(impl Input + Print + Files + AllocGlobal),
+    comparison: &mut Comparison,
+) -> Result<usize, Stop> {
     for line in rt.lines(rt.alloc()) {
-        carry_out(rt, line?.as_str(), &mut comparison)?;
-        rt.print(comparison.said.as_str())?;
-        comparison.said.clear();
+        answer(rt, comparison, line?.as_str())?;
     }
-    comparison.say_totals()?;
-    rt.print(comparison.said.as_str())?;
+    comparison.say_totals();
+    print(rt, comparison)?;
     Ok(comparison.wrong)
+}
+
+/// Carries out a line of the input, and prints what is said.
+fn answer(
+    rt: &(impl Print + Files + AllocGlobal),
+    comparison: &mut Comparison,
+    line: &str,
+) -> Result<(), Stop> {
+    carry_out(rt, comparison, line)?;
+    print(rt, comparison)
+}
+
+/// Prints what was said since the last time.
+fn print(rt: &impl Print, comparison: &mut Comparison) -> Result<(), Stop> {
+    if let Some(stop) = comparison.stop() {
+        return Err(stop);
+    }
+    rt.write_all(comparison.said.as_slice())?;
+    comparison.said.clear();
+    Ok(())
 }

@@ -1,18 +1,13 @@
 //! Whether a token is written as a test asks, with the numbers that later tokens are compared with.
 use crate::grammar::Test;
 use crate::items::Token;
-use crate::spelling::Kind;
-
-/// The greatest number of events of a script.
-pub const MAX_EVENTS: usize = 4_096;
+use crate::spelling::{Class, Kind};
 
 /// The greatest number of pairs of brackets inside one another.
 const MAX_PAIRS: usize = 16;
 
 /// The greatest number of a time, a packet or a result.
 const MAX_NUMBER: u64 = 4_294_967_295;
-
-const BRACKETS: &[u8] = b"()[]{}";
 
 /// What was read so far that later tokens are compared with.
 #[derive(Clone, Copy)]
@@ -39,75 +34,61 @@ impl Measures {
         }
     }
 
-    /// What is known behind a token that is written as the test asks.
-    pub fn behind(self, test: Test, token: Token) -> Option<Measures> {
+    /// Takes a token, and tells whether it is written as the test asks.
+    pub fn take(&mut self, test: Test, token: Token) -> bool {
         match test {
-            Test::Token(kind) => self.if_true(token.kind.is(kind)),
-            Test::Symbol(octet) => self.if_true(token.is_symbol(octet)),
-            Test::Named(name) => self.if_true(token.kind.is(Kind::Word) && token.text == name),
-            Test::Letters => self.if_true(token.kind.is(Kind::Word) && are_flags(token.text)),
-            Test::Plain => self.if_true(!token.is_symbol_of(BRACKETS)),
-            Test::Argued => {
-                self.if_true(!token.is_symbol_of(BRACKETS) && !token.is_symbol(b','))
+            Test::Token(kind) => token.kind.is(kind),
+            Test::Symbol(octet) => token.is_symbol_of(&[octet]),
+            Test::Named(name) => token.kind.is(Kind::Word) && token.text == name,
+            Test::Letters => token.kind.is(Kind::Word) && Class::Flag.fills(token.text),
+            Test::Plain => !token.is_symbol_of(b"()[]{}"),
+            Test::Argued => !token.is_symbol_of(b"()[]{},"),
+            Test::Opening(octet) => {
+                self.pairs = self.pairs.saturating_add(1);
+                token.is_symbol_of(&[octet]) && self.pairs <= MAX_PAIRS
             }
-            Test::Opening(octet) => self.opened(token.is_symbol(octet)),
-            Test::Closing(octet) => self.closed(token.is_symbol(octet)),
-            Test::First | Test::Second | Test::Seconds => {
-                self.behind_seconds(test, token.microseconds()?)
+            Test::Closing(octet) => {
+                self.pairs = self.pairs.saturating_sub(1);
+                token.is_symbol_of(&[octet])
             }
-            Test::Hexadecimal => self.if_true(token.hexadecimal()? <= MAX_NUMBER),
-            _ => self.behind_number(test, token.number()?),
+            Test::First | Test::Second | Test::Seconds => self.take_time(test, token),
+            _ => self.take_number(test, token),
         }
     }
 
-    fn if_true(self, condition: bool) -> Option<Measures> {
-        if condition { Some(self) } else { None }
-    }
-
-    fn opened(self, is_bracket: bool) -> Option<Measures> {
-        let pairs = self.pairs.saturating_add(1);
-        Measures { pairs, ..self }.if_true(is_bracket && pairs <= MAX_PAIRS)
-    }
-
-    fn closed(self, is_bracket: bool) -> Option<Measures> {
-        let pairs = self.pairs.saturating_sub(1);
-        Measures { pairs, ..self }.if_true(is_bracket)
-    }
-
-    fn behind_seconds(self, test: Test, microseconds: u64) -> Option<Measures> {
-        match test {
-            Test::First => Some(Measures {
-                first: microseconds,
-                ..self
-            }),
-            Test::Second => self.if_true(microseconds >= self.first),
-            _ => Some(self),
+    fn take_time(&mut self, test: Test, token: Token) -> bool {
+        let Some(microseconds) = token.microseconds() else {
+            return false;
+        };
+        if let Test::First = test {
+            self.first = microseconds;
         }
+        !matches!(test, Test::Second) || microseconds >= self.first
     }
 
-    fn behind_number(self, test: Test, number: u64) -> Option<Measures> {
+    fn take_number(&mut self, test: Test, token: Token) -> bool {
+        let (kind, base, digits) = match test {
+            Test::Hexadecimal => (Kind::Hex, 16, token.text.get(2..).unwrap_or(&[])),
+            _ => (Kind::Int, 10, token.text),
+        };
+        let number = value_of(digits, base);
+        if !token.kind.is(kind) || number > MAX_NUMBER {
+            return false;
+        }
         match test {
-            Test::Start => Some(Measures {
-                start: number,
-                ..self
-            }),
-            Test::End => Measures {
-                end: number,
-                ..self
-            }
-            .if_true(number >= self.start),
-            Test::Length => self.if_true(number == self.end.saturating_sub(self.start)),
-            Test::Number => Some(self),
-            _ => None,
+            Test::Start => self.start = number,
+            Test::End => self.end = number,
+            _ => {},
+        }
+        match test {
+            Test::End => self.start <= number,
+            Test::Length => number == self.end.saturating_sub(self.start),
+            _ => true,
         }
     }
 }
 
 impl<'a> Token<'a> {
-    fn is_symbol(self, octet: u8) -> bool {
-        self.is_symbol_of(&[octet])
-    }
-
     fn is_symbol_of(self, octets: &[u8]) -> bool {
         match self.text {
             [octet] => self.kind.is(Kind::Symbol) && octets.contains(octet),
@@ -115,72 +96,38 @@ impl<'a> Token<'a> {
         }
     }
 
-    /// The value of an Int, if it isn't too large.
-    fn number(self) -> Option<u64> {
-        let number = decimal_value(self.text);
-        if self.kind.is(Kind::Int) && number <= MAX_NUMBER {
-            Some(number)
-        } else {
-            None
-        }
-    }
-
-    /// The value of a Hex.
-    fn hexadecimal(self) -> Option<u64> {
-        let digits = self.text.get(2..)?;
-        if !self.kind.is(Kind::Hex) {
-            return None;
-        }
-        let mut value = 0u64;
-        for digit in digits {
-            value = value.saturating_mul(16).saturating_add(digit_value(*digit));
-        }
-        Some(value)
-    }
-
     /// The microseconds of an Int or a Decimal of seconds, if their whole part isn't too large.
     fn microseconds(self) -> Option<u64> {
-        if !self.kind.is(Kind::Int) && !self.kind.is(Kind::Decimal) {
+        let point = Class::Digit.front_len(self.text);
+        let whole = value_of(self.text.get(..point)?, 10);
+        let is_time = self.kind.is(Kind::Int) || self.kind.is(Kind::Decimal);
+        if !is_time || whole > MAX_NUMBER {
             return None;
         }
-        let mut parts = self.text.split(|octet| *octet == b'.');
-        let whole = decimal_value(parts.next()?);
-        if whole > MAX_NUMBER {
-            return None;
-        }
-        let mut decimals = parts.next().unwrap_or(&[]).iter();
         let mut value = whole;
-        for _decimal in 0..6 {
-            let digit = decimals.next().copied().unwrap_or(b'0');
-            value = value.saturating_mul(10).saturating_add(digit_value(digit));
+        for place in 1..=6usize {
+            let digit = self.text.get(point.saturating_add(place)).unwrap_or(&b'0');
+            value = longer(value, *digit, 10);
         }
         Some(value)
     }
 }
 
-fn are_flags(word: &[u8]) -> bool {
-    for letter in word {
-        if !b"FSRPUEWC".contains(letter) {
-            return false;
-        }
+/// The value of digits, as great as it can be.
+pub fn value_of(digits: &[u8], base: u64) -> u64 {
+    let mut value = 0u64;
+    for digit in digits {
+        value = longer(value, *digit, base);
     }
-    true
+    value
 }
 
-fn digit_value(digit: u8) -> u64 {
-    let value = match digit {
+/// The value with one more digit.
+fn longer(value: u64, digit: u8, base: u64) -> u64 {
+    let added = match digit {
         b'a'..=b'f' => digit.saturating_sub(b'a').saturating_add(10),
         b'A'..=b'F' => digit.saturating_sub(b'A').saturating_add(10),
         _ => digit.saturating_sub(b'0'),
     };
-    u64::from(value)
-}
-
-/// The value of digits, as great as it can be.
-pub fn decimal_value(digits: &[u8]) -> u64 {
-    let mut value = 0u64;
-    for digit in digits {
-        value = value.saturating_mul(10).saturating_add(digit_value(*digit));
-    }
-    value
+    value.saturating_mul(base).saturating_add(u64::from(added))
 }

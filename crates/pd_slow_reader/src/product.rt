@@ -1,34 +1,32 @@
 //! What the product reads in a text, whole and event by event.
-use crate::machine::Reading;
+use crate::reading::Reading;
 use pd_lex::Place;
-use pd_script::{MAX_EVENTS, NextEvent, next_event, parse, read_header};
+use pd_script::{Header, MAX_EVENTS, NextEvent, next_event, parse, read_header};
 use pd_text::Lines;
 use std::alloc::{AllocError, Global};
 
-/// What the product reads in a text at once.
-pub fn parsed(alloc: Global, lines: &Lines) -> Result<Reading, AllocError> {
+/// Reads a text at once.
+pub fn read_whole(alloc: Global, lines: &Lines, reading: &mut Reading) -> Result<(), AllocError> {
+    reading.clear();
     let parsed = parse(alloc, lines)?;
-    let mut reading = Reading::new(alloc);
     reading.fault = parsed.fault;
-    for item in parsed.header.as_slice() {
-        reading.header.push(item.line)?;
-    }
+    reading.add_header(&parsed.header);
     for event in parsed.events.as_slice() {
-        reading.events.push(event.line)?;
+        reading.add_event(event.line);
     }
-    Ok(reading)
+    Ok(())
 }
 
 /// What the product reads in a text event by event.
 #[derive(Drop)]
 pub struct Steps {
     pub reading: Reading,
-    /// The place behind the header.
+    /// The place after the header.
     pub start: Place,
     pub events: Vec<Step>,
 }
 
-/// An event's line, the place behind it, and the line of what follows if it isn't the end.
+/// An event's line, the place after it, and the line of what follows if it isn't the end.
 #[derive(Clone, Copy)]
 pub struct Step {
     pub line: usize,
@@ -44,30 +42,19 @@ enum Next {
     Fault(usize),
 }
 
-/// What the product reads in a text event by event, of copies. Where an event doesn't stand at the
-/// place of the one before, in the line of its reach, the reading ends without a fault.
-pub fn stepped(alloc: Global, lines: &Lines) -> Result<Steps, AllocError> {
-    let mut steps = Steps::behind_header(alloc, lines)?;
-    steps.read_events(alloc, lines)?;
-    Ok(steps)
-}
-
 impl Steps {
-    /// The header alone.
-    fn behind_header(alloc: Global, lines: &Lines) -> Result<Steps, AllocError> {
-        let header = read_header(alloc, lines)?.copy()?;
-        let mut reading = Reading::new(alloc);
-        for item in header.as_slice() {
-            reading.header.push(item.line)?;
-        }
-        Ok(Steps {
-            reading,
-            start: header.end(),
+    pub fn new(alloc: Global) -> Steps {
+        Steps {
+            reading: Reading::new(alloc),
+            start: Place { line: 1, at: 0 },
             events: Vec::new(alloc),
-        })
+        }
     }
 
-    fn read_events(&mut self, alloc: Global, lines: &Lines) -> Result<(), AllocError> {
+    /// Reads a text, of copies. Where an event doesn't stand at the place of the one before, in the line of its reach, the
+    /// reading ends without a fault.
+    pub fn read(&mut self, alloc: Global, lines: &Lines) -> Result<(), AllocError> {
+        self.begin(alloc, lines)?;
         let mut place = self.start;
         let mut expected = None;
         for i in 0..MAX_EVENTS {
@@ -79,21 +66,41 @@ impl Steps {
                     break;
                 }
             };
-            let is_expected = expected.unwrap_or(step.line) == step.line;
-            if !is_expected || !is_reached(lines, step) {
+            if expected.unwrap_or(step.line) != step.line || !is_reached(lines, step) {
                 break;
             }
             if i + 1 == MAX_EVENTS && step.reach.is_some() {
                 self.reading.fault = step.reach;
                 break;
             }
-            self.reading.events.push(step.line)?;
-            self.events.push(step)?;
+            self.add(step);
             place = step.after;
             expected = step.reach;
         }
         Ok(())
     }
+
+    /// Reads the header alone.
+    fn begin(&mut self, alloc: Global, lines: &Lines) -> Result<(), AllocError> {
+        self.reading.clear();
+        self.events.clear();
+        let header = copied_header(alloc, lines)?;
+        self.start = header.end();
+        self.reading.add_header(&header);
+        Ok(())
+    }
+
+    fn add(&mut self, step: Step) {
+        self.reading.add_event(step.line);
+        if self.events.push(step).is_err() {
+            self.reading.is_short = true;
+        }
+    }
+}
+
+fn copied_header(alloc: Global, lines: &Lines) -> Result<Header, AllocError> {
+    let header = read_header(alloc, lines)?;
+    header.copy()
 }
 
 /// What stands at this place, an event by a copy of it.
@@ -108,7 +115,7 @@ fn read_next(alloc: Global, lines: &Lines, place: Place) -> Result<Next, AllocEr
     })
 }
 
-/// Whether the place behind an event lies in the line of its reach, or behind the last line.
+/// Whether the place after an event lies in the line of its reach, or after the last line.
 fn is_reached(lines: &Lines, step: Step) -> bool {
     match step.reach {
         Some(line) => step.after.line == line,

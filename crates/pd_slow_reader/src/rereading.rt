@@ -5,11 +5,10 @@ ghost use Rattle.pd_reparse.specs.Reading.{reading_of};
 use crate::comparing::Comparison;
 use crate::dice::Dice;
 use crate::edits::random_edit;
-use crate::events::{header_numbers, is_same_action, time_numbers, until_numbers};
+use crate::events::Numbers;
 use crate::stops::Stop;
 use crate::texts::text;
-use pd_reparse::{Decided, Reading, Reread, read, reread};
-use pd_script::Header;
+use pd_reparse::{Reading, Reread, read, reread};
 use pd_text::Lines;
 use std::alloc::{AllocError, Global};
 
@@ -25,46 +24,68 @@ pub struct Outcome {
 
 /// Edits a script so many times, again and again, from time to time from its beginning on.
 pub fn edit_often(comparison: &mut Comparison, script: &[u8], edits: usize) -> Result<(), Stop> {
-    let alloc = comparison.alloc;
     let mut dice = Dice::new(20_261_123);
-    let mut old = text(alloc, script)?;
+    let mut old = text(comparison.alloc, script)?;
     for _edit in 0..edits {
-        let new = edited(alloc, &old, &mut dice)?;
-        comparison.note_edit(read_both(alloc, &old, &new)?)?;
-        old = new;
-        if dice.is_once_in(3) {
-            old = text(alloc, script)?;
+        old = edit_once(comparison, &old, &mut dice)?;
+        if dice.below(3) == 0 {
+            old = text(comparison.alloc, script)?;
         }
     }
     Ok(())
 }
 
-fn edited(alloc: Global, old: &Lines, dice: &mut Dice) -> Result<Lines, Stop> {
-    let octets = random_edit(alloc, old, dice)?;
-    Ok(text(alloc, octets.as_slice())?)
+/// Edits a text, and gives the edited one.
+fn edit_once(comparison: &mut Comparison, old: &Lines, dice: &mut Dice) -> Result<Lines, Stop> {
+    let octets = random_edit(comparison.alloc, old, dice);
+    let new = text(comparison.alloc, octets.as_slice())?;
+    let outcome = read_both(comparison.alloc, old, &new)?;
+    comparison.note_edit(outcome);
+    Ok(new)
 }
 
-/// Reads a text, and an edited one again and whole; and behind that the first text once more.
-pub fn read_both(alloc: Global, old: &Lines, new: &Lines) -> Result<Outcome, Stop> {
-    let (kept, is_again) = check_again(alloc, &read_again(alloc, old, new)?, old, new)?;
-    let (_, is_back) = check_again(alloc, &read_back(alloc, old, new)?, new, old)?;
+/// Reads a text, and an edited one again and whole; and after that the first text once more.
+pub fn read_both(alloc: Global, old: &Lines, new: &Lines) -> Result<Outcome, AllocError> {
+    let same = old.same_front(new);
+    let kept = count_kept(alloc, old, same)?;
+    let is_again = is_read_again(alloc, old, new, kept)?;
+    let is_back = is_read_back(alloc, old, new)?;
     Ok(Outcome {
-        same: old.same_front(new),
+        same,
         kept,
         is_right: is_again && is_back,
     })
 }
 
-/// How many events were kept of a text, and whether the other is read as it is whole.
-fn check_again(
-    alloc: Global,
-    again: &Reread,
-    old: &Lines,
-    new: &Lines,
-) -> Result<(usize, bool), AllocError> {
-    let is_right = is_same(&again.reading, &read(alloc, new)?);
-    let kept = counted(&read(alloc, old)?, old.same_front(new));
-    Ok((kept, is_right && again.kept == kept))
+/// How many events of a text its first lines decide.
+fn count_kept(alloc: Global, old: &Lines, same: usize) -> Result<usize, AllocError> {
+    let reading = read(alloc, old)?;
+    Ok(counted(&reading, same))
+}
+
+/// Whether an edited text is read again as it is whole, and so many events are kept.
+fn is_read_again(alloc: Global, old: &Lines, new: &Lines, kept: usize) -> Result<bool, AllocError> {
+    let again = read_again(alloc, old, new)?;
+    Ok(is_read_so(alloc, new, &again.reading)? && again.kept == kept)
+}
+
+/// The same of the first text, read after the edited one.
+fn is_read_back(alloc: Global, old: &Lines, new: &Lines) -> Result<bool, AllocError> {
+    let kept = count_kept(alloc, new, new.same_front(old))?;
+    let back = read_back(alloc, old, new)?;
+    Ok(is_read_so(alloc, old, &back.reading)? && back.kept == kept)
+}
+
+/// Whether a text is read so when it is read whole.
+fn is_read_so(alloc: Global, lines: &Lines, reading: &Reading) -> Result<bool, AllocError> {
+    let whole = read(alloc, lines)?;
+    Ok(is_same(alloc, &whole, reading))
+}
+
+fn is_same(alloc: Global, one: &Reading, other: &Reading) -> bool {
+    let one = Numbers::of(alloc, one);
+    let other = Numbers::of(alloc, other);
+    one.is_same(&other)
 }
 
 /// Reads an edited text again.
@@ -77,7 +98,7 @@ fn read_again(alloc: Global, old: &Lines, new: &Lines) -> Result<Reread, AllocEr
     reread(alloc, &before, new, old.same_front(new))
 }
 
-/// Reads an edited text again, and behind that the first one.
+/// Reads an edited text again, and after that the first one.
 fn read_back(alloc: Global, old: &Lines, new: &Lines) -> Result<Reread, AllocError> {
     let again = read_again(alloc, old, new)?;
     // A look at a line tells that no line holds a newline.
@@ -95,36 +116,4 @@ fn counted(reading: &Reading, same: usize) -> usize {
         }
     }
     count
-}
-
-fn is_same(one: &Reading, other: &Reading) -> bool {
-    let (events, wanted) = (one.events(), other.events());
-    for i in 0..events.len().min(wanted.len()) {
-        if !is_same_event(events.at(i), wanted.at(i)) {
-            return false;
-        }
-    }
-    one.fault() == other.fault()
-        && events.len() == wanted.len()
-        && is_same_header(one.header(), other.header())
-}
-
-fn is_same_event(one: &Decided, other: &Decided) -> bool {
-    one.reach == other.reach
-        && one.after.line == other.after.line
-        && one.after.at == other.after.at
-        && one.event.line == other.event.line
-        && time_numbers(one.event.time) == time_numbers(other.event.time)
-        && until_numbers(one.event.until) == until_numbers(other.event.until)
-        && is_same_action(&one.event.action, &other.event.action)
-}
-
-fn is_same_header(one: &Header, other: &Header) -> bool {
-    let (end, other_end) = (one.end(), other.end());
-    for (item, wanted) in one.as_slice().iter().zip(other.as_slice().iter()) {
-        if item.line != wanted.line || header_numbers(item.kind) != header_numbers(wanted.kind) {
-            return false;
-        }
-    }
-    one.len() == other.len() && end.line == other_end.line && end.at == other_end.at
 }

@@ -39,54 +39,9 @@ impl Kind {
         self as u8 == kind as u8
     }
 
-    /// Whether a piece of this kind is written so.
-    pub fn is_spelled(self, piece: &[u8]) -> bool {
-        match self {
-            Kind::Blank => matches!(piece, [b' ' | b'\t' | b'\r' | b'\n']),
-            Kind::LineComment => is_line_comment(piece),
-            Kind::BlockComment => is_enclosed(piece, b"/*", b"*/"),
-            Kind::Int => is_run(piece) && Class::Digit.has_all(piece),
-            Kind::Hex => is_hex(piece),
-            Kind::Word => is_run(piece) && !Class::Digit.has_all(piece) && !is_hex(piece),
-            Kind::Decimal => is_decimal(piece),
-            Kind::Dots => matches!(piece, [b'.', b'.', b'.']),
-            Kind::Opt => is_option(piece),
-            Kind::Str => is_string(piece),
-            Kind::Cmd => is_enclosed(piece, b"`", b"`"),
-            Kind::Code => is_enclosed(piece, b"%{", b"}%"),
-            Kind::Symbol => matches!(piece, [33..=126]) && !is_run(piece),
-        }
-    }
-
-    /// Whether a piece of this kind can begin with this octet.
-    pub fn may_begin(self, octet: u8) -> bool {
-        match self {
-            Kind::Blank => !Class::Solid.has(octet),
-            Kind::LineComment | Kind::BlockComment => octet == b'/',
-            Kind::Int => Class::Digit.has(octet),
-            Kind::Hex => octet == b'0',
-            Kind::Word => Class::Run.has(octet),
-            Kind::Decimal => octet == b'.' || Class::Digit.has(octet),
-            Kind::Dots => octet == b'.',
-            Kind::Opt => octet == b'-',
-            Kind::Str => octet == b'"',
-            Kind::Cmd => octet == b'`',
-            Kind::Code => octet == b'%',
-            Kind::Symbol => !Class::Run.has(octet),
-        }
-    }
-
-    /// How many octets a piece of this kind has at most, at the front of this text.
-    pub fn most_octets(self, text: &[u8]) -> usize {
-        let [first, ..] = text else {
-            return 0;
-        };
-        match self {
-            _ if !self.may_begin(*first) => 0,
-            Kind::Blank | Kind::Symbol => 1,
-            Kind::Dots => text.len().min(3),
-            _ => text.len(),
-        }
+    /// Whether it only parts tokens.
+    pub fn is_gap(self) -> bool {
+        self as u8 <= Kind::BlockComment as u8
     }
 
     pub fn name(self) -> &'static str {
@@ -107,31 +62,75 @@ impl Kind {
         }
     }
 
-    /// Whether it only parts tokens.
-    pub fn is_gap(self) -> bool {
-        matches!(self, Kind::Blank | Kind::LineComment | Kind::BlockComment)
+    /// How many octets the longest piece of this kind has at the front of a text; 0 where there is none. No symbol stands
+    /// where a comment or code is opened.
+    pub fn longest(self, text: &[u8]) -> usize {
+        let first = text.first().copied().unwrap_or(b'\n');
+        let is_opened = text.starts_with(b"/*") || text.starts_with(b"%{");
+        if !self.may_begin(first) || (is_opened && self.is(Kind::Symbol)) {
+            return 0;
+        }
+        for fewer in 0..text.len() {
+            let octets = text.len().saturating_sub(fewer);
+            if self.is_spelled(text.get(..octets).unwrap_or(&[])) {
+                return octets;
+            }
+        }
+        0
     }
-}
 
-/// Whether a text begins with what has to be closed.
-pub fn is_opened(text: &[u8]) -> bool {
-    text.starts_with(b"/*")
-        || text.starts_with(b"\"")
-        || text.starts_with(b"`")
-        || text.starts_with(b"%{")
+    /// Whether a piece of this kind may begin with this octet: others needn't be tried.
+    fn may_begin(self, octet: u8) -> bool {
+        let first: &[u8] = match self {
+            Kind::Blank => b" \t\r\n",
+            Kind::LineComment | Kind::BlockComment => b"/",
+            Kind::Int | Kind::Hex => b"0123456789",
+            Kind::Decimal => b".0123456789",
+            Kind::Dots => b".",
+            Kind::Opt => b"-",
+            Kind::Str => b"\"",
+            Kind::Cmd => b"`",
+            Kind::Code => b"%",
+            Kind::Word | Kind::Symbol => return Class::Solid.has(octet),
+        };
+        first.contains(&octet)
+    }
+
+    /// Whether a piece, of one octet or more, is of this kind.
+    fn is_spelled(self, piece: &[u8]) -> bool {
+        match self {
+            Kind::Blank => piece.len() == 1 && !Class::Solid.fills(piece),
+            Kind::LineComment => piece.starts_with(b"//") && Class::InLine.fills(piece),
+            Kind::BlockComment => is_enclosed(piece, b"/*", b"*/"),
+            Kind::Int => Class::Digit.fills(piece),
+            Kind::Hex => is_hex(piece),
+            Kind::Word => Class::Run.fills(piece) && !Class::Digit.fills(piece) && !is_hex(piece),
+            Kind::Decimal => is_decimal(piece),
+            Kind::Dots => piece.len() == 3 && piece.starts_with(b"..."),
+            Kind::Opt => is_option(piece),
+            Kind::Str => is_string(piece),
+            Kind::Cmd => is_enclosed(piece, b"`", b"`"),
+            Kind::Code => is_enclosed(piece, b"%{", b"}%"),
+            Kind::Symbol => piece.len() == 1 && Class::Mark.fills(piece),
+        }
+    }
 }
 
 /// A class of octets.
 #[derive(Clone, Copy)]
-enum Class {
+pub enum Class {
     Digit,
     HexDigit,
     /// Letters, digits and `_`.
     Run,
+    /// The letters of flags.
+    Flag,
     /// Any but a blank.
     Solid,
     /// Any but a newline.
     InLine,
+    /// What prints, but `_`, and what has to be closed.
+    Mark,
 }
 
 impl Class {
@@ -139,14 +138,16 @@ impl Class {
         match self {
             Class::Digit => octet.is_ascii_digit(),
             Class::HexDigit => octet.is_ascii_hexdigit(),
-            Class::Run => matches!(octet, b'a'..=b'z' | b'A'..=b'Z' | b'0'..=b'9' | b'_'),
-            Class::Solid => !matches!(octet, b' ' | b'\t' | b'\r' | b'\n'),
+            Class::Run => octet.is_ascii_alphanumeric() || octet == b'_',
+            Class::Flag => b"FSRPUEWC".contains(&octet),
+            Class::Solid => !b" \t\r\n".contains(&octet),
             Class::InLine => octet != b'\n',
+            Class::Mark => octet.is_ascii_punctuation() && !b"\"`_".contains(&octet),
         }
     }
 
     /// How many octets of this class stand at the front.
-    fn front_len(self, octets: &[u8]) -> usize {
+    pub fn front_len(self, octets: &[u8]) -> usize {
         let mut count = 0usize;
         for octet in octets {
             if !self.has(*octet) {
@@ -157,35 +158,26 @@ impl Class {
         count
     }
 
-    fn has_all(self, octets: &[u8]) -> bool {
-        self.front_len(octets) == octets.len()
+    /// Whether they are one or more octets, all of this class.
+    pub fn fills(self, octets: &[u8]) -> bool {
+        !octets.is_empty() && self.front_len(octets) == octets.len()
     }
-}
-
-/// Whether it is one or more letters, digits or `_`.
-fn is_run(octets: &[u8]) -> bool {
-    !octets.is_empty() && Class::Run.has_all(octets)
 }
 
 fn is_hex(piece: &[u8]) -> bool {
     match piece {
-        [b'0', b'x', digits @ ..] => !digits.is_empty() && Class::HexDigit.has_all(digits),
+        [b'0', b'x', digits @ ..] => Class::HexDigit.fills(digits),
         _ => false,
     }
 }
 
-fn is_line_comment(piece: &[u8]) -> bool {
-    piece.starts_with(b"//") && Class::InLine.has_all(piece)
-}
-
-/// Whether it goes from this opening just to the first closing behind it.
+/// Whether it goes from this opening just to the first closing after it.
 fn is_enclosed(piece: &[u8], opening: &[u8], closing: &[u8]) -> bool {
     if !piece.starts_with(opening) {
         return false;
     }
-    let inside = piece.get(opening.len()..).unwrap_or(&[]);
-    for (at, _) in inside.iter().enumerate() {
-        let rest = inside.get(at..).unwrap_or(&[]);
+    for at in opening.len()..piece.len() {
+        let rest = piece.get(at..).unwrap_or(&[]);
         if rest.starts_with(closing) {
             return rest.len() == closing.len();
         }
@@ -195,9 +187,8 @@ fn is_enclosed(piece: &[u8], opening: &[u8], closing: &[u8]) -> bool {
 
 /// Whether it is zero or more digits, a point and one or more digits.
 fn is_decimal(piece: &[u8]) -> bool {
-    let whole = Class::Digit.front_len(piece);
-    match piece.get(whole..) {
-        Some([b'.', digits @ ..]) => !digits.is_empty() && Class::Digit.has_all(digits),
+    match piece.get(Class::Digit.front_len(piece)..) {
+        Some([b'.', digits @ ..]) => Class::Digit.fills(digits),
         _ => false,
     }
 }
@@ -208,12 +199,11 @@ fn is_option(piece: &[u8]) -> bool {
         return false;
     };
     let name = Class::Run.front_len(rest);
-    let is_value = match rest.get(name..) {
-        Some([b'=', value @ ..]) => Class::Solid.has_all(value),
-        Some([]) => true,
-        _ => false,
-    };
-    name > 0 && is_value
+    name > 0
+        && match rest.get(name..) {
+            Some([b'=', value @ ..]) => Class::Solid.front_len(value) == value.len(),
+            _ => name == rest.len(),
+        }
 }
 
 /// Whether it goes from `"` just to the next that no backslash takes.
@@ -221,14 +211,15 @@ fn is_string(piece: &[u8]) -> bool {
     let [b'"', inside @ ..] = piece else {
         return false;
     };
+    let mut left = inside.len();
     let mut is_taken = false;
-    for (at, octet) in inside.iter().enumerate() {
-        if is_taken {
-            is_taken = false;
-        } else if *octet == b'\\' {
-            is_taken = true;
-        } else if *octet == b'"' {
-            return inside.len().saturating_sub(at) == 1;
+    for octet in inside {
+        left = left.saturating_sub(1);
+        match *octet {
+            _ if is_taken => is_taken = false,
+            b'\\' => is_taken = true,
+            b'"' => return left == 0,
+            _ => {},
         }
     }
     false
