@@ -1,11 +1,6 @@
 //! A book that seats share, its seats, the seats that left, and the jobs that were handed out.
-use crate::acts::say_acts;
-use crate::books::Seated;
-use crate::calls::call;
-use crate::said::{MISSING, REFUSED, Said};
-use crate::tasks::Task;
-use crate::texts::Texts;
-use crate::words::Words;
+use crate::seated::Seated;
+use pd_rows::{MISSING, REFUSED, Said, Task, Texts, Words, call, move_last, say_acts};
 use pd_seat::{CloseFault, Held, Seat};
 use pd_settings::Settings;
 use std::alloc::Global;
@@ -42,18 +37,8 @@ impl Bench {
         match word {
             "seats" => self.open(words.number() as usize, said),
             "seat" => return self.answer_of_seat(texts, words, said),
-            "leave" => move_seats(
-                &mut self.seats,
-                &mut self.away,
-                words.number() as usize,
-                said,
-            ),
-            "call-back" => move_seats(
-                &mut self.away,
-                &mut self.seats,
-                words.number() as usize,
-                said,
-            ),
+            "leave" => move_last(&mut self.seats, &mut self.away, words.number(), said),
+            "call-back" => move_last(&mut self.away, &mut self.seats, words.number(), said),
             "close" => self.close(said),
             _ => return false,
         }
@@ -107,17 +92,4 @@ impl Bench {
             }
         }
     }
-}
-
-/// Moves so many of the last seats, the last first.
-fn move_seats(from: &mut Vec<Seat>, to: &mut Vec<Seat>, count: usize, said: &mut Said) {
-    for _seat in 0..count {
-        let Some(seat) = from.pop() else {
-            return said.say(MISSING);
-        };
-        if to.push(seat).is_err() {
-            said.is_whole = false;
-        }
-    }
-    said.say("ok");
 }

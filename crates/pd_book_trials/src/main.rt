@@ -1,30 +1,20 @@
 //! Tells stories of a book, alone and as seats share it, and of the parts below it: makes the call of each row and compares
-//! its answer with the one that is written behind it. Tells those of the input, of the file `random_lists.txt`, and once
+//! its answer with the one that is written after it. Tells those of the input, of the file `random_lists.txt`, and once
 //! more of its own. With the word `stories` it tells the first alone, with the word `memory` the last; a status of 2 says
 //! that not all were told.
 #![tactic(auto)]
 
-mod acts;
-mod answers;
 mod bench;
-mod books;
-mod calls;
-mod changes;
-mod jobs;
-mod looks;
 mod memory;
 mod parts;
-mod said;
 mod scripts;
+mod seated;
 mod settings;
 mod story;
-mod tasks;
-mod telling;
-mod texts;
-mod words;
+mod tables;
 
 use crate::memory::ROWS;
-use crate::telling::Teller;
+use crate::tables::Tables;
 use std::process::ExitCode;
 use std::rt::{Env, Files};
 use std::{env, fs, io};
@@ -58,7 +48,7 @@ fn main(rt: HostRuntime) -> ExitCode {
     }
 }
 
-/// What the word behind the program's name asks for.
+/// What the word after the program's name asks for.
 fn read_word(rt: &(impl Env + AllocGlobal)) -> io::Result<Asked> {
     let words = env::args(rt)?.collect::<Vec<String>>(rt.alloc())?;
     Ok(match words.get(1) {
@@ -70,51 +60,45 @@ fn read_word(rt: &(impl Env + AllocGlobal)) -> io::Result<Asked> {
 
 /// Whether all rows that are told are answered as they are written.
 fn tell(rt: &(impl Input + Print + Files + AllocGlobal), asked: Asked) -> io::Result<bool> {
-    let mut teller = match Teller::new(rt.alloc()) {
-        Ok(teller) => teller,
-        Err(_) => Teller::new(rt.alloc())?,
+    let mut tables = match Tables::new(rt.alloc()) {
+        Ok(tables) => tables,
+        Err(_) => Tables::new(rt.alloc())?,
     };
-    tell_asked(rt, asked, &mut teller)?;
-    Ok(teller.agrees)
+    tell_asked(rt, asked, &mut tables)?;
+    Ok(tables.teller.agrees)
 }
 
 fn tell_asked(
     rt: &(impl Input + Print + Files + AllocGlobal),
     asked: Asked,
-    teller: &mut Teller,
+    tables: &mut Tables,
 ) -> io::Result<()> {
     match asked {
         Asked::All => {
-            tell_stories(rt, teller)?;
-            tell_lists(rt, teller)?;
+            tell_stories(rt, tables)?;
+            tell_lists(rt, tables)?;
         }
         Asked::Memory => {}
-        Asked::Stories => return tell_stories(rt, teller),
+        Asked::Stories => return tell_stories(rt, tables),
     }
-    teller.take_all(ROWS);
-    print_told(rt, teller)
+    tables.take_all(ROWS);
+    tables.teller.print(rt)
 }
 
 /// Tells the stories of the input.
-fn tell_stories(rt: &(impl Input + Print + AllocGlobal), teller: &mut Teller) -> io::Result<()> {
+fn tell_stories(rt: &(impl Input + Print + AllocGlobal), tables: &mut Tables) -> io::Result<()> {
     for line in rt.lines(rt.alloc()) {
         let line = line?;
-        teller.take(line.as_str());
-        print_told(rt, teller)?;
+        tables.take(line.as_str());
+        tables.teller.print(rt)?;
     }
-    teller.end();
-    print_told(rt, teller)
+    tables.teller.end();
+    tables.teller.print(rt)
 }
 
 /// Tells the random lists of calls.
-fn tell_lists(rt: &(impl Print + Files + AllocGlobal), teller: &mut Teller) -> io::Result<()> {
+fn tell_lists(rt: &(impl Print + Files + AllocGlobal), tables: &mut Tables) -> io::Result<()> {
     let lists = fs::read_to_string(rt, LISTS)?;
-    teller.take_all(lists.as_str());
-    print_told(rt, teller)
-}
-
-fn print_told(rt: &impl Print, teller: &mut Teller) -> io::Result<()> {
-    rt.print(teller.told()?)?;
-    teller.clear();
-    Ok(())
+    tables.take_all(lists.as_str());
+    tables.teller.print(rt)
 }

@@ -1,10 +1,7 @@
 //! The text and the settings that a story is at below any book, and the calls of texts and names.
-use crate::answers::say_lines;
-use crate::said::{REFUSED, Said};
 use crate::scripts::{counted, plain, script, tokens};
 use crate::settings::answer;
-use crate::texts::Texts;
-use crate::words::Words;
+use pd_rows::{REFUSED, Said, Texts, Words, say_lines};
 use pd_settings::Settings;
 use pd_text::{Lines, TextFault};
 

@@ -1,9 +1,6 @@
 //! Calls of tokens, scripts and runs.
-use crate::answers::{say_ran, say_verdict};
-use crate::said::{REFUSED, Said};
-use crate::texts::Texts;
-use crate::words::Words;
 use pd_lex::{Lexed, Place, TokenKind, next_token};
+use pd_rows::{REFUSED, Said, Texts, Words, say_ran, say_verdict};
 use pd_run::{Plain, Stepper, run_all, run_with};
 use pd_script::{Parsed, parse};
 use pd_settings::Settings;

@@ -1,5 +1,5 @@
 //! Changes of a book.
-use crate::books::Calls;
+use crate::calls::Calls;
 use crate::said::{REFUSED, Said};
 use crate::texts::Texts;
 use crate::words::Words;

@@ -1,12 +1,12 @@
 //! Verdicts, jobs and reports as they are said.
-use crate::said::Said;
-use crate::settings::say_settings;
+use crate::said::{Form, Said};
+use crate::values::say_settings;
 use pd_book::{Job, Report, Row};
 use pd_run::{Kind, Verdict};
 use pd_text::Lines;
 
-/// What stands behind the line of an event that failed.
-fn behind(kind: Kind) -> &'static str {
+/// What follows the line of an event that failed.
+fn failed(kind: Kind) -> &'static str {
     match kind {
         Kind::Time => ", Time)",
         Kind::Flags => ", Flags)",
@@ -20,22 +20,36 @@ fn behind(kind: Kind) -> &'static str {
     }
 }
 
-/// The name of a verdict's class, its number, and what stands behind it.
-fn parts_of(verdict: Verdict) -> (&'static str, usize, &'static str) {
+/// The name of a verdict's class, its number, and what follows it.
+fn full_parts(verdict: Verdict) -> (&'static str, usize, &'static str) {
     match verdict {
         Verdict::Pass(events) => ("Pass(", events, ")"),
-        Verdict::Fail(line, kind) => ("Fail(", line, behind(kind)),
+        Verdict::Fail(line, kind) => ("Fail(", line, failed(kind)),
         Verdict::Syntax(line) => ("Syntax(", line, ")"),
         Verdict::Unsupported(line) => ("Unsupported(", line, ")"),
         Verdict::Limit(line) => ("Limit(", line, ")"),
     }
 }
 
+/// The same of one that is said in short.
+fn short_parts(verdict: Verdict) -> (&'static str, usize, &'static str) {
+    match verdict {
+        Verdict::Pass(events) => ("pass ", events, ""),
+        Verdict::Fail(line, _) => ("fail ", line, ""),
+        Verdict::Syntax(line) => ("syntax ", line, ""),
+        Verdict::Unsupported(line) => ("unsupported ", line, ""),
+        Verdict::Limit(line) => ("limit ", line, ""),
+    }
+}
+
 pub fn say_verdict(said: &mut Said, verdict: Verdict) {
-    let (class, number, behind) = parts_of(verdict);
+    let (class, number, rest) = match said.form {
+        Form::Short => short_parts(verdict),
+        Form::Full => full_parts(verdict),
+    };
     said.say(class);
     said.number(number as u64);
-    said.say(behind);
+    said.say(rest);
 }
 
 /// Says the verdict of a run, and how many steps it took.
@@ -71,21 +85,30 @@ fn say_row(said: &mut Said, row: &Row) {
     said.say(", ");
 }
 
-pub fn say_owed(said: &mut Said, owed: usize) {
-    said.number(owed as u64);
-    said.say(" owed");
+/// Says how many verdicts are owed; `end` where nobody counts them.
+pub fn say_owed(said: &mut Said, owed: Option<usize>) {
+    match owed {
+        Some(owed) => {
+            said.number(owed as u64);
+            said.say(" owed");
+        }
+        None => said.say("end"),
+    }
 }
 
-/// Says a job's number, script, lines and tolerance.
+/// Says a job's number, script and lines, and its tolerance unless that is said in short.
 pub fn say_start(said: &mut Said, job: &Job) {
     said.number(job.number());
     said.say(" ");
     said.say_octets(job.name().as_slice());
     said.say(", ");
     said.number(job.text().lines().len() as u64);
-    said.say(" lines, ");
-    said.number(job.settings().tolerance_us);
-    said.say(" us");
+    said.say(" lines");
+    if matches!(said.form, Form::Full) {
+        said.say(", ");
+        said.number(job.settings().tolerance_us);
+        said.say(" us");
+    }
 }
 
 /// Says a job in whole: its number, script, settings and text.

@@ -1,7 +1,7 @@
 //! Looks at a book, which change nothing.
 use crate::acts::say_acts;
 use crate::answers::{say_job, say_owed, say_report};
-use crate::books::Calls;
+use crate::calls::Calls;
 use crate::jobs::job;
 use crate::said::{MISSING, Said};
 use crate::tasks::Task;

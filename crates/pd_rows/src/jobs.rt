@@ -1,10 +1,10 @@
 //! Jobs of a book: their start, their run and their end.
 use crate::answers::{say_ran, say_start};
-use crate::books::Calls;
+use crate::calls::Calls;
 use crate::said::{MISSING, REFUSED, Said};
-use crate::settings::with;
 use crate::tasks::{Ran, Task, run};
 use crate::texts::Texts;
+use crate::values::with;
 use crate::words::Words;
 use pd_book::Job;
 use pd_settings::{Settings, Value};
@@ -21,8 +21,8 @@ pub fn work<C: Calls>(
 ) -> bool {
     match word {
         "start" => start(book, tasks, said),
-        "run" => tell_run(tasks, texts, words, said),
-        "finish" => said.say(finish(book, tasks, texts, words)),
+        "run" => say_run(tasks, texts, words.number(), said),
+        "finish" => said.say(finish(book, tasks, texts, words.number())),
         "give" => said.say(give(book, tasks, texts, words)),
         "abandon" => said.say(abandon(book, tasks, words.number())),
         _ => return false,
@@ -52,8 +52,8 @@ fn start<C: Calls>(book: &mut C, tasks: &mut Vec<Task>, said: &mut Said) {
 }
 
 /// Runs a job, and says its verdict and its steps.
-fn tell_run(tasks: &mut Vec<Task>, texts: &Texts, words: &mut Words<'_>, said: &mut Said) {
-    match job(tasks, words.number()) {
+fn say_run(tasks: &mut Vec<Task>, texts: &Texts, number: u64, said: &mut Said) {
+    match job(tasks, number) {
         Some(task) => match task.result(texts) {
             Some(ran) => say_ran(said, ran.done.verdict(), ran.steps),
             None => said.say(REFUSED),
@@ -62,14 +62,25 @@ fn tell_run(tasks: &mut Vec<Task>, texts: &Texts, words: &mut Words<'_>, said: &
     }
 }
 
+/// Says how many steps a job took, which is run first if it wasn't yet.
+pub fn say_steps(tasks: &mut Vec<Task>, texts: &Texts, number: u64, said: &mut Said) {
+    match job(tasks, number) {
+        Some(task) => match task.result(texts) {
+            Some(ran) => said.number(ran.steps),
+            None => said.say(REFUSED),
+        },
+        None => said.say(MISSING),
+    }
+}
+
 /// Finishes a job, which is run first if it wasn't yet.
-fn finish<C: Calls>(
+pub fn finish<C: Calls>(
     book: &mut C,
     tasks: &mut Vec<Task>,
     texts: &Texts,
-    words: &mut Words<'_>,
+    number: u64,
 ) -> &'static str {
-    let Some(task) = job(tasks, words.number()) else {
+    let Some(task) = job(tasks, number) else {
         return MISSING;
     };
     let seat = task.seat;
@@ -112,8 +123,9 @@ fn settings_like(tasks: &mut Vec<Task>, number: u64, tolerance: u64) -> Settings
 }
 
 fn abandon<C: Calls>(book: &mut C, tasks: &mut Vec<Task>, number: u64) -> &'static str {
-    match job(tasks, number) {
-        Some(task) => book.abandon(number, task.seat),
-        None => book.abandon(number, None),
-    }
+    let seat = match job(tasks, number) {
+        Some(task) => task.seat,
+        None => None,
+    };
+    book.abandon(number, seat)
 }

@@ -1,29 +1,36 @@
 //! Acts as they are said.
 use crate::answers::say_lines;
 use crate::said::{REFUSED, Said};
-use crate::settings::say_value;
+use crate::values::say_value;
 use pd_book::{Act, Ruling, SharedEdit};
 use pd_text::Name;
 
 /// Says each of these acts, from the oldest on, with all that it has or its kind and job alone.
 pub fn say_acts(said: &mut Said, acts: &[Act], is_whole: bool) {
     for act in acts {
-        match act.copy() {
-            Ok(copy) if copy.is_same(act) => {
-                say_kind(said, &copy);
-                if is_whole {
-                    say_rest(said, &copy);
-                }
-            }
-            Ok(_) => said.say("(another act)"),
-            Err(_) => {
-                said.clear();
-                return said.say(REFUSED);
-            }
+        if !say_copy(said, act, is_whole) {
+            said.clear();
+            return said.say(REFUSED);
         }
         said.say(", ");
     }
     said.say("end");
+}
+
+/// Says an act by a copy of it; whether there was memory for one.
+fn say_copy(said: &mut Said, act: &Act, is_whole: bool) -> bool {
+    let Ok(copy) = act.copy() else {
+        return false;
+    };
+    if !copy.is_same(act) {
+        said.say("(another act)");
+        return true;
+    }
+    say_kind(said, &copy);
+    if is_whole {
+        say_rest(said, &copy);
+    }
+    true
 }
 
 /// Says the kind of an act, and the job and the ruling where it has them.
@@ -40,10 +47,10 @@ fn say_kind(said: &mut Said, act: &Act) {
     }
 }
 
-fn say_numbered(said: &mut Said, kind: &str, number: u64, behind: &str) {
+fn say_numbered(said: &mut Said, kind: &str, number: u64, rest: &str) {
     said.say(kind);
     said.number(number);
-    said.say(behind);
+    said.say(rest);
 }
 
 /// Says the script of an act, and what comes to it, or the setting and its value.

@@ -16,49 +16,52 @@ const PRIME: u32 = 16_777_619;
 
 const BASIS: u32 = 2_166_136_261;
 
-const DIGITS: [&str; 10] = ["0", "1", "2", "3", "4", "5", "6", "7", "8", "9"];
+/// How many digits a number has at most, and what the first of so many counts.
+const DIGITS: usize = 20;
 
-const POWERS: [u64; 20] = [
-    10_000_000_000_000_000_000,
-    1_000_000_000_000_000_000,
-    100_000_000_000_000_000,
-    10_000_000_000_000_000,
-    1_000_000_000_000_000,
-    100_000_000_000_000,
-    10_000_000_000_000,
-    1_000_000_000_000,
-    100_000_000_000,
-    10_000_000_000,
-    1_000_000_000,
-    100_000_000,
-    10_000_000,
-    1_000_000,
-    100_000,
-    10_000,
-    1_000,
-    100,
-    10,
-    1,
-];
+const FIRST: u64 = 10_000_000_000_000_000_000;
+
+/// How much is said of verdicts and jobs.
+#[derive(Clone, Copy)]
+pub enum Form {
+    /// The class of a verdict and its number, as `fail 3`.
+    Short,
+    /// Also what failed, as `Fail(3, Ack)`, and the tolerance of a job.
+    Full,
+}
 
 /// What is said so far.
 #[derive(Drop)]
 pub struct Said {
     text: String,
+    pub form: Form,
     /// Whether all that was to be kept found room.
     pub is_whole: bool,
 }
 
 impl Said {
-    pub fn new(alloc: Global) -> Result<Said, AllocError> {
+    pub fn new(alloc: Global, form: Form) -> Result<Said, AllocError> {
         Ok(Said {
             text: String::with_capacity(alloc, ROOM)?,
+            form,
             is_whole: true,
         })
     }
 
     pub fn as_str(&self) -> &str {
         self.text.as_str()
+    }
+
+    /// What is said so far.
+    ///
+    /// # Errors
+    /// Where something that was to be kept found no room.
+    pub fn whole(&self) -> Result<&str, AllocError> {
+        if self.is_whole {
+            Ok(self.as_str())
+        } else {
+            Err(AllocError)
+        }
     }
 
     pub fn clear(&mut self) {
@@ -77,11 +80,20 @@ impl Said {
 
     /// Says a number in decimal digits.
     pub fn number(&mut self, number: u64) {
-        for power in POWERS {
-            if number >= power || power == 1 {
-                let digit = number.checked_div(power).unwrap_or(0) % 10;
-                self.say(DIGITS.get(digit as usize).copied().unwrap_or(""));
+        let mut counts = FIRST;
+        for _digit in 0..DIGITS {
+            if number >= counts || counts == 1 {
+                self.digit(number.checked_div(counts).unwrap_or(0));
             }
+            counts /= 10;
+        }
+    }
+
+    /// Says the last digit of a number.
+    fn digit(&mut self, number: u64) {
+        let digit = b'0' + (number % 10) as u8;
+        if self.text.push(char::from(digit)).is_err() {
+            self.is_whole = false;
         }
     }
 

@@ -67,19 +67,20 @@ impl Texts {
         Ok(())
     }
 
-    /// Adds a line, if it has no newline: `(empty)` is the empty one, `(blanks) N` one of so many blanks.
+    /// Adds a line: `(empty)` is the empty one, `(blanks) N` one of so many blanks.
     fn add_line(&self, list: &mut LineList, written: &str) -> Result<(), AllocError> {
         let mut words = Words::new(written);
-        let mut line = Vec::new(self.alloc);
         match words.word() {
-            "(empty)" => {}
-            "(blanks)" => line.resize(words.number() as usize, b' ')?,
-            _ => line.extend_from_slice(written.as_bytes())?,
+            "(empty)" => push(list, b""),
+            "(blanks)" => self.add_blanks(list, words.number() as usize),
+            _ => push(list, written.as_bytes()),
         }
-        if is_line(line.as_slice()) {
-            list.push(line.as_slice())?;
-        }
-        Ok(())
+    }
+
+    fn add_blanks(&self, list: &mut LineList, count: usize) -> Result<(), AllocError> {
+        let mut blanks = Vec::new(self.alloc);
+        blanks.resize(count, b' ')?;
+        push(list, blanks.as_slice())
     }
 
     /// The text that is written.
@@ -105,6 +106,14 @@ impl Texts {
         own.extend_from_slice(octets)?;
         Name::new(own)
     }
+}
+
+/// Adds a line, if it has no newline.
+fn push(list: &mut LineList, octets: &[u8]) -> Result<(), AllocError> {
+    if is_line(octets) {
+        list.push(octets)?;
+    }
+    Ok(())
 }
 
 fn is_line(octets: &[u8]) -> bool

@@ -1,0 +1,54 @@
+//! Tables of rows as they are read. A story begins with its title, a line that begins `# `, and a table with a line that
+//! begins `== `. Empty lines are passed over.
+use crate::story::Story;
+use pd_rows::{Form, Teller, call_of};
+use std::alloc::{AllocError, Global};
+
+/// The story that is told, and what is told of its table.
+#[derive(Drop)]
+pub struct Tables {
+    pub teller: Teller,
+    story: Story,
+}
+
+impl Tables {
+    pub fn new(alloc: Global) -> Result<Tables, AllocError> {
+        Ok(Tables {
+            teller: Teller::new(alloc, Form::Full)?,
+            story: Story::new(alloc),
+        })
+    }
+
+    /// Takes one line.
+    pub fn take(&mut self, line: &str) {
+        if line.is_empty() {
+            return;
+        }
+        if line.starts_with("== ") {
+            self.teller.begin_table(line);
+        } else if line.starts_with("# ") {
+            self.teller.begin_story();
+            self.story.begin();
+        } else {
+            self.tell(line);
+        }
+    }
+
+    /// Makes the call of a row, and again where it found no memory.
+    fn tell(&mut self, row: &str) {
+        let call = call_of(row);
+        self.story.answer(call, self.teller.hear());
+        if self.teller.is_refused(row) {
+            self.story.answer(call, self.teller.hear());
+        }
+        self.teller.compare(row);
+    }
+
+    /// Takes each line of a text.
+    pub fn take_all(&mut self, text: &str) {
+        for line in text.split("\n") {
+            self.take(line);
+        }
+        self.teller.end();
+    }
+}
