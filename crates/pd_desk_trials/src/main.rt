@@ -4,15 +4,15 @@
 //! wasn't tried to the end.
 #![tactic(auto)]
 
+mod chairs;
+mod counts;
 mod orders;
 mod overlap;
+mod playing;
 mod replay;
-mod running;
-mod saying;
 mod schedules;
 mod serving;
 mod stories;
-mod texts;
 mod turns;
 mod watched;
 
@@ -29,25 +29,6 @@ use std::{env, io};
 /// The status where the input or the output failed, or what tells the stories found no memory.
 const NOT_TRIED: u8 = 2;
 
-fn main(rt: HostRuntime) -> ExitCode {
-    let part = part_of(&rt).or_else(|_| part_of(&rt)).unwrap_or(Part::All);
-    let tried = match part {
-        Part::All => try_all(&rt),
-        Part::Stories => tell(&rt),
-        Part::Overlap => try_overlap(&rt),
-        Part::Schedules => try_schedules(&rt),
-        Part::Orders => try_orders(&rt),
-    };
-    match tried {
-        Ok(true) => ExitCode::SUCCESS,
-        Ok(false) => ExitCode::FAILURE,
-        Err(_) => {
-            let _ = rt.eprint("not tried: the input or the output failed, or there is no memory\n");
-            ExitCode::from(NOT_TRIED)
-        }
-    }
-}
-
 /// What is tried.
 #[derive(Clone, Copy)]
 enum Part {
@@ -56,6 +37,21 @@ enum Part {
     Overlap,
     Schedules,
     Orders,
+}
+
+fn main(rt: HostRuntime) -> ExitCode {
+    let part = match part_of(&rt) {
+        Ok(part) => part,
+        Err(_) => part_of(&rt).unwrap_or(Part::All),
+    };
+    match try_part(&rt, part) {
+        Ok(true) => ExitCode::SUCCESS,
+        Ok(false) => ExitCode::FAILURE,
+        Err(_) => {
+            let _ = rt.eprint("not tried: the input or the output failed, or there is no memory\n");
+            ExitCode::from(NOT_TRIED)
+        }
+    }
 }
 
 /// What the program's word asks for.
@@ -73,7 +69,20 @@ fn part_of(rt: &(impl Env + AllocGlobal)) -> io::Result<Part> {
 }
 
 /// Whether all that was tried agrees.
-fn try_all(rt: &(impl Input + Print + AllocGlobal + Threads + Wait + Sync)) -> io::Result<bool> {
+fn try_part<R: Input + Print + AllocGlobal + Threads + Wait + Sync>(
+    rt: &R,
+    part: Part,
+) -> io::Result<bool> {
+    match part {
+        Part::All => try_all(rt),
+        Part::Stories => tell(rt),
+        Part::Overlap => try_overlap(rt),
+        Part::Schedules => try_schedules(rt),
+        Part::Orders => try_orders(rt),
+    }
+}
+
+fn try_all<R: Input + Print + AllocGlobal + Threads + Wait + Sync>(rt: &R) -> io::Result<bool> {
     let is_told = tell(rt)?;
     let is_overlapped = try_overlap(rt)?;
     let is_scheduled = try_schedules(rt)?;

@@ -7,20 +7,16 @@ mod players;
 mod stage;
 
 use self::choices::Choices;
-use self::director::{Caller, Director};
-use self::hand::Hand;
+use self::director::{Director, Notes};
 use self::players::Player;
 use self::stage::Stage;
+use crate::chairs::{Guest, Opened, say_rows, show};
+use crate::counts::print_counts;
+use crate::playing::play_all;
 use crate::replay::made_again;
-use crate::running::{Played, run_among};
-use crate::saying::{decimal, print, shown};
-use crate::serving::CACHE;
-use crate::stories::calls::show;
-use crate::stories::faults::StoryFault;
 use pd_desk::Desk;
 use pd_seat::Seat;
-use pd_settings::Settings;
-use std::alloc::Global;
+use std::alloc::{AllocError, Global};
 use std::io;
 use std::sync::Wait;
 use std::thread::Threads;
@@ -32,23 +28,14 @@ const WORKERS: usize = 2;
 
 const PLAYERS: usize = CALLERS + WORKERS;
 
-/// The calls of the two callers, parted by `; `.
-type Lists = [&'static str; CALLERS];
-
-const LISTS: [Lists; 6] = [
-    ["add a one; settle", "add b one"],
-    [
-        "add a one; edit a 1 1 0 socket(..., SOCK_STREAM, IPPROTO_TCP) = 4; settle",
-        "settle",
-    ],
-    ["add a one; settle", "remove a; settle"],
-    ["add a one; remove a; settle", "settle"],
-    [
-        "add a one; settle; edit a 1 1 0 socket(..., SOCK_STREAM, IPPROTO_TCP) = 4; settle",
-        "settle",
-    ],
-    ["add a one; settle; remove a; settle", "add b one"],
-];
+/// The calls of the two callers, a list a line: the callers are parted by ` / `, the calls of one by `; `.
+const LISTS: &str = "\
+add a 0 socket(..., SOCK_STREAM, IPPROTO_TCP) = 3; settle / add b 0 socket(..., SOCK_STREAM, IPPROTO_TCP) = 3
+add a 0 socket(..., SOCK_STREAM, IPPROTO_TCP) = 3; edit a 1 1 0 socket(..., SOCK_STREAM, IPPROTO_TCP) = 4; settle / settle
+add a 0 socket(..., SOCK_STREAM, IPPROTO_TCP) = 3; settle / remove a; settle
+add a 0 socket(..., SOCK_STREAM, IPPROTO_TCP) = 3; remove a; settle / settle
+add a 0 socket(..., SOCK_STREAM, IPPROTO_TCP) = 3; settle; edit a 1 1 0 socket(..., SOCK_STREAM, IPPROTO_TCP) = 4; settle / settle
+add a 0 socket(..., SOCK_STREAM, IPPROTO_TCP) = 3; settle; remove a; settle / add b 0 socket(..., SOCK_STREAM, IPPROTO_TCP) = 3";
 
 /// More orders than a list has.
 const MOST: u64 = 100_000;
@@ -57,27 +44,31 @@ const MOST: u64 = 100_000;
 pub fn try_orders(rt: &(impl Print + AllocGlobal + Threads + Wait + Sync)) -> io::Result<bool> {
     let mut orders = 0u64;
     let mut differing = 0u64;
-    for lists in &LISTS {
-        let mut choices = Choices::new(rt.alloc());
-        for _order in 0..MOST {
-            orders = orders.wrapping_add(1);
-            if !matches!(try_order(rt, rt.alloc(), lists, &mut choices), Ok(true)) {
-                differing = differing.wrapping_add(1);
-                print(rt, &["an order differs: ", lists[0], " | ", lists[1], "\n"])?;
-                break;
-            }
-            if !choices.advance() {
-                break;
-            }
+    for list in LISTS.split("\n") {
+        if !try_list(rt, rt.alloc(), list, &mut orders) {
+            differing = differing.wrapping_add(1);
+            rt.print("an order differs: ")?;
+            rt.print(list)?;
+            rt.print("\n")?;
         }
     }
-    let orders = decimal(rt.alloc(), orders)?;
-    let said = decimal(rt.alloc(), differing)?;
-    print(
-        rt,
-        &[orders.as_str(), " orders, ", said.as_str(), " differ\n"],
-    )?;
+    print_counts(rt, orders, " orders, ", differing)?;
     Ok(differing == 0)
+}
+
+/// Makes the calls of a list in all orders, up to one that differs, and counts them; whether none does.
+fn try_list<R: Threads + Wait + Sync>(rt: &R, alloc: Global, list: &str, orders: &mut u64) -> bool {
+    let mut choices = Choices::new(alloc);
+    for _order in 0..MOST {
+        *orders = orders.wrapping_add(1);
+        if !try_order(rt, alloc, list, &mut choices) {
+            return false;
+        }
+        if !choices.advance() {
+            return true;
+        }
+    }
+    false
 }
 
 /// Makes calls in the order of these choices, or of the first that go on from them; whether all answers are right, and the
@@ -85,44 +76,40 @@ pub fn try_orders(rt: &(impl Print + AllocGlobal + Threads + Wait + Sync)) -> io
 fn try_order<R: Threads + Wait + Sync>(
     rt: &R,
     alloc: Global,
-    lists: &Lists,
+    list: &str,
     choices: &mut Choices,
-) -> Result<bool, StoryFault> {
-    let (desk, mut seats) = Desk::open(alloc, CACHE, Settings::new(), WORKERS, PLAYERS + 1)?;
-    let Some(seat) = seats.pop() else {
-        return Err(StoryFault::Missing);
+) -> bool {
+    let Ok(Opened { desk, seats, seat }) = Opened::new(alloc, WORKERS, PLAYERS + 1) else {
+        return false;
     };
-    match play_all(rt, alloc, &desk, seats, seat, lists, choices)? {
-        Some((seats, last)) => is_closed(alloc, desk, seats, last.as_str()),
-        None => Ok(false),
+    match play_to_end(rt, alloc, &desk, seats, seat, list, choices) {
+        Some((seats, mut notes)) => is_closed(alloc, desk, seats, &mut notes),
+        None => false,
     }
 }
 
 /// Lets all players play while a seat looks on. All seats and the last report, if all answers were right and it is the
 /// one from scratch of all calls.
-fn play_all<R: Threads + Wait + Sync>(
+fn play_to_end<R: Threads + Wait + Sync>(
     rt: &R,
     alloc: Global,
     desk: &Desk,
     seats: Vec<Seat>,
     mut seat: Seat,
-    lists: &Lists,
+    list: &str,
     choices: &mut Choices,
-) -> Result<Option<(Vec<Seat>, String)>, StoryFault> {
-    let stage = Stage::new(alloc)?;
-    let played = play(rt, alloc, desk, &stage, seats, &mut seat, lists, choices)?;
-    let Some((mut seats, wanted)) = played else {
-        return Ok(None);
-    };
-    let last = show(rt, alloc, desk, &mut seat)?;
-    if last.as_str() != wanted.as_str() {
-        return Ok(None);
+) -> Option<(Vec<Seat>, Notes)> {
+    let stage = Stage::new(alloc).ok()?;
+    let (mut seats, mut notes) = play(rt, alloc, desk, &stage, seats, &mut seat, list, choices)?;
+    notes.shown.clear();
+    show(rt, desk, &mut seat, &mut notes.shown);
+    if notes.differ() || seats.push(seat).is_err() {
+        return None;
     }
-    seats.push(seat).or(Err(StoryFault::OutOfMemory))?;
-    Ok(Some((seats, last)))
+    Some((seats, notes))
 }
 
-/// Lets all players play. Their seats and the report from scratch of all calls, if all answers were right.
+/// Lets all players play: their seats, and the report from scratch of all calls, if all answers were right.
 fn play<'x, 'y, R: Threads + Wait + Sync>(
     rt: &'x R,
     alloc: Global,
@@ -130,45 +117,26 @@ fn play<'x, 'y, R: Threads + Wait + Sync>(
     stage: &'x Stage,
     seats: Vec<Seat>,
     seat: &'y mut Seat,
-    lists: &Lists,
+    list: &'x str,
     choices: &'y mut Choices,
-) -> Result<Option<(Vec<Seat>, String)>, StoryFault> {
-    let players = at_seats(rt, alloc, desk, stage, seats, lists)?;
-    let director = Director {
-        rt,
-        alloc,
-        desk,
-        stage,
-        seat,
-        choices,
-        hand: Hand::open(alloc)?,
-        callers: with_lists(alloc, lists)?,
-        made: Vec::new(alloc),
-        busy: 0,
-    };
-    let Some((played, wanted)) = run_among(rt, alloc, players, director) else {
-        return Err(StoryFault::OutOfMemory);
-    };
-    let Some(wanted) = wanted? else {
-        return Ok(None);
-    };
-    match seats_of(alloc, played)? {
-        Some(seats) => Ok(Some((seats, wanted))),
-        None => Ok(None),
-    }
+) -> Option<(Vec<Seat>, Notes)> {
+    let lists = list.split_once(" / ").unwrap_or((list, ""));
+    let players = at_seats(rt, alloc, desk, stage, seats, lists).ok()?;
+    let director = Director::new(rt, alloc, desk, stage, seat, lists, choices).ok()?;
+    let (played, notes) = play_all(rt, alloc, players, director)?;
+    Some((seats_of(alloc, played)?, notes?))
 }
 
-/// The seats of those that have played, if all gave them back.
-fn seats_of(alloc: Global, played: Vec<Played>) -> Result<Option<Vec<Seat>>, StoryFault> {
+/// The seats of those that have played.
+fn seats_of(alloc: Global, played: Vec<Guest>) -> Option<Vec<Seat>> {
     let mut seats = Vec::new(alloc);
-    for one in played {
-        let Played { seat, said: _ } = one;
-        let Some(seat) = seat else {
-            return Ok(None);
-        };
-        seats.push(seat).or(Err(StoryFault::OutOfMemory))?;
+    for guest in played {
+        let Guest { seat, said: _ } = guest;
+        if seats.push(seat).is_err() {
+            return None;
+        }
     }
-    Ok(Some(seats))
+    Some(seats)
 }
 
 /// A player at each of these seats.
@@ -178,8 +146,8 @@ fn at_seats<'x, R>(
     desk: &'x Desk,
     stage: &'x Stage,
     seats: Vec<Seat>,
-    lists: &Lists,
-) -> Result<Vec<Player<'x, R>>, StoryFault> {
+    lists: (&'x str, &'x str),
+) -> Result<Vec<Player<'x, R>>, AllocError> {
     let mut players = Vec::new(alloc);
     for seat in seats {
         let me = seat.number();
@@ -189,39 +157,26 @@ fn at_seats<'x, R>(
             desk,
             stage,
             me,
-            seat,
-            calls: lists.get(me).copied().unwrap_or(""),
+            guest: Guest::new(alloc, seat)?,
+            calls: if me == 0 { lists.0 } else { lists.1 },
         };
-        players.push(player).or(Err(StoryFault::OutOfMemory))?;
+        players.push(player).or(Err(AllocError))?;
     }
     Ok(players)
 }
 
-/// A caller for each list, none of whose calls is made.
-fn with_lists(alloc: Global, lists: &Lists) -> Result<Vec<Caller>, StoryFault> {
-    let mut callers = Vec::new(alloc);
-    for left in lists {
-        let caller = Caller {
-            left: *left,
-            open: None,
-        };
-        callers.push(caller).or(Err(StoryFault::OutOfMemory))?;
-    }
-    Ok(callers)
-}
-
-/// Whether a desk closes with these seats, and its history, made again, has this report.
-fn is_closed(
-    alloc: Global,
-    desk: Desk,
-    seats: Vec<Seat>,
-    report: &str,
-) -> Result<bool, StoryFault> {
+/// Whether a desk closes with these seats, and its history, made again, has the report that is wanted.
+fn is_closed(alloc: Global, desk: Desk, seats: Vec<Seat>, notes: &mut Notes) -> bool {
     let Ok(book) = desk.close(seats) else {
-        return Ok(false);
+        return false;
     };
-    match made_again(alloc, book.history())? {
-        Some(again) => Ok(shown(alloc, &again.show()?)?.as_str() == report),
-        None => Ok(false),
-    }
+    let Ok(Some(again)) = made_again(alloc, book.history()) else {
+        return false;
+    };
+    let Ok(report) = again.show() else {
+        return false;
+    };
+    notes.shown.clear();
+    say_rows(&mut notes.shown, &report);
+    !notes.differ()
 }

@@ -1,9 +1,7 @@
 //! Two workers that overlap: one is held at job 1 until the other has begun job 2, and an edit comes once job 1 has begun.
-use crate::saying::print;
-use crate::serving::{Served, served_beside};
+use crate::serving::Served;
 use crate::turns::await_count;
 use pd_desk::Gate;
-use std::alloc::Global;
 use std::io;
 use std::io::Read;
 use std::sync::Wait;
@@ -39,27 +37,31 @@ total 1 pass 0 fail 1 syntax 0 unsupported 0 limit 0 pending 0
 /// Serves beside two workers that overlap; prints and tells whether both began and what was written is as wanted.
 pub fn try_overlap(rt: &(impl Print + AllocGlobal + Threads + Wait + Sync)) -> io::Result<bool> {
     let gate = HeldGate::new();
-    let served = served_held(rt, rt.alloc(), &gate);
+    let mut served = Served::new(rt.alloc());
+    serve_held(rt, &gate, &mut served);
     let is_late = gate.late.load(Ordering::SeqCst) != 0;
     let is_served = served.octets.as_slice() == WANTED && served.passes.is_some();
-    let said = if is_late {
+    rt.print(if is_late {
         "job 2 didn't begin while job 1 was held\n"
     } else if is_served {
         "two workers overlap\n"
     } else {
         "an edit under a job isn't served\n"
-    };
-    print(rt, &[said])?;
+    })?;
     Ok(is_served && !is_late)
 }
 
-fn served_held<R: Threads + Wait + Sync>(rt: &R, alloc: Global, gate: &HeldGate) -> Served {
+fn serve_held(
+    rt: &(impl AllocGlobal + Threads + Wait + Sync),
+    gate: &HeldGate,
+    served: &mut Served,
+) {
     let mut reader = HeldReader {
         now: ADD,
         later: EDIT,
         gate,
     };
-    served_beside(rt, alloc, &mut reader, 2, gate)
+    served.serve_beside(rt, rt.alloc(), &mut reader, 2, gate);
 }
 
 /// Holds job 1 until job 2 has begun.

@@ -1,5 +1,5 @@
 //! A history, made again by a book.
-use crate::serving::CACHE;
+use crate::chairs::CACHE;
 use pd_book::{Act, Book, BookFault, Done, Ruling, run_job};
 use pd_run::Plain;
 use pd_settings::Settings;

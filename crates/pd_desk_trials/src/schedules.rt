@@ -6,26 +6,28 @@ mod dice;
 mod inputs;
 mod seated;
 
-use self::comparing::{Difference, is_served, must};
+use self::comparing::{Trouble, is_served, must};
 use self::delays::{Delays, SlowReader};
 use self::dice::Dice;
 use self::inputs::{Input, random_input};
-use self::seated::serve_seated;
+use self::seated::serve_beside;
+use crate::chairs::Opened;
+use crate::counts::print_counts;
+use crate::playing::Pooled;
 use crate::replay::made_again;
-use crate::saying::{decimal, print};
-use crate::serving::{CACHE, Served, served_alone, served_beside};
+use crate::serving::Served;
 use pd_book::Book;
 use pd_cli::render;
 use pd_desk::Desk;
+use pd_rows::{Form, Said};
 use pd_seat::Seat;
-use pd_settings::Settings;
 use std::alloc::{AllocError, Global};
 use std::io;
 use std::sync::Wait;
 use std::thread::Threads;
 
-/// The numbers of workers, and how many inputs each has.
-const WORKERS: [u8; 8] = [1, 2, 3, 4, 5, 6, 7, 8];
+/// The most workers, and how many inputs each number of them has.
+const WORKERS: u8 = 8;
 
 const ROUNDS: u64 = 30;
 
@@ -37,116 +39,119 @@ pub fn try_schedules(rt: &(impl Print + AllocGlobal + Threads + Wait + Sync)) ->
     let mut runs = 0u64;
     let mut differing = 0u64;
     for _round in 0..ROUNDS {
-        for workers in &WORKERS {
+        for workers in 1..=WORKERS {
             runs = runs.wrapping_add(1);
-            if let Err(Difference(what)) = try_input(rt, &mut dice, *workers)? {
-                let run = decimal(rt.alloc(), runs)?;
-                print(rt, &["run ", run.as_str(), ": ", what, " differs\n"])?;
-                differing = differing.wrapping_add(1);
+            match try_input(rt, rt.alloc(), &mut dice, workers) {
+                Ok(()) => {}
+                Err(Trouble::Differs(what)) => {
+                    differing = differing.wrapping_add(1);
+                    print_difference(rt, runs, what)?;
+                }
+                Err(Trouble::OutOfMemory) => return Err(io::Error::from(AllocError)),
             }
         }
     }
-    let runs = decimal(rt.alloc(), runs)?;
-    let said = decimal(rt.alloc(), differing)?;
-    print(
-        rt,
-        &[runs.as_str(), " schedules, ", said.as_str(), " differ\n"],
-    )?;
+    print_counts(rt, runs, " schedules, ", differing)?;
     Ok(differing == 0)
 }
 
+fn print_difference(rt: &(impl Print + AllocGlobal), run: u64, what: &str) -> io::Result<()> {
+    let mut said = Said::new(rt.alloc(), Form::Short)?;
+    said.say("run ");
+    said.number(run);
+    said.say(": ");
+    said.say(what);
+    said.say(" differs\n");
+    rt.print(said.whole()?)?;
+    Ok(())
+}
+
 /// Serves random commands beside so many workers, and again at a seat of a desk, which is then closed.
-fn try_input(
-    rt: &(impl AllocGlobal + Threads + Wait + Sync),
+fn try_input<R: Threads + Wait + Sync>(
+    rt: &R,
+    alloc: Global,
     dice: &mut Dice,
     workers: u8,
-) -> Result<Result<(), Difference>, AllocError> {
-    let alloc = rt.alloc();
+) -> Result<(), Trouble> {
     let gate = Delays {
         seed: dice.below(1_000_000),
     };
     let input = random_input(alloc, dice, COMMANDS)?;
+    let mut alone = Served::new(alloc);
     let mut reader = SlowReader::new(input.settled.as_slice(), 0);
-    let alone = served_alone(alloc, &mut reader);
-    if !is_served_beside(rt, &gate, workers, &input, &alone) {
-        return Ok(Err(Difference("what is served")));
-    }
-    try_desk(rt, &gate, workers, &input, &alone)
+    alone.serve_alone(alloc, &mut reader);
+    must(
+        is_served_beside(rt, alloc, &gate, workers, &input, &alone),
+        "what is served",
+    )?;
+    try_desk(rt, alloc, &gate, workers, &input, &alone)
 }
 
 /// Whether commands are served beside so many workers as they are without threads.
-fn is_served_beside(
-    rt: &(impl AllocGlobal + Threads + Wait + Sync),
+fn is_served_beside<R: Threads + Wait + Sync>(
+    rt: &R,
+    alloc: Global,
     gate: &Delays,
     workers: u8,
     input: &Input,
     alone: &Served,
 ) -> bool {
+    let mut served = Served::new(alloc);
     let mut reader = SlowReader::new(input.octets.as_slice(), gate.seed);
-    let served = served_beside(rt, rt.alloc(), &mut reader, workers, gate);
+    served.serve_beside(rt, alloc, &mut reader, workers, gate);
     is_served(&served, alone, input.is_settled.as_slice())
 }
 
 /// Opens a desk for so many workers, serves the commands while they run, and closes it.
-fn try_desk(
-    rt: &(impl AllocGlobal + Threads + Wait + Sync),
+fn try_desk<R: Threads + Wait + Sync>(
+    rt: &R,
+    alloc: Global,
     gate: &Delays,
     workers: u8,
     input: &Input,
     alone: &Served,
-) -> Result<Result<(), Difference>, AllocError> {
-    let alloc = rt.alloc();
+) -> Result<(), Trouble> {
     let workers = usize::from(workers);
-    let (desk, mut seats) = Desk::open(alloc, CACHE, Settings::new(), workers, workers + 1)?;
-    let Some(seat) = seats.pop() else {
-        return Ok(Err(Difference("the number of seats")));
-    };
-    let Some(seats) = serve_all(rt, &desk, gate, seats, seat, input, alone)? else {
-        return Ok(Err(Difference("what a seat is served")));
-    };
+    let Opened { desk, seats, seat } = Opened::new(alloc, workers, workers + 1)?;
+    let mut served = Served::new(alloc);
+    let octets = input.octets.as_slice();
+    let seats = serve_seated(rt, alloc, &desk, gate, seats, seat, octets, &mut served)?;
+    must(
+        is_served(&served, alone, input.is_settled.as_slice()),
+        "what a seat is served",
+    )?;
     match desk.close(seats) {
         Ok(book) => compare_history(alloc, &book, alone),
-        Err(_) => Ok(Err(Difference("the closing"))),
+        Err(_) => Err(Trouble::Differs("the closing")),
     }
 }
 
-/// Serves the commands at a seat while workers run at the others: all seats, if it is served as without threads.
-fn serve_all(
-    rt: &(impl AllocGlobal + Threads + Wait + Sync),
+/// Serves these octets at one seat while workers run at others: all seats, if no worker left with a fault.
+fn serve_seated<R: Threads + Wait + Sync>(
+    rt: &R,
+    alloc: Global,
     desk: &Desk,
     gate: &Delays,
     seats: Vec<Seat>,
     mut seat: Seat,
-    input: &Input,
-    alone: &Served,
-) -> Result<Option<Vec<Seat>>, AllocError> {
-    let octets = input.octets.as_slice();
-    let Some(pooled) = serve_seated(rt, rt.alloc(), desk, gate, seats, &mut seat, octets) else {
-        return Err(AllocError);
+    octets: &[u8],
+    served: &mut Served,
+) -> Result<Vec<Seat>, Trouble> {
+    let Some(pooled) = serve_beside(rt, alloc, desk, gate, seats, &mut seat, octets, served) else {
+        return Err(Trouble::OutOfMemory);
     };
-    if pooled.left.is_err() || !is_served(&pooled.said, alone, input.is_settled.as_slice()) {
-        return Ok(None);
-    }
-    let mut seats = pooled.seats;
-    seats.push(seat)?;
-    Ok(Some(seats))
+    let Pooled { mut seats, left } = pooled;
+    must(left.is_ok(), "how a worker left")?;
+    seats.push(seat).or(Err(AllocError))?;
+    Ok(seats)
 }
 
 /// Compares a closed book's report and that of its history, made again, with the last that was written without threads.
-fn compare_history(
-    alloc: Global,
-    book: &Book,
-    alone: &Served,
-) -> Result<Result<(), Difference>, AllocError> {
-    if !is_last(alloc, book, alone)? {
-        return Ok(Err(Difference("the closed book")));
-    }
+fn compare_history(alloc: Global, book: &Book, alone: &Served) -> Result<(), Trouble> {
+    must(is_last(alloc, book, alone)?, "the closed book")?;
     match made_again(alloc, book.history())? {
-        Some(again) => {
-            let is_same = is_last(alloc, &again, alone)?;
-            Ok(must(is_same, "the report of the history"))
-        }
-        None => Ok(Err(Difference("an act"))),
+        Some(again) => must(is_last(alloc, &again, alone)?, "the report of the history"),
+        None => Err(Trouble::Differs("an act")),
     }
 }
 

@@ -1,4 +1,5 @@
 //! Serving: without threads, beside workers, and at a seat of a desk that can be closed.
+use crate::chairs::CACHE;
 use pd_desk::{Desk, Gate};
 use pd_seat::Seat;
 use pd_settings::Settings;
@@ -8,9 +9,6 @@ use std::io::{Read, Write};
 use std::sync::Wait;
 use std::thread::Threads;
 
-/// The size of a book's cache.
-pub const CACHE: usize = 64;
-
 /// What was written, and whether the last report passes; `None` where serving stopped at a fault.
 #[derive(Drop)]
 pub struct Served {
@@ -18,30 +16,9 @@ pub struct Served {
     pub passes: Option<bool>,
 }
 
-/// Keeps what it is given.
-#[derive(Drop)]
-struct Sink {
-    taken: Vec<u8>,
-}
-
-impl Sink {
-    fn new(alloc: Global) -> Sink {
-        Sink {
-            taken: Vec::new(alloc),
-        }
-    }
-
-    fn served(self, passes: Option<bool>) -> Served {
-        Served {
-            octets: self.taken,
-            passes,
-        }
-    }
-}
-
-impl Write for Sink {
+impl Write for Served {
     fn write(&mut self, buf: &[u8]) -> io::Result<usize> {
-        self.taken.extend_from_slice(buf)?;
+        self.octets.extend_from_slice(buf)?;
         Ok(buf.len())
     }
 
@@ -50,37 +27,45 @@ impl Write for Sink {
     }
 }
 
-/// Serves what this reader gives, without threads.
-pub fn served_alone(alloc: Global, reader: &mut impl Read) -> Served {
-    let mut sink = Sink::new(alloc);
-    let ended = pd_cli::serve_alone(alloc, Settings::new(), CACHE, reader, &mut sink);
-    sink.served(ended.ok())
-}
+impl Served {
+    pub fn new(alloc: Global) -> Served {
+        Served {
+            octets: Vec::new(alloc),
+            passes: None,
+        }
+    }
 
-/// Serves what this reader gives beside so many workers, at most 64.
-pub fn served_beside<R: Threads + Wait + Sync>(
-    rt: &R,
-    alloc: Global,
-    reader: &mut impl Read,
-    workers: u8,
-    gate: &(impl Gate + Sync),
-) -> Served {
-    let mut sink = Sink::new(alloc);
-    let workers = usize::from(workers.min(64));
-    let settings = Settings::new();
-    let ended = pd_cli::serve(rt, alloc, settings, CACHE, workers, reader, &mut sink, gate);
-    sink.served(ended.ok())
-}
+    /// Serves what this reader gives, without threads.
+    pub fn serve_alone(&mut self, alloc: Global, reader: &mut impl Read) {
+        let ended = pd_cli::serve_alone(alloc, Settings::new(), CACHE, reader, self);
+        self.passes = ended.ok();
+    }
 
-/// Serves what this reader gives, at a seat of a desk.
-pub fn served_at_seat<R: Wait>(
-    rt: &R,
-    alloc: Global,
-    desk: &Desk,
-    seat: &mut Seat,
-    reader: &mut impl Read,
-) -> Served {
-    let mut sink = Sink::new(alloc);
-    let ended = pd_cli::serve_seat(rt, alloc, desk, seat, Settings::new(), reader, &mut sink);
-    sink.served(ended.ok())
+    /// Serves what this reader gives beside so many workers, at most 64.
+    pub fn serve_beside<R: Threads + Wait + Sync>(
+        &mut self,
+        rt: &R,
+        alloc: Global,
+        reader: &mut impl Read,
+        workers: u8,
+        gate: &(impl Gate + Sync),
+    ) {
+        let workers = usize::from(workers.min(64));
+        let settings = Settings::new();
+        let ended = pd_cli::serve(rt, alloc, settings, CACHE, workers, reader, self, gate);
+        self.passes = ended.ok();
+    }
+
+    /// Serves what this reader gives, at a seat of a desk.
+    pub fn serve_at_seat<R: Wait>(
+        &mut self,
+        rt: &R,
+        alloc: Global,
+        desk: &Desk,
+        seat: &mut Seat,
+        reader: &mut impl Read,
+    ) {
+        let ended = pd_cli::serve_seat(rt, alloc, desk, seat, Settings::new(), reader, self);
+        self.passes = ended.ok();
+    }
 }

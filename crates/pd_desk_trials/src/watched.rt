@@ -1,7 +1,6 @@
 //! Workers whose steps are watched.
 ghost use Rattle.std.specs.Prelude.{◌≡◌};
 
-use crate::saying::owned;
 use pd_desk::{Desk, Gate};
 use pd_run::{Plain, RunState, StepEnd, Stepper};
 use pd_script::Event;
@@ -94,9 +93,9 @@ pub fn work<R: Wait, W: Watch, G: Gate>(
     seat: &mut Seat,
     watch: &W,
     gate: &G,
-) -> Result<String, AllocError> {
+) -> &'static str {
     match desk.work(rt, alloc, seat, &mut Watched::new(watch), gate) {
-        Ok(()) => owned(alloc, "left"),
-        Err(fault) => owned(alloc, fault.text()),
+        Ok(()) => "left",
+        Err(fault) => fault.text(),
     }
 }

@@ -1,146 +1,219 @@
 //! Who gives the turns: one player at a time goes on, and the next once nothing moves any more.
+use crate::chairs::{Chair, show};
 use crate::orders::choices::Choices;
-use crate::orders::hand::{Hand, scratch};
+use crate::orders::hand::{Hand, say_scratch};
 use crate::orders::stage::{Spot, Stage};
-use crate::orders::{CALLERS, WORKERS};
-use crate::running::Beside;
-use crate::stories::calls::show;
-use crate::stories::faults::StoryFault;
+use crate::orders::{CALLERS, PLAYERS, WORKERS};
+use crate::playing::Part;
 use crate::turns::TURNS;
 use pd_desk::Desk;
+use pd_rows::{Form, Said};
 use pd_seat::Seat;
-use std::alloc::Global;
+use std::alloc::{AllocError, Global};
 use std::sync::Wait;
 use std::thread;
 
 /// The most turns of an order.
 const MOVES: usize = 200;
 
-/// Gives the turns of players at a desk, and makes the same calls by hand.
+/// What is wanted, and what was said.
 #[derive(Drop)]
-pub struct Director<'a, 'b, R> {
-    pub rt: &'a R,
-    pub alloc: Global,
-    pub desk: &'a Desk,
-    pub stage: &'a Stage,
-    /// A seat that looks on.
-    pub seat: &'b mut Seat,
-    pub choices: &'b mut Choices,
-    pub hand: Hand,
-    pub callers: Vec<Caller>,
-    /// The calls that were made, in the order of the turns.
-    pub made: Vec<&'static str>,
-    /// How many workers have a job.
-    pub busy: usize,
+pub struct Notes {
+    pub wanted: Said,
+    pub shown: Said,
 }
 
-/// A caller: the calls that it has left, and the one whose answer it hasn't told.
-#[derive(Drop)]
-pub struct Caller {
-    pub left: &'static str,
-    pub open: Option<Open>,
+impl Notes {
+    pub fn new(alloc: Global) -> Result<Notes, AllocError> {
+        let wanted = Said::new(alloc, Form::Short)?;
+        let shown = Said::new(alloc, Form::Short)?;
+        Ok(Notes { wanted, shown })
+    }
+
+    pub fn differ(&self) -> bool {
+        self.wanted.as_str() != self.shown.as_str()
+    }
 }
 
-/// A call that was made: what was answered by hand, how many calls were made before it, and whether it settles.
+/// A caller: the calls that it has left, and of the one whose answer it hasn't told, if there is one, what was answered by
+/// hand, how many calls were made before it, and whether it settles.
 #[derive(Drop)]
-pub struct Open {
-    said: String,
+struct Caller<'a> {
+    left: &'a str,
+    said: Said,
     before: usize,
+    is_open: bool,
     is_settle: bool,
 }
 
-impl<'a, 'b, R: Wait> Beside for Director<'a, 'b, R> {
-    type Output = Result<Option<String>, StoryFault>;
+impl<'a> Caller<'a> {
+    fn new(alloc: Global, left: &'a str) -> Result<Caller<'a>, AllocError> {
+        Ok(Caller {
+            left,
+            said: Said::new(alloc, Form::Short)?,
+            before: 0,
+            is_open: false,
+            is_settle: false,
+        })
+    }
+}
+
+/// Gives the turns of players at a desk, and makes the same calls by hand.
+#[derive(Drop)]
+pub struct Director<'a, 'b, R> {
+    rt: &'a R,
+    alloc: Global,
+    desk: &'a Desk,
+    stage: &'a Stage,
+    /// A seat that looks on.
+    seat: &'b mut Seat,
+    choices: &'b mut Choices,
+    notes: Notes,
+    hand: Hand,
+    callers: Vec<Caller<'a>>,
+    /// The calls that were made, in the order of the turns.
+    made: Vec<&'a str>,
+    /// How many workers have a job.
+    busy: usize,
+}
+
+impl<'a, 'b, R: Wait> Part for Director<'a, 'b, R> {
+    type Output = Option<Notes>;
 
     /// Gives turns until all has come to rest. The report from scratch of all calls, if all answers were right.
-    fn run(self) -> Result<Option<String>, StoryFault> {
+    fn play(self) -> Option<Notes> {
         let rt = self.rt;
         let mut director = self;
         let is_right = director.direct();
-        if !matches!(is_right, Ok(true)) {
+        if !is_right {
             director.give_up();
         }
         director.desk.shut(rt);
-        if !is_right? {
-            return Ok(None);
-        }
-        let made = director.made.as_slice();
-        Ok(Some(scratch(rt, director.alloc, made, MOVES)?))
+        let count = director.made.len();
+        director.say_scratch(count);
+        let Director { notes, .. } = director;
+        if is_right { Some(notes) } else { None }
     }
 }
 
 impl<'a, 'b, R: Wait> Director<'a, 'b, R> {
-    /// Gives the turns; whether all answers are right.
-    fn direct(&mut self) -> Result<bool, StoryFault> {
-        for _move in 0..MOVES {
-            if !self.await_rest()? || !self.are_right()? {
-                return Ok(false);
-            }
-            let options = self.stage.standing.lock(self.rt).options(self.alloc)?;
-            if options.is_empty() {
-                return Ok(true);
-            }
-            match options.get(self.choices.choose(options.len())?) {
-                Some(who) if *who < CALLERS => self.let_call(*who)?,
-                Some(who) => self.let_work(*who)?,
-                None => return Ok(false),
-            }
-        }
-        Ok(false)
+    pub fn new(
+        rt: &'a R,
+        alloc: Global,
+        desk: &'a Desk,
+        stage: &'a Stage,
+        seat: &'b mut Seat,
+        lists: (&'a str, &'a str),
+        choices: &'b mut Choices,
+    ) -> Result<Director<'a, 'b, R>, AllocError> {
+        let mut callers = Vec::new(alloc);
+        callers
+            .push(Caller::new(alloc, lists.0)?)
+            .or(Err(AllocError))?;
+        callers
+            .push(Caller::new(alloc, lists.1)?)
+            .or(Err(AllocError))?;
+        Ok(Director {
+            rt,
+            alloc,
+            desk,
+            stage,
+            seat,
+            choices,
+            notes: Notes::new(alloc)?,
+            hand: Hand::new(alloc),
+            callers,
+            made: Vec::new(alloc),
+            busy: 0,
+        })
     }
 
-    /// Lets a caller make its next call, which is made by hand too.
-    fn let_call(&mut self, who: usize) -> Result<(), StoryFault> {
+    /// Gives the turns; whether all answers are right.
+    fn direct(&mut self) -> bool {
+        for _move in 0..MOVES {
+            if !self.await_rest() || !self.are_right() {
+                return false;
+            }
+            let (count, options) = self.stage.standing.lock(self.rt).options();
+            if count == 0 {
+                return true;
+            }
+            let Ok(place) = self.choices.choose(count) else {
+                return false;
+            };
+            if !self.let_go_on(options.get(place).copied()) {
+                return false;
+            }
+        }
+        false
+    }
+
+    /// Lets a player go on, a caller with its next call; whether there is one.
+    fn let_go_on(&mut self, who: Option<usize>) -> bool {
+        let Some(who) = who else {
+            return false;
+        };
+        if who >= CALLERS {
+            self.let_work(who);
+        } else if !self.let_call(who) {
+            return false;
+        }
+        self.stage.grant(self.rt, who);
+        self.start_by_hand();
+        true
+    }
+
+    /// Makes a caller's next call by hand; whether it is noted.
+    fn let_call(&mut self, who: usize) -> bool {
         let Some(caller) = self.callers.get_mut(who) else {
-            return Err(StoryFault::Missing);
+            return false;
         };
         let (call, left) = caller.left.split_once("; ").unwrap_or((caller.left, ""));
         caller.left = left;
-        caller.open = Some(Open {
-            said: self.hand.call(self.rt, call)?,
-            before: self.made.len(),
-            is_settle: call == "settle",
-        });
-        self.made.push(call).or(Err(StoryFault::OutOfMemory))?;
-        self.go_on(who)
+        caller.before = self.made.len();
+        caller.is_open = true;
+        caller.is_settle = call == "settle";
+        self.hand.call(call, &mut caller.said);
+        self.made.push(call).is_ok()
     }
 
-    /// Lets a worker go on; where it hands its result in, this is done by hand too.
-    fn let_work(&mut self, who: usize) -> Result<(), StoryFault> {
-        let done = self.stage.standing.lock(self.rt).done_by(who);
-        if let Some(job) = done {
-            self.hand.finish(self.rt, job)?;
+    /// Where a worker hands its result in, this is done by hand.
+    fn let_work(&mut self, who: usize) {
+        let place = self.stage.standing.lock(self.rt).place(who);
+        if matches!(place.spot, Spot::Done) {
+            self.hand.finish(place.job);
             self.busy = self.busy.wrapping_sub(1);
         }
-        self.go_on(who)
     }
 
-    /// Gives a player the turn, and starts by hand what workers that are free start now.
-    fn go_on(&mut self, who: usize) -> Result<(), StoryFault> {
-        self.stage.grant(self.rt, who);
+    /// Starts by hand what workers that are free start now.
+    fn start_by_hand(&mut self) {
         for _worker in self.busy..WORKERS {
-            if self.hand.start(self.rt)? {
+            if self.hand.start(&mut self.notes.shown) {
                 self.busy = self.busy.wrapping_add(1);
             }
         }
-        Ok(())
     }
 
     /// Waits until whoever goes on waits for a turn or for verdicts, and the report is that of the calls made by hand;
     /// whether it is so within the turns.
-    fn await_rest(&mut self) -> Result<bool, StoryFault> {
-        let wanted = self.hand.call(self.rt, "show")?;
-        let is_owed = wanted.as_str().contains("pending");
+    fn await_rest(&mut self) -> bool {
+        self.hand.call("show", &mut self.notes.wanted);
+        let is_owed = self.notes.wanted.as_str().contains("pending");
         for _turn in 0..TURNS {
-            if self.is_at_rest(is_owed) {
-                let report = show(self.rt, self.alloc, self.desk, self.seat)?;
-                if report.as_str() == wanted.as_str() {
-                    return Ok(true);
-                }
+            if self.is_at_rest(is_owed) && self.is_shown() {
+                return true;
             }
             thread::yield_now();
         }
-        Ok(false)
+        false
+    }
+
+    /// Whether the report is the one that is wanted.
+    fn is_shown(&mut self) -> bool {
+        self.notes.shown.clear();
+        show(self.rt, self.desk, self.seat, &mut self.notes.shown);
+        !self.notes.differ()
     }
 
     /// Whether the turn was taken, as many workers wait for one as have jobs, and all callers but those that settle while a
@@ -148,75 +221,77 @@ impl<'a, 'b, R: Wait> Director<'a, 'b, R> {
     fn is_at_rest(&self, is_owed: bool) -> bool {
         let standing = self.stage.standing.lock(self.rt);
         let mut workers = 0usize;
-        for (who, place) in standing.places.iter().enumerate() {
-            let is_away = matches!(place.spot, Spot::Away);
+        let mut are_heard = true;
+        for who in 0..PLAYERS {
+            let is_away = matches!(standing.place(who).spot, Spot::Away);
             if who >= CALLERS {
                 workers = workers.wrapping_add(usize::from(!is_away));
             } else if is_away && !(is_owed && self.settles(who)) {
-                return false;
+                are_heard = false;
             }
         }
-        workers == self.busy && standing.turn.is_none()
+        are_heard && workers == self.busy && standing.turn.is_none()
     }
 
     /// Whether a caller settles.
     fn settles(&self, who: usize) -> bool {
         match self.callers.get(who) {
-            Some(
-                Caller {
-                    open: Some(open),
-                    ..
-                },
-            ) => open.is_settle,
-            _ => false,
+            Some(caller) => caller.is_open && caller.is_settle,
+            None => false,
         }
     }
 
     /// Whether what callers were answered is right: to a call what was answered by hand, and to a settling the report from
     /// scratch of the calls before it and some of those since, in the order of their turns.
-    fn are_right(&mut self) -> Result<bool, StoryFault> {
+    fn are_right(&mut self) -> bool {
         for who in 0..CALLERS {
-            let Some(said) = self.stage.take_said(self.rt, who) else {
-                continue;
-            };
-            let open = match self.callers.get_mut(who) {
-                Some(caller) => caller.open.take(),
-                None => None,
-            };
-            if !self.is_right(said.as_str(), &open)? {
-                return Ok(false);
+            let is_said = self.stage.take_said(self.rt, who, &mut self.notes.shown);
+            if is_said && !self.is_right(who) {
+                return false;
             }
         }
-        Ok(true)
+        true
     }
 
-    /// Whether this is right as the answer to a call.
-    fn is_right(&self, said: &str, open: &Option<Open>) -> Result<bool, StoryFault> {
-        match open {
-            Some(open) if open.is_settle => self.is_report(said, open.before),
-            Some(open) => Ok(said == open.said.as_str()),
-            None => Ok(false),
+    /// Whether what was said is right as the answer to a caller's call.
+    fn is_right(&mut self, who: usize) -> bool {
+        let Some(caller) = self.callers.get_mut(who) else {
+            return false;
+        };
+        let is_open = caller.is_open;
+        caller.is_open = false;
+        if is_open && caller.is_settle {
+            let before = caller.before;
+            return self.is_report(before);
         }
+        is_open && caller.said.as_str() == self.notes.shown.as_str()
     }
 
-    /// Whether this is the report from scratch of so many calls or more.
-    fn is_report(&self, said: &str, before: usize) -> Result<bool, StoryFault> {
-        let made = self.made.as_slice();
-        for count in before..=made.len() {
-            if scratch(self.rt, self.alloc, made, count)?.as_str() == said {
-                return Ok(true);
+    /// Whether what was said is the report from scratch of so many calls or more.
+    fn is_report(&mut self, before: usize) -> bool {
+        for count in before..=self.made.len() {
+            self.say_scratch(count);
+            if !self.notes.differ() {
+                return true;
             }
         }
-        Ok(false)
+        false
+    }
+
+    /// Notes the report from scratch of the first so many calls.
+    fn say_scratch(&mut self, count: usize) {
+        let made = self.made.get(..count).unwrap_or(&[]);
+        say_scratch(self.alloc, made, &mut self.notes.wanted);
     }
 
     /// Lets all go on, and takes out all scripts, so that nothing is owed.
     fn give_up(&mut self) {
         self.stage.give_up(self.rt);
-        if let Ok(report) = self.desk.show(self.rt, self.seat) {
-            for row in report.rows() {
-                let _ = self.desk.remove(self.rt, self.seat, &row.name);
-            }
-        }
+        let mut chair = Chair {
+            rt: self.rt,
+            desk: self.desk,
+            seat: &mut *self.seat,
+        };
+        chair.free();
     }
 }

@@ -1,87 +1,68 @@
-//! A desk without workers, at which one thread makes all calls and runs all jobs.
-use crate::stories::faults::StoryFault;
-use crate::stories::table::Table;
-use crate::stories::words::Words;
-use pd_desk::Desk;
-use pd_seat::Seat;
-use pd_settings::Settings;
+//! A book alone, at which one thread makes all calls and runs all jobs.
+use crate::chairs::{CACHE, say_rows};
+use pd_rows::{Alone, Calls, Said, Task, Texts, Words, call, finish};
 use std::alloc::Global;
-use std::sync::Wait;
 
-/// The text `one`.
-const LINES: &str = "0 socket(..., SOCK_STREAM, IPPROTO_TCP) = 3";
-
-/// A table at this seat, with the text that the calls have.
-pub fn seated(alloc: Global, seat: Seat) -> Result<Table, StoryFault> {
-    let mut table = Table::new(alloc);
-    table.write("one", LINES)?;
-    table.seats.push(seat).or(Err(StoryFault::OutOfMemory))?;
-    Ok(table)
-}
-
-/// A desk with one seat.
+/// A book, and the jobs that were started there.
 #[derive(Drop)]
 pub struct Hand {
-    desk: Desk,
-    table: Table,
+    book: Alone,
+    tasks: Vec<Task>,
+    texts: Texts,
 }
 
 impl Hand {
-    pub fn open(alloc: Global) -> Result<Hand, StoryFault> {
-        let (desk, mut seats) = Desk::open(alloc, 64, Settings::new(), 0, 1)?;
-        match seats.pop() {
-            Some(seat) => Ok(Hand {
-                desk,
-                table: seated(alloc, seat)?,
-            }),
-            None => Err(StoryFault::Missing),
+    pub fn new(alloc: Global) -> Hand {
+        Hand {
+            book: Alone::new(alloc, CACHE),
+            tasks: Vec::new(alloc),
+            texts: Texts::new(alloc),
         }
     }
 
-    /// Makes a call; a settling only shows.
-    pub fn call<R: Wait>(&mut self, rt: &R, call: &str) -> Result<String, StoryFault> {
-        let call = if call == "settle" { "show" } else { call };
-        self.table.act_at(rt, &self.desk, 0, Words::new(call))
+    /// Makes a call, and says its answer alone; a settling only shows.
+    pub fn call(&mut self, written: &str, said: &mut Said) {
+        let mut words = Words::new(written);
+        let word = words.word();
+        said.clear();
+        if word == "settle" || word == "show" {
+            return self.show(said);
+        }
+        let Hand { book, tasks, texts } = self;
+        call(book, tasks, texts, word, &mut words, said);
+    }
+
+    /// Says the report.
+    fn show(&mut self, said: &mut Said) {
+        match self.book.show() {
+            Ok(report) => say_rows(said, &report),
+            Err(word) => said.say(word),
+        }
     }
 
     /// Starts the job that waits; whether there was one.
-    pub fn start<R: Wait>(&mut self, rt: &R) -> Result<bool, StoryFault> {
-        let said = self.table.start(rt, &self.desk, 0)?;
-        Ok(said.as_str() != "none")
-    }
-
-    /// Makes the first so many of these calls, and all jobs.
-    fn work_off<R: Wait>(
-        &mut self,
-        rt: &R,
-        calls: &[&'static str],
-        count: usize,
-    ) -> Result<(), StoryFault> {
-        for call in calls.iter().take(count) {
-            self.call(rt, *call)?;
-        }
-        for job in 1..=calls.len() as u64 {
-            if self.start(rt)? {
-                self.finish(rt, job)?;
-            }
-        }
-        Ok(())
+    pub fn start(&mut self, said: &mut Said) -> bool {
+        self.call("start", said);
+        said.as_str() != "none"
     }
 
     /// Finishes a job.
-    pub fn finish<R: Wait>(&mut self, rt: &R, job: u64) -> Result<String, StoryFault> {
-        self.table.finish(rt, &self.desk, 0, job as usize)
+    pub fn finish(&mut self, job: u64) {
+        let Hand { book, tasks, texts } = self;
+        finish(book, tasks, texts, job);
     }
 }
 
-/// The report from scratch of the first so many of these calls.
-pub fn scratch<R: Wait>(
-    rt: &R,
-    alloc: Global,
-    calls: &[&'static str],
-    count: usize,
-) -> Result<String, StoryFault> {
-    let mut hand = Hand::open(alloc)?;
-    hand.work_off(rt, calls, count)?;
-    hand.call(rt, "show")
+/// Says the report from scratch of these calls.
+pub fn say_scratch(alloc: Global, calls: &[&str], said: &mut Said) {
+    let mut hand = Hand::new(alloc);
+    for call in calls {
+        hand.call(*call, said);
+    }
+    for job in 1..=calls.len() as u64 {
+        if hand.start(said) {
+            hand.finish(job);
+        }
+    }
+    hand.call("show", said);
 }

@@ -1,13 +1,12 @@
 //! Players: callers that make calls of a list, and workers, who hand the turn on before each call, round each job and after
 //! each of its steps.
+use crate::chairs::{Chair, Guest};
 use crate::orders::CALLERS;
-use crate::orders::hand::seated;
-use crate::orders::stage::{Place, Spot, Stage};
-use crate::running::{Played, Task};
-use crate::stories::faults::StoryFault;
-use crate::stories::words::Words;
+use crate::orders::stage::{Spot, Stage};
+use crate::playing::Role;
 use crate::watched::{Watch, work};
 use pd_desk::{Desk, Gate};
+use pd_rows::{Texts, Words};
 use pd_seat::Seat;
 use std::alloc::{AllocError, Global};
 use std::sync::Wait;
@@ -21,61 +20,72 @@ pub struct Player<'a, R> {
     pub desk: &'a Desk,
     pub stage: &'a Stage,
     pub me: usize,
-    pub seat: Seat,
-    pub calls: &'static str,
+    pub guest: Guest,
+    pub calls: &'a str,
 }
 
-impl<'a, R: Wait> Task for Player<'a, R> {
-    /// Plays to the end, and gives the seat back unless something went wrong.
-    fn run(self) -> Played {
-        let seat = if self.me < CALLERS {
-            self.call_all()
-        } else {
-            self.work()
-        };
-        Played {
-            seat,
-            said: Err(StoryFault::Missing),
-        }
-    }
-}
-
-impl<'a, R: Wait> Player<'a, R> {
-    /// Makes the calls, each on its turn.
-    fn call_all(self) -> Option<Seat> {
-        let Ok(mut table) = seated(self.alloc, self.seat) else {
+impl<'a, R: Wait> Role for Player<'a, R> {
+    fn play(self) -> Option<Guest> {
+        let Player {
+            rt,
+            alloc,
+            desk,
+            stage,
+            me,
+            mut guest,
+            calls,
+        } = self;
+        if me < CALLERS {
+            call_all(rt, alloc, desk, stage, me, &mut guest, calls);
+        } else if !work_to_end(rt, alloc, desk, stage, me, &mut guest.seat) {
             return None;
-        };
-        let mut said = None;
-        for call in self.calls.split("; ") {
-            if !self
-                .stage
-                .stand(self.rt, self.me, Place::new(Spot::Here, 0, said))
-            {
-                return table.seats.pop();
-            }
-            said = table.act_at(self.rt, self.desk, 0, Words::new(call)).ok();
         }
-        self.stage
-            .put(self.rt, self.me, Place::new(Spot::Gone, 0, said));
-        table.seats.pop()
+        Some(guest)
     }
+}
 
-    /// Works until the desk is shut.
-    fn work(self) -> Option<Seat> {
-        let mut seat = self.seat;
-        let turns = Turns {
-            rt: self.rt,
-            stage: self.stage,
-            me: self.me,
-            job: AtomicU64::new(0),
-        };
-        let left = work(self.rt, self.alloc, self.desk, &mut seat, &turns, &turns);
-        match left {
-            Ok(said) if said.as_str() == "left" => Some(seat),
-            _ => None,
+/// Makes the calls, each on its turn.
+fn call_all<R: Wait>(
+    rt: &R,
+    alloc: Global,
+    desk: &Desk,
+    stage: &Stage,
+    me: usize,
+    guest: &mut Guest,
+    calls: &str,
+) {
+    let Guest { seat, said } = guest;
+    let mut chair = Chair { rt, desk, seat };
+    let texts = Texts::new(alloc);
+    let mut tasks = Vec::new(alloc);
+    for call in calls.split("; ") {
+        if !stage.stand(rt, me, Spot::Here, 0, said.as_str()) {
+            return;
         }
+        said.clear();
+        let mut words = Words::new(call);
+        let word = words.word();
+        chair.call(&mut tasks, &texts, word, &mut words, said);
     }
+    stage.put(rt, me, Spot::Gone, 0, said.as_str());
+}
+
+/// Works until the desk is shut; whether it left then.
+fn work_to_end<R: Wait>(
+    rt: &R,
+    alloc: Global,
+    desk: &Desk,
+    stage: &Stage,
+    me: usize,
+    seat: &mut Seat,
+) -> bool {
+    let turns = Turns {
+        rt,
+        stage,
+        me,
+        job: AtomicU64::new(0),
+    };
+    work(rt, alloc, desk, seat, &turns, &turns) == "left"
 }
 
 /// The turns of a worker: before its job, after each step, and after its job.
@@ -89,8 +99,8 @@ struct Turns<'a, R> {
 
 impl<'a, R: Wait> Turns<'a, R> {
     fn hand_on(&self, spot: Spot) {
-        let place = Place::new(spot, self.job.load(Ordering::SeqCst), None);
-        let _ = self.stage.stand(self.rt, self.me, place);
+        let job = self.job.load(Ordering::SeqCst);
+        let _ = self.stage.stand(self.rt, self.me, spot, job, "");
     }
 }
 

@@ -1,5 +1,6 @@
 //! Where threads hand the turn on.
 use crate::orders::{CALLERS, PLAYERS};
+use pd_rows::{Form, Said};
 use std::alloc::{AllocError, Global};
 use std::sync::{Condvar, Mutex, Wait};
 
@@ -16,64 +17,72 @@ pub enum Spot {
     Gone,
 }
 
-/// A player: where it is, the job that it has or had last, and what it was answered last.
-#[derive(Drop)]
+/// A player: where it is, and the job that it has or had last.
+#[derive(Clone, Copy)]
 pub struct Place {
     pub spot: Spot,
     pub job: u64,
-    pub said: Option<String>,
 }
 
-impl Place {
-    pub fn new(spot: Spot, job: u64, said: Option<String>) -> Place {
-        Place { spot, job, said }
-    }
-}
-
-/// The players, whose turn it is, and whether nobody waits for a turn any more.
+/// The players, what callers were answered and nobody took along yet, whose turn it is, and whether nobody waits for a turn
+/// any more.
 #[derive(Drop)]
 pub struct Standing {
-    pub places: Vec<Place>,
+    places: [Place; PLAYERS],
+    said: Vec<Said>,
     pub turn: Option<usize>,
     is_over: bool,
 }
 
 impl Standing {
+    fn new(alloc: Global) -> Result<Standing, AllocError> {
+        let mut said = Vec::new(alloc);
+        for _caller in 0..CALLERS {
+            said.push(Said::new(alloc, Form::Short)?)
+                .or(Err(AllocError))?;
+        }
+        Ok(Standing {
+            places: [Place {
+                spot: Spot::Away,
+                job: 0,
+            }; PLAYERS],
+            said,
+            turn: None,
+            is_over: false,
+        })
+    }
+
     fn is_awaited(&self, me: usize) -> bool {
         !self.is_over && self.turn != Some(me)
     }
 
-    /// Who may go on: the callers, and then the workers by the numbers of their jobs.
-    pub fn options(&self, alloc: Global) -> Result<Vec<usize>, AllocError> {
-        let mut options = Vec::new(alloc);
-        let order = if self.job_of(CALLERS + 1) < self.job_of(CALLERS) {
+    /// A player's place; that of one who has ended where there is no such player.
+    pub fn place(&self, who: usize) -> Place {
+        self.places.get(who).copied().unwrap_or(Place {
+            spot: Spot::Gone,
+            job: 0,
+        })
+    }
+
+    /// How many may go on, and who these are, first of all: the callers, and then the workers by the numbers of their jobs.
+    pub fn options(&self) -> (usize, [usize; PLAYERS]) {
+        let is_turned = self.place(CALLERS + 1).job < self.place(CALLERS).job;
+        let order = if is_turned {
             [0, 1, CALLERS + 1, CALLERS]
         } else {
             [0, 1, CALLERS, CALLERS + 1]
         };
+        let mut options = order;
+        let mut count = 0usize;
         for who in &order {
-            if let Some(place) = self.places.get(*who) {
-                if matches!(place.spot, Spot::Here | Spot::Done) {
-                    options.push(*who)?;
+            if matches!(self.place(*who).spot, Spot::Here | Spot::Done) {
+                if let Some(option) = options.get_mut(count) {
+                    *option = *who;
                 }
+                count = count.wrapping_add(1);
             }
         }
-        Ok(options)
-    }
-
-    fn job_of(&self, who: usize) -> u64 {
-        match self.places.get(who) {
-            Some(place) => place.job,
-            None => 0,
-        }
-    }
-
-    /// The job whose result a player waits to hand in.
-    pub fn done_by(&self, who: usize) -> Option<u64> {
-        match self.places.get(who) {
-            Some(place) if matches!(place.spot, Spot::Done) => Some(place.job),
-            _ => None,
-        }
+        (count, options)
     }
 }
 
@@ -86,30 +95,26 @@ pub struct Stage {
 
 impl Stage {
     pub fn new(alloc: Global) -> Result<Stage, AllocError> {
-        let mut places = Vec::with_capacity(alloc, PLAYERS)?;
-        for _player in 0..PLAYERS {
-            places.push(Place::new(Spot::Away, 0, None))?;
-        }
         Ok(Stage {
-            standing: Mutex::new(Standing {
-                places,
-                turn: None,
-                is_over: false,
-            }),
+            standing: Mutex::new(Standing::new(alloc)?),
             moved: Condvar::new(),
         })
     }
 
-    /// Puts a player in its place.
-    pub fn put<R: Wait>(&self, rt: &R, me: usize, place: Place) {
-        if let Some(old) = self.standing.lock(rt).places.get_mut(me) {
-            *old = place;
+    /// Puts a player in its place, with the job that it has and what it was answered since, if anything.
+    pub fn put<R: Wait>(&self, rt: &R, me: usize, spot: Spot, job: u64, said: &str) {
+        let mut standing = self.standing.lock(rt);
+        if let Some(place) = standing.places.get_mut(me) {
+            *place = Place { spot, job };
+        }
+        if let Some(old) = standing.said.get_mut(me) {
+            old.say(said);
         }
     }
 
-    /// Puts a player in its place, and waits for its turn; false where nobody does any more.
-    pub fn stand<R: Wait>(&self, rt: &R, me: usize, place: Place) -> bool {
-        self.put(rt, me, place);
+    /// Does so, and waits for the player's turn; false where nobody does any more.
+    pub fn stand<R: Wait>(&self, rt: &R, me: usize, spot: Spot, job: u64, said: &str) -> bool {
+        self.put(rt, me, spot, job, said);
         let mut standing = self
             .moved
             .wait_while(rt, self.standing.lock(rt), |standing| {
@@ -136,11 +141,14 @@ impl Stage {
         self.moved.notify_all();
     }
 
-    /// Takes along what a player was answered last.
-    pub fn take_said<R: Wait>(&self, rt: &R, who: usize) -> Option<String> {
-        match self.standing.lock(rt).places.get_mut(who) {
-            Some(place) => place.said.take(),
-            None => None,
+    /// Takes along what a player was answered; whether it was answered anything since the last time.
+    pub fn take_said<R: Wait>(&self, rt: &R, who: usize, to: &mut Said) -> bool {
+        let mut standing = self.standing.lock(rt);
+        to.clear();
+        if let Some(said) = standing.said.get_mut(who) {
+            to.say(said.as_str());
+            said.clear();
         }
+        !to.as_str().is_empty()
     }
 }

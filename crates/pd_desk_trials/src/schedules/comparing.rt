@@ -1,17 +1,27 @@
 //! What differs.
 use crate::serving::Served;
+use std::alloc::AllocError;
 use std::str;
 
-/// What differs.
+/// Why an input isn't served as it should be.
 #[derive(Clone, Copy)]
-pub struct Difference(pub &'static str);
+pub enum Trouble {
+    Differs(&'static str),
+    OutOfMemory,
+}
+
+impl From<AllocError> for Trouble {
+    fn from(_error: AllocError) -> Trouble {
+        Trouble::OutOfMemory
+    }
+}
 
 /// Goes on where this holds.
-pub fn must(holds: bool, otherwise: &'static str) -> Result<(), Difference> {
+pub fn must(holds: bool, otherwise: &'static str) -> Result<(), Trouble> {
     if holds {
         Ok(())
     } else {
-        Err(Difference(otherwise))
+        Err(Trouble::Differs(otherwise))
     }
 }
 
@@ -54,7 +64,7 @@ fn is_pending(line: &str, other: &str) -> bool {
     name == wanted && (standing == "pending" || (name == "total" && is_count(standing, verdict)))
 }
 
-/// What stands before the first blank, and behind it.
+/// What stands before the first blank, and after it.
 fn halves(line: &str) -> (&str, &str) {
     line.split_once(" ").unwrap_or((line, ""))
 }

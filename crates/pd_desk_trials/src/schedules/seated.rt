@@ -1,7 +1,7 @@
 //! Serving at a seat of a desk, beside workers.
-use crate::running::{Beside, Pooled, run_beside};
+use crate::playing::{Part, Pooled, play_beside};
 use crate::schedules::delays::{Delays, SlowReader};
-use crate::serving::{Served, served_at_seat};
+use crate::serving::Served;
 use pd_desk::Desk;
 use pd_seat::Seat;
 use std::alloc::Global;
@@ -10,19 +10,20 @@ use std::thread::Threads;
 
 /// Serves these octets at a seat.
 #[derive(Drop)]
-struct Serving<'a, R> {
+struct Serving<'a, 'b, R> {
     rt: &'a R,
     alloc: Global,
     desk: &'a Desk,
-    seat: &'a mut Seat,
-    octets: &'a [u8],
+    seat: &'b mut Seat,
+    octets: &'b [u8],
     seed: u64,
+    served: &'b mut Served,
 }
 
-impl<'a, R: Wait> Beside for Serving<'a, R> {
-    type Output = Served;
+impl<'a, 'b, R: Wait> Part for Serving<'a, 'b, R> {
+    type Output = ();
 
-    fn run(self) -> Served {
+    fn play(self) {
         let Serving {
             rt,
             alloc,
@@ -30,14 +31,15 @@ impl<'a, R: Wait> Beside for Serving<'a, R> {
             seat,
             octets,
             seed,
+            served,
         } = self;
         let mut reader = SlowReader::new(octets, seed);
-        served_at_seat(rt, alloc, desk, seat, &mut reader)
+        served.serve_at_seat(rt, alloc, desk, seat, &mut reader);
     }
 }
 
 /// Serves these octets at one seat while workers run at others.
-pub fn serve_seated<R: Threads + Wait + Sync>(
+pub fn serve_beside<R: Threads + Wait + Sync>(
     rt: &R,
     alloc: Global,
     desk: &Desk,
@@ -45,14 +47,16 @@ pub fn serve_seated<R: Threads + Wait + Sync>(
     seats: Vec<Seat>,
     seat: &mut Seat,
     octets: &[u8],
-) -> Option<Pooled<Served>> {
-    let task = Serving {
+    served: &mut Served,
+) -> Option<Pooled> {
+    let serving = Serving {
         rt,
         alloc,
         desk,
         seat,
         octets,
         seed: gate.seed,
+        served,
     };
-    run_beside(rt, alloc, desk, gate, seats, task)
+    play_beside(rt, alloc, desk, gate, seats, serving)
 }

@@ -1,12 +1,11 @@
 //! Calls beside threads that wait.
-use crate::running::{Beside, Played, run_among};
-use crate::saying::{joined, owned};
-use crate::stories::faults::StoryFault;
+use crate::chairs::{Chair, Guest};
+use crate::playing::{Part, play_all};
 use crate::stories::table::Table;
 use crate::stories::waiters::{Progress, Waiter, Way};
-use crate::stories::words::Words;
 use pd_desk::Desk;
-use pd_settings::Value;
+use pd_rows::{Form, MISSING, Said, Words};
+use std::alloc::{AllocError, Global};
 use std::sync::Wait;
 use std::sync::atomic::Ordering;
 use std::thread::Threads;
@@ -19,80 +18,104 @@ struct Calls<'a, 'b, R> {
     progress: &'a Progress,
     table: &'b mut Table,
     calls: &'b str,
-    /// How many threads work until the desk is shut, and how many end by themselves.
-    workers: u64,
-    others: u64,
+    said: &'b mut Said,
 }
 
-impl<'a, 'b, R: Wait> Beside for Calls<'a, 'b, R> {
-    type Output = Result<String, StoryFault>;
+impl<'a, 'b, R: Wait> Part for Calls<'a, 'b, R> {
+    type Output = ();
 
     /// Makes the calls, and when all but the workers have ended shuts the desk. Those that aren't woken within the turns are
     /// set free.
-    fn run(self) -> Result<String, StoryFault> {
+    fn play(self) {
         let Calls {
             rt,
             desk,
             progress,
             table,
             calls,
-            workers,
-            others,
+            said,
         } = self;
-        progress.begin_after(workers.wrapping_add(others));
-        let said = table.act_all(rt, desk, calls);
-        if !progress.is_reached(&progress.ended, others) {
+        progress.begin_after(progress.workers.wrapping_add(progress.others));
+        table.act_all(rt, desk, calls, said);
+        if !progress.is_reached(&progress.ended, progress.others) {
             table.free(rt, desk);
         }
         desk.shut(rt);
-        if !progress.is_reached(&progress.left, workers) {
+        if !progress.is_reached(&progress.left, progress.workers) {
             table.free(rt, desk);
         }
-        said
     }
 }
 
 impl Table {
     /// Makes calls, parted by `; `, while at each seat that is away, the first number first, a thread does what its letter
-    /// says. The answers of the calls and of these seats; `late` stands before them where a thread wasn't woken.
+    /// says. Says the answers of the calls and of these seats; `late` before them where a thread wasn't woken.
     pub fn answer_beside<R: Threads + Wait + Sync>(
         &mut self,
         rt: &R,
         desk: &Desk,
-        words: Words<'_>,
-    ) -> Result<String, StoryFault> {
-        let progress = Progress::new();
-        let said = self.call_beside(rt, desk, &progress, words)?;
-        if progress.late.load(Ordering::SeqCst) != 0 {
-            return Ok(joined(self.alloc, &["late; ", said.as_str()])?);
+        words: &mut Words<'_>,
+        said: &mut Said,
+    ) {
+        let letters = words.word();
+        match Progress::of(letters) {
+            Some(progress) if letters.len() <= self.away.len() => {
+                if self
+                    .say_beside(rt, desk, &progress, letters, words.rest, said)
+                    .is_none()
+                {
+                    said.is_whole = false;
+                }
+            }
+            _ => said.say(MISSING),
         }
-        Ok(said)
     }
 
-    /// Makes the calls beside the threads, and takes the seats back.
+    /// Does so with threads that have these letters. None where there is no memory.
+    fn say_beside<R: Threads + Wait + Sync>(
+        &mut self,
+        rt: &R,
+        desk: &Desk,
+        progress: &Progress,
+        letters: &str,
+        calls: &str,
+        said: &mut Said,
+    ) -> Option<()> {
+        let mut answers = Said::new(self.alloc, Form::Short).ok()?;
+        let guests = self.call_beside(rt, desk, progress, letters, calls, &mut answers)?;
+        if progress.late.load(Ordering::SeqCst) != 0 {
+            said.say("late; ");
+        }
+        said.say(answers.as_str());
+        self.take_back(guests, said);
+        answers.whole().ok()?;
+        Some(())
+    }
+
+    /// Makes the calls beside the threads: those that sat at the seats. None where there is no memory.
     fn call_beside<R: Threads + Wait + Sync>(
         &mut self,
         rt: &R,
         desk: &Desk,
         progress: &Progress,
-        mut words: Words<'_>,
-    ) -> Result<String, StoryFault> {
+        letters: &str,
+        calls: &str,
+        said: &mut Said,
+    ) -> Option<Vec<Guest>> {
         let alloc = self.alloc;
-        let waiters = self.waiters(rt, desk, progress, words.word())?;
-        let workers = workers_among(waiters.as_slice());
-        let calls = Calls {
+        let waiters = self.waiters(rt, desk, progress, letters).ok()?;
+        let beside = Calls {
             rt,
             desk,
             progress,
             table: &mut *self,
-            calls: words.rest(),
-            workers,
-            others: (waiters.len() as u64).wrapping_sub(workers),
+            calls,
+            said,
         };
-        let Some((played, said)) = run_among(rt, alloc, waiters, calls) else {
-            return Err(StoryFault::OutOfMemory);
-        };
-        self.take_back(played, said?)
+        match play_all(rt, alloc, waiters, beside) {
+            Some((guests, _)) => Some(guests),
+            None => None,
+        }
     }
 
     /// A thread's part for each letter, at the seats that are away.
@@ -102,86 +125,57 @@ impl Table {
         desk: &'a Desk,
         progress: &'a Progress,
         letters: &str,
-    ) -> Result<Vec<Waiter<'a, R>>, StoryFault> {
+    ) -> Result<Vec<Waiter<'a, R>>, AllocError> {
         let mut waiters = Vec::new(self.alloc);
         for letter in letters.bytes() {
             let (Some(way), Some(seat)) = (Way::of(letter), self.away.pop()) else {
-                return Err(StoryFault::Missing);
+                break;
             };
-            if way.is_change() {
-                progress.changing.fetch_add(1, Ordering::SeqCst);
-            }
             let waiter = Waiter {
                 rt,
                 alloc: self.alloc,
                 desk,
                 progress,
-                seat,
+                guest: Guest::new(self.alloc, seat)?,
                 way,
                 before: waiters.len() as u64,
             };
-            waiters.push(waiter).or(Err(StoryFault::OutOfMemory))?;
+            waiters.push(waiter).or(Err(AllocError))?;
         }
         Ok(waiters)
     }
 
-    /// Takes seats back, and tells what was said beside them and there.
-    fn take_back(&mut self, played: Vec<Played>, said: String) -> Result<String, StoryFault> {
-        let told = with_played(said, played.as_slice());
-        for one in played.into_iter().rev() {
-            let Played { seat, said: _ } = one;
-            if let Some(seat) = seat {
-                self.away.push(seat).or(Err(StoryFault::OutOfMemory))?;
+    /// Says what was said at seats, and takes these back.
+    fn take_back(&mut self, guests: Vec<Guest>, said: &mut Said) {
+        for guest in guests.iter() {
+            said.say("; ");
+            said.say(guest.said.as_str());
+        }
+        for guest in guests.into_iter().rev() {
+            let Guest { seat, said: _ } = guest;
+            if self.away.push(seat).is_err() {
+                said.is_whole = false;
             }
         }
-        told
     }
 
-    /// Makes calls that are parted by `; `, and gives their answers so.
-    fn act_all<R: Wait>(&mut self, rt: &R, desk: &Desk, calls: &str) -> Result<String, StoryFault> {
-        let mut text = owned(self.alloc, "")?;
+    /// Makes calls that are parted by `; `, and says their answers so.
+    fn act_all<R: Wait>(&mut self, rt: &R, desk: &Desk, calls: &str, said: &mut Said) {
         for call in calls.split("; ") {
-            if !text.is_empty() {
-                text.push_str("; ")?;
+            if !said.as_str().is_empty() {
+                said.say("; ");
             }
-            text.push_str(self.act(rt, desk, call)?.as_str())?;
+            let mut words = Words::new(call);
+            let word = words.word();
+            self.act(rt, desk, word, &mut words, said);
         }
-        Ok(text)
     }
 
-    /// Takes out all scripts and makes an act, which wakes whoever waits for a verdict or for the desk to be shut.
+    /// Wakes whoever waits at the desk.
     fn free<R: Wait>(&mut self, rt: &R, desk: &Desk) {
-        let Some(seat) = self.seats.get_mut(0) else {
-            return;
-        };
-        if let Ok(report) = desk.show(rt, seat) {
-            for row in report.rows() {
-                let _ = desk.remove(rt, seat, &row.name);
-            }
-        }
-        let _ = desk.set(rt, seat, b"nagle", Value::Truth(true));
-    }
-}
-
-fn workers_among<R>(waiters: &[Waiter<'_, R>]) -> u64 {
-    let mut workers = 0u64;
-    for waiter in waiters {
-        workers = workers.wrapping_add(u64::from(waiter.way.is_work()));
-    }
-    workers
-}
-
-/// Adds what was said at seats, where nothing was refused there.
-fn with_played(said: String, played: &[Played]) -> Result<String, StoryFault> {
-    let mut text = said;
-    for one in played {
-        match &one.said {
-            Ok(said) => {
-                text.push_str("; ")?;
-                text.push_str(said.as_str())?;
-            }
-            Err(fault) => return Err(*fault),
+        if let Some(seat) = self.seats.get_mut(0) {
+            let mut chair = Chair { rt, desk, seat };
+            chair.free();
         }
     }
-    Ok(text)
 }

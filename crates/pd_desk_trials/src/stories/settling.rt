@@ -1,10 +1,9 @@
 //! Settling beside workers.
-use crate::running::{Beside, Pooled, run_beside};
-use crate::saying::{joined, owned, shown};
-use crate::stories::faults::StoryFault;
+use crate::chairs::settle;
+use crate::playing::{Part, Pooled, play_beside};
 use crate::stories::table::Table;
-use pd_book::Report;
 use pd_desk::{Desk, DeskFault, OpenGate};
+use pd_rows::{MISSING, Said};
 use pd_seat::Seat;
 use std::alloc::Global;
 use std::mem;
@@ -13,18 +12,24 @@ use std::thread::Threads;
 
 /// Settles at a seat.
 #[derive(Drop)]
-struct Settling<'a, R> {
+struct Settling<'a, 'b, R> {
     rt: &'a R,
     desk: &'a Desk,
-    seat: &'a mut Seat,
+    seat: &'b mut Seat,
+    said: &'b mut Said,
 }
 
-impl<'a, R: Wait> Beside for Settling<'a, R> {
-    type Output = Result<Report, DeskFault>;
+impl<'a, 'b, R: Wait> Part for Settling<'a, 'b, R> {
+    type Output = ();
 
-    fn run(self) -> Result<Report, DeskFault> {
-        let Settling { rt, desk, seat } = self;
-        desk.settle(rt, seat)
+    fn play(self) {
+        let Settling {
+            rt,
+            desk,
+            seat,
+            said,
+        } = self;
+        settle(rt, desk, seat, said);
     }
 }
 
@@ -34,22 +39,25 @@ impl Table {
         &mut self,
         rt: &R,
         desk: &Desk,
-    ) -> Result<String, StoryFault> {
+        said: &mut Said,
+    ) {
         let Some(seat) = self.away.get_mut(0) else {
-            return Err(StoryFault::Missing);
+            return said.say(MISSING);
         };
         let seats = mem::replace(&mut self.seats, Vec::new(self.alloc));
-        let gate = OpenGate;
-        let Some(pooled) = settle_while_open(rt, self.alloc, desk, &gate, seats, seat) else {
-            return Err(StoryFault::OutOfMemory);
-        };
-        let said = settled(self.alloc, &pooled);
-        self.seats = pooled.seats;
-        said
+        match settle_while_open(rt, self.alloc, desk, &OpenGate, seats, seat, said) {
+            Some(pooled) => {
+                if !said.is_refused() {
+                    say_left(said, pooled.left);
+                }
+                self.seats = pooled.seats;
+            }
+            None => said.is_whole = false,
+        }
     }
 }
 
-/// Settles at one seat while workers run at others.
+/// Settles at one seat while workers run at others, and says what it showed.
 fn settle_while_open<R: Threads + Wait + Sync>(
     rt: &R,
     alloc: Global,
@@ -57,24 +65,22 @@ fn settle_while_open<R: Threads + Wait + Sync>(
     gate: &OpenGate,
     seats: Vec<Seat>,
     seat: &mut Seat,
-) -> Option<Pooled<Result<Report, DeskFault>>> {
-    let task = Settling { rt, desk, seat };
-    run_beside(rt, alloc, desk, gate, seats, task)
+    said: &mut Said,
+) -> Option<Pooled> {
+    let settling = Settling {
+        rt,
+        desk,
+        seat,
+        said,
+    };
+    play_beside(rt, alloc, desk, gate, seats, settling)
 }
 
-/// What a settling showed, and how the workers left.
-fn settled(
-    alloc: Global,
-    pooled: &Pooled<Result<Report, DeskFault>>,
-) -> Result<String, StoryFault> {
-    let said = match &pooled.said {
-        Ok(report) => shown(alloc, report)?,
-        Err(DeskFault::OutOfMemory) => return Err(StoryFault::Refused),
-        Err(fault) => owned(alloc, fault.text())?,
-    };
-    let left = match pooled.left {
+/// Says how workers left.
+fn say_left(said: &mut Said, left: Result<(), DeskFault>) {
+    said.say("; pool ");
+    said.say(match left {
         Ok(()) => "ok",
         Err(fault) => fault.text(),
-    };
-    Ok(joined(alloc, &[said.as_str(), "; pool ", left])?)
+    });
 }

@@ -1,10 +1,8 @@
 //! A desk and those at it, as a story tells of them.
-use crate::saying::{decimal, joined, owned, recorded};
-use crate::stories::faults::StoryFault;
+use crate::chairs::CACHE;
 use crate::stories::table::Table;
-use crate::stories::words::Words;
-use crate::texts::text;
 use pd_desk::Desk;
+use pd_rows::{MISSING, REFUSED, Said, Words, say_acts, with};
 use pd_seat::CloseFault;
 use pd_settings::Settings;
 use std::alloc::Global;
@@ -15,7 +13,6 @@ use std::thread::Threads;
 /// A desk, and those at it.
 #[derive(Drop)]
 pub struct Story {
-    alloc: Global,
     desk: Option<Desk>,
     table: Table,
 }
@@ -23,75 +20,74 @@ pub struct Story {
 impl Story {
     pub fn new(alloc: Global) -> Story {
         Story {
-            alloc,
             desk: None,
             table: Table::new(alloc),
         }
     }
 
-    /// Makes a call, and gives its answer in words.
-    pub fn answer<R: Threads + Wait + Sync>(
-        &mut self,
-        rt: &R,
-        call: &str,
-    ) -> Result<String, StoryFault> {
+    /// Makes a call, and says its answer.
+    pub fn answer<R: Threads + Wait + Sync>(&mut self, rt: &R, call: &str, said: &mut Said) {
         let mut words = Words::new(call);
         match words.word() {
-            "text" => self.write(words),
-            "desk" => self.open(words),
-            "close" => self.close(),
-            _ => match &self.desk {
-                Some(desk) => self.table.answer(rt, desk, call),
-                None => Err(StoryFault::Missing),
+            "text" => self.write(&mut words, said),
+            "desk" => self.open(&mut words, said),
+            "close" => self.close(said),
+            word => match &self.desk {
+                Some(desk) => self.table.answer(rt, desk, word, &mut words, said),
+                None => said.say(MISSING),
             },
+        }
+        if !words.are_right {
+            said.say("(not a number)");
         }
     }
 
-    /// Keeps a text under a word.
-    fn write(&mut self, mut words: Words<'_>) -> Result<String, StoryFault> {
+    /// Keeps a text under a word, and says how many lines it has.
+    fn write(&mut self, words: &mut Words<'_>, said: &mut Said) {
         let word = words.word();
-        let lines = words.rest();
-        let count = text(self.alloc, lines)?.len();
-        let count = decimal(self.alloc, count as u64)?;
-        self.table.write(word, lines)?;
-        Ok(joined(self.alloc, &[count.as_str(), " lines"])?)
+        if self.table.texts.define(word, words.rest).is_err() {
+            return said.say(REFUSED);
+        }
+        match self.table.texts.text(words.rest) {
+            Ok(lines) => {
+                said.number(lines.len() as u64);
+                said.say(" lines");
+            }
+            Err(fault) => said.say(fault.text()),
+        }
     }
 
     /// Opens a desk for so many workers, with so many seats, and one setting that is none of the defaults if it is named.
-    fn open(&mut self, mut words: Words<'_>) -> Result<String, StoryFault> {
-        let workers = words.number()?;
-        let seats = words.number()?;
-        if seats == 0 {
-            return Err(StoryFault::NotANumber);
-        }
+    fn open(&mut self, words: &mut Words<'_>, said: &mut Said) {
+        let workers = words.number() as usize;
+        let seats = words.number() as usize;
         let key = words.word().as_bytes();
-        let settings = Settings::new()
-            .with(key, words.value())
-            .unwrap_or(Settings::new());
-        let opened = Desk::open(self.alloc, 64, settings, workers, seats);
-        let (desk, seats) = opened.or(Err(StoryFault::Refused))?;
-        self.desk = Some(desk);
-        self.table.seats = seats;
-        self.table.away = Vec::new(self.alloc);
-        self.table.results = Vec::new(self.alloc);
-        Ok(owned(self.alloc, "ok")?)
-    }
-
-    /// Closes the desk with the seats that are here, and tells the book's acts. What comes back is kept.
-    fn close(&mut self) -> Result<String, StoryFault> {
-        let Some(desk) = self.desk.take() else {
-            return Err(StoryFault::Missing);
-        };
-        let seats = mem::replace(&mut self.table.seats, Vec::new(self.alloc));
-        match desk.close(seats) {
-            Ok(book) => Ok(recorded(self.alloc, book.history())?),
-            Err(fault) => self.not_closed(fault),
+        let settings = with(&Settings::new(), key, words.value()).unwrap_or(Settings::new());
+        match Desk::open(self.table.alloc, CACHE, settings, workers, seats.max(1)) {
+            Ok((desk, seats)) => {
+                self.desk = Some(desk);
+                self.table.begin(seats);
+                said.say("ok");
+            }
+            Err(_) => said.say(REFUSED),
         }
     }
 
-    /// Keeps what a closing that failed gave back, and names its fault.
-    fn not_closed(&mut self, fault: CloseFault<Desk>) -> Result<String, StoryFault> {
-        let word = fault.text();
+    /// Closes the desk with the seats that are here, and says the book's acts. What comes back is kept.
+    fn close(&mut self, said: &mut Said) {
+        let Some(desk) = self.desk.take() else {
+            return said.say(MISSING);
+        };
+        let seats = mem::replace(&mut self.table.seats, Vec::new(self.table.alloc));
+        match desk.close(seats) {
+            Ok(book) => say_acts(said, book.history(), false),
+            Err(fault) => self.keep(fault, said),
+        }
+    }
+
+    /// Keeps what a closing that failed gave back, and says its fault.
+    fn keep(&mut self, fault: CloseFault<Desk>, said: &mut Said) {
+        said.say(fault.text());
         match fault {
             CloseFault::MissingSeat(desk, seats) => {
                 self.desk = Some(desk);
@@ -99,6 +95,5 @@ impl Story {
             }
             CloseFault::Differs(_book) => {}
         }
-        Ok(owned(self.alloc, word)?)
     }
 }

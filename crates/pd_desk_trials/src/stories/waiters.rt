@@ -1,20 +1,14 @@
 //! Threads that wait at a desk, or change it, each at a seat of its own.
-use crate::running::{Played, Task};
-use crate::saying::{decimal, owned};
-use crate::stories::calls::settle;
-use crate::stories::faults::StoryFault;
-use crate::texts::{edit, name, text};
+use crate::chairs::{Chair, Guest, settle};
+use crate::playing::Role;
+use crate::stories::changes::change_often;
 use crate::turns::{await_count, give_turns};
 use crate::watched::{Unwatched, Watch, work};
 use pd_desk::{Desk, OpenGate};
 use pd_seat::Seat;
-use pd_text::Name;
 use std::alloc::{AllocError, Global};
 use std::sync::Wait;
 use std::sync::atomic::{AtomicU64, Ordering};
-
-/// How often a thread that changes scripts does so.
-const CHANGES: u64 = 300;
 
 /// What a thread does.
 #[derive(Clone, Copy)]
@@ -51,37 +45,49 @@ impl Way {
     }
 
     /// Whether it works until the desk is shut.
-    pub fn is_work(self) -> bool {
+    fn is_work(self) -> bool {
         matches!(self, Way::Work | Way::Meet)
     }
 
-    pub fn is_change(self) -> bool {
+    fn is_change(self) -> bool {
         matches!(self, Way::Change | Way::ComeAndGo)
     }
 }
 
-/// How far threads are: how many have begun, ended, or ended to work, how many make changes, how many took a first step, and
-/// how many waits came to no end within the turns.
+/// How many threads work until the desk is shut, and how many end by themselves. How far they are: how many have begun, ended,
+/// or ended to work, how many make changes, how many took a first step, and how many waits came to no end within the turns.
 #[derive(Drop)]
 pub struct Progress {
+    pub workers: u64,
+    pub others: u64,
     begun: AtomicU64,
     pub ended: AtomicU64,
     pub left: AtomicU64,
-    pub changing: AtomicU64,
+    changing: AtomicU64,
     met: AtomicU64,
     pub late: AtomicU64,
 }
 
 impl Progress {
-    pub fn new() -> Progress {
-        Progress {
+    /// That of threads of these letters, none of which has begun; none where a letter is no way.
+    pub fn of(letters: &str) -> Option<Progress> {
+        let (mut workers, mut others, mut changing) = (0u64, 0u64, 0u64);
+        for letter in letters.bytes() {
+            let way = Way::of(letter)?;
+            workers = workers.wrapping_add(u64::from(way.is_work()));
+            others = others.wrapping_add(u64::from(!way.is_work()));
+            changing = changing.wrapping_add(u64::from(way.is_change()));
+        }
+        Some(Progress {
+            workers,
+            others,
             begun: AtomicU64::new(0),
             ended: AtomicU64::new(0),
             left: AtomicU64::new(0),
-            changing: AtomicU64::new(0),
+            changing: AtomicU64::new(changing),
             met: AtomicU64::new(0),
             late: AtomicU64::new(0),
-        }
+        })
     }
 
     /// Waits until so many have begun, gives them turns to fall asleep, and begins.
@@ -130,137 +136,69 @@ pub struct Waiter<'a, R> {
     pub alloc: Global,
     pub desk: &'a Desk,
     pub progress: &'a Progress,
-    pub seat: Seat,
+    pub guest: Guest,
     pub way: Way,
     /// How many wait before it.
     pub before: u64,
 }
 
-impl<'a, R: Wait> Task for Waiter<'a, R> {
+impl<'a, R: Wait> Role for Waiter<'a, R> {
     /// Does its part, once those before it had turns to fall asleep.
-    fn run(self) -> Played {
+    fn play(self) -> Option<Guest> {
         let Waiter {
             rt,
             alloc,
             desk,
             progress,
-            seat,
+            mut guest,
             way,
             before,
         } = self;
-        let mut seat = seat;
         progress.begin_after(before);
-        let said = play(rt, alloc, desk, &mut seat, progress, way);
+        do_part(rt, alloc, desk, &mut guest, progress, way);
         progress.note_end(way);
-        Played {
-            seat: Some(seat),
-            said,
-        }
+        Some(guest)
     }
 }
 
-/// What a thread does at its seat, and what is said there.
-fn play<R: Wait>(
+/// What a thread does at its seat, and says there.
+fn do_part<R: Wait>(
     rt: &R,
     alloc: Global,
     desk: &Desk,
-    seat: &mut Seat,
+    guest: &mut Guest,
     progress: &Progress,
     way: Way,
-) -> Result<String, StoryFault> {
+) {
+    let Guest { seat, said } = guest;
     match way {
-        Way::Settle => settle(rt, alloc, desk, seat),
+        Way::Settle => settle(rt, desk, seat, said),
         Way::SettleLast => {
-            let said = settle(rt, alloc, desk, seat);
+            settle(rt, desk, seat, said);
             desk.shut(rt);
-            said
         }
-        Way::SettleOften => settle_often(rt, alloc, desk, seat, progress),
-        Way::Change | Way::ComeAndGo => change_often(rt, alloc, desk, seat, way),
-        Way::Work => Ok(work(rt, alloc, desk, seat, &Unwatched, &OpenGate)?),
-        Way::Meet => Ok(work(rt, alloc, desk, seat, progress, &OpenGate)?),
+        Way::SettleOften => said.say(settle_often(rt, desk, seat, progress)),
+        Way::Change => change_often(&mut Chair { rt, desk, seat }, alloc, true, said),
+        Way::ComeAndGo => change_often(&mut Chair { rt, desk, seat }, alloc, false, said),
+        Way::Work => said.say(work(rt, alloc, desk, seat, &Unwatched, &OpenGate)),
+        Way::Meet => said.say(work(rt, alloc, desk, seat, progress, &OpenGate)),
     }
 }
 
 /// `settled`, or the first fault.
 fn settle_often<R: Wait>(
     rt: &R,
-    alloc: Global,
     desk: &Desk,
     seat: &mut Seat,
     progress: &Progress,
-) -> Result<String, StoryFault> {
+) -> &'static str {
     for _ in rt.forever() {
         if let Err(fault) = desk.settle(rt, seat) {
-            return Ok(owned(alloc, fault.text())?);
+            return fault.text();
         }
         if progress.changing.load(Ordering::SeqCst) == 0 {
             break;
         }
     }
-    Ok(owned(alloc, "settled")?)
-}
-
-/// `changed`, or `refused` where a change was.
-fn change_often<R: Wait>(
-    rt: &R,
-    alloc: Global,
-    desk: &Desk,
-    seat: &mut Seat,
-    way: Way,
-) -> Result<String, StoryFault> {
-    let own = decimal(alloc, seat.number() as u64)?;
-    for _change in 0..CHANGES {
-        if !is_changed(rt, alloc, desk, seat, own.as_bytes(), way)? {
-            return Ok(owned(alloc, "refused")?);
-        }
-    }
-    Ok(owned(alloc, "changed")?)
-}
-
-/// Adds a script, edits it where that is its way, and removes it; whether nothing is refused.
-fn is_changed<R: Wait>(
-    rt: &R,
-    alloc: Global,
-    desk: &Desk,
-    seat: &mut Seat,
-    own: &[u8],
-    way: Way,
-) -> Result<bool, StoryFault> {
-    let is_added = is_added(rt, alloc, desk, seat, own)?;
-    let script = name(alloc, own)?;
-    let is_edited = match way {
-        Way::Change => is_edited(rt, alloc, desk, seat, &script)?,
-        _ => true,
-    };
-    Ok(is_added && is_edited && desk.remove(rt, seat, &script).is_ok())
-}
-
-/// Adds a script; whether it isn't refused.
-fn is_added<R: Wait>(
-    rt: &R,
-    alloc: Global,
-    desk: &Desk,
-    seat: &mut Seat,
-    own: &[u8],
-) -> Result<bool, StoryFault> {
-    let lines = text(alloc, "0 socket(..., SOCK_STREAM, IPPROTO_TCP) = 3")?;
-    Ok(desk.add(rt, seat, name(alloc, own)?, lines).is_ok())
-}
-
-/// Edits a script, and starts and gives up a job; whether nothing is refused.
-fn is_edited<R: Wait>(
-    rt: &R,
-    alloc: Global,
-    desk: &Desk,
-    seat: &mut Seat,
-    script: &Name,
-) -> Result<bool, StoryFault> {
-    let change = edit(alloc, 1, 1, b"+0 listen(3, 1) = 0")?;
-    let is_edited = desk.edit(rt, seat, script, &change).is_ok();
-    let is_ended = match desk.start(rt, seat) {
-        Ok(Some(job)) => desk.abandon(rt, seat, job.number()).is_ok(),
-        _ => true,
-    };
-    Ok(is_edited && is_ended)
+    "settled"
 }
