@@ -73,7 +73,7 @@ impl Bench {
         call(&mut book, &mut self.tasks, texts, word, words, said)
     }
 
-    /// Closes the book with the seats that are here, and says its acts. What comes back is kept.
+    /// Closes the book with the seats that are here, and says its acts.
     fn close(&mut self, said: &mut Said) {
         let Some(held) = self.held.take() else {
             return said.say(MISSING);
@@ -81,12 +81,19 @@ impl Bench {
         let seats = mem::replace(&mut self.seats, Vec::new(self.alloc));
         match held.close(seats) {
             Ok(book) => say_acts(said, book.history(), false),
-            Err(CloseFault::Differs(book)) => {
-                said.say("14 Differs, ");
+            Err(fault) => self.keep(fault, said),
+        }
+    }
+
+    /// Says why the book isn't closed, and keeps what came back.
+    fn keep(&mut self, fault: CloseFault<Held>, said: &mut Said) {
+        said.say(fault.text());
+        match fault {
+            CloseFault::Differs(book) => {
+                said.say(", ");
                 say_acts(said, book.history(), false);
             }
-            Err(CloseFault::MissingSeat(held, seats)) => {
-                said.say("13 MissingSeat");
+            CloseFault::MissingSeat(held, seats) => {
                 self.held = Some(held);
                 self.seats = seats;
             }
