@@ -32,7 +32,7 @@ use Rattle.pd_book.proofs.Replayed.{next_text}
 one_more : (story : Story) (act : Act) → jobs story.opening (act ∷ story.past) ≡ jobs story.opening story.past → full 1 story ≡ None → HasRoom story.opening (act ∷ story.past)
 one_more story act same free = omega (arith, has_room 1 story free, ap length same)
 
-both_none : (first second : Option BookFault) → or_else first second ≡ None → (first ≡ None) × (second ≡ None)
+pub both_none : (first second : Option BookFault) → or_else first second ≡ None → (first ≡ None) × (second ≡ None)
 both_none None second h = (refl, h)
 both_none (Some fault) second h = absurd cc
 

@@ -153,21 +153,33 @@ impl Book {
         ensures same { OnErr result (self.new ≡ self.old) }
         ensures tracks { self.new.tracks ≡ self.old.tracks }
     {
-        if !name.is_valid() {
-            return Err(BookFault::BadName);
-        }
-        if self.stands(&name) {
-            return Err(BookFault::NameTaken);
-        }
-        if self.count() >= MAX_SCRIPTS {
-            return Err(BookFault::TooManyScripts);
-        }
-        if let Some(fault) = self.full(1) {
+        if let Some(fault) = self.add_refusal(&name) {
             return Err(fault);
         }
-        let Some(text) = text else {
-            return Err(BookFault::OutOfMemory);
-        };
+        match text {
+            Some(text) => self.keep(name, text),
+            None => Err(BookFault::OutOfMemory),
+        }
+    }
+
+    /// Why no script of this name is added: the name, or no room in the history.
+    fn add_refusal(&self, name: &Name) -> Option<BookFault>
+        ensures { result ≡ add_refusal self.now.story name.now }
+    {
+        match self.name_refusal(name) {
+            Some(fault) => Some(fault),
+            None => self.full(1),
+        }
+    }
+
+    /// Keeps a script whose adding isn't refused.
+    fn keep(&mut self, name: Name, text: Text) -> Result<(), BookFault>
+        requires allowed { add_refusal self.old.story name ≡ None }
+        ensures ok { OnOk result (self.new.story ≡ told self.old.story (Act.Add name text)) }
+        ensures err { IfErr result (λ e. e ≡ BookFault.OutOfMemory) }
+        ensures same { OnErr result (self.new ≡ self.old) }
+        ensures tracks { self.new.tracks ≡ self.old.tracks }
+    {
         texts_have_lines(&text);
         self.records.acts.reserve(self.records.tasks.len() + 1)?;
         let act = Act::Add(name.share()?, text.share()?);

@@ -6,7 +6,7 @@ ghost use Rattle.pd_cli.specs.Chosen.{HasChosenToExplain};
 ghost use Rattle.pd_cli.specs.ProgramWords.{pdexplain, only_rule, json_rule, word_faults};
 
 use crate::chosen::ExplainOptions;
-use crate::word_options::{COMMANDS_EXPLAIN, cache_in, cache_option, settings_option};
+use crate::word_options::{COMMANDS_EXPLAIN, base_command, cache_in};
 use clap::error::ErrorKind;
 use clap::{Arg, ArgAction, ArgMatches, Command, Error};
 use std::alloc::{AllocError, Global};
@@ -63,16 +63,8 @@ fn explain_command<'a>(alloc: Global) -> Result<Command<'a>, Error>
     ensures words { IfOk result (λ command. app_of command ≡ pdexplain) }
     ensures memory { IfErr result (λ error. kind_of error ≡ ErrorKind.OutOfMemory) }
 {
-    Ok(
-        Command::new(alloc, "pdexplain")
-            .bin_name("pdexplain")?
-            .arg(settings_option(alloc))?
-            .arg(cache_option(alloc))?
-            .arg(only_option(alloc))?
-            .arg(json_option(alloc))?
-            .about(ABOUT)
-            .after_help(COMMANDS_EXPLAIN),
-    )
+    let command = base_command(alloc, "pdexplain", ABOUT, COMMANDS_EXPLAIN)?;
+    Ok(command.arg(only_option(alloc))?.arg(json_option(alloc))?)
 }
 
 fn only_option<'a>(alloc: Global) -> Arg<'a>

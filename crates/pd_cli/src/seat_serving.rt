@@ -1,5 +1,5 @@
 //! Serving the commands of a reader at a seat of a desk, while others work there.
-ghost use Rattle.std.specs.Prelude.{◌≡◌, ℕ, List, IfOk, IfErr};
+ghost use Rattle.std.specs.Prelude.{◌≡◌, ℕ, List, [], IfOk, IfErr};
 ghost use Rattle.std.specs.Io.KnownBytes.{Appends};
 ghost use Rattle.pd_cli.specs.Beside.{MayPrint, ServesBeside};
 ghost use Rattle.pd_cli.specs.BesideSteps.{DoesBeside, EndsBeside, FailsBeside};
@@ -42,10 +42,26 @@ pub fn serve_seat<H: Wait, R: Read, W: Write>(
     let at = AtDesk { rt, alloc, desk };
     let mut intake = Intake::new(alloc);
     let mut own = Book::new(alloc, 1, settings);
+    serve_all(&at, seat, &mut own, &mut intake, reader, writer)
+}
+
+/// Serves to the end of the input, with a new copy and nothing read.
+fn serve_all<H: Wait, R: Read, W: Write>(
+    at: &AtDesk<'_, H>,
+    seat: &mut Seat,
+    own: &mut Book,
+    intake: &mut Intake,
+    reader: &mut R,
+    writer: &mut W,
+) -> Result<bool, ServeFault>
+    requires new { own.old.story ≡ record { opening = own.old.story.opening; past = [] } }
+    requires unread { intake.old ≡ ([], 1048576) }
+    ensures { ServesBeside result own.old.story.opening (R.remaining reader.old) (W.contents writer.old) (W.contents writer.new) }
+{
     loop {
-        match next_command(alloc, &mut intake, reader)? {
-            Some(command) => serve_command(&at, seat, &mut own, command, writer)?,
-            None => return serve_end(&at, seat, &own, writer),
+        match next_command(at.alloc, intake, reader)? {
+            Some(command) => serve_command(at, seat, own, command, writer)?,
+            None => return serve_end(at, seat, own, writer),
         }
     }
 }

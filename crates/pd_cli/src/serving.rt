@@ -1,5 +1,5 @@
 //! Serving the commands of a reader to a writer.
-ghost use Rattle.std.specs.Prelude.{◌≡◌, ◌≤◌, ℕ, List, Ok, IfOk, IfErr, IfSome};
+ghost use Rattle.std.specs.Prelude.{◌≡◌, ◌≤◌, ℕ, List, [], Ok, IfOk, IfErr, IfSome};
 ghost use Rattle.std.specs.Io.KnownBytes.{Appends};
 ghost use Rattle.pd_cli.specs.Output.{effect, Serves};
 ghost use Rattle.pd_cli.specs.Steps.{IsQuiet, Fails, Does, Ends};
@@ -56,11 +56,28 @@ pub(crate) fn serve_heard<R: Read, W: Write, L: Listener>(
 {
     let mut intake = Intake::new(alloc);
     let mut book = Book::new(alloc, cache, settings);
+    serve_all(alloc, &mut book, &mut intake, reader, writer, listener)
+}
+
+/// Serves to the end of the input, with a new book and nothing read.
+fn serve_all<R: Read, W: Write, L: Listener>(
+    alloc: Global,
+    book: &mut Book,
+    intake: &mut Intake,
+    reader: &mut R,
+    writer: &mut W,
+    listener: &mut L,
+) -> Result<bool, ServeFault>
+    requires new { book.old.story ≡ record { opening = book.old.story.opening; past = [] } }
+    requires unread { intake.old ≡ ([], 1048576) }
+    ensures serves { Serves result book.old.story.opening (R.remaining reader.old) (W.contents writer.old) (W.contents writer.new) }
+    ensures heard { (jobs : List Counted) × AreNumbered 0 jobs × HearsAll L.hears listener.old listener.new jobs }
+{
     loop {
-        at_rest(&book);
-        match next_command(alloc, &mut intake, reader)? {
-            Some(command) => serve_command(alloc, &mut book, command, writer, listener)?,
-            None => return serve_end(alloc, &mut book, writer, listener),
+        at_rest(book);
+        match next_command(alloc, intake, reader)? {
+            Some(command) => serve_command(alloc, book, command, writer, listener)?,
+            None => return serve_end(alloc, book, writer, listener),
         }
     }
 }

@@ -1,6 +1,6 @@
 //! The words of the programs, read by `clap`.
 ghost use Rattle.std.specs.Prelude.{true, false, ◌≡◌, ◌≢◌, ◌⊎◌, ◌≤◌, [], IfOk, IfErr, map};
-ghost use Rattle.clap.specs.Words.{app_of, is_simple, is_simple_and_free, kind_of, rule_of};
+ghost use Rattle.clap.specs.Words.{app_of, is_simple, is_simple_and_free, kind_of, new_app, rule_of, with_rule};
 ghost use Rattle.pd_cli.specs.ProgramWords.{pdregress, pdsteps, settings_rule, cache_rule, workers_rule, without_sign, workers_in, cache_in, word_faults};
 ghost use Rattle.pd_cli.specs.Chosen.{HasChosen};
 
@@ -113,15 +113,8 @@ fn scripts_command<'a>(alloc: Global) -> Result<Command<'a>, Error>
     ensures words { IfOk result (λ command. app_of command ≡ pdregress) }
     ensures memory { IfErr result (λ error. kind_of error ≡ ErrorKind.OutOfMemory) }
 {
-    Ok(
-        Command::new(alloc, "pdregress")
-            .bin_name("pdregress")?
-            .arg(settings_option(alloc))?
-            .arg(cache_option(alloc))?
-            .arg(workers_option(alloc))?
-            .about(ABOUT)
-            .after_help(COMMANDS),
-    )
+    let command = base_command(alloc, "pdregress", ABOUT, COMMANDS)?;
+    Ok(command.arg(workers_option(alloc))?)
 }
 
 /// What the words of the program that tells steps may be.
@@ -129,13 +122,26 @@ fn steps_command<'a>(alloc: Global) -> Result<Command<'a>, Error>
     ensures words { IfOk result (λ command. app_of command ≡ pdsteps) }
     ensures memory { IfErr result (λ error. kind_of error ≡ ErrorKind.OutOfMemory) }
 {
+    base_command(alloc, "pdsteps", ABOUT_STEPS, COMMANDS_STEPS)
+}
+
+/// What the words of a program of this name may be, with what `--help` says first and last: settings and a cache.
+pub(crate) fn base_command<'a>(
+    alloc: Global,
+    name: &'a str,
+    about: &'a str,
+    after_help: &'a str,
+) -> Result<Command<'a>, Error>
+    ensures words { IfOk result (λ command. app_of command ≡ with_rule (with_rule (new_app name.entry.now) settings_rule) cache_rule) }
+    ensures memory { IfErr result (λ error. kind_of error ≡ ErrorKind.OutOfMemory) }
+{
     Ok(
-        Command::new(alloc, "pdsteps")
-            .bin_name("pdsteps")?
+        Command::new(alloc, name)
+            .bin_name(name)?
             .arg(settings_option(alloc))?
             .arg(cache_option(alloc))?
-            .about(ABOUT_STEPS)
-            .after_help(COMMANDS_STEPS),
+            .about(about)
+            .after_help(after_help),
     )
 }
 
@@ -165,7 +171,7 @@ fn workers_option<'a>(alloc: Global) -> Arg<'a>
         .action(ArgAction::Set)
 }
 
-pub(crate) fn cache_option<'a>(alloc: Global) -> Arg<'a>
+fn cache_option<'a>(alloc: Global) -> Arg<'a>
     ensures rule { rule_of result ≡ cache_rule }
     ensures local { result.global ≡ false }
 {

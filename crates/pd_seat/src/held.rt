@@ -11,7 +11,7 @@ ghost use Rattle.pd_seat.specs.Seats.{new_seats, IsNew, Records, Unless, is_unen
 
 use crate::comparing::is_own;
 use crate::faults::ShowFault;
-use crate::recording::{drop_job, make_room, note, record};
+use crate::recording::{drop_job, make_room, note, record, reserve};
 use crate::seat::Seat;
 use pd_book::{
     Act, Book, BookFault, Done, FinishFault, Job, Report, Ruling, SharedEdit, acts_are_legal,
@@ -87,10 +87,10 @@ impl Held {
         ensures tracks { self.new.book.tracks ≡ self.old.book.tracks }
         ensures refuses { OnErr result ((self.new ≡ self.old) × (seat.new ≡ seat.old)) }
     {
-        self.notes.reserve(self.book.outstanding_count() + 1)?;
-        seat.own.reserve(seat.open_jobs.len() + 1)?;
-        let text = Text::new(*self.notes.allocator(), lines)?;
-        let act = Act::Add(name.share()?, text.share()?);
+        let open = seat.open_jobs.len();
+        let outstanding = self.book.outstanding_count();
+        reserve(&mut self.notes, outstanding + 1, &mut seat.own, open + 1)?;
+        let (text, act) = added(*self.notes.allocator(), &name, lines)?;
         self.book.add_shared(name, text)?;
         acts_are_legal(&self.book);
         note(&mut self.notes, seat.number);
@@ -126,9 +126,10 @@ impl Held {
         ensures tracks { self.new.book.tracks ≡ self.old.book.tracks }
         ensures refuses { OnErr result ((self.new ≡ self.old) × (seat.new ≡ seat.old)) }
     {
-        self.notes.reserve(self.book.outstanding_count() + 1)?;
-        seat.own.reserve(seat.open_jobs.len() + 1)?;
-        let act = Act::Edit(self.book.kept_name(name)?, edit.share()?);
+        let open = seat.open_jobs.len();
+        let outstanding = self.book.outstanding_count();
+        reserve(&mut self.notes, outstanding + 1, &mut seat.own, open + 1)?;
+        let act = edited(&self.book, name, &edit)?;
         self.book.edit_shared(name, edit)?;
         acts_are_legal(&self.book);
         note(&mut self.notes, seat.number);
@@ -147,8 +148,9 @@ impl Held {
         ensures tracks { OnOk result (self.new.book.tracks ≡ without_track name.now self.old.book.tracks) }
         ensures refuses { OnErr result ((self.new ≡ self.old) × (seat.new ≡ seat.old)) }
     {
-        self.notes.reserve(self.book.outstanding_count() + 1)?;
-        seat.own.reserve(seat.open_jobs.len() + 1)?;
+        let open = seat.open_jobs.len();
+        let outstanding = self.book.outstanding_count();
+        reserve(&mut self.notes, outstanding + 1, &mut seat.own, open + 1)?;
         let act = Act::Remove(self.book.kept_name(name)?);
         self.book.remove(name)?;
         acts_are_legal(&self.book);
@@ -168,8 +170,9 @@ impl Held {
         ensures tracks { self.new.book.tracks ≡ self.old.book.tracks }
         ensures refuses { OnErr result ((self.new ≡ self.old) × (seat.new ≡ seat.old)) }
     {
-        self.notes.reserve(self.book.outstanding_count() + 1)?;
-        seat.own.reserve(seat.open_jobs.len() + 1)?;
+        let open = seat.open_jobs.len();
+        let outstanding = self.book.outstanding_count();
+        reserve(&mut self.notes, outstanding + 1, &mut seat.own, open + 1)?;
         self.book.set(key, value)?;
         let Some(key) = Key::named(key) else {
             return Ok(());
@@ -203,8 +206,9 @@ impl Held {
         ensures none { IfOk result (λ given. IfNone given ((self.new ≡ self.old) × (seat.new ≡ seat.old))) }
         ensures refuses { OnErr result ((self.new ≡ self.old) × (seat.new ≡ seat.old)) }
     {
-        self.notes.reserve(self.book.outstanding_count() + 2)?;
-        seat.own.reserve(seat.open_jobs.len() + 2)?;
+        let open = seat.open_jobs.len();
+        let outstanding = self.book.outstanding_count();
+        reserve(&mut self.notes, outstanding + 2, &mut seat.own, open + 2)?;
         seat.open_jobs.reserve(1)?;
         let act = self.next_start()?;
         let Some(job) = self.book.start()? else {
@@ -318,4 +322,21 @@ impl Held {
     {
         self.book.next_name().is_some()
     }
+}
+
+/// A text of these lines, and the act that adds a script of it.
+fn added(alloc: Global, name: &Name, lines: Lines) -> Result<(Text, Act), AllocError>
+    ensures text { IfOk result (λ made. made.0 ≡ lines) }
+    ensures act { IfOk result (λ made. made.1 ≡ Act.Add name.now lines) }
+{
+    let text = Text::new(alloc, lines)?;
+    let act = Act::Add(name.share()?, text.share()?);
+    Ok((text, act))
+}
+
+/// The act that edits a script so.
+fn edited(book: &Book, name: &Name, edit: &SharedEdit) -> Result<Act, AllocError>
+    ensures { IfOk result (λ act. act ≡ Act.Edit name.now edit.now) }
+{
+    Ok(Act::Edit(book.kept_name(name)?, edit.share()?))
 }

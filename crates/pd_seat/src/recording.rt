@@ -5,6 +5,24 @@ ghost use Rattle.std.specs.List.{list_any};
 use pd_book::Act;
 use std::alloc::AllocError;
 
+/// Makes room for so many notes and so many acts more.
+///
+/// # Errors
+/// `AllocError` where a growth is refused.
+pub fn reserve(
+    notes: &mut Vec<usize>,
+    more_notes: usize,
+    own: &mut Vec<Act>,
+    more_acts: usize,
+) -> Result<(), AllocError>
+    ensures notes { (notes.new.items ≡ notes.old.items) × (vec_len notes.new ≡ vec_len notes.old) × (vec_capacity notes.old ≤ vec_capacity notes.new) }
+    ensures own { (own.new.items ≡ own.old.items) × (vec_len own.new ≡ vec_len own.old) × (vec_capacity own.old ≤ vec_capacity own.new) }
+    ensures room { OnOk result ((vec_len notes.new + more_notes ≤ vec_capacity notes.new) × (vec_len own.new + more_acts ≤ vec_capacity own.new)) }
+{
+    notes.reserve(more_notes)?;
+    own.reserve(more_acts)
+}
+
 /// Adds an act.
 pub fn record(acts: &mut Vec<Act>, act: Act)
     requires { vec_len acts.old < vec_capacity acts.old }

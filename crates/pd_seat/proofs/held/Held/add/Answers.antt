@@ -2,6 +2,7 @@
 use Rattle.std.proofs.Common.{◌∙◌, ◌∷◌, ℕ, List, reverse, refl, ap, arith}
 use Rattle.pd_book.specs.declared.act.Act.{Act}
 use Rattle.pd_book.specs.declared.act.Act.TheVariants.{Add}
+use Rattle.pd_seat.specs.Seats.{unended}
 use Rattle.pd_seat.proofs.Noting.{more_noted, more_seat}
 use Rattle.pd_seat.proofs.held.Held.add.Goals as goal
 
@@ -11,13 +12,13 @@ invariant_of-self-2 c =
     let act = Add c.args.name c.in_ok-text.text in
     more_noted book c.add_shared.new.self c.self.inside.notes.items c.note.new.notes.items _ _ act c.seat.inside.number
     c.self.invariant c.in_ok-add_shared.ensures.ok c.acts_are_legal.ensures refl
-    (c.note.ensures.past ∙ ap (λ (l : List ℕ). c.seat.inside.number ∷ reverse l) c.reserve.ensures.items)
-    (omega (arith, c.in_ok-reserve.ensures.ok, c.reserve.ensures.len, c.self.inside.notes.ok, c.outstanding_count.ensures.count, c.note.ensures.capacity))
+    (c.note.ensures.past ∙ ap (λ (l : List ℕ). c.seat.inside.number ∷ reverse l) c.reserve.ensures.notes.0)
+    (omega (arith, c.in_ok-reserve.ensures.room.0, c.reserve.ensures.notes.1, c.self.inside.notes.ok, c.outstanding_count-outstanding.ensures.count, c.note.ensures.capacity))
 
 pub invariant_of-seat-2 : goal.invariant_of-seat-2
 invariant_of-seat-2 c =
-    let act = Add c.in_ok-share.field-0 c.in_ok-share-2.field-0 in
+    let act = c.in_ok-text.act in
+    let own = reverse c.seat.inside.own.items in
     more_seat c.seat.inside.own.items c.record.new.acts.items c.seat.inside.open_jobs.items _ _ act
-    c.seat.invariant refl
-    (c.record.ensures.past ∙ ap (λ (l : List Act). act ∷ reverse l) c.reserve-2.ensures.items)
-    (omega (arith, c.in_ok-reserve-2.ensures.ok, c.reserve-2.ensures.len, c.seat.inside.own.ok, c.len.ensures, c.seat.inside.open_jobs.ok, c.record.ensures.capacity))
+    c.seat.invariant (ap (λ (a : Act). unended (a ∷ own)) c.in_ok-text.ensures.act) (c.record.ensures.past ∙ ap (λ (l : List Act). act ∷ reverse l) c.reserve.ensures.own.0)
+    (omega (arith, c.in_ok-reserve.ensures.room.1, c.reserve.ensures.own.1, c.seat.inside.own.ok, c.len-open.ensures, c.seat.inside.open_jobs.ok, c.record.ensures.capacity))

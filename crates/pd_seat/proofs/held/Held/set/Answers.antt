@@ -16,16 +16,16 @@ invariant_of-self-2 c =
     let now = content (λ (key : Key). c.set.new.self.story ≡ told book.story (Set key c.args.value)) (key_named c.args.key.now) c.in-Some.key named c.in_ok-set.ensures.ok in
     more_noted book c.set.new.self c.self.inside.notes.items c.note.new.notes.items _ _ act c.seat.inside.number
     c.self.invariant now c.acts_are_legal.ensures refl
-    (c.note.ensures.past ∙ ap (λ (l : List ℕ). c.seat.inside.number ∷ reverse l) c.reserve.ensures.items)
-    (omega (arith, c.in_ok-reserve.ensures.ok, c.reserve.ensures.len, c.self.inside.notes.ok, c.outstanding_count.ensures.count, c.note.ensures.capacity))
+    (c.note.ensures.past ∙ ap (λ (l : List ℕ). c.seat.inside.number ∷ reverse l) c.reserve.ensures.notes.0)
+    (omega (arith, c.in_ok-reserve.ensures.room.0, c.reserve.ensures.notes.1, c.self.inside.notes.ok, c.outstanding_count-outstanding.ensures.count, c.note.ensures.capacity))
 
 pub invariant_of-seat-2 : goal.invariant_of-seat-2
 invariant_of-seat-2 c =
     let act = Set c.in-Some.key c.args.value in
     more_seat c.seat.inside.own.items c.record.new.acts.items c.seat.inside.open_jobs.items _ _ act
     c.seat.invariant refl
-    (c.record.ensures.past ∙ ap (λ (l : List Act). act ∷ reverse l) c.reserve-2.ensures.items)
-    (omega (arith, c.in_ok-reserve-2.ensures.ok, c.reserve-2.ensures.len, c.seat.inside.own.ok, c.len.ensures, c.seat.inside.open_jobs.ok, c.record.ensures.capacity))
+    (c.record.ensures.past ∙ ap (λ (l : List Act). act ∷ reverse l) c.reserve.ensures.own.0)
+    (omega (arith, c.in_ok-reserve.ensures.room.1, c.reserve.ensures.own.1, c.seat.inside.own.ok, c.len-open.ensures, c.seat.inside.open_jobs.ok, c.record.ensures.capacity))
 
 pub returns-in_err-set-clause-gives : goal.returns-in_err-set-clause-gives
 returns-in_err-set-clause-gives c =
