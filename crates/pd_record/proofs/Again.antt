@@ -29,7 +29,7 @@ use Rattle.pd_run.specs.declared.verdicts.Verdict.{Verdict}
 use Rattle.pd_record.specs.Following.{RecordingsFollowRuns}
 use Rattle.pd_record.specs.Recording.{Tracked, records, closed, tracks_of, recording_in, events_in, events_taken, events_of_all, events_of}
 use Rattle.pd_record.specs.Answered.{IsRecording}
-use Rattle.pd_record.specs.Sameness.{unplaced, AreTheSame, kinds_of, IsReadAs}
+use Rattle.pd_layout.specs.Sameness.{unplaced, AreTheSame, kinds_of, IsReadAs}
 use Rattle.pd_record.specs.Tape.{Tape, Took, Answers, then_do, unless, blank_from, gone_to, stepped, recorded_as, event_at, refusal_at, taken, leaves_next, departs, with_unmet, comes, comes_on, left_by, with_base, acts_at, inputs, arrives, answered, answer_at, with_answer, calls, based_after, meets, meets_oldest, ruling_at, performed, recorded}
 use Rattle.pd_record.specs.declared.refusals.NotRecorded.TheVariants.{Stopped}
 use Rattle.pd_record.specs.declared.tape.Own.{Own}

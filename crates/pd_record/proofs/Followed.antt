@@ -1,5 +1,5 @@
 -- Where a text passes, its recording follows its run.
-use Rattle.std.proofs.Common.{◌≡◌, ℕ, zero, suc, ◌+◌, ◌-◌, ◌<◌, ◌≤◌, max, nat_le, Bool, true, false, if◌then◌else◌, Option, Some, None, List, [], ◌∷◌, ◌++◌, length, map, take, slice_get, Result, Ok, Err, refl, sym, ap, subst, ◌∙◌, ◌⊎◌, inl, inr, append_assoc, append-nil, arith}
+use Rattle.std.proofs.Common.{◌≡◌, ℕ, suc, ◌+◌, ◌<◌, ◌≤◌, max, nat_le, Bool, true, false, if◌then◌else◌, Option, Some, None, List, [], ◌∷◌, ◌++◌, length, map, slice_get, Result, Ok, Err, refl, sym, ap, subst, ◌∙◌, inl, inr, append_assoc, append-nil, arith}
 use Rattle.std.specs.Prelude.{IfSome, option_map, unwrap_or}
 use Rattle.std.proofs.lemmas.Bool.{leb-true}
 use Rattle.std.proofs.lemmas.List.{map-append}
@@ -24,7 +24,7 @@ use Rattle.pd_host.specs.declared.sender_state.State.{State}
 use Rattle.pd_match.specs.Calls.{result_mismatch}
 use Rattle.pd_print.specs.Sent.{packet_of}
 use Rattle.pd_run.specs.Inbound.{segment_in}
-use Rattle.pd_run.specs.Run.{start_of, on_script, verdict_from, verdict_of}
+use Rattle.pd_run.specs.Run.{start_of, on_script, verdict_from}
 use Rattle.pd_run.specs.Step as run
 use Rattle.pd_run.specs.Step.{Running, tolerance_of, noted, on_step, acted, on_arrival, on_answer, answers, step}
 use Rattle.pd_run.specs.Times.{moment_of, moments_of, is_in_reach, base_after}
@@ -33,20 +33,20 @@ use Rattle.pd_run.specs.declared.verdicts.Verdict.{Verdict}
 use Rattle.pd_run.specs.declared.verdicts.Verdict.TheVariants.{Pass, Syntax}
 use Rattle.pd_run.specs.declared.whys.Why.{Why}
 use Rattle.pd_run.specs.declared.whys.Why.TheVariants.{OverLimit, NotRun, Backwards, Halted, Missing, Differs, Answered}
-use Rattle.pd_record.specs.Following.{Input, input_at, inputs_from, inputs_of, taken_at, taken_from, taken_of, own_in, all_taken, all_of, inputs_in, departure_at, departures_in, departed, FollowsRun, RecordingsFollowRuns}
-use Rattle.pd_record.specs.Recording.{Tracked, records, closed, tracks_of, recording_in, recording_of, events_in, event_in, events_taken, events_of_all, events_of}
+use Rattle.pd_record.specs.Following.{Input, input_at, inputs_from, inputs_of, taken_at, taken_from, taken_of, own_in, all_taken, inputs_in, departure_at, departures_in, departed, FollowsRun, RecordingsFollowRuns}
+use Rattle.pd_record.specs.Recording.{Tracked, records, closed, tracks_of, recording_in, events_in, event_in, events_of_all}
 use Rattle.pd_record.specs.Tape.{Tape, Took, Answers, then_do, blank_from, recorded_as, event_at, taken, leaves_next, departs, left_by, with_base, acts_at, inputs, arrives, answer_at, with_answer, calls, based_after, meets, meets_oldest, ruling_at, performed, recorded}
 use Rattle.pd_record.specs.declared.refusals.NotRecorded.TheVariants.{Stopped}
 use Rattle.pd_record.specs.declared.tape.Own.{Own}
 use Rattle.pd_record.specs.declared.tape.Recorded.{Recorded}
 use Rattle.pd_run.specs.Laws.{IsUnderway}
 use Rattle.pd_record.proofs.Again.{Bases, IsReady, gone, was_taken, packet_went, event_went, events_went}
-use Rattle.pd_record.proofs.Freed.{CameBy, came_by, in_front, both_in_front, find_due, advanced_freed, none_due}
+use Rattle.pd_record.proofs.Freed.{came_by, in_front, both_in_front, find_due, advanced_freed, none_due}
 use Rattle.pd_record.proofs.FreedArrivals.{arrived_freed}
 use Rattle.pd_record.proofs.FreedCalls.{beside_answer, called_freed}
 use Rattle.pd_record.proofs.Leaves.{step_passes, agreed, no_items, stands_next, expires_next}
 use Rattle.pd_record.proofs.Lines.{verdict_begun}
-use Rattle.pd_record.proofs.Meeting.{Met, Waits, met, same_before, takes_next, without_first, moment, LeftOver, all_left}
+use Rattle.pd_record.proofs.Meeting.{Met, Waits, met, same_before, without_first, moment, LeftOver, all_left}
 use Rattle.pd_record.proofs.Passing.{ok, given, both, no_refusal, own_of, answer_own, took, tracked, blank}
 
 -- ---- lists of what was recorded

@@ -1,5 +1,5 @@
 -- The packets that nobody has taken change nothing that a sender does, but how many more of them the outbox takes.
-use Rattle.std.proofs.Common.{◌≡◌, ℕ, zero, suc, ◌+◌, ◌<◌, ◌≤◌, ◌==◌, ◌&&◌, min, Bool, true, false, if◌then◌else◌, nat_le, nat_lt, Option, None, Some, is_some, List, [], ◌∷◌, ◌++◌, length, Result, Ok, Err, refl, sym, ap, subst, ◌∙◌, append_assoc, arith}
+use Rattle.std.proofs.Common.{◌≡◌, ℕ, zero, suc, ◌+◌, ◌<◌, ◌≤◌, Bool, true, false, if◌then◌else◌, nat_le, nat_lt, Option, None, Some, is_some, List, [], ◌∷◌, ◌++◌, length, Result, Ok, Err, refl, sym, ap, subst, ◌∙◌, append_assoc, arith}
 use Rattle.std.proofs.lemmas.Bool.{le-leb, leb-true, lt-ltb, ltb-true}
 use Rattle.std.proofs.lemmas.List.{length-append}
 use Rattle.pd_board.specs.Choice.{run_at}
@@ -17,7 +17,7 @@ use Rattle.pd_host.specs.Packets.{data_of}
 use Rattle.pd_host.specs.Places.{has_place}
 use Rattle.pd_host.specs.Sender.{beside, with_outbox, then_on}
 use Rattle.pd_host.specs.Sending.{on_found, repeated, places_left, with_packet_sent, with_block, past_sacked, sent_on, with_segment, sent_ordinarily, ready, sent_until_done, ordinary}
-use Rattle.pd_host.specs.SendingLaws.{PutsOutOne, SendsOneByOne}
+use Rattle.pd_host.specs.SendingLaws.{SendsOneByOne}
 use Rattle.pd_host.specs.Timing.{clocked}
 use Rattle.pd_host.specs.declared.endpoint.Endpoint.{Endpoint}
 use Rattle.pd_host.specs.declared.established.Established.{Established}

@@ -1,8 +1,8 @@
 -- The packets that nobody has taken change nothing of an arrival.
-use Rattle.std.proofs.Common.{◌≡◌, ℕ, ◌&&◌, ◌++◌, if◌then◌else◌, Option, None, Some, List, Result, Ok, Err, refl}
+use Rattle.std.proofs.Common.{ℕ, ◌&&◌, ◌++◌, Option, None, Some, List, Ok, Err, refl}
 use Rattle.pd_seg.specs.declared.segments.Segment.{Segment}
 use Rattle.pd_seg.specs.declared.segments.Sent.{Sent}
-use Rattle.pd_host.specs.Arrivals.{ruled, goes_on, finished_on, finished_by, passed_on, arrived_on, arrived, ruling_of, reset_of, with_peer_fin, with_connection}
+use Rattle.pd_host.specs.Arrivals.{ruled, goes_on, finished_on, finished_by, arrived_on, arrived, ruling_of, reset_of, with_peer_fin, with_connection}
 use Rattle.pd_host.specs.ControlBlock.{ControlBlock}
 use Rattle.pd_host.specs.Handshake.{is_opening, block_begun, answered_syn, syn_uses, established_by, establishment_uses}
 use Rattle.pd_host.specs.Packets.{ack_of, refusal_of, syn_ack_of}

@@ -1,5 +1,4 @@
 -- The lemmas of this crate.
-pub mod Images
 pub mod Found
 pub mod Bounds
 pub mod Leaving

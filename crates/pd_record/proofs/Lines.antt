@@ -28,7 +28,7 @@ use Rattle.pd_run.specs.Times.{moments_of, is_backwards, is_in_reach, base_after
 use Rattle.pd_run.specs.declared.verdicts.Verdict.{Verdict}
 use Rattle.pd_run.specs.declared.verdicts.Verdict.TheVariants.{Pass, Fail, Unsupported, Limit}
 use Rattle.pd_record.specs.Recording.{Tracked, tracks_of, events_of}
-use Rattle.pd_record.specs.Sameness.{unplaced, AreTheSame, kinds_of, IsReadAs}
+use Rattle.pd_layout.specs.Sameness.{unplaced, AreTheSame, kinds_of, IsReadAs}
 use Rattle.pd_record.proofs.Passing.{Through, passes, recording_goes}
 
 -- the event at another line

@@ -1,8 +1,7 @@
 -- What an expected packet takes where it passes, and what is left by a moment.
-use Rattle.std.proofs.Common.{◌≡◌, ℕ, zero, suc, ◌≤◌, ◌==◌, max, nat_le, Bool, true, false, if◌then◌else◌, Option, Some, None, List, [], ◌∷◌, ◌++◌, length, map, take, drop, slice_get, Result, Ok, Err, refl, sym, ap, subst, ◌∙◌, ◌⊎◌, inl, inr, append_assoc, append-nil, arith}
+use Rattle.std.proofs.Common.{◌≡◌, ℕ, zero, suc, ◌≤◌, nat_le, Bool, true, false, if◌then◌else◌, Option, Some, None, List, [], ◌∷◌, ◌++◌, length, map, take, drop, slice_get, Result, Ok, refl, sym, ap, subst, ◌∙◌, ◌⊎◌, inl, inr, append_assoc, append-nil}
 use Rattle.std.proofs.lemmas.Bool.{leb-true}
 use Rattle.pd_script.specs.declared.packets.Packet.{Packet}
-use Rattle.pd_script.specs.declared.script_events.Action.{Action}
 use Rattle.pd_script.specs.declared.script_events.Action.TheVariants.{Outbound}
 use Rattle.pd_script.specs.declared.script_events.Event.{Event}
 use Rattle.pd_seg.specs.declared.segments.Sent.{Sent}
@@ -12,16 +11,16 @@ use Rattle.pd_host.specs.declared.halts.Halt.{Halt}
 use Rattle.pd_host.specs.declared.sender_state.State.{State}
 use Rattle.pd_match.specs.Packets.{mismatch}
 use Rattle.pd_print.specs.Sent.{packet_of}
-use Rattle.pd_run.specs.Step.{Running, tolerance_of, noted, on_step, with_state, awaited, taken as compared, leaves, step}
+use Rattle.pd_run.specs.Step.{Running, tolerance_of, noted, on_step, with_state, awaited, taken as compared, leaves}
 use Rattle.pd_run.specs.Times.{moments_of, is_in_reach, base_after}
 use Rattle.pd_run.specs.declared.verdicts.Verdict.{Verdict}
 use Rattle.pd_record.specs.Following.{input_at, inputs_in, departure_at, departures_in, departed}
-use Rattle.pd_record.specs.Tape.{Tape, Answers, then_do, recorded_as, event_at, leaves_next, or_expired, due_where, oldest_of, departs, with_unmet, comes, comes_on}
+use Rattle.pd_record.specs.Tape.{Tape, Answers, recorded_as, event_at, leaves_next, or_expired, due_where, oldest_of, departs, with_unmet, comes, comes_on}
 use Rattle.pd_record.specs.declared.tape.Recorded.{Recorded}
-use Rattle.pd_record.proofs.Again.{Bases, IsReady, gone, was_taken, packet_went}
-use Rattle.pd_record.proofs.Freed.{CameBy, came_by, in_front, find_due, advanced_freed, advanced_on, none_due}
+use Rattle.pd_record.proofs.Again.{Bases, IsReady, was_taken, packet_went}
+use Rattle.pd_record.proofs.Freed.{came_by, in_front, find_due, advanced_freed, advanced_on, none_due}
 use Rattle.pd_record.proofs.Leaves.{Awaited, Stands, Expires, step_passes, agreed, both as stepped_both, which_awaited, what_leaves, no_items, none_in, first_sent}
-use Rattle.pd_record.proofs.Passing.{ok, given, both}
+use Rattle.pd_record.proofs.Passing.{given, both}
 
 -- a state that came
 abbrev ran : State → Result State Halt

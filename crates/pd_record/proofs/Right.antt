@@ -6,7 +6,7 @@ use Rattle.pd_run.specs.Run.{verdict_of}
 use Rattle.pd_run.specs.declared.verdicts.Verdict.TheVariants.{Pass}
 use Rattle.pd_record.specs.Recording.{Tracked, tracks_of, events_of}
 use Rattle.pd_record.specs.Answered.{IsRight, IsRecording}
-use Rattle.pd_record.specs.Sameness.{IsReadAs}
+use Rattle.pd_layout.specs.Sameness.{IsReadAs}
 use Rattle.pd_record.specs.Scripts.{IsRead, events_placed}
 use Rattle.pd_record.specs.declared.scripts.Script.{Script}
 use Rattle.pd_record.proofs.Again.{Bases, recorded_again}

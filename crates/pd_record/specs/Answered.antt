@@ -6,8 +6,8 @@ use Rattle.pd_script.specs.declared.script_events.Event.{Event}
 use Rattle.pd_script.specs.declared.script_header.HeaderItem.{HeaderItem}
 use Rattle.pd_run.specs.Run.{verdict_of}
 use Rattle.pd_run.specs.declared.verdicts.Verdict.TheVariants.{Pass}
-use Rattle.pd_record.specs.Sameness.{IsReadAs}
-use Rattle.pd_record.specs.Tape.{Answers, recorded}
+use Rattle.pd_layout.specs.Sameness.{IsReadAs}
+use Rattle.pd_record.specs.Tape.{Answers}
 use Rattle.pd_record.specs.declared.refusals.NotRecorded.{NotRecorded}
 use Rattle.pd_record.specs.declared.refusals.NotRecorded.TheVariants.{TooLarge, Differs, OutOfMemory}
 use Rattle.pd_record.specs.Following.{FollowsRun}

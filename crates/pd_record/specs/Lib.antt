@@ -1,10 +1,8 @@
 -- The definitions that the contracts cite.
-pub mod Sameness
 pub mod Scripts
 pub mod Standings
 pub mod Tape
 pub mod Recording
 pub mod Following
 pub mod Answered
-pub mod Traces
 pub mod Inner

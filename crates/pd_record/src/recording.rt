@@ -1,20 +1,21 @@
 //! Records scripts.
-ghost use Rattle.std.specs.Prelude.{◌≡◌, ◌≢◌, IfErr, IfOk, IsOk, IsTrue, length};
+ghost use Rattle.std.specs.Prelude.{◌≡◌, ◌≢◌, IfErr, IfOk, IsOk, IsTrue, Some, length};
 ghost use Rattle.pd_script.specs.Script.{script_of};
 ghost use Rattle.pd_record.specs.Recording.{recording_of};
 ghost use Rattle.pd_record.specs.Answered.{IsRecording, Refuses};
-ghost use Rattle.pd_record.specs.Sameness.{IsReadAs};
+ghost use Rattle.pd_layout.specs.Sameness.{IsReadAs};
 ghost use Rattle.pd_record.specs.Inner.{Finds};
+ghost use Rattle.pd_record.specs.Scripts.{IsRead};
 
 use crate::recordings::Recording;
 use crate::refusals::NotRecorded;
-use crate::sameness::same_script;
-use crate::scripts::read_script;
+use crate::scripts::{Script, has_events, read_script};
 use crate::tracks::{events_of, record_script};
 use crate::transcripts::write_tracks;
 use pd_host::{advances_are_lawful, sending_goes_one_by_one};
+use pd_layout::same_script;
 use pd_run::{run_all, runs_are_bounded, verdicts_have_reasons};
-use pd_script::{Event, Header};
+use pd_script::Event;
 use pd_settings::Settings;
 use pd_text::Lines;
 use std::alloc::{AllocError, Global};
@@ -60,7 +61,7 @@ pub fn record(
         Err(NotRecorded::TooLarge) => return Err(NotRecorded::TooLarge),
         Err(_) => return Err(NotRecorded::OutOfMemory),
     };
-    if is_right(alloc, &recording, &script.header, events.as_slice())? {
+    if is_right(alloc, lines, &script, &recording, events.as_slice())? {
         Ok(recording)
     } else {
         Err(NotRecorded::Differs)
@@ -68,16 +69,22 @@ pub fn record(
 }
 
 /// Whether a recording is read as it was recorded. Then it passes, since each recorded event was a step of the recorder's run.
+/// One that is the text itself was read before.
 fn is_right(
     alloc: Global,
+    lines: &Lines,
+    script: &Script,
     recording: &Recording,
-    header: &Header,
     events: &[Event],
 ) -> Result<bool, AllocError>
-    ensures { IfOk result (λ right. IsTrue right → IsReadAs header.now.items events.now recording.now.lines × (recording.now.events ≡ length events.now)) }
+    requires { IsRead (script_of lines.now) (Some script.now) }
+    ensures { IfOk result (λ right. IsTrue right → IsReadAs script.now.header.items events.now recording.now.lines × (recording.now.events ≡ length events.now)) }
 {
     if recording.events != events.len() {
         return Ok(false);
     }
-    same_script(alloc, &recording.lines, header, events)
+    if recording.lines.is_same(lines) {
+        return Ok(has_events(script, events));
+    }
+    same_script(alloc, &recording.lines, &script.header, events)
 }

@@ -1,8 +1,10 @@
 //! Scripts with the places of their events.
-ghost use Rattle.std.specs.Prelude.{◌≡◌, ◌≤◌, ◌++◌, ◌∷◌, [], length, IfOk, IfSome, OnOk};
+ghost use Rattle.std.specs.Prelude.{◌≡◌, ◌≤◌, ◌↔◌, ◌++◌, ◌∷◌, [], length, IfOk, IfSome, IsTrue, OnOk};
+ghost use Rattle.pd_layout.specs.Sameness.{AreTheSame};
 ghost use Rattle.pd_script.specs.Script.{found_in, script_of};
-ghost use Rattle.pd_record.specs.Scripts.{IsFound, IsRead};
+ghost use Rattle.pd_record.specs.Scripts.{IsFound, IsRead, events_placed};
 
+use pd_layout::is_same_event;
 use pd_lex::Place;
 use pd_script::{Event, EventReader, Header, MAX_EVENTS, NextEvent, read_header};
 use pd_text::Lines;
@@ -63,6 +65,18 @@ fn read_events(alloc: Global, reader: &mut EventReader) -> Result<Option<Vec<Pla
     }
     // The end of the text follows the last event that a script may have.
     Ok(Some(events))
+}
+
+/// Whether a script has just these events, but for their lines.
+pub fn has_events(script: &Script, events: &[Event]) -> bool
+    ensures { IsTrue result ↔ AreTheSame (events_placed script.now.events.items) events.now }
+{
+    script.events.len() == events.len()
+        && script
+            .events
+            .iter()
+            .zip(events)
+            .all(|(placed, event)| is_same_event(&placed.event, event))
 }
 
 fn keep(events: &mut Vec<Placed>, placed: Placed) -> Result<(), AllocError>

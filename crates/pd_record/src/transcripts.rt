@@ -1,11 +1,11 @@
 //! Puts what was recorded of a script into lines, with its comments.
-use crate::layouts::{Layout, LayoutReader};
 use crate::recordings::Recording;
 use crate::refusals::NotRecorded;
 use crate::scripts::Script;
 use crate::tape::{Recorded, Take};
 use crate::tracks::Tracks;
 use crate::writer::Writer;
+use pd_layout::{Layout, LayoutReader};
 use pd_text::Lines;
 use std::alloc::Global;
 

@@ -2,13 +2,10 @@
 ghost use Rattle.std.specs.Prelude.{◌≡◌};
 ghost use Rattle.pd_text.specs.Text.{is_line};
 
-use crate::extents::{Extent, put_extent};
-use crate::gaps::Piece;
-use crate::layouts::Layout;
 use crate::recordings::{Mark, Recording};
 use crate::refusals::NotRecorded;
 use crate::tape::{Own, Recorded, Reply, Standing};
-use crate::traces::is_trace;
+use pd_layout::{Extent, Layout, Piece, is_trace, put_extent};
 use pd_print::{Direction, write_answer, write_event, write_time};
 use pd_script::{Action, Time};
 use pd_text::{LineList, Lines, MAX_OCTETS};

@@ -4,7 +4,7 @@ use Rattle.std.specs.Str.Lines.{lines}
 use Rattle.std.proofs.lemmas.List.Sums.{sum_by-append}
 use Rattle.std.proofs.lemmas.Bool.Decides.{nat_tests}
 use Rattle.pd_text.specs.Text.{fits_text}
-use Rattle.pd_record.specs.Traces.{is_trace}
+use Rattle.pd_layout.specs.Traces.{is_trace}
 use Rattle.pd_cli.specs.Commands.{fitted}
 use Rattle.pd_cli.specs.Input.{IfKnown, to_come}
 use Rattle.pd_cli.specs.TakenLines.{TakesLine}

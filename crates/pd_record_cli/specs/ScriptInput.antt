@@ -2,7 +2,7 @@
 use Rattle.std.specs.Prelude.{ℕ, not, Bool, nat_le, ◌&&◌, List, length, filter, Option}
 use Rattle.std.specs.Str.Lines.{lines}
 use Rattle.pd_cli.specs.Commands.{fitted}
-use Rattle.pd_record.specs.Traces.{is_trace}
+use Rattle.pd_layout.specs.Traces.{is_trace}
 
 -- a line is dropped: one of a trace that isn't over the limits of a text by itself
 abbrev pub is_dropped : List ℕ → Bool

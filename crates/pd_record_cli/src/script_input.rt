@@ -7,7 +7,7 @@ ghost use Rattle.pd_record_cli.specs.ScriptInput.{is_dropped, script_in};
 ghost use Rattle.pd_record_cli.specs.Inner.{Gathers, with_line};
 
 use pd_cli::{Gathered, Intake, ServeFault, Taken, text_of};
-use pd_record::is_trace;
+use pd_layout::is_trace;
 use pd_text::{Lines, MAX_LINES, MAX_OCTETS};
 use std::alloc::{AllocError, Global};
 use std::io::Read;

@@ -5,7 +5,7 @@ use Rattle.pd_script.specs.Script.{script_of}
 use Rattle.pd_script.specs.declared.script_events.Event.{Event}
 use Rattle.pd_record.specs.Recording.{Tracked, recording_of, tracks_of, events_of}
 use Rattle.pd_record.specs.Answered.{IsRecording}
-use Rattle.pd_record.specs.Sameness.{IsReadAs}
+use Rattle.pd_layout.specs.Sameness.{IsReadAs}
 use Rattle.pd_record.specs.Scripts.{IsRead, events_placed}
 use Rattle.pd_record.specs.declared.refusals.NotRecorded.TheVariants.{OutOfMemory}
 use Rattle.pd_record.specs.declared.scripts.Placed.{Placed}

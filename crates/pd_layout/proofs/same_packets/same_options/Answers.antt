@@ -1,7 +1,7 @@
 -- Lists as long are equal where all pairs are.
 use Rattle.std.proofs.Common.{rules, tests}
 use Rattle.std.proofs.lemmas.Iterator.{YieldsList-from_slice, YieldsList-from_zip, same_from_all}
-use Rattle.pd_record.proofs.same_calls.same_arguments.Goals as goal
+use Rattle.pd_layout.proofs.same_packets.same_options.Goals as goal
 
 pub returns-then-one-other : goal.returns-then-one-other
 returns-then-one-other c =

@@ -1,6 +1,6 @@
 //! Whether a text is read as a script.
 ghost use Rattle.std.specs.Prelude.{◌≡◌, ◌↔◌, IfOk, IsTrue};
-ghost use Rattle.pd_record.specs.Sameness.{AreTheSame, IsReadAs, kinds_of};
+ghost use Rattle.pd_layout.specs.Sameness.{AreTheSame, IsReadAs, kinds_of};
 
 use crate::same_events::is_same_event;
 use pd_script::{Event, Header, HeaderItem, HeaderKind, parse};

@@ -1,6 +1,6 @@
 //! The lines of a trace, which tell of events when they happened and how the sender stood then.
 ghost use Rattle.std.specs.Prelude.{◌≡◌, ◌<◌, length, IfSome};
-ghost use Rattle.pd_record.specs.Traces.{is_trace, are_told_at, is_standing_at, blank_at, is_moment, is_fraction, are_digits, is_state, is_fact, is_octets, is_count, is_course, are_facts, is_told, is_value, are_letters};
+ghost use Rattle.pd_layout.specs.Traces.{is_trace, are_told_at, is_standing_at, blank_at, is_moment, is_fraction, are_digits, is_state, is_fact, is_octets, is_count, is_course, are_facts, is_told, is_value, are_letters};
 
 /// What a line of a trace begins with.
 const OPENING: &[u8] = b"//= at ";

@@ -1,6 +1,6 @@
 //! Whether two events are the same, the lines on which they stand apart.
 ghost use Rattle.std.specs.Prelude.{◌≡◌, ◌↔◌, IsTrue};
-ghost use Rattle.pd_record.specs.Sameness.{unplaced};
+ghost use Rattle.pd_layout.specs.Sameness.{unplaced};
 
 use crate::same_calls::is_same_call;
 use crate::same_packets::is_same_packet;
