@@ -13,6 +13,7 @@ import sys
 from collections import Counter
 from collections.abc import Iterator
 from dataclasses import dataclass, field
+from functools import cache
 
 # The kinds of lines that texts are made of, by the words that stand for them. Those from `g` on make a connection that
 # writes, in this order.
@@ -33,6 +34,9 @@ LINES = {
     "n": "+0 write(4, ..., 1000) = 1000",
 }
 CONNECTION = "ghijklmn"
+
+# Answers are made of the same pieces over and over; each ends behind a `|`.
+PIECES = re.compile(r"[^|]+\|?|\|")
 
 # How many lines of kind `a` may be drawn in a row: 3 behind the last line of the connection, and 15 more.
 LONGEST = 3 + 15
@@ -273,12 +277,28 @@ def lines_of(text: Text) -> str:
     return " | ".join(LINES[kind] for kind in text)
 
 
+@cache
 def sum_of(said: str) -> int:
     """The hash by Fowler, Noll and Vo of 32 bits (FNV-1a)."""
     total = 2_166_136_261
-    for octet in said.encode():
-        total = (total ^ octet) * 16_777_619 % 2**32
+    for piece in PIECES.findall(said):
+        low = total % 256
+        factor, rest = sum_of_piece(low, piece)
+        total = ((total - low) * factor + rest) % 2**32
     return total
+
+
+@cache
+def sum_of_piece(low: int, piece: str) -> tuple[int, int]:
+    """What a piece makes of a sum: a factor for the sum without its lowest eight bits, and what comes of these, `low`.
+
+    Each octet is mixed into the lowest eight bits alone, and then the whole sum is multiplied.
+    """
+    factor, rest = 1, low
+    for octet in piece.encode():
+        factor = factor * 16_777_619 % 2**32
+        rest = (rest ^ octet) * 16_777_619 % 2**32
+    return factor, rest
 
 
 class Model:
