@@ -72,7 +72,6 @@ if [ -n "$lost" ]; then
 fi
 check layout black -q --check --config pyproject.toml . ../pdsuite
 check style flake8 . ../pdsuite
-check types mypy --config-file pyproject.toml pdsuite tests
-check "types of ./pdsuite" mypy --config-file pyproject.toml ../pdsuite
+check types mypy --config-file pyproject.toml pdsuite tests ../pdsuite
 tests
 finish
