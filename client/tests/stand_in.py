@@ -1,11 +1,14 @@
 #!/usr/bin/python3 -IS
-"""Stands in for pdregress: it passes each script, unless the script's first line says what it is to do in its place."""
+"""Stands in for pdregress: it passes each script, unless the script's first line says what it is to do in its place.
+
+It is started a thousand times, so it imports no more than it needs.
+"""
 
 import os
-import signal
 import sys
 import time
-from pathlib import Path
+
+KILL, SEGV = 9, 11
 
 texts: dict[str, list[bytes]] = {}
 
@@ -21,19 +24,25 @@ def end(line: str) -> None:
     sys.exit(2)
 
 
+def write(mark: str, text: str) -> None:
+    """Writes a file that says how far this came."""
+    with open(mark, "w") as file:
+        file.write(text)
+
+
 def act(words: list[str]) -> None:
     """What is done at a settle, before the report."""
     match words:
         case ["crash"]:
-            os.kill(os.getpid(), signal.SIGSEGV)
-        case ["once", mark] if not Path(mark).exists():
-            Path(mark).touch()
-            os.kill(os.getpid(), signal.SIGKILL)
+            os.kill(os.getpid(), SEGV)
+        case ["once", mark] if not os.path.exists(mark):
+            write(mark, "")
+            os.kill(os.getpid(), KILL)
         case ["orphan"]:
-            os.kill(os.getppid(), signal.SIGKILL)
+            os.kill(os.getppid(), KILL)
             time.sleep(60)
-        case ["orphan", mark] if not Path(mark).exists():
-            Path(mark).touch()
+        case ["orphan", mark] if not os.path.exists(mark):
+            write(mark, "")
             act(["orphan"])
         case ["exit"]:
             sys.exit(3)
@@ -47,7 +56,7 @@ def act(words: list[str]) -> None:
             while True:
                 print("y", file=sys.stderr)
         case ["stall", mark]:
-            Path(mark).write_text(str(os.getpid()))
+            write(mark, str(os.getpid()))
             time.sleep(60)
         case ["flood"]:
             while True:
@@ -112,7 +121,7 @@ def lines(count: str) -> list[bytes]:
 
 def main() -> None:
     """Takes commands to the end of the input."""
-    if Path(sys.argv[0]).with_name("dead").exists():
+    if os.path.exists(os.path.join(os.path.dirname(sys.argv[0]), "dead")):
         end("pdregress: 19 OutOfMemory")
     while line := sys.stdin.buffer.readline():
         take(line.decode().split())

@@ -1,18 +1,21 @@
 #!/usr/bin/python3 -IS
-"""Stands in for pdexplain: it takes a script's first line for its row, and what stands below that for its block."""
+"""Stands in for pdexplain: it takes a script's first line for its row, and what stands below that for its block.
+
+It is started a thousand times, so it imports no more than it needs.
+"""
 
 import os
-import signal
 import sys
 import time
-from pathlib import Path
+
+SEGV = 11
 
 
 def block(name: str, row: list[str], text: list[bytes]) -> bytes:
     """What is said of a script that doesn't pass."""
     match text[:1]:
         case [b"crash\n"]:
-            os.kill(os.getpid(), signal.SIGSEGV)
+            os.kill(os.getpid(), SEGV)
         case [b"fault\n"]:
             print("pdregress: 19 OutOfMemory", file=sys.stderr)
             sys.exit(2)
@@ -21,7 +24,8 @@ def block(name: str, row: list[str], text: list[bytes]) -> bytes:
         case [b"flood\n"]:
             return b"  x\n" * 1_000_000
         case [b"stall\n"]:
-            Path("mark").write_text(str(os.getpid()))
+            with open("mark", "w") as file:
+                file.write(str(os.getpid()))
             time.sleep(60)
         case [b"other line\n"]:
             row = [row[0], "7", *row[2:]]
