@@ -9,7 +9,6 @@ from pathlib import Path
 from typing import TypeVar
 
 import click
-from rich.text import Text
 
 from pdsuite.commands.list import list_scripts
 from pdsuite.commands.run import Wish, run
@@ -23,6 +22,7 @@ from pdsuite.reports.plain import Plain
 from pdsuite.reports.tap import Tap
 from pdsuite.screen import Screen, Unwritten, say, wants_color
 from pdsuite.stop import Stopped
+from pdsuite.styled import plainly
 from pdsuite.version import version
 
 MOST_WORKERS = 64
@@ -44,7 +44,7 @@ def _print_version(context: click.Context, option: click.Parameter, on: bool) ->
     if on and not context.resilient_parsing:
         with Screen(False, progress=False) as screen:
             for line in version():
-                screen.show(Text(f"{line}\n"))
+                screen.show(plainly(f"{line}\n"))
         context.exit()
 
 

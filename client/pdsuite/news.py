@@ -2,26 +2,26 @@
 
 from collections.abc import Mapping
 
-from rich.text import Text
 
 from pdsuite.octets import shown_path
 from pdsuite.reports.plain import Plain
 from pdsuite.rows import Outcome, Totals, Verdict
+from pdsuite.styled import Styled
 
 # By their paths, in the order of these.
 Outcomes = Mapping[str, Outcome]
 
 
-def first_report(outcomes: Outcomes, every: bool, seconds: float) -> Text:
+def first_report(outcomes: Outcomes, every: bool, seconds: float) -> Styled:
     """Each script that doesn't pass, or every script; then the totals."""
     return _entries(outcomes, every).append_text(foot(outcomes, seconds))
 
 
-def changed_rows(before: Outcomes, after: Outcomes) -> Text:
+def changed_rows(before: Outcomes, after: Outcomes) -> Styled:
     """The rows that changed, without what is told of them: first of those that don't pass, last what went."""
     changed = [it for path, it in after.items() if path not in before or _is_other(before[path], it)]
     form = Plain(True)
-    text = Text()
+    text = Styled()
     for outcome in sorted(changed, key=lambda it: it.row.verdict is Verdict.PASS):
         text.append_text(form.row(outcome)).append("\n")
     for path in before:
@@ -30,12 +30,12 @@ def changed_rows(before: Outcomes, after: Outcomes) -> Text:
     return text
 
 
-def changed_blocks(before: Outcomes, after: Outcomes) -> Text:
+def changed_blocks(before: Outcomes, after: Outcomes) -> Styled:
     """What is told of the rows that changed, and where something else is told of others."""
     return _entries({path: it for path, it in after.items() if _is_told_anew(before.get(path), it)}, False)
 
 
-def foot(outcomes: Outcomes, seconds: float) -> Text:
+def foot(outcomes: Outcomes, seconds: float) -> Styled:
     """The totals."""
     return Plain(True).foot(totals_of(outcomes), seconds)
 
@@ -45,10 +45,13 @@ def totals_of(outcomes: Outcomes) -> Totals:
     return Totals.of(it.row.verdict for it in outcomes.values())
 
 
-def _entries(outcomes: Outcomes, every: bool) -> Text:
+def _entries(outcomes: Outcomes, every: bool) -> Styled:
     form = Plain(every)
-    entries = (form.entry(number, it) for number, it in enumerate(outcomes.values(), 1))
-    return Text().join([it for it in entries if it is not None])
+    text = Styled()
+    for number, outcome in enumerate(outcomes.values(), 1):
+        if (entry := form.entry(number, outcome)) is not None:
+            text.append_text(entry)
+    return text
 
 
 def _is_other(old: Outcome, new: Outcome) -> bool:

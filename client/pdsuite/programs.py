@@ -2,15 +2,12 @@
 
 import contextlib
 import fcntl
-import hashlib
 import os
-import pickle
 import select
 import selectors
 import signal
 import subprocess
 import sys
-import tempfile
 import time
 from collections.abc import Sequence
 from pathlib import Path
@@ -77,6 +74,8 @@ def commit() -> str:
 
 def digest(path: Path) -> str:
     """The SHA-256 of a program."""
+    import hashlib  # only who asks for it pays for what makes it
+
     with path.open("rb") as file:
         return hashlib.file_digest(file, "sha256").hexdigest()
 
@@ -283,6 +282,10 @@ class Worker:
     """A process of this client in a group of its own: it gets its job at once, and says lines."""
 
     def __init__(self, module: str, job: object) -> None:
+        # Only who has a page drawn pays for what carries a job over.
+        import pickle
+        import tempfile
+
         words: list[str | Path] = [sys.executable, "-I", "-c", _MODULE, TOP / "client", module]
         with tempfile.TemporaryFile() as file:
             pickle.dump(job, file)

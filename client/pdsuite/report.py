@@ -2,12 +2,12 @@
 
 from collections.abc import Iterable, Iterator, Sequence
 
-from rich.text import Text
 
 from pdsuite.reports.form import Form
 from pdsuite.rows import Outcome, Row, Totals, Verdict
 from pdsuite.runs import Script
 from pdsuite.screen import Screen
+from pdsuite.styled import Styled
 
 
 class Report:
@@ -53,7 +53,7 @@ class Report:
             index += 1
 
     def _show(self, outcomes: Sequence[Outcome]) -> None:
-        text = Text()
+        text = Styled()
         for number, outcome in enumerate(outcomes, len(self.outcomes) + 1):
             if (entry := self._form.entry(number, outcome)) is not None:
                 text.append_text(entry)

@@ -6,9 +6,9 @@ import sys
 from types import TracebackType
 from typing import TYPE_CHECKING
 
-from rich.text import Text
 
 from pdsuite.faults import why
+from pdsuite.styled import Styled
 
 if TYPE_CHECKING:
     from pdsuite.terminal import Terminal
@@ -39,13 +39,14 @@ class Screen:
     ) -> None:
         self.clear()
 
-    def show(self, text: Text) -> None:
+    def show(self, text: Styled) -> None:
         """Writes a part of a report."""
-        if not text.plain:
+        plain = text.plain
+        if not plain:
             return
         try:
             if self._terminal is None:
-                sys.stdout.write(text.plain)
+                sys.stdout.write(plain)
                 sys.stdout.flush()
             else:
                 self._terminal.show(text)

@@ -5,6 +5,8 @@ from rich.live import Live
 from rich.progress import BarColumn, MofNCompleteColumn, Progress, TextColumn
 from rich.text import Text
 
+from pdsuite.styled import Styled
+
 
 class Terminal:
     """What a terminal shows: text that stays, and below it how far the work is, or another line."""
@@ -18,9 +20,9 @@ class Terminal:
         self._task = None if self._progress is None else self._progress.add_task("scripts")
         self._live = self._bottom_line()
 
-    def show(self, text: Text) -> None:
+    def show(self, text: Styled) -> None:
         """Writes a text."""
-        self._console.print(text, end="", soft_wrap=True)
+        self._console.print(Text.assemble(*text.pieces), end="", soft_wrap=True)
 
     def advance(self, done: int, count: int, what: str) -> None:
         """Says how many of the scripts, or of other things, are done."""

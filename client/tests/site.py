@@ -5,8 +5,6 @@ from dataclasses import dataclass, field
 from pathlib import Path
 from typing import cast
 
-from rich.text import Text as Shown
-
 from pdsuite.commands.watch import View, step
 from pdsuite.explain import Explainer
 from pdsuite.find import find
@@ -20,6 +18,7 @@ from pdsuite.screen import Screen
 from pdsuite.settings import Settings, set_words
 from pdsuite.settle import load
 from pdsuite.stop import Stop
+from pdsuite.styled import Styled
 from pdsuite.suite import Claim, Suite, option_of
 from pdsuite.text import Text
 from pdsuite.watcher import Event, Watcher
@@ -34,7 +33,7 @@ class Paper:
         self.parts: list[str] = []
         self.notes: list[str] = []
 
-    def show(self, text: Shown) -> None:
+    def show(self, text: Styled) -> None:
         self.parts.append(text.plain)
 
     def note(self, line: str) -> None:

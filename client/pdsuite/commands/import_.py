@@ -4,7 +4,6 @@ import os
 from collections.abc import Iterator, Sequence
 from pathlib import Path
 
-from rich.text import Text
 
 from pdsuite.faults import Fault
 from pdsuite.files import new_folder, write_folder
@@ -17,6 +16,7 @@ from pdsuite.octets import shown_path
 from pdsuite.screen import Screen
 from pdsuite.settings import set_words
 from pdsuite.stop import Stop
+from pdsuite.styled import plainly
 from pdsuite.suite import Suite, option_of
 from pdsuite.text import LONGEST_FILE, Unfit, read_file, text_of
 
@@ -40,7 +40,7 @@ def import_scripts(source: Path, target: Path, keep: bool, screen: Screen) -> in
         if any(isinstance(it.came, Imported) for it in scripts):
             write_folder(place, _files(source, scripts, stop))
     lines = [line for it in scripts for line in lines_of(it)]
-    screen.show(Text("".join(f"{line}\n" for line in [*lines, *summary(scripts)])))
+    screen.show(plainly("".join(f"{line}\n" for line in [*lines, *summary(scripts)])))
     return status(scripts)
 
 

@@ -3,7 +3,6 @@
 from collections.abc import Sequence
 from pathlib import Path
 
-from rich.text import Text
 
 from pdsuite.commands.choice import scripts_of
 from pdsuite.octets import shown_path, shown_text
@@ -11,6 +10,7 @@ from pdsuite.runs import Script
 from pdsuite.screen import Screen
 from pdsuite.settings import Settings, shown_value
 from pdsuite.stop import Stop
+from pdsuite.styled import plainly
 from pdsuite.suite import Suite, option_of
 
 
@@ -18,7 +18,7 @@ def list_scripts(paths: Sequence[Path], only: str | None, settings: str, screen:
     """Lists the scripts, and answers the exit status."""
     with Stop() as stop:
         scripts = scripts_of(paths, only, Suite(option_of(settings)), stop)
-        screen.show(Text("".join(f"{_line(script)}\n" for script in scripts)))
+        screen.show(plainly("".join(f"{_line(script)}\n" for script in scripts)))
     return 2 if any(script.fault for script in scripts) else 0
 
 

@@ -8,7 +8,6 @@ from dataclasses import dataclass, replace
 from pathlib import Path
 from typing import TYPE_CHECKING, NoReturn
 
-from rich.text import Text as Shown
 
 from pdsuite.asked import refused
 from pdsuite.explain import Explainer
@@ -23,6 +22,7 @@ from pdsuite.runs import RUN, Script, runs_of
 from pdsuite.screen import Screen, say
 from pdsuite.settle import Settled, start_with
 from pdsuite.stop import Stop, Stopped
+from pdsuite.styled import Styled
 from pdsuite.suite import Claim, claims_of, option_of
 from pdsuite.text import Text
 from pdsuite.turns import Wanted
@@ -61,7 +61,7 @@ class View:
 
     def show(self, outcomes: Outcomes, wanted: Mapping[str, Wanted], begin: float) -> None:
         """Shows what changed: the rows at once, what is told of them once it is; at first all in one."""
-        rows = Shown() if self.status is None else changed_rows(self.outcomes, outcomes)
+        rows = Styled() if self.status is None else changed_rows(self.outcomes, outcomes)
         self._screen.show(rows)
         after = {path: self.outcomes[path] if self._is_told(it, wanted) else it for path, it in outcomes.items()}
         asked = [it for path, it in after.items() if it.row.line is not None and it is outcomes[path]]

@@ -2,27 +2,27 @@
 
 import json
 
-from rich.text import Text
 
 from pdsuite.block import block
 from pdsuite.octets import shown_path
 from pdsuite.rows import Outcome, Totals, Verdict
+from pdsuite.styled import Styled, plainly
 
 
 class Json:
     """An object with a list of scripts, a line for each, and their totals."""
 
-    def head(self, count: int) -> Text:
-        return Text('{"scripts": [')
+    def head(self, count: int) -> Styled:
+        return plainly('{"scripts": [')
 
-    def entry(self, number: int, outcome: Outcome) -> Text:
+    def entry(self, number: int, outcome: Outcome) -> Styled:
         begin = "\n" if number == 1 else ",\n"
-        return Text(begin + json.dumps(_script(outcome), ensure_ascii=False))
+        return plainly(begin + json.dumps(_script(outcome), ensure_ascii=False))
 
-    def foot(self, totals: Totals, seconds: float) -> Text:
+    def foot(self, totals: Totals, seconds: float) -> Styled:
         counts = {it.value: totals.counts[it] for it in Verdict}
         total = json.dumps({"scripts": totals.scripts, **counts})
-        return Text(f'\n], "total": {total}, "seconds": {seconds:.2f}}}\n')
+        return plainly(f'\n], "total": {total}, "seconds": {seconds:.2f}}}\n')
 
 
 def _script(outcome: Outcome) -> dict[str, object]:

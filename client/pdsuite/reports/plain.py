@@ -2,10 +2,10 @@
 
 from dataclasses import dataclass
 
-from rich.text import Text
 
 from pdsuite.block import block, meaning, place
 from pdsuite.rows import Outcome, Totals, Verdict
+from pdsuite.styled import Styled, plainly
 
 _STYLES = {
     Verdict.PASS: "green",
@@ -24,10 +24,10 @@ class Plain:
 
     every: bool
 
-    def head(self, count: int) -> Text:
-        return Text()
+    def head(self, count: int) -> Styled:
+        return Styled()
 
-    def entry(self, number: int, outcome: Outcome) -> Text | None:
+    def entry(self, number: int, outcome: Outcome) -> Styled | None:
         verdict = outcome.row.verdict
         if not self.every and (verdict is Verdict.PASS or verdict is Verdict.NOT_RUN):
             return None
@@ -35,10 +35,10 @@ class Plain:
         below = "".join(f"  {it}\n" for it in block(outcome))
         return line.append("\n").append(below, "dim")
 
-    def row(self, outcome: Outcome) -> Text:
+    def row(self, outcome: Outcome) -> Styled:
         """A script's row alone."""
-        return Text(f"{place(outcome)}: ").append(str(outcome.row), _STYLES[outcome.row.verdict])
+        return plainly(f"{place(outcome)}: ").append(str(outcome.row), _STYLES[outcome.row.verdict])
 
-    def foot(self, totals: Totals, seconds: float) -> Text:
+    def foot(self, totals: Totals, seconds: float) -> Styled:
         style = "green" if totals.status() == 0 else "bold red"
-        return Text().append(str(totals), style).append(f" in {seconds:.2f} s\n")
+        return Styled().append(str(totals), style).append(f" in {seconds:.2f} s\n")

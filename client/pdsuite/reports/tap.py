@@ -1,10 +1,10 @@
 """The report as TAP, version 13, as the kernel's tests print it: what is told of a test stands before its line."""
 
-from rich.text import Text
 
 from pdsuite.block import block, heading
 from pdsuite.octets import shown_path
 from pdsuite.rows import Outcome, Totals, Verdict
+from pdsuite.styled import Styled, plainly
 
 # Begins a directive, and so stands in no name.
 _DIRECTIVE = "#"
@@ -13,16 +13,16 @@ _DIRECTIVE = "#"
 class Tap:
     """`ok` for each script that passes, and `not ok` for every other."""
 
-    def head(self, count: int) -> Text:
-        return Text(f"TAP version 13\n1..{count}\n")
+    def head(self, count: int) -> Styled:
+        return plainly(f"TAP version 13\n1..{count}\n")
 
-    def entry(self, number: int, outcome: Outcome) -> Text:
+    def entry(self, number: int, outcome: Outcome) -> Styled:
         name = shown_path(outcome.path, also=_DIRECTIVE)
         if outcome.row.verdict is Verdict.PASS:
-            return Text(f"ok {number} {name}\n")
+            return plainly(f"ok {number} {name}\n")
         told = [heading(outcome), *(f"  {it}" for it in block(outcome))]
         lines = [*(f"# {it}" for it in told), f"not ok {number} {name}"]
-        return Text("".join(f"{line}\n" for line in lines))
+        return plainly("".join(f"{line}\n" for line in lines))
 
-    def foot(self, totals: Totals, seconds: float) -> Text:
-        return Text(f"# {totals} in {seconds:.2f} s\n")
+    def foot(self, totals: Totals, seconds: float) -> Styled:
+        return plainly(f"# {totals} in {seconds:.2f} s\n")
