@@ -1,17 +1,25 @@
-"""A Dask scheduler with workers on this machine, as someone would start them by hand."""
+"""A Dask scheduler with workers on this machine, as someone would start them by hand.
+
+Each is a process of its own, forked from one that has imported the library already.
+"""
 
 import os
 import signal
-import subprocess
 import sys
 import time
 from contextlib import suppress
 from dataclasses import dataclass, field
+from importlib import import_module
+from multiprocessing import get_context
+from multiprocessing.process import BaseProcess
 from pathlib import Path
 
 from tests.helpers import HANGS
 
-_PYTHON = [sys.executable, "-I", "-m"]
+_SCHEDULER = "distributed.cli.dask_scheduler"
+_WORKER = "distributed.cli.dask_worker"
+_FORKS = get_context("forkserver")
+_FORKS.set_forkserver_preload([_SCHEDULER, _WORKER])
 _HOST = ["--host", "127.0.0.1", "--no-dashboard", "--dashboard-address", "127.0.0.1:0"]
 
 
@@ -21,11 +29,11 @@ class LocalCluster:
 
     folder: Path
     address: str = ""
-    workers: list["subprocess.Popen[bytes]"] = field(default_factory=list)
+    workers: list[BaseProcess] = field(default_factory=list)
 
     def __post_init__(self) -> None:
         self.folder.mkdir()
-        words = ["distributed.cli.dask_scheduler", *_HOST, "--port", "0"]
+        words = [_SCHEDULER, *_HOST, "--port", "0"]
         self.scheduler = self._start("scheduler", words, DASK_DISTRIBUTED__SCHEDULER__ALLOWED_FAILURES="2")
         self.address = self._said("scheduler", "Scheduler at:")
 
@@ -33,7 +41,7 @@ class LocalCluster:
         """Starts one more worker, of one thread and without a nanny if nothing else is said."""
         name = f"worker{len(self.workers)}"
         place = ["--local-directory", str(self.folder / f"{name}.files")]
-        command = ["distributed.cli.dask_worker", *_HOST, *place, *(words or ["--no-nanny"]), "--nthreads", "1"]
+        command = [_WORKER, *_HOST, *place, *(words or ["--no-nanny"]), "--nthreads", "1"]
         self.workers.append(self._start(name, [*command, self.address], PDSUITE_PROGRAMS=str(programs)))
 
     def wait(self) -> list[str]:
@@ -47,13 +55,14 @@ class LocalCluster:
         """Ends all of it."""
         for process in (*self.workers, self.scheduler):
             with suppress(ProcessLookupError):
-                os.killpg(process.pid, signal.SIGKILL)
-            process.wait()
+                os.killpg(number_of(process), signal.SIGKILL)
+            process.join()
 
-    def _start(self, name: str, words: list[str], **more: str) -> "subprocess.Popen[bytes]":
-        environment = {**os.environ, **more}
-        with (self.folder / name).open("wb") as log:
-            return subprocess.Popen([*_PYTHON, *words], env=environment, stderr=log, stdout=log, process_group=0)
+    def _start(self, name: str, words: list[str], **more: str) -> BaseProcess:
+        (self.folder / name).touch()
+        process = _FORKS.Process(target=_serve, args=(words, self.folder / name, more))
+        process.start()
+        return process
 
     def _said(self, name: str, what: str) -> str:
         """The word after these in a log, once they stand there."""
@@ -64,3 +73,21 @@ class LocalCluster:
                 return parts[1].split()[0]
             assert time.monotonic() < until, log
             time.sleep(0.05)
+
+
+def number_of(process: BaseProcess) -> int:
+    """The number of a process that was started."""
+    assert process.pid is not None
+    return process.pid
+
+
+def _serve(words: list[str], log: Path, more: dict[str, str]) -> None:
+    """Is what `python -m` begins by these words, in a group of its own."""
+    os.setpgid(0, 0)
+    with log.open("wb") as file:
+        os.dup2(file.fileno(), 1)
+        os.dup2(file.fileno(), 2)
+    os.environ.update(more)
+    import_module("dask.config").refresh()
+    sys.argv = words
+    import_module(words[0]).main()

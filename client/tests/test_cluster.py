@@ -15,7 +15,7 @@ import pytest
 
 from pdsuite.faults import Fault
 from pdsuite.packages import need
-from tests.clusters import LocalCluster
+from tests.clusters import LocalCluster, number_of
 from tests.helpers import FAILS, HANGS, PASSES, TOP, Call, ends, wait_for, write
 
 pytest.importorskip("distributed", reason="python3-distributed isn't installed")
@@ -139,7 +139,7 @@ def test_a_worker_that_ends_in_the_midst_has_its_runs_done_elsewhere(
     cluster = started(stand_in, stand_in)
     there = call(stand_in, "run", "-v", "--scheduler", cluster.address, ".")
     assert (tmp_path / "mark").exists()
-    assert sorted(it.poll() is None for it in cluster.workers) == [False, True]
+    assert sorted(it.is_alive() for it in cluster.workers) == [False, True]
     assert (there.status, there.err, there.rows) == (here.status, here.err, here.rows)
     assert there.totals == {"pass": 1_188, "fail": 12}
 
@@ -161,7 +161,7 @@ def test_a_run_that_ends_three_workers_is_an_error(started: Add, stand_in: Path,
     there = call(stand_in, "run", "--scheduler", cluster.address, ".")
     assert (there.status, there.err) == (2, "")
     assert there.rows == [f"{it}.pkt: error: 3 workers ended that had it" for it in "ab"]
-    assert sum(it.poll() is None for it in cluster.workers) == 1
+    assert sum(it.is_alive() for it in cluster.workers) == 1
 
 
 def test_without_a_worker_left_runs_are_errors(started: Add, stand_in: Path, tmp_path: Path, call: Call) -> None:
@@ -211,7 +211,7 @@ def test_a_scheduler_that_goes_away_is_said_with_what_is_settled(
     process = popen(cluster.address, stand_in, suite, "--junit", "out.xml", ".")
     wait_for(tmp_path / "mark")
     assert first_row(process) == b"s0003.pkt:1: fail seq\n"
-    cluster.scheduler.send_signal(number)
+    os.kill(number_of(cluster.scheduler), number)
     out, err = process.communicate(timeout=HANGS)
     assert (process.returncode, err.decode()) == (2, f"pdsuite: {cluster.address}: the scheduler went away\n")
     assert b"total 513 pass 511 fail 1 syntax 0 unsupported 0 limit 0 error 0 not run 1 in " in out
