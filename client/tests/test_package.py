@@ -15,6 +15,8 @@ from tests.test_run import expected_rows
 
 PROVED = (TOP / "packaging/programs.txt").read_text().split()
 COMMANDS = ("import", "list", "run", "watch")
+# A root with apt alone that keeps the lists of packages, so that these are fetched once and without their translations.
+LEAN = ("--variant=apt", "--skip=cleanup/apt/lists", '--aptopt=Acquire::Languages "none"', "--dpkgopt=force-unsafe-io")
 # Where pages and texts for terminals differ: the ends of lines, blanks, and the prompt of an example.
 _SPACE = re.compile(r"[\s$]+")
 
@@ -129,17 +131,14 @@ def root(package: Path, tmp_path_factory: pytest.TempPathFactory) -> Iterator[Pa
     if os.getuid() != 0:
         pytest.skip("needs root, to change the root folder")
     folder = tmp_path_factory.mktemp("root") / "root"
-    made = subprocess.run(
-        ["mmdebstrap", "--variant=apt", "bookworm", folder], capture_output=True, text=True, timeout=HANGS
-    )
+    made = subprocess.run(["mmdebstrap", *LEAN, "bookworm", folder], capture_output=True, text=True, timeout=HANGS)
     if made.returncode:
         pytest.skip(f"no root was made: {made.stderr.splitlines()[-1:]}")
     shutil.copy(package, folder / package.name)
     shutil.copy("/etc/resolv.conf", folder / "etc/resolv.conf")
-    quiet = {"DEBIAN_FRONTEND": "noninteractive"}
-    for words in (["update"], ["install", "-y", "--no-install-recommends", f"./{package.name}"]):
-        done = in_root(folder, "apt-get", "-q", *words, **quiet)
-        assert done.status == 0, done.err
+    words = ["apt-get", "-q", "install", "-y", "--no-install-recommends", f"./{package.name}"]
+    done = in_root(folder, *words, DEBIAN_FRONTEND="noninteractive")
+    assert done.status == 0, done.err
     yield folder
     shutil.rmtree(folder)
 
