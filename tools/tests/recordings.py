@@ -29,6 +29,15 @@ class Script:
 
 
 @dataclass(frozen=True)
+class Refused:
+    """A script that isn't recorded, with the status and what is said."""
+
+    script: Script
+    status: int
+    said: bytes
+
+
+@dataclass(frozen=True)
 class Recorded:
     """A script and its recording, with a trace and without."""
 
@@ -166,8 +175,19 @@ class Programs:
         done = subprocess.run(chosen, input=script.text, capture_output=True, check=False)
         return done.returncode, done.stdout, done.stderr
 
-    def verdicts(self, settings: str, texts: list[bytes]) -> list[bytes]:
-        """The verdicts of texts."""
+    def verdicts(self, asked: list[tuple[str, bytes]]) -> list[bytes]:
+        """The verdict of each text under its settings, empty where there is none; as many as can be are run together."""
+        rows: dict[int, bytes] = {}
+        for settings in dict.fromkeys(it for it, _ in asked):
+            places = [place for place, it in enumerate(asked) if it[0] == settings]
+            for start in range(0, len(places), MAX_SCRIPTS):
+                part = places[start : start + MAX_SCRIPTS]
+                rows.update(zip(part, self._run(settings, [asked[place][1] for place in part]), strict=True))
+        # One that was refused may have kept others from being run.
+        return [rows[place] or self._run(it[0], [it[1]])[0] for place, it in enumerate(asked)]
+
+    def _run(self, settings: str, texts: list[bytes]) -> list[bytes]:
+        """The verdicts of texts in one run."""
         commands = b""
         for number, text in enumerate(texts):
             lines = text.split(b"\n")[:-1] if text.endswith(b"\n") else text.split(b"\n")
@@ -175,8 +195,12 @@ class Programs:
         done = subprocess.run(
             [self.pdregress, "--settings", settings], input=commands, capture_output=True, check=False
         )
-        rows = done.stdout.split(b"\n")
-        return [row.split(b" ", 1)[1] for row in rows if row.startswith(b"s")]
+        rows = {b"s%d" % number: b"" for number in range(len(texts))}
+        for line in done.stdout.split(b"\n"):
+            name, _, row = line.partition(b" ")
+            if name in rows:
+                rows[name] = row
+        return list(rows.values())
 
 
 def without_trace(text: bytes) -> bytes:
@@ -189,15 +213,20 @@ def grown_too_large(row: bytes) -> bytes:
     return b"2 TooLarge" if row.startswith(b"limit") else row
 
 
-def refusal_faults(programs: Programs, script: Script, status: int, said: bytes) -> Iterator[str]:
+def refusal_faults(refused: Refused, row: bytes) -> Iterator[str]:
     """What is wrong about a refusal: it has to be the row, unless that is about what the script expects, or the recording is
     too large, whose packets leave before they fill the outbox."""
-    row = programs.verdicts(script.settings, [script.text])
-    words = said.removeprefix(b"pdrecord: ").rstrip(b"\n")
-    if status != 1:
-        yield f"status {status}: {said!r}"
-    elif row and not row[0].startswith((b"pass", b"fail")) and words not in (row[0], grown_too_large(row[0])):
-        yield f"refused by {words!r}, where the row is {row[0]!r}"
+    words = refused.said.removeprefix(b"pdrecord: ").rstrip(b"\n")
+    if refused.status != 1:
+        yield f"status {refused.status}: {refused.said!r}"
+    elif row and not row.startswith((b"pass", b"fail")) and words not in (row, grown_too_large(row)):
+        yield f"refused by {words!r}, where the row is {row!r}"
+
+
+def row_faults(done: Recorded, row: bytes) -> Iterator[str]:
+    """What is wrong about the row of a recording: it has to pass, with all of its events."""
+    if row != b"pass %d" % done.events:
+        yield f"{row.decode()}, with {done.events} events"
 
 
 def again_faults(programs: Programs, done: Recorded) -> Iterator[str]:
@@ -212,36 +241,32 @@ def again_faults(programs: Programs, done: Recorded) -> Iterator[str]:
         yield "a trace that isn't the recording"
 
 
+def recorded(programs: Programs, script: Script) -> Recorded | Refused:
+    """What recording a script comes to."""
+    status, text, said = programs.record(script)
+    if status != 0:
+        return Refused(script, status, said)
+    return Recorded(script, text, programs.record(script, "--trace")[1])
+
+
 def check(programs: Programs, scripts: list[Script]) -> tuple[int, int]:
     """Tests scripts and tells of each that fails; how many pass and fail."""
-    passed = failed = 0
-    kept: dict[str, list[Recorded]] = {}
-    refused = 0
-    for script in scripts:
-        status, text, said = programs.record(script)
-        faults = []
-        if status != 0:
-            refused += 1
-            faults = list(refusal_faults(programs, script, status, said))
-        else:
-            done = Recorded(script, text, programs.record(script, "--trace")[1])
-            faults = list(again_faults(programs, done))
-            kept.setdefault(script.settings, []).append(done)
+    each = [recorded(programs, script) for script in scripts]
+    kept = [it for it in each if isinstance(it, Recorded)]
+    refused = [it for it in each if isinstance(it, Refused)]
+    asked = [(it.script.settings, it.text) for it in kept] + [(it.script.settings, it.script.text) for it in refused]
+    rows = programs.verdicts(asked)
+    tests = [(it.script, again_faults(programs, it)) for it in kept]
+    tests += [(it.script, row_faults(it, row)) for it, row in zip(kept, rows)]
+    tests += [(it.script, refusal_faults(it, row)) for it, row in zip(refused, rows[len(kept) :], strict=True)]
+    failed = 0
+    for script, found in tests:
+        faults = list(found)
+        failed += bool(faults)
         for fault in faults:
             print(f"FAILED {script.name}: {fault}")
-        passed, failed = passed + (not faults), failed + bool(faults)
-    for settings, group in kept.items():
-        for start in range(0, len(group), MAX_SCRIPTS):
-            part = group[start : start + MAX_SCRIPTS]
-            rows = programs.verdicts(settings, [done.text for done in part])
-            for done, row in zip(part, rows, strict=True):
-                if row == b"pass %d" % done.events:
-                    passed += 1
-                else:
-                    print(f"FAILED {done.script.name}: {row.decode()}, with {done.events} events")
-                    failed += 1
-    print(f"{len(scripts) - refused} scripts recorded, {refused} not")
-    return passed, failed
+    print(f"{len(kept)} scripts recorded, {len(refused)} not")
+    return len(tests) - failed, failed
 
 
 def main(words: list[str]) -> int:
