@@ -28,8 +28,9 @@ class Watching:
         self._is_every = "-v" in words
         self._outs: list[bytes] = []
         self._errs: list[bytes] = []
+        self._news = threading.Event()
         self._readers = [
-            threading.Thread(target=_gather, args=(pipe, lines))
+            threading.Thread(target=_gather, args=(pipe, lines, self._news))
             for pipe, lines in ((self._process.stdout, self._outs), (self._process.stderr, self._errs))
         ]
         for reader in self._readers:
@@ -96,13 +97,19 @@ class Watching:
 
     def _await(self, happened: Callable[[], bool], what: str) -> None:
         until = time.monotonic() + HANGS
-        while not happened():
+        while True:
+            self._news.clear()
+            if happened():
+                return
             assert self._process.poll() is None, f"it ended: {self.err}"
             assert time.monotonic() < until, f"{what!r} didn't come, but {self.out[-2_000:]!r} and {self.err!r}"
+            # Files change in silence, and what is said comes in many lines.
+            self._news.wait(0.05)
             time.sleep(0.01)
 
 
-def _gather(pipe: IO[bytes] | None, lines: list[bytes]) -> None:
+def _gather(pipe: IO[bytes] | None, lines: list[bytes], news: threading.Event) -> None:
     assert pipe is not None
     for line in iter(pipe.readline, b""):
         lines.append(line)
+        news.set()
