@@ -1,5 +1,5 @@
 -- A run whose verdict has a line, with a header that is run, is found to stop there, at one of its events.
-use Rattle.std.proofs.Common.{◌≡◌, ◌≢◌, ◌≤◌, ◌<◌, ℕ, ◌+◌, List, [], ◌∷◌, length, slice_get, Option, Some, None, Result, Ok, Err, IfOk, refl, sym, ap, subst, ◌∙◌, arith, false}
+use Rattle.std.proofs.Common.{◌≡◌, ◌≢◌, ◌<◌, ℕ, ◌+◌, List, [], ◌∷◌, length, Option, Some, None, Result, Ok, Err, IfOk, refl, sym, subst, ◌∙◌, arith, false}
 use Rattle.std.specs.declared.alloc.AllocError.{AllocError}
 use Rattle.std.specs.List.{filter_map, last_or}
 use Rattle.pd_settings.specs.declared.fields.Settings.{Settings}
@@ -17,9 +17,9 @@ use Rattle.pd_run.specs.declared.stops.Stopped.{Stopped}
 use Rattle.pd_run.specs.declared.verdicts.Verdict.{Verdict}
 use Rattle.pd_run.specs.declared.verdicts.Verdict.TheVariants as verdict
 use Rattle.pd_run.specs.declared.whys.Why.{Why}
-use Rattle.pd_explain.specs.Causes.{IsCauseOf, StopsAt, IsCauseIn, IsCause}
-use Rattle.pd_explain.specs.Explained.{row_line, not_run}
-use Rattle.pd_explain.specs.declared.explanations.Cause.{Cause}
+use Rattle.pd_causes.specs.Causes.{IsCauseOf}
+use Rattle.pd_causes.specs.declared.causes.Cause.{Cause}
+use Rattle.pd_explain.specs.Explained.{row_line, not_run, StopsAt, IsCauseIn, IsCause}
 
 -- where a stop is found among so many events after n others
 abbrev Within : ℕ → ℕ → Option Stopped → Type 0

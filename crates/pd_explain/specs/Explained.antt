@@ -1,18 +1,57 @@
--- Which rows are explained.
-use Rattle.std.specs.Prelude.{ℕ, List, find, is_none, Option, Some, None}
+-- Which rows are explained, and by which cause.
+use Rattle.std.specs.Prelude.{◌≡◌, ℕ, List, slice_get, find, is_none, Option, Some, None}
+use Rattle.pd_settings.specs.declared.fields.Settings.{Settings}
+use Rattle.pd_script.specs.Script.{script_of}
+use Rattle.pd_script.specs.declared.parsing.Parsed.{Parsed}
+use Rattle.pd_script.specs.declared.script_events.Event.{Event}
 use Rattle.pd_script.specs.declared.script_header.HeaderItem.{HeaderItem}
 use Rattle.pd_run.specs.Run.{tolerance_in}
+use Rattle.pd_run.specs.Stops.{stop_in}
+use Rattle.pd_run.specs.Why.{verdict_at}
+use Rattle.pd_run.specs.declared.stops.Stopped.{Stopped}
 use Rattle.pd_run.specs.declared.verdicts.Verdict.{Verdict}
-use Rattle.pd_run.specs.declared.verdicts.Verdict.TheVariants.{Pass, Fail, Syntax, Unsupported, Limit}
+use Rattle.pd_run.specs.declared.verdicts.Verdict.TheVariants as verdict
+use Rattle.pd_causes.specs.Causes.{IsCauseOf}
+use Rattle.pd_causes.specs.Rules.{header_rule}
+use Rattle.pd_causes.specs.declared.causes.Cause.{Cause}
+use Rattle.pd_causes.specs.declared.causes.Cause.TheVariants as cause
 
 -- the line of a row that isn't a pass
 abbrev pub row_line : Verdict → Option ℕ
-row_line (Pass n) = None
-row_line (Fail line kind) = Some line
-row_line (Syntax line) = Some line
-row_line (Unsupported line) = Some line
-row_line (Limit line) = Some line
+row_line (verdict.Pass n) = None
+row_line (verdict.Fail line kind) = Some line
+row_line (verdict.Syntax line) = Some line
+row_line (verdict.Unsupported line) = Some line
+row_line (verdict.Limit line) = Some line
 
 -- the first header item that isn't run
 abbrev pub not_run : List HeaderItem → Option HeaderItem
 not_run items = find (λ item. is_none (tolerance_in item)) items
+
+-- the run of a script stops on a line at this event, which gives the verdict
+pub record StopsAt (line : ℕ) (settings : Settings) (parsed : Parsed) (v : Verdict) (e : Event) (stop : Stopped) : Type 0 where
+  pub found : stop_in line settings parsed ≡ Some stop
+  pub event : slice_get parsed.events stop.passed ≡ Some e
+  pub gives : verdict_at line stop.why ≡ v
+
+-- what is told of a script whose run comes to a verdict at a line: the rule of the first header item that isn't run, or the
+-- cause of the stop
+abbrev pub IsCauseIn : ℕ → Settings → Parsed → Verdict → Cause → Type 0
+IsCauseIn line settings parsed v told = by_header (not_run parsed.header.items)
+  where
+    by_header : Option HeaderItem → Type 0
+    by_header (Some item) = told ≡ cause.Rule (header_rule item.kind)
+    by_header None = (e : Event) × (stop : Stopped) × StopsAt line settings parsed v e stop × IsCauseOf e stop told
+
+-- a text is refused, and nothing else is told
+abbrev pub IsRefused : Cause → Type 0
+IsRefused (cause.Syntax refusal) = Unit {0}
+IsRefused _ = ⊥
+
+-- what is told of a row: of a text that is no script that it is refused, of any other the cause of the stop at its line
+abbrev pub IsCause : List (List ℕ) → Settings → Verdict → Cause → Type 0
+IsCause text settings (verdict.Pass n) told = ⊥
+IsCause text settings (verdict.Syntax line) told = IsRefused told
+IsCause text settings (verdict.Fail line kind) told = IsCauseIn line settings (script_of text) (verdict.Fail line kind) told
+IsCause text settings (verdict.Unsupported line) told = IsCauseIn line settings (script_of text) (verdict.Unsupported line) told
+IsCause text settings (verdict.Limit line) told = IsCauseIn line settings (script_of text) (verdict.Limit line) told

@@ -3,16 +3,12 @@ ghost use Rattle.std.specs.Prelude.{◌≡◌, Some, option_map, IfOk, IfSome};
 ghost use Rattle.pd_run.specs.Run.{verdict_of};
 ghost use Rattle.pd_run.specs.Stops.{line_of};
 ghost use Rattle.pd_script.specs.Script.{script_of};
-ghost use Rattle.pd_explain.specs.Causes.{IsCauseOf, IsCauseIn, IsCause};
-ghost use Rattle.pd_explain.specs.Explained.{row_line, not_run};
+ghost use Rattle.pd_explain.specs.Explained.{row_line, not_run, IsCauseIn, IsCause};
 
-use crate::explanations::{Cause, Explanation};
-use crate::failing::failure_of;
-use crate::refusals::find_refusal;
-use crate::rules::{event_rule, header_rule};
-use crate::writings::{Writing, written_at};
-use pd_run::{Stopped, Verdict, find_stop, verdicts_have_reasons};
-use pd_script::{Event, Header, HeaderItem, HeaderKind, parse};
+use crate::explanations::Explanation;
+use pd_causes::{Cause, cause_at, find_refusal, header_rule};
+use pd_run::{Verdict, find_stop, verdicts_have_reasons};
+use pd_script::{Header, HeaderItem, HeaderKind, parse};
 use pd_settings::Settings;
 use pd_text::Lines;
 use std::alloc::{AllocError, Global};
@@ -94,23 +90,7 @@ fn cause_of_stop(
         unreachable!()
     };
     let event = &parsed.events.as_slice()[stop.passed];
-    let writing = written_at(alloc, lines, parsed.header.end(), stop.passed)?;
-    cause_at(alloc, event, &stop, writing)
-}
-
-/// Why an event, which is written so, stopped a run.
-fn cause_at(
-    alloc: Global,
-    event: &Event,
-    stop: &Stopped,
-    writing: Writing,
-) -> Result<Cause, AllocError>
-    ensures { IfOk result (IsCauseOf event.now stop.now) }
-{
-    match failure_of(alloc, event, stop, writing)? {
-        Some(failure) => Ok(Cause::Failed(failure)),
-        None => Ok(Cause::Rule(event_rule(event, stop))),
-    }
+    cause_at(alloc, lines, parsed.header.end(), event, &stop)
 }
 
 /// The first header item that isn't run.

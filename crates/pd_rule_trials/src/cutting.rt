@@ -1,6 +1,6 @@
 //! Texts cut at each octet.
 use crate::texts::text_of;
-use pd_explain::find_refusal;
+use pd_causes::find_refusal;
 use pd_script::parse;
 use pd_text::Lines;
 use std::alloc::{AllocError, Global};

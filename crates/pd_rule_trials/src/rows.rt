@@ -4,7 +4,7 @@ ghost use Rattle.std.specs.Prelude.{◌≤◌, length};
 use crate::cutting::cut_at_each;
 use crate::shown_lines::{cut, cut_at_mark};
 use crate::texts::text_of;
-use pd_explain::{Refusal, Rule, event_rule, find_refusal, header_rule};
+use pd_causes::{Refusal, Rule, event_rule, find_refusal, header_rule};
 use pd_run::{Stopped, Verdict, find_stop, run_all};
 use pd_script::{HeaderKind, MAX_EVENTS, Parsed, parse};
 use pd_settings::Settings;

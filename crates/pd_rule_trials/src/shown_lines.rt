@@ -1,5 +1,5 @@
 //! Lines as they are shown and cut.
-use pd_explain::{cut_around, cut_line, put_shown};
+use pd_causes::{cut_around, cut_line, put_shown};
 use std::alloc::{AllocError, Global};
 
 /// A line as it is shown, cut.

@@ -1,5 +1,5 @@
 -- The event that stopped the run is one of those that were read.
-use Rattle.std.proofs.Common.{◌≡◌, ◌<◌, ℕ, List, length, slice_get, None, Some, IfOk, refl, sym, ap, subst, ◌∙◌, arith}
+use Rattle.std.proofs.Common.{◌≡◌, ◌<◌, List, length, slice_get, None, Some, IfOk, refl, sym, ap, subst, ◌∙◌, arith}
 use Rattle.std.proofs.Math.ListN.{get_or}
 use Rattle.std.proofs.lemmas.Option.{slice_get_read}
 use Rattle.pd_settings.specs.declared.fields.Settings.{Settings}
@@ -9,8 +9,7 @@ use Rattle.pd_run.specs.Run.{verdict_in}
 use Rattle.pd_run.specs.Stops.{line_of, stop_in}
 use Rattle.pd_run.specs.Why.{verdict_at}
 use Rattle.pd_run.specs.declared.stops.Stopped.{Stopped}
-use Rattle.pd_explain.specs.Causes.{IsCauseIn}
-use Rattle.pd_explain.specs.Explained.{not_run}
+use Rattle.pd_explain.specs.Explained.{not_run, IsCauseIn}
 use Rattle.pd_explain.proofs.StopIsThere.{StopsWithin, stops_within, causes_in}
 use Rattle.pd_explain.proofs.explaining.cause_of_stop.Goals as goal
 

@@ -1,0 +1,10 @@
+-- The definitions that the contracts cite.
+pub mod Columns
+pub mod Senders
+pub mod Failures
+pub mod Causes
+pub mod Pasted
+pub mod Shown
+pub mod Windows
+pub mod Rules
+pub mod Inner
