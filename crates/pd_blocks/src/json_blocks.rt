@@ -1,7 +1,7 @@
 //! The block of an explanation as a JSON object.
 use crate::facts::{Fact, Told, facts_of, facts_of_sender, named, state_name};
 use crate::headings::{kind_name, verdict_name, verdict_words};
-use pd_causes::{Cause, Failure, Refusal, Standing, put_shown};
+use pd_causes::{Cause, Failure, Refusal, Standing, as_shown};
 use pd_explain::Explanation;
 use pd_run::Verdict;
 use pd_text::Name;
@@ -89,9 +89,7 @@ fn value_of(alloc: Global, told: Told<'_>) -> Result<Value, AllocError> {
 
 /// Octets as shown, as a string.
 fn shown(alloc: Global, octets: &[u8]) -> Result<Value, AllocError> {
-    let mut text = Vec::new(alloc);
-    put_shown(&mut text, octets)?;
-    letters(alloc, &text)
+    letters(alloc, &as_shown(alloc, octets)?)
 }
 
 /// Octets that are shown already, as a string.

@@ -16,8 +16,9 @@ use crate::failures::{
     Awaited, Comparison, Failed, Failure, Reply, Setback, Standing, Untaken, Wait,
 };
 use crate::reasons::Reason;
-use crate::shown::put_shown;
+use crate::shown::as_shown;
 use crate::writings::Writing;
+use pd_host::Host;
 use pd_match::Kind;
 use pd_print::write_answer;
 use pd_run::{RunState, Stopped, Why};
@@ -61,7 +62,10 @@ fn failed_of(
     let failed = match &stop.why {
         Why::OverLimit | Why::NotRun | Why::Halted(_) => return Ok(None),
         Why::Backwards => Failed::Backwards(setback(event, before, writing)),
-        Why::Missing => Failed::Missing(wait(alloc, event, before, writing)?),
+        Why::Missing => {
+            let script = line_of(alloc, event, writing)?;
+            Failed::Missing(wait(alloc, event, before, script)?)
+        }
         Why::Differs(kind, sent, run) => {
             Failed::Packet(comparison(alloc, event, *kind, sent, run, writing)?)
         }
@@ -139,31 +143,36 @@ fn first_moment(time: Time) -> u64 {
     }
 }
 
+/// What is told of an awaited event, which is shown so.
 fn wait(
     alloc: Global,
     event: &Event,
     before: &RunState,
-    writing: Writing,
+    script: Vec<u8>,
 ) -> Result<Wait, AllocError>
     ensures reason { IfOk result (λ wait. wait.reason ≡ reason_of event.now.action (hold_in before.now.host.state)) }
     ensures expiry { IfOk result (λ wait. wait.expiry ≡ deadline_of before.now.host.state) }
 {
     let host = before.host();
     let reason = Reason::of(&event.action, host.hold()?);
-    let words = reason.in_words(alloc, host.figures(), host.wanted_octet()?)?;
     Ok(Wait {
-        script: line_of(alloc, event, writing)?,
+        script,
         awaited: awaited(event.time, before),
         expiry: host.deadline(),
         reason,
-        words,
+        words: words_of(alloc, reason, host)?,
     })
+}
+
+/// A reason in words, with the numbers of a sender.
+fn words_of(alloc: Global, reason: Reason, host: &Host) -> Result<Vec<u8>, AllocError> {
+    reason.in_words(alloc, host.figures(), host.wanted_octet()?)
 }
 
 /// The event by itself: its time as written, and of a packet what is written.
 fn line_of(alloc: Global, event: &Event, writing: Writing) -> Result<Vec<u8>, AllocError> {
     match packet_of(event) {
-        Some(packet) => event_of(alloc, &shown(alloc, &writing.time)?, packet),
+        Some(packet) => event_of(alloc, &as_shown(alloc, &writing.time)?, packet),
         None => Ok(writing.event),
     }
 }
@@ -183,7 +192,7 @@ fn comparison(
     let pair = match &event.action {
         Action::Outbound(packet) => pair_of(
             alloc,
-            &shown(alloc, &writing.time)?,
+            &as_shown(alloc, &writing.time)?,
             packet,
             sent,
             run.base(),
@@ -214,15 +223,6 @@ fn reply(alloc: Global, answer: Answer, writing: Writing) -> Result<Reply, Alloc
         expected: writing.result,
         answer,
     })
-}
-
-/// Octets as shown.
-fn shown(alloc: Global, octets: &[u8]) -> Result<Vec<u8>, AllocError>
-    ensures { IfOk result (λ text. text.items ≡ shown octets.now) }
-{
-    let mut shown = Vec::new(alloc);
-    put_shown(&mut shown, octets)?;
-    Ok(shown)
 }
 
 /// The packet that an event expects to leave.

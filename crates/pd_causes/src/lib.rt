@@ -3,6 +3,7 @@
 
 mod causes;
 mod columns;
+mod event_ends;
 mod failing;
 mod failures;
 mod pasted_laws;
@@ -22,6 +23,6 @@ pub use reasons::Reason;
 pub use refusals::{Refusal, find_refusal};
 pub use rule_laws::rules_are_lawful;
 pub use rules::{Input, Number, Rule, Shape, event_rule, header_rule};
-pub use shown::{cut_around, cut_line, put_shown};
+pub use shown::{as_shown, cut_around, cut_line, put_shown};
 pub use shown_laws::shown_is_printable;
 pub use window_laws::named_windows_hold;

@@ -2,6 +2,7 @@
 ghost use Rattle.std.specs.Prelude.{◌≡◌};
 ghost use Rattle.pd_causes.specs.Senders.{is_answer, reason_of};
 
+use itoa::Buffer;
 use pd_host::{Figures, Hold, Recovery};
 use pd_script::Action;
 use std::alloc::{AllocError, Global};
@@ -219,13 +220,12 @@ fn said_of_segment(alloc: Global, hold: Hold, numbers: Numbers) -> Result<Vec<u8
 
 /// The pieces one after the other.
 fn said(alloc: Global, pieces: &[Piece]) -> Result<Vec<u8>, AllocError> {
+    let mut buffer = Buffer::new();
     let mut words = Vec::new(alloc);
     for piece in pieces {
         match piece {
             Words(text) => words.extend_from_slice(text.as_bytes())?,
-            Number(number) => {
-                words.extend_from_slice(number.to_string(alloc)?.as_bytes())?;
-            }
+            Number(number) => words.extend_from_slice(buffer.format(*number).as_bytes())?,
         }
     }
     Ok(words)

@@ -8,7 +8,7 @@ mod trying;
 use self::candidates::expected;
 pub use self::refused::Refusal;
 use self::remnant::Remnant;
-use crate::shown::{part, put_shown, shown_len};
+use crate::shown::{as_shown, part, shown_len};
 use pd_text::Lines;
 use std::alloc::{AllocError, Global};
 
@@ -20,8 +20,6 @@ pub fn find_refusal(alloc: Global, lines: &Lines, line: usize) -> Result<Refusal
     let remnant = Remnant::read(alloc, lines, line)?;
     let taken = remnant.count_taken(alloc)?;
     let octets = lines.line(line).unwrap_or(&[]);
-    let mut text = Vec::new(alloc);
-    put_shown(&mut text, octets)?;
     let mark = match remnant.column_of(lines, line, taken) {
         Some(column) => Some(shown_len(part(octets, 0, column))),
         None => None,
@@ -29,7 +27,7 @@ pub fn find_refusal(alloc: Global, lines: &Lines, line: usize) -> Result<Refusal
     let expected = expected(alloc, remnant.first(taken), remnant.difference(taken))?;
     Ok(Refusal {
         line,
-        text,
+        text: as_shown(alloc, octets)?,
         mark,
         expected,
     })

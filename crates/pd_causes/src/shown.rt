@@ -42,6 +42,18 @@ pub fn put_shown(out: &mut Vec<u8>, octets: &[u8]) -> Result<(), AllocError>
     Ok(())
 }
 
+/// Octets as they are shown.
+///
+/// # Errors
+/// `AllocError` where a growth is refused.
+pub fn as_shown(alloc: Global, octets: &[u8]) -> Result<Vec<u8>, AllocError>
+    ensures { IfOk result (λ text. text.items ≡ shown octets.now) }
+{
+    let mut text = Vec::new(alloc);
+    put_shown(&mut text, octets)?;
+    Ok(text)
+}
+
 fn put_octet(out: &mut Vec<u8>, octet: u8) -> Result<(), AllocError>
     ensures { OnOk result (out.new.items ≡ out.old.items ++ shown_octet octet) }
 {

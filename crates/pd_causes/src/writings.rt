@@ -1,6 +1,6 @@
 //! The octets of an event as they are written in its text.
+use crate::event_ends::end_of_event;
 use pd_lex::{Lexed, Place, Token, TokenKind, next_token};
-use pd_script::{NextEvent, next_event};
 use pd_text::{Lines, MAX_OCTETS};
 use std::alloc::{AllocError, Global};
 
@@ -46,9 +46,9 @@ pub fn written_at(
 
 /// Where the event at a place is followed by something.
 fn place_after(alloc: Global, lines: &Lines, place: Place) -> Result<Place, AllocError> {
-    match next_event(alloc, lines, place)? {
-        NextEvent::Got(_, after, _) => Ok(after),
-        NextEvent::End | NextEvent::Fault(_) => Ok(place),
+    match end_of_event(alloc, lines, place)? {
+        Some((after, _)) => Ok(after),
+        None => Ok(place),
     }
 }
 

@@ -1,5 +1,6 @@
 //! What could stand where no script goes on: candidates, each tried by reading a text with it.
 use crate::refusals::trying::{goes_on, is_script};
+use itoa::Buffer;
 use std::alloc::{AllocError, Global};
 
 /// A token that stands nowhere but inside an argument or a note.
@@ -116,21 +117,34 @@ impl Trials<'_> {
     fn try_outside(&mut self, difference: Option<u64>) -> Result<(), AllocError> {
         let begins_event = self.goes_on(SOME_TIME)?;
         let is_word = self.goes_on(SOME_WORD)?;
+        self.try_before_numbers(is_word)?;
+        if !begins_event {
+            self.try_number(difference)?;
+        }
+        self.try_behind_numbers(is_word)?;
+        self.try_end(begins_event)
+    }
+
+    fn try_before_numbers(&mut self, is_word: bool) -> Result<(), AllocError> {
         self.try_all(&FIRST)?;
         if is_word {
             self.try_any_word()?;
         } else {
             self.try_flags()?;
         }
-        self.try_all(&BEFORE_NUMBERS)?;
-        if !begins_event {
-            self.try_number(difference)?;
-        }
+        self.try_all(&BEFORE_NUMBERS)
+    }
+
+    fn try_behind_numbers(&mut self, is_word: bool) -> Result<(), AllocError> {
         self.try_all(&BEHIND_NUMBERS)?;
         if !is_word {
             self.try_all(&NAMES)?;
         }
-        self.try_all(&LAST)?;
+        self.try_all(&LAST)
+    }
+
+    /// What stands behind a whole event: the time of the next one, and the end of the text.
+    fn try_end(&mut self, begins_event: bool) -> Result<(), AllocError> {
         if begins_event {
             self.tell("a time")?;
         }
@@ -177,7 +191,8 @@ impl Trials<'_> {
         let Some(octets) = difference else {
             return Ok(false);
         };
-        let digits = octets.to_string(self.alloc)?;
+        let mut buffer = Buffer::new();
+        let digits = buffer.format(octets);
         self.goes_on(digits.as_bytes())
     }
 

@@ -1,9 +1,10 @@
 //! What is left of a refused text from its last event on, up to the refused line.
+use crate::event_ends::end_of_event;
 use crate::refusals::gaps::bad_column;
 use crate::refusals::trying::is_refused;
 use crate::shown::part;
 use pd_lex::{Lexed, Place, Token, TokenKind, next_token};
-use pd_script::{EventReader, MAX_EVENTS, NextEvent, read_header};
+use pd_script::{MAX_EVENTS, read_header};
 use pd_text::{Lines, MAX_OCTETS};
 use std::alloc::{AllocError, Global};
 
@@ -40,12 +41,10 @@ pub struct Remnant {
 /// How many events of a text are followed by another one, and where the next event begins; the last that a script may have
 /// isn't counted.
 fn events_before(alloc: Global, lines: &Lines) -> Result<(usize, Place), AllocError> {
-    let header = read_header(alloc, lines)?;
-    let mut place = header.end();
-    let mut reader = EventReader::at(lines, place);
+    let mut place = read_header(alloc, lines)?.end();
     for events in 0..MAX_EVENTS - 1 {
-        match reader.next_event(alloc)? {
-            NextEvent::Got(_, after, Some(_)) => place = after,
+        match end_of_event(alloc, lines, place)? {
+            Some((after, true)) => place = after,
             _ => return Ok((events, place)),
         }
     }
