@@ -20,19 +20,19 @@ use Rattle.pd_book.specs.Headline.{AreOrPending, pending}
 use Rattle.pd_book.specs.Refusals.{full, or_else, value_refusal}
 use Rattle.pd_book.specs.Report.{Shown, IsRunUnder, scratch_row, scratch}
 use Rattle.pd_book.specs.Story.{Story, told}
-use Rattle.pd_cli.specs.Input.{IfKnown, to_come}
+use Rattle.pd_words.specs.Input.{IfKnown, to_come}
+use Rattle.pd_words.specs.Commands.{Item, does, stops, commands}
+use Rattle.pd_words.specs.Taking.{Gives, FaultIn}
+use Rattle.pd_words.specs.declared.command.Command.{Command}
+use Rattle.pd_words.specs.declared.command.Command.TheVariants.{Settle}
+use Rattle.pd_words.specs.declared.faults.ServeFault.{ServeFault}
+use Rattle.pd_words.specs.declared.faults.ServeFault.TheVariants.{HistoryFull, NoWorkers, Differs, BadCommand, Truncated, Read, Write, OutOfMemory}
+use Rattle.pd_words.proofs.Known.{appends_then, known_then, fact_before, appends_none}
 use Rattle.pd_cli.specs.Report.{rendered}
-use Rattle.pd_cli.specs.Commands.{Item, does, stops, commands}
-use Rattle.pd_cli.specs.Taking.{Gives, FaultIn}
 use Rattle.pd_cli.specs.Output.{refused, all_pass}
 use Rattle.pd_cli.specs.Beside.{from_scratch, IsPartOf, MayAct, MayPrint, MayPrintAll, StopsBefore, MayAnswer, ServesBeside}
 use Rattle.pd_cli.specs.BesideSteps.{Declines, scripts_of, IsOfSame, DoesBeside, EndsBeside, FailsBeside}
-use Rattle.pd_cli.specs.declared.command.Command.{Command}
-use Rattle.pd_cli.specs.declared.command.Command.TheVariants.{Settle}
-use Rattle.pd_cli.specs.declared.faults.ServeFault.{ServeFault}
-use Rattle.pd_cli.specs.declared.faults.ServeFault.TheVariants.{HistoryFull, NoWorkers, Differs, BadCommand, Truncated, Read, Write, OutOfMemory}
-use Rattle.pd_cli.proofs.Known.{appends_then, known_then, fact_before}
-use Rattle.pd_cli.proofs.Written.{Next, next_some, next_none, appends_none}
+use Rattle.pd_cli.proofs.Written.{Next, next_some, next_none}
 
 -- ---- acts
 

@@ -6,11 +6,6 @@ pub on_ok_last : {E : Type 0} (r : Result (Unit {0}) E) (new more old all : List
 on_ok_last (Ok u) new more old all e f = e ∙ f
 on_ok_last (Err x) new more old all e f = tt
 
--- a word and a number, where they were added
-pub on_ok_both : {E : Type 0} (r : Result (Unit {0}) E) (new old word digits : List ℕ) → OnOk r (new ≡ old ++ word ++ digits) → OnOk r (new ≡ old ++ (word ++ digits))
-on_ok_both (Ok u) new old word digits e = e ∙ append_assoc old word digits
-on_ok_both (Err x) new old word digits e = tt
-
 -- seven words, each with a number, and a last word
 pub chain : (o w1 n1 w2 n2 w3 n3 w4 n4 w5 n5 w6 n6 w7 n7 w8 a b c d e f g : List ℕ)
     → a ≡ o ++ w1 ++ n1 → b ≡ a ++ w2 ++ n2 → c ≡ b ++ w3 ++ n3 → d ≡ c ++ w4 ++ n4 → e ≡ d ++ w5 ++ n5 → f ≡ e ++ w6 ++ n6 → g ≡ f ++ w7 ++ n7

@@ -13,14 +13,14 @@ use Rattle.pd_book.specs.Acts.{Named, next, started}
 use Rattle.pd_book.specs.Story.{Story, Handed, handed_task, told}
 use Rattle.pd_book.specs.Refusals.{next_job, add_refusal, edit_refusal, remove_refusal, set_refusal}
 use Rattle.pd_book.specs.Turns.{after_turn}
+use Rattle.pd_words.specs.declared.command.Command.{Command}
+use Rattle.pd_words.specs.declared.command.Command.TheVariants.{Add, Edit, Remove, Set, Show, Settle}
+use Rattle.pd_words.specs.declared.faults.ServeFault.{ServeFault}
 use Rattle.pd_cli.specs.Report.{rendered}
 use Rattle.pd_cli.specs.Output.{acted, effect, report}
 use Rattle.pd_cli.specs.Steps.{Turns}
 use Rattle.pd_cli.specs.StepLines.{Counted, AreNumbered}
 use Rattle.pd_cli.specs.Hearing.{IsOfTurn, AreOfTurns, HearsAll, HearsTurn, HearsSettling, HearsNumbered}
-use Rattle.pd_cli.specs.declared.command.Command.{Command}
-use Rattle.pd_cli.specs.declared.command.Command.TheVariants.{Add, Edit, Remove, Set, Show, Settle}
-use Rattle.pd_cli.specs.declared.faults.ServeFault.{ServeFault}
 use Rattle.pd_cli.proofs.Written.{ok_same}
 
 -- ---- one turn

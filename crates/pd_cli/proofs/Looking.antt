@@ -3,19 +3,22 @@ use Rattle.std.proofs.Common.{◌≡◌, ◌==◌, ◌||◌, ℕ, length, bytes_
 use Rattle.std.proofs.lemmas.List.{length-map}
 use Rattle.std.specs.Io.KnownBytes.{Appends}
 use Rattle.std.specs.List.{list_any}
-use Rattle.pd_cli.specs.Blocks.{MaySay, AreBlocks, is_looked_into, names_of}
+use Rattle.pd_words.specs.Chosen.{names_of}
+use Rattle.pd_words.specs.SettingsText.{settings_in}
+use Rattle.pd_words.specs.Said.{Says}
+use Rattle.pd_words.specs.ProgramFaults.{fault_line}
+use Rattle.pd_words.specs.declared.exits.Exit.{Exit}
+use Rattle.pd_words.specs.declared.program_faults.ProgramFault.{ProgramFault}
+use Rattle.pd_words.specs.declared.program_faults.ProgramFault.TheVariants.{Serving}
+use Rattle.pd_words.specs.declared.faults.ServeFault.TheVariants.{OutOfMemory}
+use Rattle.pd_words.proofs.Known.{appends_none}
+use Rattle.pd_cli.specs.Blocks.{MaySay, AreBlocks, is_looked_into}
 use Rattle.pd_cli.specs.ExplainProgram.{FinishesExplaining}
-use Rattle.pd_cli.specs.Program.{settings_in, Runs, status_of, said_of, Says}
-use Rattle.pd_cli.specs.ProgramFaults.{fault_line}
+use Rattle.pd_cli.specs.Program.{Runs, status_of, said_of}
 use Rattle.pd_cli.specs.StepLines.{Counted, AreNumbered}
 use Rattle.pd_cli.specs.Hearing.{HearsAll, SaysMore}
-use Rattle.pd_cli.specs.declared.exits.Exit.{Exit}
-use Rattle.pd_cli.specs.declared.program_faults.ProgramFault.{ProgramFault}
-use Rattle.pd_cli.specs.declared.program_faults.ProgramFault.TheVariants.{Serving}
-use Rattle.pd_cli.specs.declared.faults.ServeFault.TheVariants.{OutOfMemory}
 use Rattle.pd_cli.proofs.Ending.{memory_runs}
 use Rattle.pd_cli.proofs.Telling.{says_more}
-use Rattle.pd_cli.proofs.Written.{appends_none}
 
 -- a name is among those that are lent where it is among their values
 any_name : (only : List (Bor (List ℕ))) (name : List ℕ) → list_any (λ (each : Bor (List ℕ)). bytes_eq each.now name) only ≡ list_any (λ (each : List ℕ). bytes_eq each name) (names_of only)

@@ -18,17 +18,17 @@ use Rattle.pd_book.specs.Accepted.{AddsAreLegal, EditsAreLegal, RemovesAreLegal,
 use Rattle.pd_book.specs.Story.{Story, told}
 use Rattle.pd_book.specs.Turns.{settled, IsAtRest, IsSettled, SettlesAll}
 use Rattle.pd_book.specs.Refusals.{add_refusal, edit_refusal, remove_refusal, set_refusal}
+use Rattle.pd_words.specs.Requests.{request_of}
+use Rattle.pd_words.specs.Commands.{Item, does, stops, fitted, edit_of, with_lines, items_at, items}
+use Rattle.pd_words.specs.declared.requests.Request.{Request}
+use Rattle.pd_words.specs.declared.requests.Request.TheVariants as asks
+use Rattle.pd_words.specs.declared.command.Command.{Command}
+use Rattle.pd_words.specs.declared.command.Command.TheVariants.{Add, Edit, Remove, Set, Show, Settle}
+use Rattle.pd_words.specs.declared.faults.ServeFault.{ServeFault}
+use Rattle.pd_words.specs.declared.faults.ServeFault.TheVariants.{Truncated}
 use Rattle.pd_cli.specs.Report.{rendered}
-use Rattle.pd_cli.specs.Requests.{request_of}
-use Rattle.pd_cli.specs.Commands.{Item, does, stops, fitted, edit_of, with_lines, items_at, items}
 use Rattle.pd_cli.specs.Output.{report, acted, reported, effect, ahead, follow, outcome}
 use Rattle.pd_cli.specs.Laws.{behind, then_done, done_by, OutputGoesOn, StoriesAreLegal, SettlesPrintScratch}
-use Rattle.pd_cli.specs.declared.requests.Request.{Request}
-use Rattle.pd_cli.specs.declared.requests.Request.TheVariants as asks
-use Rattle.pd_cli.specs.declared.command.Command.{Command}
-use Rattle.pd_cli.specs.declared.command.Command.TheVariants.{Add, Edit, Remove, Set, Show, Settle}
-use Rattle.pd_cli.specs.declared.faults.ServeFault.{ServeFault}
-use Rattle.pd_cli.specs.declared.faults.ServeFault.TheVariants.{Truncated}
 use Rattle.pd_cli.proofs.Written.{ok_same, ahead_ahead, quiet_reported}
 
 -- ---- the lines of an input hold no newline

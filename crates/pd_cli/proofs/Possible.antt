@@ -15,14 +15,14 @@ use Rattle.pd_book.specs.Headline.{RowsAreOfScratch}
 use Rattle.pd_book.specs.Refusals.{full, taken_room, or_else, name_refusal, text_refusal, absence, value_refusal}
 use Rattle.pd_book.specs.Report.{shown, scratch}
 use Rattle.pd_book.specs.Story.{Story, told}
+use Rattle.pd_words.specs.Commands.{Item, does}
+use Rattle.pd_words.specs.declared.command.Command.{Command}
+use Rattle.pd_words.specs.declared.command.Command.TheVariants.{Add, Edit, Remove, Set, Show, Settle}
+use Rattle.pd_words.specs.declared.faults.ServeFault.{ServeFault}
 use Rattle.pd_cli.specs.Report.{rendered}
-use Rattle.pd_cli.specs.Commands.{Item, does}
 use Rattle.pd_cli.specs.Output.{refused, report, acted, effect}
 use Rattle.pd_cli.specs.Beside.{from_scratch, IsPartOf, MayAct, MayPrint}
 use Rattle.pd_cli.specs.Laws.{Reaches, HaveSame, SettlesPrintScratch, AloneIsPossibleBeside}
-use Rattle.pd_cli.specs.declared.command.Command.{Command}
-use Rattle.pd_cli.specs.declared.command.Command.TheVariants.{Add, Edit, Remove, Set, Show, Settle}
-use Rattle.pd_cli.specs.declared.faults.ServeFault.{ServeFault}
 use Rattle.pd_cli.proofs.Written.{ok_same}
 
 abbrev Possible : Story → Command → List ℕ → Story → Type 0

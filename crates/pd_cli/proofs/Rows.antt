@@ -2,8 +2,8 @@
 use Rattle.std.proofs.Common.{◌≡◌, ℕ, List, [], ◌++◌, Ok, Err, true, codes, refl}
 use Rattle.std.specs.Fmt.{digits}
 use Rattle.pd_settings.specs.Settings.{defaults}
+use Rattle.pd_words.specs.declared.faults.ServeFault.TheVariants.{BadCommand, Truncated}
 use Rattle.pd_cli.specs.Output.{output}
-use Rattle.pd_cli.specs.declared.faults.ServeFault.TheVariants.{BadCommand, Truncated}
 
 abbrev of_one : List ℕ
 of_one = codes "total 1 pass 0 fail 0 syntax 0 unsupported 0 limit 0 pending 1\n"

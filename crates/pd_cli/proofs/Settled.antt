@@ -14,10 +14,10 @@ use Rattle.pd_book.specs.Story.{Story, Contents, Handed, handed_task, told, told
 use Rattle.pd_book.specs.Report.{owed}
 use Rattle.pd_book.specs.Refusals.{next_job, start_refusal, full, fault_of}
 use Rattle.pd_book.specs.Turns.{after_turn, settled, settled_in, StartsAreOutstanding, TurnsSettle}
+use Rattle.pd_words.specs.declared.faults.ServeFault.{ServeFault}
+use Rattle.pd_words.specs.declared.faults.ServeFault.TheVariants.{HistoryFull, NoWorkers, Differs, BadCommand, Truncated, Read, Write, OutOfMemory}
 use Rattle.pd_cli.specs.Output.{acted}
 use Rattle.pd_cli.specs.Steps.{RepliesTo, IsQuiet, Turns, SettlesTo}
-use Rattle.pd_cli.specs.declared.faults.ServeFault.{ServeFault}
-use Rattle.pd_cli.specs.declared.faults.ServeFault.TheVariants.{HistoryFull, NoWorkers, Differs, BadCommand, Truncated, Read, Write, OutOfMemory}
 
 -- the settling of a first story goes on from this one, with enough turns
 abbrev pub GoesOn : Story → Story → Type 0

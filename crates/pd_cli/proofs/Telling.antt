@@ -1,17 +1,20 @@
 -- How a run of the program that tells steps ends.
 use Rattle.std.proofs.Common.{◌≡◌, ℕ, Bool, true, false, List, [], ◌∷◌, ◌++◌, Option, Some, None, Result, Ok, Err, IfSome, refl, sym, ap, subst, ◌∙◌, append_assoc, append-nil}
 use Rattle.std.specs.Io.KnownBytes.{Appends}
-use Rattle.pd_cli.specs.Program.{settings_in, Runs, status_of, said_of, Says}
-use Rattle.pd_cli.specs.ProgramFaults.{fault_line}
+use Rattle.pd_words.specs.SettingsText.{settings_in}
+use Rattle.pd_words.specs.Said.{Says}
+use Rattle.pd_words.specs.ProgramFaults.{fault_line}
+use Rattle.pd_words.specs.declared.exits.Exit.{Exit}
+use Rattle.pd_words.specs.declared.program_faults.ProgramFault.{ProgramFault}
+use Rattle.pd_words.specs.declared.program_faults.ProgramFault.TheVariants.{Serving}
+use Rattle.pd_words.specs.declared.faults.ServeFault.TheVariants.{OutOfMemory}
+use Rattle.pd_words.proofs.Saying.{says_front, says_then}
+use Rattle.pd_words.proofs.Known.{appends_none}
+use Rattle.pd_cli.specs.Program.{Runs, status_of, said_of}
 use Rattle.pd_cli.specs.StepLines.{Counted, AreNumbered, step_line, step_lines}
 use Rattle.pd_cli.specs.Hearing.{HearsAll, SaysMore}
 use Rattle.pd_cli.specs.StepProgram.{FinishesTelling}
-use Rattle.pd_cli.specs.declared.exits.Exit.{Exit}
-use Rattle.pd_cli.specs.declared.program_faults.ProgramFault.{ProgramFault}
-use Rattle.pd_cli.specs.declared.program_faults.ProgramFault.TheVariants.{Serving}
-use Rattle.pd_cli.specs.declared.faults.ServeFault.TheVariants.{OutOfMemory}
-use Rattle.pd_cli.proofs.Ending.{says_front, says_then, memory_runs}
-use Rattle.pd_cli.proofs.Written.{appends_none}
+use Rattle.pd_cli.proofs.Ending.{memory_runs}
 
 -- nothing was said
 pub says_none : (w : Option (List ℕ)) → Says true w w []

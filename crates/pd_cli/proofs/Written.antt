@@ -12,17 +12,17 @@ use Rattle.pd_book.specs.declared.faults.BookFault.TheVariants as book
 use Rattle.pd_book.specs.Story.{Story, told}
 use Rattle.pd_book.specs.Turns.{settled, SettlesAll}
 use Rattle.pd_book.specs.Refusals.{add_refusal, edit_refusal, remove_refusal, set_refusal}
-use Rattle.pd_cli.specs.Input.{IfKnown, to_come}
+use Rattle.pd_words.specs.Input.{IfKnown, to_come}
+use Rattle.pd_words.specs.Commands.{Item, does, stops, commands}
+use Rattle.pd_words.specs.Taking.{Gives, FaultIn}
+use Rattle.pd_words.specs.declared.command.Command.{Command}
+use Rattle.pd_words.specs.declared.command.Command.TheVariants.{Add, Edit, Remove, Set, Show, Settle}
+use Rattle.pd_words.specs.declared.faults.ServeFault.{ServeFault}
+use Rattle.pd_words.specs.declared.faults.ServeFault.TheVariants.{HistoryFull, NoWorkers, Differs, BadCommand, Truncated, Read, Write, OutOfMemory}
+use Rattle.pd_words.proofs.Known.{appends_then, known_then, fact_before}
 use Rattle.pd_cli.specs.Report.{rendered}
-use Rattle.pd_cli.specs.Commands.{Item, does, stops, commands}
-use Rattle.pd_cli.specs.Taking.{Gives, FaultIn}
 use Rattle.pd_cli.specs.Output.{Session, output, outcome, ahead, follow, acted, effect, reported, report, all_pass, Answers}
 use Rattle.pd_cli.specs.Steps.{IsQuiet, Does, Ends}
-use Rattle.pd_cli.specs.declared.command.Command.{Command}
-use Rattle.pd_cli.specs.declared.command.Command.TheVariants.{Add, Edit, Remove, Set, Show, Settle}
-use Rattle.pd_cli.specs.declared.faults.ServeFault.{ServeFault}
-use Rattle.pd_cli.specs.declared.faults.ServeFault.TheVariants.{HistoryFull, NoWorkers, Differs, BadCommand, Truncated, Read, Write, OutOfMemory}
-use Rattle.pd_cli.proofs.Known.{appends_then, known_then, fact_before}
 
 -- no job is outstanding after a command
 
@@ -181,11 +181,7 @@ served_end settings (Ok passed) story new more w0 w w1 all u s g a d =
     (s.0 ++ more, appends_then w0 w w1 s.0 more s.1 a, fact_before (Comes settings story s.0) (λ o. commands o ≡ does Settle ∷ []) (λ input. Answers (Ok passed) (s.0 ++ more) (output settings input)) all u (λ x y h k. answers_end settings passed story new s.0 more x y h k d.0 d.1) s.2 g)
 served_end settings (Err fault) story new more w0 w w1 all u s g a d = served_stop settings fault story new Settle more w0 w w1 all u s (next_last u g) a d
 
--- nothing was written at the start
-pub appends_none : (w : Option (List ℕ)) → Appends w w []
-appends_none None = tt
-appends_none (Some octets) = sym (append-nil octets)
-
+-- at the start
 comes_first : (settings : Settings) (all : Option (List ℕ)) → IfKnown (Comes settings (record { opening = settings; past = [] }) []) all (to_come ([], 1048576) all)
 comes_first settings None = tt
 comes_first settings (Some octets) = refl

@@ -13,13 +13,13 @@ use Rattle.pd_book.specs.Headline.{RowsAreOfScratch}
 use Rattle.pd_book.specs.Refusals.{name_refusal, text_refusal, absence, value_refusal}
 use Rattle.pd_book.specs.Report.{Shown, scratch}
 use Rattle.pd_book.specs.Story.{Story, told}
+use Rattle.pd_words.specs.Commands.{Item, does, stops, commands}
+use Rattle.pd_words.specs.declared.command.Command.{Command}
+use Rattle.pd_words.specs.declared.command.Command.TheVariants.{Add, Edit, Remove, Set, Show, Settle}
+use Rattle.pd_words.specs.declared.faults.ServeFault.{ServeFault}
+use Rattle.pd_words.specs.declared.faults.ServeFault.TheVariants.{NoWorkers, Differs, BadCommand, Truncated, Read, Write, OutOfMemory}
 use Rattle.pd_cli.specs.Report.{rendered}
-use Rattle.pd_cli.specs.Commands.{Item, does, stops, commands}
 use Rattle.pd_cli.specs.Output.{refused, all_pass}
-use Rattle.pd_cli.specs.declared.command.Command.{Command}
-use Rattle.pd_cli.specs.declared.command.Command.TheVariants.{Add, Edit, Remove, Set, Show, Settle}
-use Rattle.pd_cli.specs.declared.faults.ServeFault.{ServeFault}
-use Rattle.pd_cli.specs.declared.faults.ServeFault.TheVariants.{NoWorkers, Differs, BadCommand, Truncated, Read, Write, OutOfMemory}
 
 -- the report from scratch of the scripts and the settings as they stand
 abbrev pub from_scratch : Story → Shown

@@ -6,12 +6,12 @@ use Rattle.pd_book.specs.declared.row.Row.{Row}
 use Rattle.pd_book.specs.Acts.{Named}
 use Rattle.pd_book.specs.Report.{Shown}
 use Rattle.pd_book.specs.Story.{Story}
+use Rattle.pd_words.specs.declared.command.Command.{Command}
+use Rattle.pd_words.specs.declared.command.Command.TheVariants.{Settle}
+use Rattle.pd_words.specs.declared.faults.ServeFault.{ServeFault}
+use Rattle.pd_words.specs.declared.faults.ServeFault.TheVariants.{NoWorkers, Differs, Write, OutOfMemory}
 use Rattle.pd_cli.specs.Output.{refused, all_pass}
 use Rattle.pd_cli.specs.Beside.{from_scratch, MayPrint}
-use Rattle.pd_cli.specs.declared.command.Command.{Command}
-use Rattle.pd_cli.specs.declared.command.Command.TheVariants.{Settle}
-use Rattle.pd_cli.specs.declared.faults.ServeFault.{ServeFault}
-use Rattle.pd_cli.specs.declared.faults.ServeFault.TheVariants.{NoWorkers, Differs, Write, OutOfMemory}
 
 -- the line of a refusal for this reason, or where there is none for a full history
 abbrev pub Declines : Option BookFault → List ℕ → Type 0

@@ -1,12 +1,7 @@
 -- What is said of jobs that are looked into.
-use Rattle.std.specs.Prelude.{◌≡◌, ℕ, ◌==◌, ◌||◌, Bool, false, List, [], ◌∷◌, ◌++◌, length, map, bytes_eq}
-use Rattle.std.specs.Borrow.{Bor}
+use Rattle.std.specs.Prelude.{◌≡◌, ℕ, ◌==◌, ◌||◌, Bool, false, List, [], ◌∷◌, ◌++◌, length, bytes_eq}
 use Rattle.std.specs.List.{list_any}
 use Rattle.pd_cli.specs.StepLines.{Counted}
-
--- the names behind references
-abbrev pub names_of : List (Bor (List ℕ)) → List (List ℕ)
-names_of = map (λ name. name.now)
 
 -- a script of this name is looked into: it is among the names, or there are none
 abbrev pub is_looked_into : List (List ℕ) → List ℕ → Bool

@@ -1,11 +1,13 @@
 -- What the program that explains writes, and its status.
 use Rattle.std.specs.Prelude.{◌≡◌, ℕ, Bool, List, ◌++◌, Option, Result, IfSome}
 use Rattle.std.specs.Io.KnownBytes.{Appends}
-use Rattle.pd_cli.specs.Program.{settings_in, Runs, status_of, said_of, Says}
+use Rattle.pd_words.specs.SettingsText.{settings_in}
+use Rattle.pd_words.specs.Said.{Says}
+use Rattle.pd_words.specs.declared.exits.Exit.{Exit}
+use Rattle.pd_words.specs.declared.program_faults.ProgramFault.{ProgramFault}
+use Rattle.pd_cli.specs.Program.{Runs, status_of, said_of}
 use Rattle.pd_cli.specs.Blocks.{AreBlocks}
 use Rattle.pd_cli.specs.StepLines.{Counted, AreNumbered}
-use Rattle.pd_cli.specs.declared.exits.Exit.{Exit}
-use Rattle.pd_cli.specs.declared.program_faults.ProgramFault.{ProgramFault}
 
 -- a run with this settings text, which looks into the scripts of these names alone where there are some, came to an end
 -- with its status, wrote what the program without workers writes, and said a block for each of some jobs, which are

@@ -5,8 +5,8 @@ use Rattle.pd_book.specs.Acts.{started}
 use Rattle.pd_book.specs.Story.{Story}
 use Rattle.pd_book.specs.Refusals.{next_job}
 use Rattle.pd_book.specs.Turns.{after_turn}
-use Rattle.pd_cli.specs.Program.{Says}
-use Rattle.pd_cli.specs.declared.faults.ServeFault.{ServeFault}
+use Rattle.pd_words.specs.Said.{Says}
+use Rattle.pd_words.specs.declared.faults.ServeFault.{ServeFault}
 use Rattle.pd_cli.specs.StepLines.{Counted, AreNumbered}
 use Rattle.pd_track.specs.Reuse as reuse
 

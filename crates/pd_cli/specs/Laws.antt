@@ -5,13 +5,13 @@ use Rattle.pd_book.specs.Acts.{texts, now}
 use Rattle.pd_book.specs.Story.{Story}
 use Rattle.pd_book.specs.Turns.{IsAtRest, IsSettled}
 use Rattle.pd_book.specs.Headline.{RowsAreOfScratch}
+use Rattle.pd_words.specs.Commands.{Item, does, stops, commands}
+use Rattle.pd_words.specs.declared.command.Command.{Command}
+use Rattle.pd_words.specs.declared.command.Command.TheVariants.{Show, Settle}
+use Rattle.pd_words.specs.declared.faults.ServeFault.{ServeFault}
 use Rattle.pd_cli.specs.Report.{rendered}
-use Rattle.pd_cli.specs.Commands.{Item, does, stops, commands}
 use Rattle.pd_cli.specs.Output.{report, effect, ahead, outcome, output}
 use Rattle.pd_cli.specs.Beside.{from_scratch, MayPrint}
-use Rattle.pd_cli.specs.declared.command.Command.{Command}
-use Rattle.pd_cli.specs.declared.command.Command.TheVariants.{Show, Settle}
-use Rattle.pd_cli.specs.declared.faults.ServeFault.{ServeFault}
 
 -- octets that were written, with those of an effect behind them
 abbrev pub behind : List ℕ → Result (List ℕ × Story) ServeFault → Result (List ℕ × Story) ServeFault

@@ -1,24 +1,14 @@
--- The definitions of the input, the commands, the report and the output.
+-- The definitions of the report, the output and the programs.
 pub mod Beside
 pub mod BesideSteps
 pub mod Blocks
-pub mod Chosen
-pub mod Commands
+pub mod DeskFaults
 pub mod ExplainProgram
-pub mod Input
 pub mod Laws
 pub mod Output
-pub mod Pieces
 pub mod Program
-pub mod ProgramFaults
-pub mod ProgramWords
 pub mod Report
-pub mod Requests
-pub mod ServeFaults
 pub mod StepLines
 pub mod StepProgram
 pub mod Steps
-pub mod TakenLines
-pub mod Taking
-pub mod Words
 pub mod Hearing

@@ -1,10 +1,12 @@
 -- What the program that tells steps writes, and its status.
 use Rattle.std.specs.Prelude.{◌≡◌, ℕ, Bool, List, ◌++◌, Option, Result, IfSome}
 use Rattle.std.specs.Io.KnownBytes.{Appends}
-use Rattle.pd_cli.specs.Program.{settings_in, Runs, status_of, said_of, Says}
+use Rattle.pd_words.specs.SettingsText.{settings_in}
+use Rattle.pd_words.specs.Said.{Says}
+use Rattle.pd_words.specs.declared.exits.Exit.{Exit}
+use Rattle.pd_words.specs.declared.program_faults.ProgramFault.{ProgramFault}
+use Rattle.pd_cli.specs.Program.{Runs, status_of, said_of}
 use Rattle.pd_cli.specs.StepLines.{Counted, AreNumbered, step_lines}
-use Rattle.pd_cli.specs.declared.exits.Exit.{Exit}
-use Rattle.pd_cli.specs.declared.program_faults.ProgramFault.{ProgramFault}
 
 -- a run with this settings text came to an end with its status, wrote what the program without workers writes, and said a
 -- line for each of some jobs, which are numbered from 1 on, and then what the end has to say

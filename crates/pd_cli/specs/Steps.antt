@@ -8,11 +8,11 @@ use Rattle.pd_book.specs.Report.{owed}
 use Rattle.pd_book.specs.Story.{Story}
 use Rattle.pd_book.specs.Refusals.{next_job, start_refusal}
 use Rattle.pd_book.specs.Turns.{after_turn, settled}
+use Rattle.pd_words.specs.declared.command.Command.{Command}
+use Rattle.pd_words.specs.declared.command.Command.TheVariants.{Settle}
+use Rattle.pd_words.specs.declared.faults.ServeFault.{ServeFault}
+use Rattle.pd_words.specs.declared.faults.ServeFault.TheVariants.{HistoryFull, Write, OutOfMemory}
 use Rattle.pd_cli.specs.Output.{refused, effect, report, all_pass}
-use Rattle.pd_cli.specs.declared.command.Command.{Command}
-use Rattle.pd_cli.specs.declared.command.Command.TheVariants.{Settle}
-use Rattle.pd_cli.specs.declared.faults.ServeFault.{ServeFault}
-use Rattle.pd_cli.specs.declared.faults.ServeFault.TheVariants.{HistoryFull, Write, OutOfMemory}
 
 -- what an answer of a book prints
 abbrev pub RepliesTo : Result (Unit {0}) BookFault → List ℕ → Type 0

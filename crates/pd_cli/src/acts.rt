@@ -3,11 +3,10 @@ ghost use Rattle.std.specs.Prelude.{◌≡◌, Ok, IfOk, IfErr};
 ghost use Rattle.pd_cli.specs.Output.{refused, effect};
 ghost use Rattle.pd_cli.specs.Steps.{RepliesTo};
 
-use crate::command::Command;
-use crate::faults::ServeFault;
 use pd_book::{Book, BookFault, SharedEdit};
 use pd_settings::Value;
 use pd_text::{LineEdit, Lines, Name};
+use pd_words::{Command, ServeFault};
 use std::alloc::{AllocError, Global};
 
 /// Adds a script, and gives what this prints.

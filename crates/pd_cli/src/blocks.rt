@@ -1,15 +1,16 @@
 //! A listener that says why a job came to another verdict than pass.
 ghost use Rattle.std.specs.Prelude.{◌≡◌, bytes_eq, false, [], IfOk};
 ghost use Rattle.std.specs.List.{list_any};
-ghost use Rattle.pd_cli.specs.Blocks.{is_looked_into, names_of};
+ghost use Rattle.pd_words.specs.Chosen.{names_of};
+ghost use Rattle.pd_cli.specs.Blocks.{is_looked_into};
 
 use crate::listening::Listener;
 use crate::rendering::Class;
-use crate::writing::say;
 use pd_blocks::{block_json, block_text};
 use pd_book::Done;
 use pd_explain::explain;
 use pd_text::Name;
+use pd_words::say;
 use std::alloc::{AllocError, Global};
 use std::io::Write;
 
@@ -30,7 +31,8 @@ pub(crate) struct Blocks<'a, 'b, E> {
 
 impl<'a, 'b, E: Write> Listener for Blocks<'a, 'b, E> {
     ghost use Rattle.std.specs.Prelude.{◌≡◌, ℕ, List};
-    ghost use Rattle.pd_cli.specs.Blocks.{MaySay, names_of};
+    ghost use Rattle.pd_words.specs.Chosen.{names_of};
+    ghost use Rattle.pd_cli.specs.Blocks.{MaySay};
     ghost use Rattle.pd_cli.specs.Hearing.{SaysMore};
 
     ghost hears = { λ old new job. (new.err.ghost_name ≡ old.err.ghost_name) × (names_of new.only.now ≡ names_of old.only.now) × (block : List ℕ) × MaySay (names_of old.only.now) job block × SaysMore old.told new.told (E.contents old.err.now) (E.contents new.err.now) block };

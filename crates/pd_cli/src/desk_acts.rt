@@ -8,13 +8,12 @@ ghost use Rattle.pd_cli.specs.Beside.{MayPrint};
 ghost use Rattle.pd_cli.specs.BesideSteps.{Declines, FailsBeside};
 
 use crate::acts::refusal_line;
-use crate::command::Command;
-use crate::faults::ServeFault;
 use pd_book::{Act, Book, BookFault, SharedEdit};
 use pd_desk::Desk;
 use pd_seat::Seat;
 use pd_settings::Value;
 use pd_text::{LineEdit, Lines, Name, Text};
+use pd_words::{Command, ServeFault};
 use std::alloc::Global;
 use std::sync::Wait;
 

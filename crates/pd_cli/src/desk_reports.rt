@@ -7,13 +7,13 @@ ghost use Rattle.pd_cli.specs.Output.{all_pass};
 ghost use Rattle.pd_cli.specs.Beside.{from_scratch, IsPartOf, MayPrint};
 ghost use Rattle.pd_cli.specs.BesideSteps.{scripts_of, IsOfSame, FailsBeside};
 
-use crate::command::Command;
 use crate::desk_acts::AtDesk;
-use crate::faults::ServeFault;
+use crate::desk_faults::{of_desk, of_show};
 use crate::rendering::render;
 use crate::settling::all_pass;
 use pd_book::{Book, Report, Row};
 use pd_seat::Seat;
+use pd_words::{Command, ServeFault};
 use std::sync::Wait;
 
 /// The octets of the report as it stands.
@@ -25,7 +25,7 @@ pub fn show<H: Wait>(at: &AtDesk<'_, H>, seat: &mut Seat, own: &Book) -> Result<
     ensures printed { IfOk result (λ octets. MayPrint own.now.story Command.Show octets.items own.now.story) }
     ensures only { IfErr result (λ fault. FailsBeside fault Command.Show) }
 {
-    let report = at.desk.show(at.rt, seat)?;
+    let report = at.desk.show(at.rt, seat).map_err(of_show)?;
     compare(own, &report)?;
     Ok(render(at.alloc, &report)?)
 }
@@ -44,7 +44,7 @@ pub fn settle<H: Wait>(
     ensures passed { IfOk result (λ shown. shown.1 ≡ all_pass (from_scratch own.now.story)) }
     ensures only { IfErr result (λ fault. FailsBeside fault Command.Settle) }
 {
-    let report = at.desk.settle(at.rt, seat)?;
+    let report = at.desk.settle(at.rt, seat).map_err(of_desk)?;
     compare(own, &report)?;
     let octets = render(at.alloc, &report)?;
     Ok((octets, all_pass(&report)))

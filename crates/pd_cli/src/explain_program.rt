@@ -1,20 +1,20 @@
 //! The program that explains: the program without workers, with a block on standard error for each job that doesn't pass.
 ghost use Rattle.std.specs.Prelude.{◌≡◌, ◌≢◌, ◌≤◌, ℕ, List, [], IfSome, map};
 ghost use Rattle.std.specs.Io.KnownBytes.{Appends};
-ghost use Rattle.pd_cli.specs.Blocks.{AreBlocks, names_of};
-ghost use Rattle.pd_cli.specs.ProgramWords.{pdexplain, settings_text, only_names, word_faults};
-ghost use Rattle.pd_cli.specs.Program.{settings_in, Runs, Says, Refuses};
+ghost use Rattle.pd_words.specs.Chosen.{names_of};
+ghost use Rattle.pd_words.specs.ProgramWords.{pdexplain, settings_text, only_names, word_faults};
+ghost use Rattle.pd_words.specs.SettingsText.{settings_in};
+ghost use Rattle.pd_words.specs.Said.{Says, Refuses};
+ghost use Rattle.pd_cli.specs.Blocks.{AreBlocks};
+ghost use Rattle.pd_cli.specs.Program.{Runs};
 ghost use Rattle.pd_cli.specs.StepLines.{Counted, AreNumbered};
 ghost use Rattle.pd_cli.specs.ExplainProgram.{FinishesExplaining};
 
 use crate::blocks::Blocks;
-use crate::chosen::ExplainOptions;
-use crate::exits::Exit;
-use crate::explain_words::explain_options;
 use crate::lending::take_back;
-use crate::program_faults::ProgramFault;
 use crate::step_program::ended;
-use crate::whole_program::{refuse, serve_settings};
+use crate::whole_program::serve_settings;
+use pd_words::{Exit, ExplainOptions, ProgramFault, explain_options, refuse};
 use std::alloc::Global;
 use std::convert::AsStr;
 use std::io::{Read, Write};

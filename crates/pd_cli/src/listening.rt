@@ -2,9 +2,9 @@
 ghost use Rattle.std.specs.Prelude.{◌≡◌, ◌++◌, IfOk, OnOk, OnErr};
 ghost use Rattle.pd_cli.specs.StepLines.{Counted, step_line};
 
-use crate::writing::say;
 use pd_book::Done;
 use pd_text::Name;
+use pd_words::say;
 use std::alloc::{AllocError, Global};
 use std::io::Write;
 

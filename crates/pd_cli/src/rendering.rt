@@ -1,11 +1,10 @@
 //! The octets of a report.
 ghost use Rattle.std.specs.Prelude.{◌≡◌, ◌++◌, IfOk, OnOk};
-ghost use Rattle.std.specs.Fmt.{decimal};
-ghost use Rattle.pd_cli.specs.Report.{rendered, row_line, totals, totals_line, verdict_text, kind_word, is_of, number};
+ghost use Rattle.pd_cli.specs.Report.{rendered, row_line, totals, totals_line, is_of, number};
 
-use itoa::Buffer;
 use pd_book::{Report, Row};
-use pd_run::{Kind, Verdict};
+use pd_run::Verdict;
+use pd_words::{put_number, put_verdict};
 use std::alloc::{AllocError, Global};
 
 /// The octets of a report: a line for each script in order of adding, then a line of totals.
@@ -35,52 +34,6 @@ fn put_row(out: &mut Vec<u8>, row: &Row) -> Result<(), AllocError>
     }
     out.push(b'\n')?;
     Ok(())
-}
-
-/// Adds the text of a verdict.
-///
-/// # Errors
-/// `AllocError` where a growth is refused.
-pub fn put_verdict(out: &mut Vec<u8>, verdict: Verdict) -> Result<(), AllocError>
-    ensures { OnOk result (out.new.items ≡ out.old.items ++ verdict_text verdict) }
-{
-    match verdict {
-        Verdict::Pass(events) => put_number(out, b"pass ", events),
-        Verdict::Fail(line, kind) => {
-            put_number(out, b"fail ", line)?;
-            out.extend_from_slice(b" ")?;
-            out.extend_from_slice(kind_word(kind))
-        }
-        Verdict::Syntax(line) => put_number(out, b"syntax ", line),
-        Verdict::Unsupported(line) => put_number(out, b"unsupported ", line),
-        Verdict::Limit(line) => put_number(out, b"limit ", line),
-    }
-}
-
-/// Adds a word and a number in decimal digits.
-fn put_number(out: &mut Vec<u8>, word: &[u8], n: usize) -> Result<(), AllocError>
-    ensures { OnOk result (out.new.items ≡ out.old.items ++ word.now ++ decimal n) }
-{
-    let mut digits = Buffer::new();
-    out.extend_from_slice(word)?;
-    out.extend_from_slice(digits.format(n).as_bytes())
-}
-
-/// The word for what a script failed at.
-fn kind_word(kind: Kind) -> &'static [u8]
-    ensures { result.now ≡ kind_word kind }
-{
-    match kind {
-        Kind::Time => b"time",
-        Kind::Flags => b"flags",
-        Kind::Seq => b"seq",
-        Kind::Ack => b"ack",
-        Kind::Win => b"win",
-        Kind::Options => b"options",
-        Kind::Result => b"result",
-        Kind::Missing => b"missing",
-        Kind::Backwards => b"backwards",
-    }
 }
 
 /// A class of rows, which the totals count.

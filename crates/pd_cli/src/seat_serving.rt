@@ -4,16 +4,13 @@ ghost use Rattle.std.specs.Io.KnownBytes.{Appends};
 ghost use Rattle.pd_cli.specs.Beside.{MayPrint, ServesBeside};
 ghost use Rattle.pd_cli.specs.BesideSteps.{DoesBeside, EndsBeside, FailsBeside};
 
-use crate::command::{Command, next_command};
 use crate::desk_acts::{AtDesk, add, edit, remove, set};
 use crate::desk_reports::{settle, show};
-use crate::faults::ServeFault;
-use crate::intake::Intake;
-use crate::writing::put_all;
 use pd_book::Book;
 use pd_desk::Desk;
 use pd_seat::Seat;
 use pd_settings::Settings;
+use pd_words::{Command, Intake, ServeFault, next_command, put_all};
 use std::alloc::Global;
 use std::io::{Read, Write};
 use std::sync::Wait;

@@ -7,14 +7,11 @@ ghost use Rattle.pd_cli.specs.StepLines.{Counted, AreNumbered};
 ghost use Rattle.pd_cli.specs.Hearing.{HearsAll, HearsNumbered};
 
 use crate::acts::{add, edit, remove, set};
-use crate::command::{Command, next_command};
-use crate::faults::ServeFault;
-use crate::intake::Intake;
 use crate::listening::{Listener, Silent};
 use crate::settling::{at_rest, settle_and_show, show};
-use crate::writing::put_all;
 use pd_book::Book;
 use pd_settings::Settings;
+use pd_words::{Command, Intake, ServeFault, next_command, put_all};
 use std::alloc::Global;
 use std::io::{Read, Write};
 

@@ -6,12 +6,11 @@ ghost use Rattle.pd_cli.specs.Output.{effect, report, all_pass};
 ghost use Rattle.pd_cli.specs.Steps.{IsQuiet, Turns, SettlesTo, Fails};
 ghost use Rattle.pd_cli.specs.Hearing.{HearsTurn, HearsSettling, HearsNumbered};
 
-use crate::command::Command;
-use crate::faults::ServeFault;
 use crate::listening::Listener;
 use crate::rendering::{Class, render};
 use pd_book::{Book, BookFault, Report, acts_are_legal, run_job, settling};
 use pd_run::{Plain, Stepper};
+use pd_words::{Command, ServeFault};
 use std::alloc::{AllocError, Global};
 
 /// What the book's laws say of settling it; the function does nothing.

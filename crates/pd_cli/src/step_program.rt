@@ -1,19 +1,19 @@
 //! The program that tells steps: the program without workers, with a line on standard error for each job that it finishes.
 ghost use Rattle.std.specs.Prelude.{◌≡◌, ◌≢◌, ◌≤◌, ℕ, List, [], IfSome, map};
 ghost use Rattle.std.specs.Io.KnownBytes.{Appends};
-ghost use Rattle.pd_cli.specs.ProgramFaults.{fault_line};
-ghost use Rattle.pd_cli.specs.ProgramWords.{pdsteps, settings_text, word_faults};
-ghost use Rattle.pd_cli.specs.Program.{settings_in, Runs, status_of, said_of, Says, Refuses};
+ghost use Rattle.pd_words.specs.ProgramFaults.{fault_line};
+ghost use Rattle.pd_words.specs.ProgramWords.{pdsteps, settings_text, word_faults};
+ghost use Rattle.pd_words.specs.SettingsText.{settings_in};
+ghost use Rattle.pd_words.specs.Said.{Says, Refuses};
+ghost use Rattle.pd_cli.specs.Program.{Runs, status_of, said_of};
 ghost use Rattle.pd_cli.specs.StepLines.{Counted, AreNumbered, step_lines};
 ghost use Rattle.pd_cli.specs.Hearing.{SaysMore};
 ghost use Rattle.pd_cli.specs.StepProgram.{FinishesTelling};
 
-use crate::exits::Exit;
 use crate::lending::take_back;
 use crate::listening::StepLines;
-use crate::program_faults::ProgramFault;
-use crate::whole_program::{FAULT, fail, refuse, serve_settings, status};
-use crate::word_options::step_options;
+use crate::whole_program::{serve_settings, status};
+use pd_words::{Exit, FAULT, ProgramFault, fail, refuse, step_options};
 use std::alloc::Global;
 use std::convert::AsStr;
 use std::io::{Read, Write};

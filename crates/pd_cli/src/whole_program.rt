@@ -1,34 +1,24 @@
 //! The whole program, over words, a reader and two writers.
-ghost use Rattle.std.specs.Prelude.{true, ◌≡◌, ◌≢◌, ◌⊎◌, ◌≤◌, ℕ, List, [], Ok, Err, IfOk, IfErr, IfSome, map};
+ghost use Rattle.std.specs.Prelude.{true, ◌≡◌, ◌≢◌, ◌≤◌, ℕ, List, [], Ok, IfSome, map};
 ghost use Rattle.std.specs.Io.KnownBytes.{Appends};
-ghost use Rattle.clap.specs.Words.{kind_of};
-ghost use Rattle.pd_cli.specs.ProgramFaults.{fault_line, line_of};
-ghost use Rattle.pd_cli.specs.ProgramWords.{pdregress, settings_text, worker_count, word_faults};
+ghost use Rattle.pd_words.specs.ProgramWords.{pdregress, settings_text, worker_count, word_faults};
+ghost use Rattle.pd_words.specs.SettingsText.{settings_in};
+ghost use Rattle.pd_words.specs.Said.{Refuses};
 ghost use Rattle.pd_cli.specs.StepLines.{Counted, AreNumbered};
 ghost use Rattle.pd_cli.specs.Hearing.{HearsAll};
-ghost use Rattle.pd_cli.specs.Program.{settings_in, Runs, status_of, Says, Refuses, Finishes};
+ghost use Rattle.pd_cli.specs.Program.{Runs, status_of, Finishes};
 
-use crate::chosen::Options;
-use crate::exits::Exit;
-use crate::faults::ServeFault;
 use crate::listening::{Listener, Silent};
-use crate::program_faults::ProgramFault;
 use crate::serving::serve_heard;
-use crate::word_options::options;
 use crate::workers::serve;
-use crate::writing::say;
-use clap::Error;
-use clap::error::ErrorKind;
 use pd_desk::OpenGate;
 use pd_settings::Settings;
+use pd_words::{Exit, Options, ProgramFault, fail, options, refuse, settings_of};
 use std::alloc::Global;
 use std::convert::AsStr;
 use std::io::{Read, Write};
 use std::sync::Wait;
 use std::thread::Threads;
-
-/// The status at a fault.
-pub(crate) const FAULT: u8 = 2;
 
 /// Runs the program on its words, of which the first is its own name. Words that `clap` refuses, and `--help`, print
 /// its own text on `err`, with the status 2. It starts threads where the words ask for workers, and no others.
@@ -107,49 +97,6 @@ fn pass(passed: bool) -> Exit
     }
 }
 
-/// Says what `clap` says of words that it refuses.
-pub fn refuse<E: Write>(alloc: Global, error: &Error, err: &mut E) -> Exit
-    ensures status { result.status ≡ 2 }
-    ensures memory { let line = fault_line (ProgramFault.Serving ServeFault.OutOfMemory) in
-        kind_of error.now ≡ ErrorKind.OutOfMemory → Says result.told (E.contents err.old) (E.contents err.new) line }
-{
-    if error.kind() != ErrorKind::OutOfMemory {
-        if let Ok(text) = format!(in alloc; "{error}") {
-            let told = say(err, text.as_bytes());
-            return Exit {
-                status: FAULT,
-                told,
-            };
-        }
-    }
-    fail(err, ProgramFault::Serving(ServeFault::OutOfMemory))
-}
-
-/// Ends a run at a fault: says its line.
-pub fn fail<E: Write>(err: &mut E, fault: ProgramFault) -> Exit
-    ensures status { result.status ≡ 2 }
-    ensures said { Says result.told (E.contents err.old) (E.contents err.new) (fault_line fault) }
-{
-    let told = say_line(err, fault.text());
-    Exit {
-        status: FAULT,
-        told,
-    }
-}
-
-/// Says the line of a fault.
-fn say_line<E: Write>(err: &mut E, text: &str) -> bool
-    ensures { Says result (E.contents err.old) (E.contents err.new) (line_of text.now) }
-{
-    if !say(err, b"pdregress: ") {
-        return false;
-    }
-    if !say(err, text.as_bytes()) {
-        return false;
-    }
-    say(err, b"\n")
-}
-
 /// The status at the end of the input.
 pub(crate) fn status(passed: bool) -> u8
     ensures { result ≡ status_of (Ok passed) }
@@ -204,22 +151,4 @@ fn serve_beside<H: Threads + Wait + Sync, R: Read, W: Write>(
         &OpenGate,
     )?;
     Ok(passed)
-}
-
-/// The settings of a TOML text.
-///
-/// # Errors
-/// `NotToml` where the text is none; what `pd_settings` says of its keys and values; `OutOfMemory`.
-pub fn settings_of(alloc: Global, text: &str) -> Result<Settings, ProgramFault>
-    ensures ok { IfOk result (λ settings. settings_in text.now ≡ Ok settings) }
-    ensures err { IfErr result (λ fault. (settings_in text.now ≡ Err fault) ⊎ (fault ≡ ProgramFault.Serving ServeFault.OutOfMemory)) }
-{
-    match toml::table_from_str(alloc, text) {
-        Ok(table) => Ok(Settings::from_table(&table)?),
-        Err(error) => Err(if error.is_memory() {
-            ProgramFault::Serving(ServeFault::OutOfMemory)
-        } else {
-            ProgramFault::NotToml
-        }),
-    }
 }

@@ -2,12 +2,12 @@
 ghost use Rattle.std.specs.Prelude.{◌≡◌, ◌≤◌};
 ghost use Rattle.pd_cli.specs.Beside.{ServesBeside};
 
-use crate::faults::ServeFault;
 use crate::lending::take_back;
 use crate::seat_serving::serve_seat;
 use pd_desk::{Desk, Gate};
 use pd_seat::Seat;
 use pd_settings::Settings;
+use pd_words::ServeFault;
 use std::alloc::Global;
 use std::io::{Read, Write};
 use std::sync::Wait;

@@ -5,10 +5,10 @@ use Rattle.std.proofs.lemmas.List.Sums.{sum_by-append}
 use Rattle.std.proofs.lemmas.Bool.Decides.{nat_tests}
 use Rattle.pd_text.specs.Text.{fits_text}
 use Rattle.pd_layout.specs.Traces.{is_trace}
-use Rattle.pd_cli.specs.Commands.{fitted}
-use Rattle.pd_cli.specs.Input.{IfKnown, to_come}
-use Rattle.pd_cli.specs.TakenLines.{TakesLine}
-use Rattle.pd_cli.specs.declared.intake.Taken.TheVariants.{Whole, Long, End}
+use Rattle.pd_words.specs.Commands.{fitted}
+use Rattle.pd_words.specs.Input.{IfKnown, to_come}
+use Rattle.pd_words.specs.TakenLines.{TakesLine}
+use Rattle.pd_words.specs.declared.intake.Taken.TheVariants.{Whole, Long, End}
 use Rattle.pd_record_cli.specs.ScriptInput.{is_dropped, script_in, without_trace}
 use Rattle.pd_record_cli.specs.Inner.{Gathers, with_line}
 

@@ -1,7 +1,7 @@
 -- Definitions that contracts of private functions cite and no public one does.
 use Rattle.std.specs.Prelude.{◌≡◌, ℕ, Bool, true, false, List, [], ◌∷◌, ◌++◌, Option, option_and_then, if◌then◌else◌, ◌⊎◌}
 use Rattle.std.specs.Str.Lines.{lines}
-use Rattle.pd_cli.specs.Commands.{fitted}
+use Rattle.pd_words.specs.Commands.{fitted}
 use Rattle.pd_record_cli.specs.ScriptInput.{is_dropped}
 
 -- the lines gathered so far with one more, unless that is dropped

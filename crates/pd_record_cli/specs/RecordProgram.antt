@@ -8,14 +8,15 @@ use Rattle.pd_record.specs.Recording.{recording_of}
 use Rattle.pd_record.specs.Answered.{IsRecording, Refuses}
 use Rattle.pd_record.specs.declared.refusals.NotRecorded.{NotRecorded}
 use Rattle.pd_record.specs.declared.refusals.NotRecorded.TheVariants as unrecorded
-use Rattle.pd_cli.specs.Program.{settings_in, Says}
-use Rattle.pd_cli.specs.ProgramFaults.{fault_line}
-use Rattle.pd_cli.specs.Report.{verdict_text}
-use Rattle.pd_cli.specs.declared.exits.Exit.{Exit}
-use Rattle.pd_cli.specs.declared.faults.ServeFault.{ServeFault}
-use Rattle.pd_cli.specs.declared.faults.ServeFault.TheVariants.{Differs, Read, Write, OutOfMemory}
-use Rattle.pd_cli.specs.declared.program_faults.ProgramFault.{ProgramFault}
-use Rattle.pd_cli.specs.declared.program_faults.ProgramFault.TheVariants.{Serving}
+use Rattle.pd_words.specs.SettingsText.{settings_in}
+use Rattle.pd_words.specs.Said.{Says}
+use Rattle.pd_words.specs.ProgramFaults.{fault_line}
+use Rattle.pd_words.specs.Verdicts.{verdict_text}
+use Rattle.pd_words.specs.declared.exits.Exit.{Exit}
+use Rattle.pd_words.specs.declared.faults.ServeFault.{ServeFault}
+use Rattle.pd_words.specs.declared.faults.ServeFault.TheVariants.{Differs, Read, Write, OutOfMemory}
+use Rattle.pd_words.specs.declared.program_faults.ProgramFault.{ProgramFault}
+use Rattle.pd_words.specs.declared.program_faults.ProgramFault.TheVariants.{Serving}
 use Rattle.pd_record_cli.specs.ScriptInput.{script_in}
 use Rattle.pd_record_cli.specs.Written.{IsWritten}
 use Rattle.pd_record_cli.specs.declared.outcomes.Outcome.{Outcome}

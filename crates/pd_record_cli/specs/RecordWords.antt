@@ -2,7 +2,7 @@
 use Rattle.std.specs.Prelude.{◌≡◌, Bool, List, bytes_eq, codes, Some}
 use Rattle.clap.specs.Words.{App, Rule, Text, new_app, new_rule, with_rule}
 use Rattle.clap.specs.declared.builder.ArgAction.TheVariants.{SetTrue}
-use Rattle.pd_cli.specs.ProgramWords.{settings_rule, settings_text, option_text}
+use Rattle.pd_words.specs.ProgramWords.{settings_rule, settings_text, option_text}
 use Rattle.pd_record_cli.specs.declared.record_words.RecordOptions.{RecordOptions}
 
 -- `--trace`

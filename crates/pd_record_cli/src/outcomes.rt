@@ -1,12 +1,12 @@
 //! What comes of a script.
 ghost use Rattle.std.specs.Prelude.{◌≡◌, ℕ, List, IfOk, IfErr, codes};
+ghost use Rattle.pd_words.specs.Verdicts.{verdict_text};
 ghost use Rattle.pd_record_cli.specs.RecordProgram.{Tells, IsRefused, IsStop, at_line, refusal_line};
-ghost use Rattle.pd_cli.specs.Report.{verdict_text};
 
 use crate::script_input::ScriptInput;
-use pd_cli::{ServeFault, put_verdict};
 use pd_record::NotRecorded;
 use pd_run::Verdict;
+use pd_words::{ServeFault, put_verdict};
 use std::alloc::{AllocError, Global};
 
 /// What comes of a script.

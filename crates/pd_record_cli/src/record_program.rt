@@ -1,9 +1,10 @@
 //! The program that records: one script in, its recording out.
 ghost use Rattle.std.specs.Prelude.{◌≡◌, ◌≢◌, ◌⊎◌, ℕ, List, [], Some, IfOk, IfErr, IfSome, map, take, true};
 ghost use Rattle.std.specs.Io.KnownBytes.{Appends};
-ghost use Rattle.pd_cli.specs.Program.{settings_in, Refuses, Says};
-ghost use Rattle.pd_cli.specs.ProgramFaults.{fault_line};
-ghost use Rattle.pd_cli.specs.ProgramWords.{settings_text, word_faults};
+ghost use Rattle.pd_words.specs.SettingsText.{settings_in};
+ghost use Rattle.pd_words.specs.Said.{Refuses, Says};
+ghost use Rattle.pd_words.specs.ProgramFaults.{fault_line};
+ghost use Rattle.pd_words.specs.ProgramWords.{settings_text, word_faults};
 ghost use Rattle.pd_record_cli.specs.RecordProgram.{Comes, Ends, FinishesRecording, IsOutcome, IsStop};
 ghost use Rattle.pd_record_cli.specs.RecordWords.{pdrecord, asks_trace};
 
@@ -11,9 +12,9 @@ use crate::outcomes::{Outcome, refusal_of};
 use crate::record_words::{RecordOptions, record_options};
 use crate::recorded_text::octets_of;
 use crate::script_input::ScriptInput;
-use pd_cli::{Exit, ProgramFault, ServeFault, fail, put_all, refuse, say, settings_of};
 use pd_record::{NotRecorded, record};
 use pd_settings::Settings;
+use pd_words::{Exit, ProgramFault, ServeFault, fail, put_all, refuse, say, settings_of};
 use std::alloc::Global;
 use std::convert::AsStr;
 use std::io::{Read, Write};

@@ -1,12 +1,12 @@
 //! The words of the program that records, read by `clap`.
 ghost use Rattle.std.specs.Prelude.{false, ◌≡◌, ◌≢◌, ◌⊎◌, [], IfOk, IfErr, map};
 ghost use Rattle.clap.specs.Words.{app_of, kind_of, rule_of};
+ghost use Rattle.pd_words.specs.ProgramWords.{word_faults};
 ghost use Rattle.pd_record_cli.specs.RecordWords.{pdrecord, trace_rule, HasChosenToRecord};
-ghost use Rattle.pd_cli.specs.ProgramWords.{word_faults};
 
 use clap::error::ErrorKind;
 use clap::{Arg, ArgAction, Command, Error};
-use pd_cli::{is_true, settings_option};
+use pd_words::{is_true, settings_option};
 use std::alloc::Global;
 use std::convert::AsStr;
 

@@ -7,9 +7,9 @@ ghost use Rattle.pd_record_cli.specs.Inner.{GoesOn};
 
 use crate::script_input::is_dropped;
 use pd_blocks::write_standing;
-use pd_cli::ServeFault;
 use pd_print::write_moment;
 use pd_record::{Mark, Recording};
+use pd_words::ServeFault;
 use std::alloc::{AllocError, Global};
 
 /// The octets of a recording, each line ended by a newline; with a trace each event has a line of its own after it.

@@ -1,14 +1,14 @@
 //! A script as the input of a program, without the lines of a trace.
 ghost use Rattle.std.specs.Prelude.{◌≡◌, ◌<◌, IfOk, IfErr, IfSome, OnOk};
-ghost use Rattle.pd_cli.specs.Input.{IfKnown, to_come, work_left};
-ghost use Rattle.pd_cli.specs.Pieces.{NoNewline};
-ghost use Rattle.pd_cli.specs.TakenLines.{IsIo};
+ghost use Rattle.pd_words.specs.Input.{IfKnown, to_come, work_left};
+ghost use Rattle.pd_words.specs.Pieces.{NoNewline};
+ghost use Rattle.pd_words.specs.TakenLines.{IsIo};
 ghost use Rattle.pd_record_cli.specs.ScriptInput.{is_dropped, script_in};
 ghost use Rattle.pd_record_cli.specs.Inner.{Gathers, with_line};
 
-use pd_cli::{Gathered, Intake, ServeFault, Taken, text_of};
 use pd_layout::is_trace;
 use pd_text::{Lines, MAX_LINES, MAX_OCTETS};
+use pd_words::{Gathered, Intake, ServeFault, Taken, text_of};
 use std::alloc::{AllocError, Global};
 use std::io::Read;
 

@@ -1,8 +1,8 @@
 //! The program that records: hands the real words and streams to it in `pd_record_cli`.
 #![tactic(auto)]
 
-use pd_cli::{arguments, refuse_arguments};
 use pd_record_cli::run_recording;
+use pd_words::{arguments, refuse_arguments};
 use std::process::ExitCode;
 
 fn main(rt: HostRuntime) -> ExitCode {

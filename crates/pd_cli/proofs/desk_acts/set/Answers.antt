@@ -1,4 +1,4 @@
-use Rattle.pd_cli.specs.declared.command.Command.TheVariants.{Set}
+use Rattle.pd_words.specs.declared.command.Command.TheVariants.{Set}
 use Rattle.pd_cli.proofs.desk_acts.set.Goals as goal
 
 pub returns-in-Ok-clause-only : goal.returns-in-Ok-clause-only

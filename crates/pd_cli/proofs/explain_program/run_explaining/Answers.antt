@@ -1,10 +1,10 @@
 use Rattle.std.proofs.Common.{List, ℕ, map, subst}
-use Rattle.pd_cli.specs.Blocks.{names_of}
+use Rattle.pd_words.specs.Chosen.{names_of}
+use Rattle.pd_words.specs.ProgramWords.{pdexplain, settings_text, only_names, word_faults}
+use Rattle.pd_words.proofs.Saying.{wanted}
+use Rattle.pd_words.proofs.Known.{appends_none}
 use Rattle.pd_cli.specs.ExplainProgram.{FinishesExplaining}
-use Rattle.pd_cli.specs.ProgramWords.{pdexplain, settings_text, only_names, word_faults}
-use Rattle.pd_cli.proofs.Ending.{wanted}
 use Rattle.pd_cli.proofs.Looking.{memory_looks}
-use Rattle.pd_cli.proofs.Written.{appends_none}
 use Rattle.pd_cli.proofs.explain_program.run_explaining.Goals as goal
 
 pub returns-in-Ok-clause-taken : goal.returns-in-Ok-clause-taken

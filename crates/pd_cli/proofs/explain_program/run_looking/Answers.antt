@@ -1,4 +1,4 @@
-use Rattle.pd_cli.specs.Blocks.{names_of}
+use Rattle.pd_words.specs.Chosen.{names_of}
 use Rattle.pd_cli.proofs.Looking.{looks_end}
 use Rattle.pd_cli.proofs.explain_program.run_looking.Goals as goal
 

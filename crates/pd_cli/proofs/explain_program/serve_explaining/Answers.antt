@@ -1,5 +1,5 @@
 use Rattle.std.proofs.Common.{[], ap}
-use Rattle.pd_cli.specs.Blocks.{names_of}
+use Rattle.pd_words.specs.Chosen.{names_of}
 use Rattle.pd_cli.proofs.Looking.{blocks_said}
 use Rattle.pd_cli.proofs.Telling.{says_none}
 use Rattle.pd_cli.proofs.explain_program.serve_explaining.Goals as goal

@@ -1,7 +1,7 @@
 use Rattle.std.proofs.Common.{[]}
 use Rattle.pd_book.specs.Story.{Story}
 use Rattle.pd_settings.specs.declared.fields.Settings.{Settings}
-use Rattle.pd_cli.specs.Input.{to_come}
+use Rattle.pd_words.specs.Input.{to_come}
 use Rattle.pd_cli.proofs.Written.{next_some, next_none}
 use Rattle.pd_cli.proofs.Beside.{beside_first, beside_more, beside_fault, beside_out, beside_end}
 use Rattle.pd_cli.proofs.seat_serving.serve_all.Goals as goal

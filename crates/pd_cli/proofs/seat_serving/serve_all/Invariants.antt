@@ -1,5 +1,5 @@
 use Rattle.std.proofs.Common.{[]}
-use Rattle.pd_cli.specs.Input.{to_come, work_left}
+use Rattle.pd_words.specs.Input.{to_come, work_left}
 use Rattle.pd_cli.proofs.Beside.{ServedBeside}
 use Rattle.pd_cli.proofs.seat_serving.serve_all.Given as goal
 

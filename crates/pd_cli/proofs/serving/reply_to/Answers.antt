@@ -1,5 +1,5 @@
 use Rattle.std.proofs.Common.{Ok}
-use Rattle.pd_cli.specs.declared.command.Command.TheVariants.{Add, Edit, Remove, Set}
+use Rattle.pd_words.specs.declared.command.Command.TheVariants.{Add, Edit, Remove, Set}
 use Rattle.pd_cli.proofs.Heard.{none_heard, same_heard, passed_heard, failed_heard}
 use Rattle.pd_cli.proofs.serving.reply_to.Goals as goal
 

@@ -1,5 +1,5 @@
 use Rattle.std.proofs.Common.{Err}
-use Rattle.pd_cli.specs.Input.{to_come}
+use Rattle.pd_words.specs.Input.{to_come}
 use Rattle.pd_cli.proofs.Heard.{all_first, all_more, all_told, all_last}
 use Rattle.pd_cli.proofs.Written.{quiet_after, quiet_first, served_first, served_more, served_fault, served_out, served_end, next_some, next_none}
 use Rattle.pd_cli.proofs.serving.serve_all.Goals as goal

@@ -1,4 +1,4 @@
-use Rattle.pd_cli.specs.Input.{to_come, work_left}
+use Rattle.pd_words.specs.Input.{to_come, work_left}
 use Rattle.pd_cli.specs.Steps.{IsQuiet}
 use Rattle.pd_cli.proofs.Heard.{HeardAll}
 use Rattle.pd_cli.proofs.Written.{Served}

@@ -1,9 +1,9 @@
 use Rattle.std.proofs.Common.{List, ℕ, map, subst}
-use Rattle.pd_cli.specs.ProgramWords.{pdsteps, settings_text, word_faults}
+use Rattle.pd_words.specs.ProgramWords.{pdsteps, settings_text, word_faults}
+use Rattle.pd_words.proofs.Saying.{wanted}
+use Rattle.pd_words.proofs.Known.{appends_none}
 use Rattle.pd_cli.specs.StepProgram.{FinishesTelling}
-use Rattle.pd_cli.proofs.Ending.{wanted}
 use Rattle.pd_cli.proofs.Telling.{memory_tells}
-use Rattle.pd_cli.proofs.Written.{appends_none}
 use Rattle.pd_cli.proofs.step_program.run_steps.Goals as goal
 
 pub returns-in-Ok-clause-taken : goal.returns-in-Ok-clause-taken

@@ -1,8 +1,9 @@
 use Rattle.std.proofs.Common.{List, ℕ, map, subst}
+use Rattle.pd_words.specs.ProgramWords.{pdregress, settings_text, worker_count, word_faults}
+use Rattle.pd_words.proofs.Saying.{wanted}
+use Rattle.pd_words.proofs.Known.{appends_none}
 use Rattle.pd_cli.specs.Program.{Finishes}
-use Rattle.pd_cli.specs.ProgramWords.{pdregress, settings_text, worker_count, word_faults}
-use Rattle.pd_cli.proofs.Ending.{memory_ends, wanted}
-use Rattle.pd_cli.proofs.Written.{appends_none}
+use Rattle.pd_cli.proofs.Ending.{memory_ends}
 use Rattle.pd_cli.proofs.whole_program.run.Goals as goal
 
 pub returns-in-Ok-clause-taken : goal.returns-in-Ok-clause-taken

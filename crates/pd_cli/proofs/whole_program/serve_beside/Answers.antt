@@ -1,7 +1,7 @@
 use Rattle.std.proofs.Common.{[]}
-use Rattle.pd_cli.specs.Program.{settings_in}
+use Rattle.pd_words.specs.SettingsText.{settings_in}
+use Rattle.pd_words.proofs.Known.{appends_none}
 use Rattle.pd_cli.proofs.Ending.{settings_out, beside_passed, beside_failed}
-use Rattle.pd_cli.proofs.Written.{appends_none}
 use Rattle.pd_cli.proofs.whole_program.serve_beside.Goals as goal
 
 pub returns-in_err-settings : goal.returns-in_err-settings

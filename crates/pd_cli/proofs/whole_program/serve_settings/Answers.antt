@@ -1,7 +1,7 @@
 use Rattle.std.proofs.Common.{[], refl}
-use Rattle.pd_cli.specs.Program.{settings_in}
+use Rattle.pd_words.specs.SettingsText.{settings_in}
+use Rattle.pd_words.proofs.Known.{appends_none}
 use Rattle.pd_cli.proofs.Ending.{settings_out}
-use Rattle.pd_cli.proofs.Written.{appends_none}
 use Rattle.pd_cli.proofs.whole_program.serve_settings.Goals as goal
 
 pub returns-in_err-settings-clause-served : goal.returns-in_err-settings-clause-served

@@ -1,12 +1,12 @@
 use Rattle.std.proofs.Common.{Err, map, ◌≡◌}
 use Rattle.clap.specs.Words.{kind_of}
 use Rattle.clap.specs.declared.error.kind.ErrorKind.TheVariants as kind
-use Rattle.pd_cli.specs.Program.{settings_in}
-use Rattle.pd_cli.specs.ProgramWords.{settings_text, word_faults}
-use Rattle.pd_cli.specs.declared.faults.ServeFault.TheVariants.{OutOfMemory}
-use Rattle.pd_cli.specs.declared.program_faults.ProgramFault.TheVariants.{Serving}
-use Rattle.pd_cli.proofs.Ending.{wanted}
-use Rattle.pd_cli.proofs.Written.{appends_none}
+use Rattle.pd_words.specs.SettingsText.{settings_in}
+use Rattle.pd_words.specs.ProgramWords.{settings_text, word_faults}
+use Rattle.pd_words.specs.declared.faults.ServeFault.TheVariants.{OutOfMemory}
+use Rattle.pd_words.specs.declared.program_faults.ProgramFault.TheVariants.{Serving}
+use Rattle.pd_words.proofs.Saying.{wanted}
+use Rattle.pd_words.proofs.Known.{appends_none}
 use Rattle.pd_record_cli.specs.RecordWords.{pdrecord, asks_trace}
 use Rattle.pd_record_cli.proofs.Memory.{memory_comes}
 use Rattle.pd_record_cli.proofs.record_program.run_recording.Goals as goal

@@ -1,7 +1,7 @@
 use Rattle.std.proofs.Common.{true, codes, ap, refl, map, subst, sym, bytes_eq, List, [], ℕ, Bor, ◌≡◌, ◌∙◌}
 use Rattle.clap.specs.Words.{App, is_simple_and_free, HasMatchesOf}
-use Rattle.pd_cli.specs.ProgramWords.{word_faults}
-use Rattle.pd_cli.proofs.SettingsText.{chosen_text}
+use Rattle.pd_words.specs.ProgramWords.{word_faults}
+use Rattle.pd_words.proofs.SettingsText.{chosen_text}
 use Rattle.pd_record_cli.specs.RecordWords.{pdrecord}
 use Rattle.pd_record_cli.proofs.Words.{simple_pdrecord, free_pdrecord}
 use Rattle.pd_record_cli.proofs.record_words.record_options.Goals as goal

@@ -1,8 +1,8 @@
 use Rattle.std.proofs.Common.{true}
-use Rattle.pd_cli.specs.Input.{to_come}
-use Rattle.pd_cli.specs.TakenLines.{TakesLine}
-use Rattle.pd_cli.specs.declared.intake.Taken.TheVariants.{Whole}
-use Rattle.pd_cli.proofs.Known.{known_map}
+use Rattle.pd_words.specs.Input.{to_come}
+use Rattle.pd_words.specs.TakenLines.{TakesLine}
+use Rattle.pd_words.specs.declared.intake.Taken.TheVariants.{Whole}
+use Rattle.pd_words.proofs.Known.{known_map}
 use Rattle.pd_record_cli.specs.Inner.{Gathers}
 use Rattle.pd_record_cli.proofs.Gathering.{gathers_whole}
 use Rattle.pd_record_cli.proofs.script_input.take_line.Goals as goal

@@ -1,6 +1,6 @@
 use Rattle.std.proofs.Common.{true}
-use Rattle.pd_cli.specs.Input.{to_come}
-use Rattle.pd_cli.proofs.Known.{known_then}
+use Rattle.pd_words.specs.Input.{to_come}
+use Rattle.pd_words.proofs.Known.{known_then}
 use Rattle.pd_record_cli.specs.Inner.{Gathers}
 use Rattle.pd_record_cli.proofs.Gathering.{SoFar, so_begin, so_more}
 use Rattle.pd_record_cli.proofs.script_input.ScriptInput.read.Goals as goal

@@ -1,4 +1,4 @@
-use Rattle.pd_cli.specs.Input.{IfKnown, to_come, work_left}
+use Rattle.pd_words.specs.Input.{IfKnown, to_come, work_left}
 use Rattle.pd_record_cli.proofs.Gathering.{SoFar}
 use Rattle.pd_record_cli.proofs.script_input.ScriptInput.read.Given as goal
 

@@ -1,7 +1,0 @@
-use Rattle.std.proofs.Common.{List, ℕ, subst}
-use Rattle.pd_cli.specs.Program.{Says}
-use Rattle.pd_cli.specs.ProgramFaults.{line_of}
-use Rattle.pd_cli.proofs.whole_program.fail.Goals as goal
-
-pub returns-clause-said : goal.returns-clause-said
-returns-clause-said g c = subst (λ (text : List ℕ). Says c.say_line-told.result (g.E.Write.contents c.args.err.now) (g.E.Write.contents c.say_line-told.new.err) (line_of text)) c.text.ensures c.say_line-told.ensures

@@ -1,0 +1,29 @@
+//! Why a seat of a desk isn't served.
+ghost use Rattle.std.specs.Prelude.{◌≡◌};
+ghost use Rattle.pd_cli.specs.DeskFaults.{of_show, of_desk};
+
+use pd_desk::DeskFault;
+use pd_seat::ShowFault;
+use pd_words::ServeFault;
+
+/// Why a report isn't shown, as a fault of serving.
+pub fn of_show(fault: ShowFault) -> ServeFault
+    ensures { result ≡ of_show fault }
+{
+    match fault {
+        ShowFault::Differs => ServeFault::Differs,
+        ShowFault::OutOfMemory => ServeFault::OutOfMemory,
+    }
+}
+
+/// Why a desk refuses, as a fault of serving.
+pub fn of_desk(fault: DeskFault) -> ServeFault
+    ensures { result ≡ of_desk fault }
+{
+    match fault {
+        DeskFault::NoWorkers => ServeFault::NoWorkers,
+        DeskFault::Differs => ServeFault::Differs,
+        DeskFault::HistoryFull => ServeFault::HistoryFull,
+        DeskFault::OutOfMemory => ServeFault::OutOfMemory,
+    }
+}

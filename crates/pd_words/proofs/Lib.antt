@@ -1,0 +1,10 @@
+-- The lemmas of the proofs.
+pub mod Chains
+pub mod Cuts
+pub mod Digits
+pub mod Fronts
+pub mod Gather
+pub mod Known
+pub mod Newlines
+pub mod Saying
+pub mod SettingsText

@@ -1,0 +1,11 @@
+use Rattle.std.proofs.Common.{◌≤◌, length}
+use Rattle.std.specs.Io.KnownBytes.{prepend_known}
+use Rattle.pd_words.specs.Input.{work_left}
+use Rattle.pd_words.proofs.Fronts.{Front}
+use Rattle.pd_words.proofs.intake.Intake.read_line.Given as goal
+
+abbrev pub invariant-loop-line : goal.invariant-loop-line
+invariant-loop-line g l = record { room : length l.line.items ≤ l.cap; less : work_left l.self ≤ work_left l.fn.self; front : Front l.cap l.line.items (prepend_known l.fn.self.0 (g.R.Read.remaining l.fn.reader)) (prepend_known l.self.0 (g.R.Read.remaining l.reader)) }
+
+abbrev pub decreases-loop-line : goal.decreases-loop-line
+decreases-loop-line g l = work_left l.self

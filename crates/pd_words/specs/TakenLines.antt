@@ -1,0 +1,26 @@
+-- Lines that are taken off the input.
+use Rattle.std.specs.Prelude.{◌≡◌, ℕ, ◌≤◌, ◌<◌, List, [], ◌∷◌, length}
+use Rattle.std.specs.Str.Lines.{lines}
+use Rattle.pd_words.specs.Pieces.{NoNewline}
+use Rattle.pd_words.specs.declared.faults.ServeFault.{ServeFault}
+use Rattle.pd_words.specs.declared.faults.ServeFault.TheVariants.{Read, OutOfMemory}
+use Rattle.pd_words.specs.declared.intake.Taken.{Taken}
+use Rattle.pd_words.specs.declared.intake.Taken.TheVariants.{Whole, Long, End}
+
+-- the first line of what is to come is taken
+abbrev pub TakesLine : ℕ → Taken → List ℕ → List ℕ → Type 0
+TakesLine limit (Whole line) old new = (lines old ≡ line.items ∷ lines new) × (length line.items ≤ limit)
+TakesLine limit Long old new = (line : List ℕ) × (lines old ≡ line ∷ lines new) × (limit < length line)
+TakesLine limit End old new = (lines old ≡ []) × (lines new ≡ [])
+
+-- a line that was taken whole holds no newline
+abbrev pub IsOfLine : Taken → Type 0
+IsOfLine (Whole line) = NoNewline line.items
+IsOfLine Long = Unit {0}
+IsOfLine End = Unit {0}
+
+-- a read failed or no read is left, or there is no memory
+abbrev pub IsIo : ServeFault → Type 0
+IsIo Read = Unit {0}
+IsIo OutOfMemory = Unit {0}
+IsIo fault = ⊥

@@ -1,0 +1,55 @@
+-- How commands come off the front of an input.
+use Rattle.std.specs.Prelude.{◌≡◌, ℕ, ◌≤◌, ◌<◌, false, List, [], ◌∷◌, length, take, drop, Option, Some, None, Bool, true}
+use Rattle.std.specs.Str.Lines.{lines}
+use Rattle.pd_words.specs.Commands.{Item, does, stops, fitted, items, items_at, commands}
+use Rattle.pd_words.specs.declared.requests.Request.{Request}
+use Rattle.pd_words.specs.declared.command.Command.{Command}
+use Rattle.pd_words.specs.declared.command.Command.TheVariants.{Settle}
+use Rattle.pd_words.specs.declared.faults.ServeFault.{ServeFault}
+use Rattle.pd_words.specs.declared.faults.ServeFault.TheVariants.{BadCommand, Truncated, Read, OutOfMemory}
+use Rattle.pd_words.specs.declared.requests.Request.TheVariants.{Nothing, Bad, Add, Edit, Remove, Set, Show, Settle}
+
+-- a line without words is passed by
+abbrev pub is_nothing : Request → Bool
+is_nothing Nothing = true
+is_nothing Bad = false
+is_nothing (Add name count) = false
+is_nothing (Edit name from remove count) = false
+is_nothing (Remove name) = false
+is_nothing (Set key value) = false
+is_nothing Show = false
+is_nothing Settle = false
+
+-- the lines of a command are taken
+abbrev pub TakesLines : ℕ → Option (List (List ℕ)) → List ℕ → List ℕ → Type 0
+TakesLines count taken old new = (count ≤ length (lines old)) × (taken ≡ fitted (take count (lines old))) × (lines new ≡ drop count (lines old))
+
+-- why the lines of a command could not be taken
+abbrev pub LinesFault : ServeFault → ℕ → List ℕ → Type 0
+LinesFault Truncated count old = length (lines old) < count
+LinesFault Read count old = Unit {0}
+LinesFault OutOfMemory count old = Unit {0}
+LinesFault fault count old = ⊥
+
+-- the first line was taken, or there is none
+abbrev pub AsksLine : Option Request → List ℕ → List ℕ → Type 0
+AsksLine None old new = lines old ≡ []
+AsksLine (Some request) old new = commands old ≡ items_at request (lines new) (λ n. items n (lines new))
+
+-- the first line that asks for something was taken, or there is none
+abbrev pub HasRequest : Option Request → List ℕ → List ℕ → Type 0
+HasRequest None old new = commands old ≡ does Settle ∷ []
+HasRequest (Some request) old new = (commands old ≡ items_at request (lines new) (λ n. items n (lines new))) × (is_nothing request ≡ false)
+
+-- the next command was taken, or there is none
+abbrev pub Gives : Option Command → List ℕ → List ℕ → Type 0
+Gives None old new = commands old ≡ does Settle ∷ []
+Gives (Some command) old new = commands old ≡ does command ∷ commands new
+
+-- a fault that an input holds stands first in it
+abbrev pub FaultIn : ServeFault → List Item → Type 0
+FaultIn BadCommand items = items ≡ stops BadCommand ∷ []
+FaultIn Truncated items = items ≡ stops Truncated ∷ []
+FaultIn Read items = Unit {0}
+FaultIn OutOfMemory items = Unit {0}
+FaultIn fault items = ⊥

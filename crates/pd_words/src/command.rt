@@ -1,0 +1,156 @@
+//! The commands of an input, one after another.
+ghost use Rattle.std.specs.Prelude.{◌≡◌, ◌≤◌, ◌<◌, ℕ, List, [], Option, IfOk, IfErr, IfSome, option_and_then};
+ghost use Rattle.pd_words.specs.Input.{IfKnown, to_come, work_left};
+ghost use Rattle.pd_words.specs.TakenLines.{TakesLine, IsOfLine, IsIo};
+ghost use Rattle.pd_words.specs.Commands.{fitted, edit_of, commands};
+ghost use Rattle.pd_words.specs.Taking.{TakesLines, LinesFault, AsksLine, HasRequest, Gives, FaultIn};
+
+use crate::faults::ServeFault;
+use crate::gathered::Gathered;
+use crate::intake::{Intake, Taken};
+use crate::requests::{MAX_COMMAND, Request};
+use pd_settings::Value;
+use pd_text::{LineEdit, LineList, Lines, MAX_OCTETS, Name};
+use std::alloc::{AllocError, Global};
+use std::io::Read;
+
+/// A command with its lines; these are `None` where they alone are over the limits of a text.
+#[derive(Drop)]
+pub enum Command {
+    Add(Name, Option<Lines>),
+    Edit(Name, Option<LineEdit>),
+    Remove(Name),
+    Set(Name, Value),
+    Show,
+    Settle,
+}
+
+/// Takes the next command off the input, or none at its end.
+///
+/// # Errors
+/// `BadCommand` and `Truncated` where they stand next in the input, `Read`, `OutOfMemory`.
+pub fn next_command<R: Read>(
+    alloc: Global,
+    intake: &mut Intake,
+    reader: &mut R,
+) -> Result<Option<Command>, ServeFault>
+    ensures command { let old = to_come intake.old (R.remaining reader.old) in
+        let new = to_come intake.new (R.remaining reader.new) in
+        IfOk result (λ c. IfKnown (Gives c) old new) }
+    ensures less { IfOk result (λ _. work_left intake.new < work_left intake.old) }
+    ensures err { let old = to_come intake.old (R.remaining reader.old) in
+        IfErr result (λ fault. IfSome old (λ o. FaultIn fault (commands o))) }
+{
+    match next_request(alloc, intake, reader)? {
+        Some(Request::Add(name, count)) => {
+            let lines = take_lines(alloc, intake, reader, count)?;
+            Ok(Some(Command::Add(name, text_of(lines))))
+        }
+        Some(Request::Edit(name, from, remove, count)) => {
+            let lines = take_lines(alloc, intake, reader, count)?;
+            Ok(Some(Command::Edit(name, edit_of(from, remove, lines))))
+        }
+        Some(Request::Remove(name)) => Ok(Some(Command::Remove(name))),
+        Some(Request::Set(key, value)) => Ok(Some(Command::Set(key, value))),
+        Some(Request::Show) => Ok(Some(Command::Show)),
+        Some(Request::Settle) => Ok(Some(Command::Settle)),
+        Some(_) => Err(ServeFault::BadCommand),
+        None => Ok(None),
+    }
+}
+
+/// Takes lines up to one that asks for something.
+fn next_request<R: Read>(
+    alloc: Global,
+    intake: &mut Intake,
+    reader: &mut R,
+) -> Result<Option<Request>, ServeFault>
+    ensures request { let old = to_come intake.old (R.remaining reader.old) in
+        let new = to_come intake.new (R.remaining reader.new) in
+        IfOk result (λ r. IfKnown (HasRequest r) old new) }
+    ensures less { IfOk result (λ _. work_left intake.new < work_left intake.old) }
+    ensures only { IfErr result IsIo }
+{
+    loop {
+        let taken = intake.next_line(alloc, reader, MAX_COMMAND)?;
+        match line_asks(alloc, intake, taken)? {
+            Some(request) if request.is_nothing() => {}
+            asked => return Ok(asked),
+        }
+    }
+}
+
+/// What a line that was taken asks for, or none at the end.
+fn line_asks(
+    alloc: Global,
+    intake: &mut Intake,
+    taken: Taken,
+) -> Result<Option<Request>, AllocError>
+    ensures same { intake.new ≡ intake.old }
+    ensures request { IfOk result (λ request. (old new : List ℕ) → TakesLine 256 taken old new → AsksLine request old new) }
+{
+    match taken {
+        Taken::Whole(line) => {
+            let request = Request::of_line(alloc, line.as_slice())?;
+            intake.give_back(line);
+            Ok(Some(request))
+        }
+        Taken::Long => Ok(Some(Request::Bad)),
+        Taken::End => Ok(None),
+    }
+}
+
+/// Takes the lines of a command, to their end also where they are over the limits.
+fn take_lines<R: Read>(
+    alloc: Global,
+    intake: &mut Intake,
+    reader: &mut R,
+    count: usize,
+) -> Result<Option<LineList>, ServeFault>
+    ensures lines { let old = to_come intake.old (R.remaining reader.old) in
+        let new = to_come intake.new (R.remaining reader.new) in
+        IfOk result (λ taken. IfKnown (TakesLines count taken) old new) }
+    ensures less { IfOk result (λ _. work_left intake.new ≤ work_left intake.old) }
+    ensures err { let old = to_come intake.old (R.remaining reader.old) in
+        IfErr result (λ fault. IfSome old (LinesFault fault count)) }
+{
+    let mut gathered = Gathered::new(alloc);
+    for _turn in 0..count {
+        match intake.next_line(alloc, reader, MAX_OCTETS)? {
+            Taken::Whole(line) => {
+                gathered.add(line.as_slice())?;
+                intake.give_back(line);
+            }
+            Taken::Long => gathered.add_long(),
+            Taken::End => return Err(ServeFault::Truncated),
+        }
+    }
+    Ok(gathered.into_lines())
+}
+
+/// The text of lines; none where there are none, or they are over the limits of a text.
+pub fn text_of(lines: Option<LineList>) -> Option<Lines>
+    ensures { result ≡ option_and_then fitted lines }
+{
+    match lines {
+        Some(lines) => match Lines::new(lines) {
+            Ok(text) => Some(text),
+            Err(_) => None,
+        },
+        None => None,
+    }
+}
+
+/// The edit that inserts these lines.
+fn edit_of(from: usize, remove: usize, lines: Option<LineList>) -> Option<LineEdit>
+    ensures { result ≡ edit_of from remove lines }
+{
+    match lines {
+        Some(insert) => Some(LineEdit {
+            from,
+            remove,
+            insert,
+        }),
+        None => None,
+    }
+}

@@ -1,0 +1,60 @@
+//! How a run ends at a fault, or at words that are refused.
+ghost use Rattle.std.specs.Prelude.{◌≡◌};
+ghost use Rattle.clap.specs.Words.{kind_of};
+ghost use Rattle.pd_words.specs.ProgramFaults.{fault_line, line_of};
+ghost use Rattle.pd_words.specs.Said.{Says};
+
+use crate::exits::Exit;
+use crate::faults::ServeFault;
+use crate::program_faults::ProgramFault;
+use crate::writing::say;
+use clap::Error;
+use clap::error::ErrorKind;
+use std::alloc::Global;
+use std::io::Write;
+
+/// The status at a fault.
+pub const FAULT: u8 = 2;
+
+/// Says what `clap` says of words that it refuses.
+pub fn refuse<E: Write>(alloc: Global, error: &Error, err: &mut E) -> Exit
+    ensures status { result.status ≡ 2 }
+    ensures memory { let line = fault_line (ProgramFault.Serving ServeFault.OutOfMemory) in
+        kind_of error.now ≡ ErrorKind.OutOfMemory → Says result.told (E.contents err.old) (E.contents err.new) line }
+{
+    if error.kind() != ErrorKind::OutOfMemory {
+        if let Ok(text) = format!(in alloc; "{error}") {
+            let told = say(err, text.as_bytes());
+            return Exit {
+                status: FAULT,
+                told,
+            };
+        }
+    }
+    fail(err, ProgramFault::Serving(ServeFault::OutOfMemory))
+}
+
+/// Ends a run at a fault: says its line.
+pub fn fail<E: Write>(err: &mut E, fault: ProgramFault) -> Exit
+    ensures status { result.status ≡ 2 }
+    ensures said { Says result.told (E.contents err.old) (E.contents err.new) (fault_line fault) }
+{
+    let told = say_line(err, fault.text());
+    Exit {
+        status: FAULT,
+        told,
+    }
+}
+
+/// Says the line of a fault.
+fn say_line<E: Write>(err: &mut E, text: &str) -> bool
+    ensures { Says result (E.contents err.old) (E.contents err.new) (line_of text.now) }
+{
+    if !say(err, b"pdregress: ") {
+        return false;
+    }
+    if !say(err, text.as_bytes()) {
+        return false;
+    }
+    say(err, b"\n")
+}

@@ -1,0 +1,87 @@
+//! The lines of a command as they come.
+ghost use Rattle.std.specs.Prelude.{◌≡◌, ◌∷◌, ◌++◌, [], None, Some, OnOk, option_and_then, length};
+ghost use Rattle.pd_words.specs.Pieces.{NoNewline};
+ghost use Rattle.pd_words.specs.Commands.{fitted};
+
+use pd_text::{LineList, MAX_LINES, MAX_OCTETS};
+use std::alloc::{AllocError, Global};
+use std::marker::Model;
+
+/// The lines so far; none once they are over the limits of a text.
+#[derive(Drop)]
+pub struct Gathered {
+    /// The lines, as long as they are within the limits.
+    lines: LineList,
+    /// The octets of these lines, each counted with one more for its end.
+    octets: usize,
+    /// Whether they are over the limits.
+    large: bool,
+}
+
+impl Model for Gathered {
+    ghost use Rattle.std.specs.Prelude.{◌≡◌, ◌≤◌, List, ℕ, Option, Some, None, if◌then◌else◌, length};
+    ghost use Rattle.pd_text.specs.Text.{octets_of};
+
+    ghost Value = { Option (List (List ℕ)) };
+
+    ghost view = { λ g. if g.large then None else Some g.lines };
+
+    ghost invariant = { λ g. (g.octets ≡ octets_of g.lines) × (g.octets ≤ 65536) × (length g.lines ≤ 4096) };
+}
+
+impl Gathered {
+    /// No lines.
+    pub fn new(alloc: Global) -> Gathered
+        ensures { result ≡ Some [] }
+    {
+        Gathered {
+            lines: LineList::new(alloc),
+            octets: 0,
+            large: false,
+        }
+    }
+
+    /// Adds a line.
+    ///
+    /// # Errors
+    /// `AllocError` where a growth is refused.
+    pub fn add(&mut self, line: &[u8]) -> Result<(), AllocError>
+        requires { NoNewline line.now }
+        ensures { OnOk result (self.new ≡ option_and_then (λ t. fitted (t ++ line.now ∷ [])) self.old) }
+    {
+        if self.large {
+            return Ok(());
+        }
+        let n = line.len();
+        if self.lines.len() >= MAX_LINES || n >= MAX_OCTETS - self.octets {
+            self.large = true;
+            return Ok(());
+        }
+        self.lines.push(line)?;
+        self.octets += n + 1;
+        Ok(())
+    }
+
+    /// Adds a line that alone is over the limits.
+    pub fn add_long(&mut self)
+        ensures { self.new ≡ None }
+    {
+        self.large = true;
+    }
+
+    /// The lines, in no more room than they take.
+    pub fn into_lines(self) -> Option<LineList>
+        ensures { result ≡ self }
+    {
+        let Gathered {
+            mut lines,
+            large,
+            ..
+        } = self;
+        if large {
+            return None;
+        }
+        lines.shrink_to_fit();
+        Some(lines)
+    }
+}

@@ -1,0 +1,34 @@
+//! The words of the programs and of their input: options, lines, commands, faults, and what is said of them.
+#![tactic(auto)]
+
+mod call_words;
+mod chosen;
+mod command;
+mod endings;
+mod exits;
+mod explain_words;
+mod faults;
+mod gathered;
+mod intake;
+mod numbers;
+mod program_faults;
+mod requests;
+mod settings_text;
+mod verdicts;
+mod word_options;
+mod writing;
+
+pub use call_words::{arguments, refuse_arguments};
+pub use chosen::{ExplainOptions, Options};
+pub use command::{Command, next_command, text_of};
+pub use endings::{FAULT, fail, refuse};
+pub use exits::Exit;
+pub use explain_words::{explain_options, is_true};
+pub use faults::ServeFault;
+pub use gathered::Gathered;
+pub use intake::{Intake, Taken};
+pub use program_faults::ProgramFault;
+pub use settings_text::settings_of;
+pub use verdicts::{put_number, put_verdict};
+pub use word_options::{options, settings_option, step_options};
+pub use writing::{put_all, say};
