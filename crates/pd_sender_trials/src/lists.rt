@@ -1,22 +1,10 @@
-//! Makes random lists of calls on a scoreboard and on congestion control, and compares each answer with that of a plain
-//! sender that keeps its SACKed octets one by one.
-#![tactic(auto)]
-
-mod copied;
-mod counts;
-mod dice;
-mod plain_board;
-mod plain_window;
-mod trial;
-mod worked;
-
+//! Random lists of calls on a scoreboard and on congestion control, beside plain ones, and scoreboards that were worked out by hand.
 use crate::copied::is_copied;
 use crate::counts::Counts;
 use crate::dice::Dice;
 use crate::trial::{Difference, Mix, Trial};
-use crate::worked::{are_kept, is_worked};
+use crate::worked_boards::{are_kept, is_worked};
 use std::alloc::{AllocError, Global};
-use std::io;
 
 /// Random lists of calls: how many, and of how many calls.
 #[derive(Clone, Copy)]
@@ -59,13 +47,8 @@ struct Made {
     runs: u64,
 }
 
-fn main(rt: HostRuntime) -> io::Result<()> {
-    let mut counts = Counts::new(rt.alloc());
-    make_all(rt.alloc(), &mut counts)?;
-    counts.print(&rt)
-}
-
-fn make_all(alloc: Global, counts: &mut Counts) -> Result<(), AllocError> {
+/// Makes all lists, and counts what happens.
+pub fn make_all(alloc: Global, counts: &mut Counts) -> Result<(), AllocError> {
     let made = make_lists(alloc, &SHORT, counts)?;
     counts.note("lists of thirty calls", SHORT.lists)?;
     counts.note("lists that differ", made.differing)?;

@@ -1,11 +1,9 @@
 //! Scripts of one line.
-ghost use Rattle.std.specs.Prelude.{◌≡◌};
-ghost use Rattle.pd_text.specs.Text.{is_line};
-
+use crate::lines::one_line;
 use crate::watching::Watching;
 use pd_run::{Verdict, run_with};
 use pd_settings::Settings;
-use pd_text::{LineList, Lines, TextFault};
+use pd_text::{Lines, TextFault};
 use std::alloc::{AllocError, Global};
 
 /// What comes before a script that begins with a `+`.
@@ -27,7 +25,7 @@ pub fn states_of(alloc: Global, script: &str) -> Result<String, AllocError> {
             }
         }
     }
-    match text(alloc, written.as_str()) {
+    match one_line(alloc, written.as_bytes()) {
         Ok(lines) => run(alloc, &lines),
         Err(TextFault::OutOfMemory) => Err(AllocError),
         Err(_) => Ok(String::new(alloc)),
@@ -47,19 +45,4 @@ fn run(alloc: Global, lines: &Lines) -> Result<String, AllocError> {
         })?;
     }
     Ok(states)
-}
-
-fn is_line(octets: &[u8]) -> bool
-    ensures { result ≡ is_line octets.now }
-{
-    octets.iter().all(|octet| *octet != b'\n')
-}
-
-/// The text of one line.
-fn text(alloc: Global, written: &str) -> Result<Lines, TextFault> {
-    let mut list = LineList::new(alloc);
-    if is_line(written.as_bytes()) {
-        list.push(written.as_bytes())?;
-    }
-    Lines::new(list)
 }

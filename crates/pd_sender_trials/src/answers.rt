@@ -1,5 +1,5 @@
 //! Answers whose octets were worked out by hand.
-use crate::print_text;
+use crate::packets::print_text;
 use pd_print::write_answer;
 use pd_seg::{Answer, Errno};
 use std::io;

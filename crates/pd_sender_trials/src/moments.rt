@@ -1,5 +1,5 @@
 //! Moments whose octets were worked out by hand.
-use crate::print_text;
+use crate::packets::print_text;
 use pd_print::{write_moment, write_time};
 use pd_script::Time;
 use std::io;

@@ -1,11 +1,9 @@
 //! What a printed event is read back as.
-ghost use Rattle.std.specs.Prelude.{◌≡◌};
-ghost use Rattle.pd_text.specs.Text.{is_line};
-
+use crate::lines::one_line;
 use pd_match::{Expect, check_packet};
 use pd_script::{Action, Event, Packet, Parsed, Time, parse};
 use pd_seg::{Segment, Sent};
-use pd_text::{LineList, Lines};
+use pd_text::TextFault;
 use std::alloc::{AllocError, Global};
 
 /// Whether a text of this one line is a script with just one event: this segment leaves at this time, all of it written.
@@ -15,15 +13,11 @@ pub fn is_read_back(
     time: Time,
     segment: &Segment,
 ) -> Result<bool, AllocError> {
-    if !is_line(text) {
-        return Ok(false);
+    match one_line(alloc, text) {
+        Ok(lines) => is_script(&parse(alloc, &lines)?, time, segment),
+        Err(TextFault::OutOfMemory) => Err(AllocError),
+        Err(_) => Ok(false),
     }
-    let mut list = LineList::new(alloc);
-    list.push(text)?;
-    let Ok(lines) = Lines::new(list) else {
-        return Ok(false);
-    };
-    is_script(&parse(alloc, &lines)?, time, segment)
 }
 
 /// Whether a script has just one event: this one.
@@ -35,12 +29,6 @@ fn is_script(parsed: &Parsed, time: Time, segment: &Segment) -> Result<bool, All
         [event] => is_event(event, time, segment),
         _ => Ok(false),
     }
-}
-
-fn is_line(text: &[u8]) -> bool
-    ensures { result ≡ is_line text.now }
-{
-    text.iter().all(|octet| *octet != b'\n')
 }
 
 fn is_event(event: &Event, time: Time, segment: &Segment) -> Result<bool, AllocError> {
