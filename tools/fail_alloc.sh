@@ -137,9 +137,7 @@ try_tables "$top/crates/pd_desk_trials/memory.txt" "$desk"
 
 input=/dev/null
 try_test "pd_book_trials memory" "$trials" memory
-echo memory.cases >"$work/files"
-input=$work/files
-cd "$top/crates/pd_cases/data"
+input=$top/crates/pd_cases/data/memory.cases
 try_program "pd_cases memory.cases" "$cases"
 grep -q ' 1 runs, 0 wrong$' "$work/whole" || complain "pd_cases memory.cases: fails with memory"
 

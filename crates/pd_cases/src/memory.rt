@@ -1,7 +1,6 @@
 //! Want of memory in a run of the program: it is told, what was written is a prefix, and the next run says all. In
 //! the gate there is memory; outside it this check is run with each allocation refused in turn.
-use crate::rows::Row;
-use crate::trial::{STEADY, Trial, UNTRIED};
+use crate::trial::{STEADY, Trial};
 
 const INPUT: &[u8] = b"add a 9
 0 socket(..., SOCK_STREAM, IPPROTO_TCP) = 3
@@ -34,19 +33,17 @@ total 0 pass 0 fail 0 syntax 0 unsupported 0 limit 0 pending 0
 
 impl Trial {
     /// Runs the program, and once more where it found no memory.
-    pub fn check_memory(&mut self, row: &Row<'_>) {
-        self.words.add(b"\0--settings\0tolerance_us = 5000");
-        self.input.add(INPUT);
-        self.run(STEADY);
-        if self.is_prefix() {
-            self.run(STEADY);
+    pub fn check_memory(&mut self) {
+        self.run_whole();
+        if self.status == 2 && OUTPUT.starts_with(self.output.as_slice()) {
+            self.run_whole();
         }
-        self.tally.check(self.said.is(OUTPUT, b"", 0), row);
+        let is_right = self.says(OUTPUT, b"", 0);
+        self.note(is_right, 0);
     }
 
-    /// Whether it ended at a fault or wasn't tried, with a prefix written.
-    fn is_prefix(&self) -> bool {
-        let is_stopped = self.said.status == 2 || self.said.status == UNTRIED;
-        is_stopped && OUTPUT.starts_with(self.said.output.as_slice())
+    fn run_whole(&mut self) {
+        let words = ["pdregress", "--settings", "tolerance_us = 5000"];
+        self.run(&words, INPUT, STEADY);
     }
 }

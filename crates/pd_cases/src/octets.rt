@@ -16,25 +16,14 @@ impl Octets {
         }
     }
 
-    pub fn as_slice(&self) -> &[u8] {
-        self.octets.as_slice()
-    }
-
     pub fn add(&mut self, octets: &[u8]) {
         if self.octets.extend_from_slice(octets).is_err() {
             self.is_short = true;
         }
     }
 
-    /// Adds these texts, one after the other.
-    pub fn add_all(&mut self, texts: &[&str]) {
-        for text in texts {
-            self.add(text.as_bytes());
-        }
-    }
-
-    /// Adds a number in decimal digits, and a text.
-    pub fn add_number(&mut self, number: u64, text: &str) {
+    /// Adds a number in decimal digits.
+    pub fn add_number(&mut self, number: u64) {
         let mut scale = 10_000_000_000_000_000_000u64;
         for _digit in 0..20 {
             let digit = number.checked_div(scale).unwrap_or(0) % 10;
@@ -43,6 +32,5 @@ impl Octets {
             }
             scale /= 10;
         }
-        self.add(text.as_bytes());
     }
 }

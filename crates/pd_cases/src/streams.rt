@@ -1,14 +1,15 @@
 //! A reader and a writer over memory that give and take so many octets a call, and fail at a call.
-use crate::octets::Octets;
 use std::io;
 use std::io::{Read, Write};
 
-/// A reader of these octets, at most `most` a call; the call of number `fails_at`, from 1, fails.
+/// A reader of these octets, at most `most` a call. From 1, the call of number `fails_at` fails, and the one of number
+/// `ends_at` gives nothing.
 #[derive(Drop)]
 pub struct Source<'a> {
     pub octets: &'a [u8],
     pub most: usize,
     pub fails_at: u64,
+    pub ends_at: u64,
     /// Whether it gives its first octets again at each call, for ever.
     pub is_endless: bool,
     pub calls: u64,
@@ -23,6 +24,9 @@ impl<'a> Read for Source<'a> {
         if self.fails_at == self.calls {
             return Err(io::ErrorKind::Interrupted.into());
         }
+        if self.ends_at == self.calls {
+            return Ok(0);
+        }
         let count = self.most.min(buf.len()).min(self.octets.len());
         buf[..count].copy_from_slice(&self.octets[..count]);
         if !self.is_endless {
@@ -35,7 +39,7 @@ impl<'a> Read for Source<'a> {
 /// A writer that keeps what it takes, at most `most` octets a call; the call of number `fails_at`, from 1, fails.
 #[derive(Drop)]
 pub struct Sink<'a> {
-    pub taken: &'a mut Octets,
+    pub taken: &'a mut Vec<u8>,
     pub most: usize,
     pub fails_at: u64,
     pub calls: u64,
@@ -48,7 +52,7 @@ impl<'a> Write for Sink<'a> {
             return Err(io::ErrorKind::BrokenPipe.into());
         }
         let count = self.most.min(buf.len());
-        self.taken.octets.extend_from_slice(&buf[..count])?;
+        self.taken.extend_from_slice(&buf[..count])?;
         Ok(count)
     }
 

@@ -1,0 +1,72 @@
+"""Tells the built programs the tables of cases in crates/pd_cases/data, and compares what they say with what is wanted.
+
+How a row of each kind is written stands in README.md there. Scripts that are compared by their verdicts alone are told
+many in a run, and where the run says something else, each in one of its own. Prints a line for each table with its rows
+and what was compared of them, those that are answered otherwise, and `N passed, M failed` last: a test a table.
+"""
+
+import argparse
+from collections.abc import Callable
+from pathlib import Path
+
+from cases.explained import beginnings, explained
+from cases.programs import Programs, Tally
+from cases.runs import bad_commands, bad_words, ends, settings, stories
+from cases.tables import Table, Unread, all_tables
+from cases.verdicts import cuts, places, scripts
+
+DATA = Path(__file__).resolve().parents[3] / "crates" / "pd_cases" / "data"
+
+
+KINDS: dict[str, Callable[[Programs, Table, Tally], None]] = {
+    "scripts": scripts,
+    "cuts": cuts,
+    "octets": places,
+    "settings": settings,
+    "bad words": bad_words,
+    "bad commands": bad_commands,
+    "stories": stories,
+    "ends": ends,
+    "explained": explained,
+    "beginnings": beginnings,
+}
+
+
+def check_table(programs: Programs, table: Table) -> Tally:
+    """Tells a table and compares."""
+    tally = Tally()
+    try:
+        if table.kind not in KINDS:
+            raise Unread(f"{table.heading}: there is no such kind")
+        KINDS[table.kind](programs, table, tally)
+    except Unread as why:
+        tally.faults.append(str(why))
+    return tally
+
+
+def main(words: list[str]) -> int:
+    """Tells all tables, and says which of them fail."""
+    parser = argparse.ArgumentParser(description=__doc__, formatter_class=argparse.RawDescriptionHelpFormatter)
+    parser.add_argument("--data", type=Path, default=DATA, metavar="FOLDER", help="the folder of the files of cases")
+    parser.add_argument("pdregress", help="the path of the built pdregress")
+    parser.add_argument("pdexplain", help="the path of the built pdexplain")
+    chosen = parser.parse_args(words)
+    programs = Programs(chosen.pdregress, chosen.pdexplain)
+    passed = failed = rows = runs = 0
+    try:
+        for table in all_tables(chosen.data):
+            if table.kind == "checks":
+                continue
+            tally = check_table(programs, table)
+            word = "FAILED" if tally.faults else "ok"
+            print(f"{word} {table.heading.file} {table.name}: {tally.rows} rows, {tally.runs} runs")
+            for line in tally.faults:
+                print(line)
+            passed, failed = passed + (not tally.faults), failed + bool(tally.faults)
+            rows, runs = rows + tally.rows, runs + tally.runs
+    except Unread as why:
+        print(f"FAILED {why}")
+        failed += 1
+    print(f"{rows} rows, {runs} runs")
+    print(f"{passed} passed, {failed} failed")
+    return 1 if failed else 0
