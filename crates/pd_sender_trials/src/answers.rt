@@ -4,7 +4,7 @@ use pd_print::write_answer;
 use pd_seg::{Answer, Errno};
 use std::io;
 
-const ANSWERS: [Answer; 8] = [
+const ANSWERS: &[Answer] = &[
     Answer::Number(0),
     Answer::Number(3),
     Answer::Number(1_000),
@@ -18,7 +18,7 @@ const ANSWERS: [Answer; 8] = [
 /// Prints each answer.
 pub fn print_answers(rt: &(impl Print + AllocGlobal)) -> io::Result<()> {
     for answer in ANSWERS {
-        let text = write_answer(rt.alloc(), answer)?;
+        let text = write_answer(rt.alloc(), *answer)?;
         print_text(rt, text.as_slice(), "\n")?;
     }
     Ok(())

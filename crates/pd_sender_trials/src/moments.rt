@@ -4,7 +4,7 @@ use pd_print::{write_moment, write_time};
 use pd_script::Time;
 use std::io;
 
-const MOMENTS: [u64; 9] = [
+const MOMENTS: &[u64] = &[
     0,
     1,
     10,
@@ -19,8 +19,8 @@ const MOMENTS: [u64; 9] = [
 /// Prints each moment with six decimals, and with no more than it takes.
 pub fn print_moments(rt: &(impl Print + AllocGlobal)) -> io::Result<()> {
     for moment in MOMENTS {
-        print_text(rt, write_moment(rt.alloc(), moment)?.as_slice(), " ")?;
-        let short = write_time(rt.alloc(), Time::Relative(moment))?;
+        print_text(rt, write_moment(rt.alloc(), *moment)?.as_slice(), " ")?;
+        let short = write_time(rt.alloc(), Time::Relative(*moment))?;
         print_text(rt, short.as_slice(), "\n")?;
     }
     Ok(())
