@@ -83,8 +83,13 @@ pub enum Part {
 #[derive(Clone, Copy)]
 pub struct Rule(pub Name, pub &'static [Part]);
 
+/// All ways.
+pub fn rules() -> &'static [Rule] {
+    RULES
+}
+
 #[rattlefmt::skip]
-pub const RULES: &[Rule] = &[
+const RULES: &[Rule] = &[
     Rule(Script, &[Of(Header), Of(Events)]),
     Rule(Header, &[]),
     Rule(Header, &[One(Token(Kind::Opt)), Of(Header)]),

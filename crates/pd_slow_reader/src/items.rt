@@ -42,7 +42,7 @@ impl<'a> Items<'a> {
         for kind in KINDS {
             let octets = kind.longest(self.rest);
             if octets > most {
-                longest = kind;
+                longest = *kind;
                 most = octets;
             }
         }

@@ -1,5 +1,5 @@
 //! A reader that keeps all ways to read a script at once, token by token.
-use crate::grammar::{Name, Part, RULES};
+use crate::grammar::{Name, Part, rules};
 use crate::items::{Items, Token};
 use crate::measures::Measures;
 use crate::reading::Reading;
@@ -135,7 +135,7 @@ impl Machine {
             return;
         }
         let after = self.number(rest);
-        for rule in RULES {
+        for rule in rules() {
             if rule.0.is(name) {
                 let parts = rule.1;
                 self.push(Rest { parts, after }, measures);

@@ -1,7 +1,7 @@
 //! What the product reads in a text, whole and event by event.
 use crate::reading::Reading;
 use pd_lex::Place;
-use pd_script::{Header, MAX_EVENTS, NextEvent, next_event, parse, read_header};
+use pd_script::{Event, Header, MAX_EVENTS, NextEvent, next_event, parse, read_header};
 use pd_text::Lines;
 use std::alloc::{AllocError, Global};
 
@@ -107,12 +107,17 @@ fn copied_header(alloc: Global, lines: &Lines) -> Result<Header, AllocError> {
 fn read_next(alloc: Global, lines: &Lines, place: Place) -> Result<Next, AllocError> {
     Ok(match next_event(alloc, lines, place)? {
         NextEvent::Got(event, after, reach) => {
-            let line = event.copy()?.line;
+            let line = copied_line(&event)?;
             Next::Event(Step { line, after, reach })
         }
         NextEvent::End => Next::End,
         NextEvent::Fault(line) => Next::Fault(line),
     })
+}
+
+/// The line of an event, by a copy of it.
+fn copied_line(event: &Event) -> Result<usize, AllocError> {
+    Ok(event.copy()?.line)
 }
 
 /// Whether the place after an event lies in the line of its reach, or after the last line.

@@ -27,16 +27,27 @@ pub fn edit_often(comparison: &mut Comparison, script: &[u8], edits: usize) -> R
     let mut dice = Dice::new(20_261_123);
     let mut old = text(comparison.alloc, script)?;
     for _edit in 0..edits {
-        old = edit_once(comparison, &old, &mut dice)?;
-        if dice.below(3) == 0 {
-            old = text(comparison.alloc, script)?;
-        }
+        old = edit_once(comparison, &old, &mut dice, script)?;
     }
     Ok(())
 }
 
+/// Edits a text; gives the edited one, or from time to time the script.
+fn edit_once(
+    comparison: &mut Comparison,
+    old: &Lines,
+    dice: &mut Dice,
+    script: &[u8],
+) -> Result<Lines, Stop> {
+    let new = edit(comparison, old, dice)?;
+    if dice.below(3) > 0 {
+        return Ok(new);
+    }
+    Ok(text(comparison.alloc, script)?)
+}
+
 /// Edits a text, and gives the edited one.
-fn edit_once(comparison: &mut Comparison, old: &Lines, dice: &mut Dice) -> Result<Lines, Stop> {
+fn edit(comparison: &mut Comparison, old: &Lines, dice: &mut Dice) -> Result<Lines, Stop> {
     let octets = random_edit(comparison.alloc, old, dice);
     let new = text(comparison.alloc, octets.as_slice())?;
     let outcome = read_both(comparison.alloc, old, &new)?;

@@ -18,7 +18,7 @@ pub enum Kind {
     Symbol,
 }
 
-pub const KINDS: [Kind; 13] = [
+pub const KINDS: &[Kind] = &[
     Kind::Blank,
     Kind::LineComment,
     Kind::BlockComment,
