@@ -13,7 +13,6 @@ use Rattle.pd_words.specs.declared.program_faults.ProgramFault.{ProgramFault}
 use Rattle.pd_words.specs.declared.program_faults.ProgramFault.TheVariants.{Serving}
 use Rattle.pd_words.proofs.Known.{appends_then, appends_none}
 use Rattle.pd_cli.specs.Output.{output}
-use Rattle.clap.specs.Words.{Kinds}
 use Rattle.pd_cli.specs.Beside.{MayAnswer, ServesBeside}
 use Rattle.pd_cli.specs.Program.{Served, Runs, status_of, Finishes}
 

@@ -19,7 +19,7 @@ use Rattle.pd_words.specs.declared.command.Command.{Command}
 use Rattle.pd_words.specs.declared.command.Command.TheVariants.{Add, Edit, Remove, Set, Show, Settle}
 use Rattle.pd_words.specs.declared.faults.ServeFault.{ServeFault}
 use Rattle.pd_words.specs.declared.faults.ServeFault.TheVariants.{HistoryFull, NoWorkers, Differs, BadCommand, Truncated, Read, Write, OutOfMemory}
-use Rattle.pd_words.proofs.Known.{appends_then, known_then, fact_before}
+use Rattle.pd_words.proofs.Known.{appends_none, appends_then, known_then, fact_before}
 use Rattle.pd_cli.specs.Report.{rendered}
 use Rattle.pd_cli.specs.Output.{Session, output, outcome, ahead, follow, acted, effect, reported, report, all_pass, Answers}
 use Rattle.pd_cli.specs.Steps.{IsQuiet, Does, Ends}
