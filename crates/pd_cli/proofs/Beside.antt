@@ -1,5 +1,5 @@
 -- What was written so far beside workers, and what is still to come.
-use Rattle.std.proofs.Common.{◌≡◌, ◌⊎◌, inl, inr, ℕ, Bool, true, false, List, [], ◌∷◌, ◌++◌, map, Option, Some, None, option_map, unwrap_or, Result, Ok, Err, refl, sym, ap, subst, ◌∙◌, append_assoc, append-nil, IfOk, IfSome, IfErr, IsErrAnd, IsOk, OnOk, OnErr, take, drop}
+use Rattle.std.proofs.Common.{◌≡◌, ◌⊎◌, inl, inr, ℕ, Bool, true, List, [], ◌∷◌, ◌++◌, map, Option, Some, None, option_map, Result, Ok, Err, refl, sym, ap, subst, ◌∙◌, append_assoc, append-nil, IfSome, IfErr, IsErrAnd, OnOk, OnErr, take, drop}
 use Rattle.std.specs.List.{All}
 use Rattle.std.specs.Prelude.{IsSome, IsSomeAnd, is_some}
 use Rattle.std.specs.Io.KnownBytes.{Appends}
@@ -13,11 +13,10 @@ use Rattle.pd_run.specs.Run.{verdict_of}
 use Rattle.pd_book.specs.declared.act.Act.{Act}
 use Rattle.pd_book.specs.declared.act.Act.TheVariants as act
 use Rattle.pd_book.specs.declared.faults.BookFault.{BookFault}
-use Rattle.pd_book.specs.declared.faults.BookFault.TheVariants as book
 use Rattle.pd_book.specs.declared.row.Row.{Row}
-use Rattle.pd_book.specs.Acts.{Named, texts, now}
+use Rattle.pd_book.specs.Acts.{texts, now}
 use Rattle.pd_book.specs.Headline.{AreOrPending, pending}
-use Rattle.pd_book.specs.Refusals.{full, or_else, value_refusal}
+use Rattle.pd_book.specs.Refusals.{or_else, value_refusal}
 use Rattle.pd_book.specs.Report.{Shown, IsRunUnder, scratch_row, scratch}
 use Rattle.pd_book.specs.Story.{Story, told}
 use Rattle.pd_words.specs.Input.{IfKnown, to_come}
@@ -28,11 +27,10 @@ use Rattle.pd_words.specs.declared.command.Command.TheVariants.{Settle}
 use Rattle.pd_words.specs.declared.faults.ServeFault.{ServeFault}
 use Rattle.pd_words.specs.declared.faults.ServeFault.TheVariants.{HistoryFull, NoWorkers, Differs, BadCommand, Truncated, Read, Write, OutOfMemory}
 use Rattle.pd_words.proofs.Known.{appends_then, known_then, fact_before, appends_none}
-use Rattle.pd_cli.specs.Report.{rendered}
-use Rattle.pd_cli.specs.Output.{refused, all_pass}
-use Rattle.pd_cli.specs.Beside.{from_scratch, IsPartOf, MayAct, MayPrint, MayPrintAll, StopsBefore, MayAnswer, ServesBeside}
+use Rattle.pd_cli.specs.Output.{all_pass}
+use Rattle.pd_cli.specs.Beside.{from_scratch, IsPartOf, MayAct, MayPrint, MayPrintAll, MayAnswer, ServesBeside}
 use Rattle.pd_cli.specs.BesideSteps.{Declines, scripts_of, IsOfSame, DoesBeside, EndsBeside, FailsBeside}
-use Rattle.pd_cli.proofs.Written.{Next, next_some, next_none}
+use Rattle.pd_cli.proofs.Written.{Next}
 
 -- ---- acts
 

@@ -1,5 +1,5 @@
 -- How a run of the program ends.
-use Rattle.std.proofs.Common.{◌≡◌, ◌≢◌, ◌≤◌, arith, ◌∙◌, ◌∷◌, ◌++◌, zero, suc, true, false, ℕ, Bool, is_ok, ◌⊎◌, inl, inr, List, [], take, Option, Some, None, Result, Ok, Err, OnOk, OnErr, IfSome, IsErrAnd, refl, ap}
+use Rattle.std.proofs.Common.{◌≡◌, ◌≤◌, arith, zero, suc, true, ℕ, Bool, ◌⊎◌, inl, inr, List, [], Option, Some, None, Result, Ok, Err, IfSome, IsErrAnd, refl, ap}
 use Rattle.std.specs.Io.KnownBytes.{Appends}
 use Rattle.pd_settings.specs.declared.fields.Settings.{Settings}
 use Rattle.pd_words.specs.ProgramFaults.{fault_line}
@@ -11,7 +11,7 @@ use Rattle.pd_words.specs.declared.faults.ServeFault.{ServeFault}
 use Rattle.pd_words.specs.declared.faults.ServeFault.TheVariants.{OutOfMemory}
 use Rattle.pd_words.specs.declared.program_faults.ProgramFault.{ProgramFault}
 use Rattle.pd_words.specs.declared.program_faults.ProgramFault.TheVariants.{Serving}
-use Rattle.pd_words.proofs.Known.{appends_then, appends_none}
+use Rattle.pd_words.proofs.Known.{appends_none}
 use Rattle.pd_cli.specs.Output.{output}
 use Rattle.pd_cli.specs.Beside.{MayAnswer, ServesBeside}
 use Rattle.pd_cli.specs.Program.{Served, Runs, status_of, Finishes}

@@ -1,12 +1,11 @@
 -- What a listener is told while serving.
-use Rattle.std.proofs.Common.{◌≡◌, ℕ, ◌+◌, List, [], ◌∷◌, ◌++◌, length, Bool, true, false, Option, Some, None, option_map, Result, Ok, Err, OnOk, IfOk, IsErrAnd, refl, sym, ap, subst, ◌∙◌, arith}
+use Rattle.std.proofs.Common.{◌≡◌, ℕ, ◌+◌, List, [], ◌∷◌, ◌++◌, length, true, false, Option, Some, None, option_map, Result, Ok, Err, OnOk, IfOk, IsErrAnd, refl, sym, ap, subst, ◌∙◌, arith}
 use Rattle.pd_settings.specs.declared.fields.Settings.{Settings}
 use Rattle.pd_settings.specs.declared.keys.Key.{Key}
 use Rattle.pd_settings.specs.Keys.{key_named}
 use Rattle.pd_book.specs.declared.act.Act.{Act}
 use Rattle.pd_book.specs.declared.act.Act.TheVariants as act
 use Rattle.pd_book.specs.declared.faults.BookFault.{BookFault}
-use Rattle.pd_book.specs.declared.faults.BookFault.TheVariants as book
 use Rattle.pd_track.specs.declared.task.Task.{Task}
 use Rattle.pd_track.specs.Reuse as reuse
 use Rattle.pd_book.specs.Acts.{Named, next, started}

@@ -1,11 +1,10 @@
 -- What is printed without workers may be printed beside them.
-use Rattle.std.proofs.Common.{◌≡◌, ◌⊎◌, inl, inr, ℕ, ◌+◌, nat_le, Bool, true, false, not, cond, List, [], ◌∷◌, ◌++◌, map, filter, length, Option, Some, None, option_map, is_some, is_none, Result, Ok, Err, refl, sym, ap, subst, ◌∙◌}
+use Rattle.std.proofs.Common.{◌≡◌, inl, inr, ℕ, ◌+◌, nat_le, Bool, true, false, not, cond, List, [], ◌∷◌, ◌++◌, map, filter, Option, Some, None, option_map, is_some, Ok, refl, sym, ap, subst, ◌∙◌}
 use Rattle.std.specs.Str.{bytes_eq}
 use Rattle.pd_settings.specs.declared.fields.Settings.{Settings}
 use Rattle.pd_settings.specs.declared.keys.Key.{Key}
 use Rattle.pd_settings.specs.declared.values.Value.{Value}
 use Rattle.pd_settings.specs.Keys.{key_named}
-use Rattle.pd_text.specs.declared.line_edit.LineEdit.{LineEdit}
 use Rattle.pd_book.specs.declared.act.Act.{Act}
 use Rattle.pd_book.specs.declared.act.Act.TheVariants as act
 use Rattle.pd_book.specs.declared.faults.BookFault.{BookFault}
@@ -15,13 +14,12 @@ use Rattle.pd_book.specs.Headline.{RowsAreOfScratch}
 use Rattle.pd_book.specs.Refusals.{full, taken_room, or_else, name_refusal, text_refusal, absence, value_refusal}
 use Rattle.pd_book.specs.Report.{shown, scratch}
 use Rattle.pd_book.specs.Story.{Story, told}
-use Rattle.pd_words.specs.Commands.{Item, does}
+use Rattle.pd_words.specs.Commands.{does}
 use Rattle.pd_words.specs.declared.command.Command.{Command}
 use Rattle.pd_words.specs.declared.command.Command.TheVariants.{Add, Edit, Remove, Set, Show, Settle}
-use Rattle.pd_words.specs.declared.faults.ServeFault.{ServeFault}
 use Rattle.pd_cli.specs.Report.{rendered}
 use Rattle.pd_cli.specs.Output.{refused, report, acted, effect}
-use Rattle.pd_cli.specs.Beside.{from_scratch, IsPartOf, MayAct, MayPrint}
+use Rattle.pd_cli.specs.Beside.{IsPartOf, MayAct, MayPrint}
 use Rattle.pd_cli.specs.Laws.{Reaches, HaveSame, SettlesPrintScratch, AloneIsPossibleBeside}
 use Rattle.pd_cli.proofs.Written.{ok_same}
 

@@ -1,4 +1,4 @@
-use Rattle.std.proofs.Common.{[], Ok, Err, refl}
+use Rattle.std.proofs.Common.{Err}
 use Rattle.pd_cli.proofs.Ending.{pass_ends}
 use Rattle.pd_cli.proofs.whole_program.run_alone.Goals as goal
 
