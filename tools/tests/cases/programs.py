@@ -9,6 +9,8 @@ from cases.tables import Row, Unread
 CLASSES = ("pass", "fail", "syntax", "unsupported", "limit", "pending")
 MAX_SCRIPTS = 500
 MAX_SHOWN = 300
+SECONDS = 60
+TOO_LONG = 124
 
 
 @dataclass(frozen=True)
@@ -71,8 +73,11 @@ def fault(row: Row, wanted: Said, said: Said) -> str:
 
 
 def told(program: str, words: tuple[bytes, ...], text: bytes) -> Said:
-    """What a program says that is told this."""
-    done = subprocess.run([program.encode(), *words], input=text, capture_output=True, check=False)
+    """What a program says that is told this; one that takes too long is ended, and has said nothing."""
+    try:
+        done = subprocess.run([program.encode(), *words], input=text, capture_output=True, check=False, timeout=SECONDS)
+    except subprocess.TimeoutExpired:
+        return Said(b"", b"came to no end", TOO_LONG)
     return Said(done.stdout, done.stderr, done.returncode)
 
 
