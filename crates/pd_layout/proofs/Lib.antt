@@ -1,2 +1,4 @@
 -- The lemmas of this crate.
 pub mod Images
+pub mod NextLines
+pub mod CommentEnds

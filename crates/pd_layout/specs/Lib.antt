@@ -1,3 +1,5 @@
 -- The definitions that the contracts cite.
 pub mod Sameness
 pub mod Traces
+pub mod Laid
+pub mod Inner

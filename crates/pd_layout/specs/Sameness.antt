@@ -1,6 +1,7 @@
 -- When a text is read as a script.
 use Rattle.std.specs.Prelude.{◌≡◌, ℕ, List, map, None}
 use Rattle.pd_script.specs.Script.{script_of}
+use Rattle.pd_script.specs.declared.parsing.Parsed.{Parsed}
 use Rattle.pd_script.specs.declared.script_events.Event.{Event}
 use Rattle.pd_script.specs.declared.script_header.HeaderItem.{HeaderItem}
 use Rattle.pd_script.specs.declared.script_header.HeaderKind.{HeaderKind}
@@ -17,8 +18,12 @@ AreTheSame xs ys = map unplaced xs ≡ map unplaced ys
 abbrev pub kinds_of : List HeaderItem → List HeaderKind
 kinds_of = map (λ item. item.kind)
 
--- a text is read as a script with such a header and such events, but for their lines
-pub record IsReadAs (items : List HeaderItem) (list : List Event) (text : List (List ℕ)) : Type 0 where
-  pub whole : (script_of text).fault ≡ None
-  pub header : kinds_of (script_of text).header.items ≡ kinds_of items
-  pub events : AreTheSame (script_of text).events list
+-- what was read is a script with such a header and such events, but for their lines
+pub record IsScript (items : List HeaderItem) (list : List Event) (parsed : Parsed) : Type 0 where
+  pub whole : parsed.fault ≡ None
+  pub header : kinds_of parsed.header.items ≡ kinds_of items
+  pub events : AreTheSame parsed.events list
+
+-- a text is read as such a script
+abbrev pub IsReadAs : List HeaderItem → List Event → List (List ℕ) → Type 0
+IsReadAs items list text = IsScript items list (script_of text)

@@ -1,9 +1,14 @@
-//! How a script stands in its text, which lines are those of a trace, and whether a text is read as a script.
+//! How a script stands in its text, which lines are those of a trace, and whether a text is read as a script and laid out as
+//! recordings are.
 #![tactic(auto)]
 
 mod alone;
+mod blocks;
+mod comments;
 mod extents;
 mod gaps;
+mod laid;
+mod laid_calls;
 mod layouts;
 mod same_calls;
 mod same_events;
@@ -13,7 +18,8 @@ mod traces;
 
 pub use extents::{Extent, put_extent};
 pub use gaps::Piece;
+pub use laid::is_laid;
 pub use layouts::{Layout, LayoutReader};
 pub use same_events::is_same_event;
-pub use sameness::same_script;
+pub use sameness::{are_same_events, is_laid_script};
 pub use traces::is_trace;

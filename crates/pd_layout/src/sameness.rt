@@ -1,30 +1,47 @@
-//! Whether a text is read as a script.
+//! Whether a text is read as a script, and laid out as recordings are.
 ghost use Rattle.std.specs.Prelude.{◌≡◌, ◌↔◌, IfOk, IsTrue};
-ghost use Rattle.pd_layout.specs.Sameness.{AreTheSame, IsReadAs, kinds_of};
+ghost use Rattle.pd_layout.specs.Sameness.{AreTheSame, IsReadAs, IsScript, kinds_of};
+ghost use Rattle.pd_layout.specs.Laid.{IsLaid};
 
+use crate::laid::is_laid;
 use crate::same_events::is_same_event;
-use pd_script::{Event, Header, HeaderItem, HeaderKind, parse};
+use pd_script::{Event, Header, HeaderItem, HeaderKind, Parsed, parse};
 use pd_text::Lines;
 use std::alloc::{AllocError, Global};
 
-/// Whether a text is read as a script with such a header and such events, but for their lines.
+/// Whether a text is read as a script with such a header and such events, but for their lines, and is laid out as recordings
+/// are.
 ///
 /// # Errors
 /// `AllocError` where a growth is refused.
-pub fn same_script(
+pub fn is_laid_script(
     alloc: Global,
     lines: &Lines,
     header: &Header,
     events: &[Event],
 ) -> Result<bool, AllocError>
-    ensures { IfOk result (λ same. IsTrue same ↔ IsReadAs header.now.items events.now lines.now) }
+    ensures { IfOk result (λ laid. IsTrue laid ↔ IsReadAs header.now.items events.now lines.now × IsLaid lines.now) }
 {
     let parsed = parse(alloc, lines)?;
-    Ok(
-        parsed.fault.is_none()
-            && is_same_header(parsed.header.as_slice(), header.as_slice())
-            && are_same_events(parsed.events.as_slice(), events),
-    )
+    if is_script(&parsed, header, events) {
+        is_laid(
+            alloc,
+            lines,
+            parsed.header.as_slice(),
+            parsed.events.as_slice(),
+        )
+    } else {
+        Ok(false)
+    }
+}
+
+/// Whether what was read is a script with such a header and such events, but for their lines.
+fn is_script(parsed: &Parsed, header: &Header, events: &[Event]) -> bool
+    ensures { IsTrue result ↔ IsScript header.now.items events.now parsed.now }
+{
+    parsed.fault.is_none()
+        && is_same_header(parsed.header.as_slice(), header.as_slice())
+        && are_same_events(parsed.events.as_slice(), events)
 }
 
 /// Whether both say the same in the same order.
@@ -51,7 +68,7 @@ fn is_same_kind(one: HeaderKind, other: HeaderKind) -> bool
 }
 
 /// Whether both are the same events in the same order, but for their lines.
-fn are_same_events(one: &[Event], other: &[Event]) -> bool
+pub fn are_same_events(one: &[Event], other: &[Event]) -> bool
     ensures { IsTrue result ↔ AreTheSame one.now other.now }
 {
     one.len() == other.len()

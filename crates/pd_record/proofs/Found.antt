@@ -1,6 +1,6 @@
--- The steps of the loop over events with their places.
+-- The steps of the loop over events.
 use Rattle.std.proofs.Common.{◌≡◌, ℕ, ◌+◌, Bool, true, false, cond, List, [], ◌∷◌, ◌++◌, length, is_some, Option, Some, None, Ok, refl, sym, ap, ◌∙◌, arith}
-use Rattle.std.proofs.lemmas.List.{map-append, length-append}
+use Rattle.std.proofs.lemmas.List.{length-append}
 use Rattle.pd_lex.specs.declared.token.Place.{Place}
 use Rattle.pd_lex.specs.Tokens.{Item}
 use Rattle.pd_script.specs.declared.script_events.Event.{Event}
@@ -11,8 +11,6 @@ use Rattle.pd_script.specs.Script.{followed, at_end, in_front}
 use Rattle.pd_script.specs.declared.parsing.Found.{Found}
 use Rattle.pd_script.specs.Next.{next_place, reach_of, next_in}
 use Rattle.pd_script.proofs.Finding.{in_front-append, in_front-none}
-use Rattle.pd_record.specs.Scripts.{events_placed}
-use Rattle.pd_record.specs.declared.scripts.Placed.{Placed}
 
 -- an event that no token follows stands before the end
 pub got_ends : (ts : List Item) (e : Event) (after : Place) (reach : Option ℕ) (rest : List Item) → Got e after reach ≡ next_in ts → followed goes_on (event_at ts) ≡ Ok (e, rest) → is_some reach ≡ false → next_is is_end rest ≡ true
@@ -42,10 +40,10 @@ pub stops : (es : List Event) (f g : Found) (fault : Option ℕ) → in_front es
 stops es f g fault h e = sym h ∙ ap (λ (x : Found). in_front es x) e ∙ in_front-none es fault
 
 -- reading goes on with one event more
-pub goes_further : (ps qs : List Placed) (p : Placed) (f g h : Found) → qs ≡ ps ++ p ∷ [] → in_front (events_placed ps) f ≡ g → f ≡ in_front (p.event ∷ []) h → in_front (events_placed qs) h ≡ g
-goes_further ps qs p f g h q i e =
-    ap (λ (xs : List Placed). in_front (events_placed xs) h) q ∙ ap (λ (es : List Event). in_front es h) (map-append (λ (x : Placed). x.event) ps (p ∷ []))
-    ∙ in_front-append (events_placed ps) p.event h ∙ ap (λ (x : Found). in_front (events_placed ps) x) (sym e) ∙ i
+pub goes_further : (ds es : List Event) (e : Event) (f g h : Found) → es ≡ ds ++ e ∷ [] → in_front ds f ≡ g → f ≡ in_front (e ∷ []) h → in_front es h ≡ g
+goes_further ds es e f g h q i next =
+    ap (λ (list : List Event). in_front list h) q
+    ∙ in_front-append ds e h ∙ ap (λ (x : Found). in_front ds x) (sym next) ∙ i
 
-pub one_longer : (ps qs : List Placed) (p : Placed) (i : ℕ) → qs ≡ ps ++ p ∷ [] → length ps ≡ i → length qs ≡ i + 1
-one_longer ps qs p i q l = omega (arith, ap length q, length-append ps (p ∷ []), l)
+pub one_longer : (ds es : List Event) (e : Event) (i : ℕ) → es ≡ ds ++ e ∷ [] → length ds ≡ i → length es ≡ i + 1
+one_longer ds es e i q l = omega (arith, ap length q, length-append ds (e ∷ []), l)

@@ -9,7 +9,7 @@ use Rattle.pd_run.specs.Run.{verdict_in}
 use Rattle.pd_record.specs.Following.{RecordingsFollowRuns}
 use Rattle.pd_record.specs.Recording.{Tracked, records, tracks_of, recording_in, recording_of, events_of}
 use Rattle.pd_record.specs.Answered.{IsRight, IsRecording, Refuses}
-use Rattle.pd_record.specs.Scripts.{IsRead, events_placed}
+use Rattle.pd_record.specs.Scripts.{IsRead}
 use Rattle.pd_record.specs.Tape.{Tape, Took, Answers, then_do, recorded}
 use Rattle.pd_record.specs.Inner.{Gives}
 use Rattle.pd_record.specs.declared.refusals.NotRecorded.{NotRecorded}
@@ -41,13 +41,13 @@ no_script settings parsed = go parsed.fault refl
 
 -- what is recorded of a text, by the script that was read of it
 pub recorded_as_read : (text : List (List ℕ)) (settings : Settings) (script : Script) → IsRead (script_of text) (Some script)
-    → recording_of text settings ≡ tracks_of script.header.items (events_placed script.events.items) settings
+    → recording_of text settings ≡ tracks_of script.header.items script.events.items settings
 recorded_as_read text settings script is = ap (recording_in settings) is
 
 -- a text that is read and passes as what was recorded is the recording
 pub is_recording : (text lines : List (List ℕ)) (settings : Settings) (count : ℕ) (tracks : Tracked) (script : Script)
     → IsRead (script_of text) (Some script)
-    → tracks_of script.header.items (events_placed script.events.items) settings ≡ Ok tracks
+    → tracks_of script.header.items script.events.items settings ≡ Ok tracks
     → IsRight script.header.items (events_of tracks) settings lines count
     → RecordingsFollowRuns
     → IsRecording text settings lines count

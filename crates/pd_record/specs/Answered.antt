@@ -6,7 +6,8 @@ use Rattle.pd_script.specs.declared.script_events.Event.{Event}
 use Rattle.pd_script.specs.declared.script_header.HeaderItem.{HeaderItem}
 use Rattle.pd_run.specs.Run.{verdict_of}
 use Rattle.pd_run.specs.declared.verdicts.Verdict.TheVariants.{Pass}
-use Rattle.pd_layout.specs.Sameness.{IsReadAs}
+use Rattle.pd_layout.specs.Laid.{IsLaid}
+use Rattle.pd_layout.specs.Sameness.{AreTheSame, IsReadAs}
 use Rattle.pd_record.specs.Tape.{Answers}
 use Rattle.pd_record.specs.declared.refusals.NotRecorded.{NotRecorded}
 use Rattle.pd_record.specs.declared.refusals.NotRecorded.TheVariants.{TooLarge, Differs, OutOfMemory}
@@ -27,6 +28,14 @@ pub record IsRecording (text : List (List ℕ)) (settings : Settings) (recording
   pub right : IsRight (script_of text).header.items (events_of tracks) settings recording count
   -- where the text passes, the recording follows its run
   pub follows : (n : ℕ) → verdict_of text settings ≡ Pass n → FollowsRun text settings tracks
+
+-- a text stays as it is when it is recorded under settings: what is recorded of it are its own events, but for their lines, and
+-- it is laid out as recordings are
+pub record IsSettled (text : List (List ℕ)) (settings : Settings) : Type 0 where
+  pub tracks : Tracked
+  pub recorded : recording_of text settings ≡ Ok tracks
+  pub own : AreTheSame (script_of text).events (events_of tracks)
+  pub laid : IsLaid text
 
 -- why a text isn't recorded: it is no script, or its recording is refused. Where the recording is too large, or differs from
 -- what was recorded, there is no other reason to refuse it; for want of memory nothing more is said

@@ -1,7 +1,13 @@
 -- Definitions that contracts of private functions cite and no public one does.
-use Rattle.std.specs.Prelude.{◌≡◌, ◌≢◌, ℕ, ◌*◌, ◌≤◌, Result, Ok, Err}
+use denote.Bor.{Bor}
+use Rattle.std.specs.Prelude.{◌≡◌, ◌≢◌, ◌↔◌, ℕ, ◌*◌, ◌≤◌, List, ◌++◌, length, Option, Some, None, Result, Ok, Err}
 use Rattle.std.specs.List.{AllByRecursion}
+use Rattle.pd_layout.specs.Laid.{IsLaid}
+use Rattle.pd_layout.specs.Sameness.{AreTheSame, IsReadAs}
+use Rattle.pd_script.specs.declared.script_events.Event.{Event}
+use Rattle.pd_script.specs.declared.script_header.HeaderItem.{HeaderItem}
 use Rattle.pd_run.specs.Laws.{IsUnderway}
+use Rattle.pd_record.specs.declared.recordings.Recording.{Recording}
 use Rattle.pd_record.specs.declared.refusals.NotRecorded.{NotRecorded}
 use Rattle.pd_record.specs.declared.refusals.NotRecorded.TheVariants.{OutOfMemory}
 use Rattle.pd_record.specs.Tape.{Tape, Answers}
@@ -30,3 +36,12 @@ pub record Sound (t : Tape) : Type 0 where
   pub run : IsUnderway t.count t.run
   pub few : t.count ≤ 4096
   pub unmet : AllByRecursion IsReached t.unmet
+
+-- some events are others and what is behind these, whatever follows; or they are not, whatever follows. Lines don't count
+abbrev pub GoesBehind : List Event → List Event → Option (Bor (List Event)) → Type 0
+GoesBehind events others None = (rest : List Event) → AreTheSame events (others ++ rest) → ⊥
+GoesBehind events others (Some behind) = (rest : List Event) → AreTheSame events (others ++ rest) ↔ AreTheSame behind.now rest
+
+-- a recording is read as a header and events, laid out as recordings are, and has their number
+abbrev pub IsWritten : List HeaderItem → List Event → Recording → Type 0
+IsWritten header events recording = IsReadAs header events recording.lines × IsLaid recording.lines × (recording.events ≡ length events)

@@ -1,23 +1,18 @@
--- Scripts with the places of their events.
-use Rattle.std.specs.Prelude.{◌≡◌, List, map, Option, Some, None, IsSome}
+-- Scripts as they were read.
+use Rattle.std.specs.Prelude.{◌≡◌, Option, Some, None, IsSome}
 use Rattle.std.specs.declared.vec.Vec.{Vec}
 use Rattle.std.specs.declared.alloc.Global.{Global}
 use Rattle.pd_script.specs.declared.script_events.Event.{Event}
 use Rattle.pd_script.specs.declared.parsing.Found.{Found}
 use Rattle.pd_script.specs.declared.parsing.Parsed.{Parsed}
-use Rattle.pd_record.specs.declared.scripts.Placed.{Placed}
 use Rattle.pd_record.specs.declared.scripts.Script.{Script}
 
--- the events alone
-abbrev pub events_placed : List Placed → List Event
-events_placed = map (λ (placed : Placed). placed.event)
-
 -- events that were read to the end of a text; nothing where no script goes on
-abbrev pub IsFound : Found → Option (Vec Placed Global) → Type 0
+abbrev pub IsFound : Found → Option (Vec Event Global) → Type 0
 IsFound found None = IsSome found.fault
-IsFound found (Some events) = found ≡ record { events = events_placed events.items; fault = None }
+IsFound found (Some events) = found ≡ record { events = events.items; fault = None }
 
 -- the script that a text was read as; nothing where it is none
 abbrev pub IsRead : Parsed → Option Script → Type 0
 IsRead parsed None = IsSome parsed.fault
-IsRead parsed (Some script) = parsed ≡ record { header = script.header; events = events_placed script.events.items; fault = None }
+IsRead parsed (Some script) = parsed ≡ record { header = script.header; events = script.events.items; fault = None }

@@ -1,6 +1,7 @@
 //! Recordings: a script's inputs with all that the sender answers and puts out, as a script that passes.
 #![tactic(auto)]
 
+mod kept;
 mod outcomes;
 mod probes;
 mod recorder;

@@ -1,32 +1,35 @@
 //! Records scripts.
-ghost use Rattle.std.specs.Prelude.{◌≡◌, ◌≢◌, IfErr, IfOk, IsOk, IsTrue, Some, length};
+ghost use Rattle.std.specs.Prelude.{◌≡◌, false, IfErr, IfOk, length, Ok, Some};
 ghost use Rattle.pd_script.specs.Script.{script_of};
-ghost use Rattle.pd_record.specs.Recording.{recording_of};
-ghost use Rattle.pd_record.specs.Answered.{IsRecording, Refuses};
+ghost use Rattle.pd_record.specs.Recording.{events_of, recording_of};
+ghost use Rattle.pd_record.specs.Answered.{IsRecording, IsSettled, Refuses};
+ghost use Rattle.pd_layout.specs.Laid.{IsLaid};
 ghost use Rattle.pd_layout.specs.Sameness.{IsReadAs};
-ghost use Rattle.pd_record.specs.Inner.{Finds};
+ghost use Rattle.pd_record.specs.Inner.{IsWritten};
 ghost use Rattle.pd_record.specs.Scripts.{IsRead};
+ghost use Rattle.pd_record.specs.declared.refusals.NotRecorded.TheVariants.{OutOfMemory};
 
+use crate::kept::is_kept;
 use crate::recordings::Recording;
 use crate::refusals::NotRecorded;
-use crate::scripts::{Script, has_events, read_script};
-use crate::tracks::{events_of, record_script};
+use crate::scripts::{Script, read_script};
+use crate::tracks::{Tracks, events_of, record_script};
 use crate::transcripts::write_tracks;
 use pd_host::{advances_are_lawful, sending_goes_one_by_one};
-use pd_layout::same_script;
+use pd_layout::is_laid_script;
 use pd_run::{run_all, runs_are_bounded, verdicts_have_reasons};
-use pd_script::Event;
 use pd_settings::Settings;
-use pd_text::Lines;
+use pd_text::{LineEdit, LineList, Lines};
 use std::alloc::{AllocError, Global};
 
 /// Records a script under settings, for a trace with how the sender stands after each event. The recording is read again before
-/// it is answered.
+/// it is answered, unless it is the text itself.
 ///
 /// # Errors
 /// `Stopped` where the text is no script, or its run doesn't begin or stops at an event for another reason than what the event
 /// expects; `TooManyEvents`, `TooLongGap` and `TooLarge` where the recording would be over these limits; `OutOfMemory`; and
-/// `Differs` where the text isn't read as what was recorded, which is a fault of this program.
+/// `Differs` where the text isn't read as what was recorded or isn't laid out as recordings are, which is a fault of this
+/// program.
 pub fn record(
     alloc: Global,
     lines: &Lines,
@@ -35,9 +38,12 @@ pub fn record(
 ) -> Result<Recording, NotRecorded>
     ensures recorded { IfOk result (λ recording. IsRecording lines.now settings.now recording.lines recording.events) }
 
-    // Recording it gives the same events.
+    // Recording it gives the same events, and the same lines: those of a text like it stay as they are.
     ensures again { IfOk result (λ recording. IsRecording recording.lines settings.now recording.lines recording.events) }
-    ensures refused { IfErr result (λ refusal. Refuses (recording_of lines.now settings.now) refusal) }
+    ensures settled { IfOk result (λ recording. IsSettled recording.lines settings.now) }
+    ensures stays { IsSettled lines.now settings.now → IfOk result (λ recording. recording.lines ≡ lines.now) }
+    ensures spared { IsSettled lines.now settings.now → with_trace ≡ false → IfErr result (λ refusal. refusal ≡ OutOfMemory) }
+    ensures refused { IfErr result (Refuses (recording_of lines.now settings.now)) }
 {
     runs_are_bounded();
     advances_are_lawful();
@@ -54,37 +60,90 @@ pub fn record(
         settings,
         with_trace,
     )?;
-    let written = write_tracks(alloc, lines, &script, &tracks);
-    let events = events_of(alloc, tracks)?;
-    let recording = match written {
-        Ok(recording) => recording,
-        Err(NotRecorded::TooLarge) => return Err(NotRecorded::TooLarge),
-        Err(_) => return Err(NotRecorded::OutOfMemory),
-    };
-    if is_right(alloc, lines, &script, &recording, events.as_slice())? {
+    if is_kept(alloc, lines, &script, &tracks)? {
+        keep(alloc, lines, &script, &tracks, with_trace)
+    } else {
+        write(alloc, lines, &script, tracks)
+    }
+}
+
+/// The recording that is its text itself. For a trace it is written nevertheless, to tell where each event ends.
+fn keep(
+    alloc: Global,
+    lines: &Lines,
+    script: &Script,
+    tracks: &Tracks,
+    with_trace: bool,
+) -> Result<Recording, NotRecorded>
+    ensures same { IfOk result (λ recording. (recording.lines ≡ lines.now) × (recording.events ≡ length script.now.events.items)) }
+    ensures spared { with_trace ≡ false → IfErr result (λ refusal. refusal ≡ OutOfMemory) }
+    ensures refused { IfErr result (Refuses (Ok tracks.now)) }
+{
+    let events = script.events.len();
+    if !with_trace {
+        return Ok(Recording {
+            lines: copy(alloc, lines)?,
+            events,
+            marks: Vec::new(alloc),
+        });
+    }
+    let recording = written(alloc, lines, script, tracks)?;
+    if recording.events == events && recording.lines.is_same(lines) {
         Ok(recording)
     } else {
         Err(NotRecorded::Differs)
     }
 }
 
-/// Whether a recording is read as it was recorded. Then it passes, since each recorded event was a step of the recorder's run.
-/// One that is the text itself was read before.
-fn is_right(
+/// The recording that is written anew, and read again. Then it passes, since each recorded event was a step of the recorder's
+/// run.
+fn write(
     alloc: Global,
     lines: &Lines,
     script: &Script,
-    recording: &Recording,
-    events: &[Event],
-) -> Result<bool, AllocError>
-    requires { IsRead (script_of lines.now) (Some script.now) }
-    ensures { IfOk result (λ right. IsTrue right → IsReadAs script.now.header.items events.now recording.now.lines × (recording.now.events ≡ length events.now)) }
+    tracks: Tracks,
+) -> Result<Recording, NotRecorded>
+    ensures written { IfOk result (IsWritten script.now.header.items (events_of tracks)) }
+    ensures refused { IfErr result (Refuses (Ok tracks)) }
 {
-    if recording.events != events.len() {
-        return Ok(false);
+    let recording = written(alloc, lines, script, &tracks)?;
+    let events = events_of(alloc, tracks)?;
+    if recording.events == events.len()
+        && is_laid_script(alloc, &recording.lines, &script.header, events.as_slice())?
+    {
+        Ok(recording)
+    } else {
+        Err(NotRecorded::Differs)
     }
-    if recording.lines.is_same(lines) {
-        return Ok(has_events(script, events));
+}
+
+/// What was recorded, in lines.
+fn written(
+    alloc: Global,
+    lines: &Lines,
+    script: &Script,
+    tracks: &Tracks,
+) -> Result<Recording, NotRecorded>
+    ensures { IfErr result (Refuses (Ok tracks.now)) }
+{
+    match write_tracks(alloc, lines, script, tracks) {
+        Ok(recording) => Ok(recording),
+        Err(NotRecorded::TooLarge) => Err(NotRecorded::TooLarge),
+        Err(_) => Err(NotRecorded::OutOfMemory),
     }
-    same_script(alloc, &recording.lines, &script.header, events)
+}
+
+/// An equal text of its own, by an edit that changes nothing.
+fn copy(alloc: Global, lines: &Lines) -> Result<Lines, AllocError>
+    ensures { IfOk result (λ copy. copy ≡ lines.now) }
+{
+    let nothing = LineEdit {
+        from: 1,
+        remove: 0,
+        insert: LineList::new(alloc),
+    };
+    match lines.apply(&nothing) {
+        Ok(copy) => Ok(copy),
+        Err(_) => Err(AllocError),
+    }
 }

@@ -1,23 +1,12 @@
 //! Scripts with the places of their events.
-ghost use Rattle.std.specs.Prelude.{◌≡◌, ◌≤◌, ◌↔◌, ◌++◌, ◌∷◌, [], length, IfOk, IfSome, IsTrue, OnOk};
-ghost use Rattle.pd_layout.specs.Sameness.{AreTheSame};
+ghost use Rattle.std.specs.Prelude.{◌≡◌, ◌≤◌, ◌++◌, ◌∷◌, [], length, IfOk, IfSome, OnOk};
 ghost use Rattle.pd_script.specs.Script.{found_in, script_of};
-ghost use Rattle.pd_record.specs.Scripts.{IsFound, IsRead, events_placed};
+ghost use Rattle.pd_record.specs.Scripts.{IsFound, IsRead};
 
-use pd_layout::is_same_event;
 use pd_lex::Place;
 use pd_script::{Event, EventReader, Header, MAX_EVENTS, NextEvent, read_header};
 use pd_text::Lines;
 use std::alloc::{AllocError, Global};
-
-/// An event, and the place of what follows it.
-#[derive(Drop)]
-pub struct Placed {
-    /// The event.
-    pub event: Event,
-    /// The place of the token after it; after the last event the start of the line after the text.
-    pub after: Place,
-}
 
 /// A script with the places of its events.
 #[derive(Drop)]
@@ -25,7 +14,9 @@ pub struct Script {
     /// What stands before the events.
     pub header: Header,
     /// The events in order, at most 4,096.
-    pub events: Vec<Placed>,
+    pub events: Vec<Event>,
+    /// The place of the token after each event; after the last one the start of the line after the text.
+    pub places: Vec<Place>,
 }
 
 /// Reads the script of a text; nothing where the text is none.
@@ -39,14 +30,23 @@ pub fn read_script(alloc: Global, lines: &Lines) -> Result<Option<Script>, Alloc
 {
     let header = read_header(alloc, lines)?;
     let mut reader = EventReader::at(lines, header.end());
-    match read_events(alloc, &mut reader)? {
-        Some(events) => Ok(Some(Script { header, events })),
+    let mut places = Vec::new(alloc);
+    match read_events(alloc, &mut reader, &mut places)? {
+        Some(events) => Ok(Some(Script {
+            header,
+            events,
+            places,
+        })),
         None => Ok(None),
     }
 }
 
-/// Reads the events that are left; nothing where no script goes on to the end.
-fn read_events(alloc: Global, reader: &mut EventReader) -> Result<Option<Vec<Placed>>, AllocError>
+/// Reads the events that are left, and the place of the token after each; nothing where no script goes on to the end.
+fn read_events(
+    alloc: Global,
+    reader: &mut EventReader,
+    places: &mut Vec<Place>,
+) -> Result<Option<Vec<Event>>, AllocError>
     ensures found { IfOk result (IsFound (found_in 4096 reader.old)) }
     ensures few { IfOk result (λ found. IfSome found (λ events. length events.items ≤ 4096)) }
 {
@@ -57,7 +57,8 @@ fn read_events(alloc: Global, reader: &mut EventReader) -> Result<Option<Vec<Pla
                 if i + 1 == MAX_EVENTS && reach.is_some() {
                     return Ok(None);
                 }
-                keep(&mut events, Placed { event, after })?;
+                keep(&mut events, event)?;
+                places.push(after)?;
             }
             NextEvent::End => return Ok(Some(events)),
             NextEvent::Fault(_) => return Ok(None),
@@ -67,21 +68,9 @@ fn read_events(alloc: Global, reader: &mut EventReader) -> Result<Option<Vec<Pla
     Ok(Some(events))
 }
 
-/// Whether a script has just these events, but for their lines.
-pub fn has_events(script: &Script, events: &[Event]) -> bool
-    ensures { IsTrue result ↔ AreTheSame (events_placed script.now.events.items) events.now }
+fn keep(events: &mut Vec<Event>, event: Event) -> Result<(), AllocError>
+    ensures { OnOk result (events.new.items ≡ events.old.items ++ event ∷ []) }
 {
-    script.events.len() == events.len()
-        && script
-            .events
-            .iter()
-            .zip(events)
-            .all(|(placed, event)| is_same_event(&placed.event, event))
-}
-
-fn keep(events: &mut Vec<Placed>, placed: Placed) -> Result<(), AllocError>
-    ensures { OnOk result (events.new.items ≡ events.old.items ++ placed ∷ []) }
-{
-    events.push(placed)?;
+    events.push(event)?;
     Ok(())
 }

@@ -1,12 +1,10 @@
 //! What is recorded of a whole script.
 ghost use Rattle.std.specs.Prelude.{◌≡◌, ◌≤◌, ◌++◌, ◌∷◌, [], length, IfOk, OnOk};
 ghost use Rattle.pd_record.specs.Recording.{event_in, events_in, events_of, events_of_all, events_taken, records, tracks_of};
-ghost use Rattle.pd_record.specs.Scripts.{events_placed};
 ghost use Rattle.pd_record.specs.Inner.{Finds, Gives, Sound};
 
 use crate::recorder::Recorder;
 use crate::refusals::NotRecorded;
-use crate::scripts::Placed;
 use crate::tape::{Own, Recorded, Standing, Take};
 use pd_script::{Event, Header};
 use pd_settings::Settings;
@@ -42,12 +40,12 @@ impl Model for Tracks {
 pub fn record_script(
     alloc: Global,
     header: &Header,
-    events: &[Placed],
+    events: &[Event],
     settings: &Settings,
     with_trace: bool,
 ) -> Result<Tracks, NotRecorded>
     requires few { length events.now ≤ 4096 }
-    ensures { Finds (tracks_of header.now.items (events_placed events.now) settings.now) result }
+    ensures { Finds (tracks_of header.now.items events.now settings.now) result }
 {
     let mut recorder = Recorder::new(alloc, header, settings, with_trace)?;
     let takes = record_events(alloc, &mut recorder, events)?;
@@ -65,17 +63,17 @@ pub fn record_script(
 fn record_events(
     alloc: Global,
     recorder: &mut Recorder,
-    events: &[Placed],
+    events: &[Event],
 ) -> Result<Vec<Take>, NotRecorded>
     requires few { length events.now ≤ 4096 }
     requires sound { Sound recorder.old }
     requires base { recorder.old.base ≡ 0 }
-    ensures takes { Gives (λ takes. takes.items) (records (events_placed events.now) [] recorder.old) result recorder.new }
+    ensures takes { Gives (λ takes. takes.items) (records events.now [] recorder.old) result recorder.new }
     ensures sound { OnOk result (Sound recorder.new) }
 {
     let mut takes = Vec::new(alloc);
-    for placed in events {
-        let take = recorder.record(alloc, &placed.event)?;
+    for event in events {
+        let take = recorder.record(alloc, event)?;
         keep(&mut takes, take)?;
     }
     Ok(takes)

@@ -28,8 +28,8 @@ pub fn write_tracks(
     for _ in script.header.as_slice() {
         writer.put_item(&layouts.read_item(alloc)?)?;
     }
-    for (placed, take) in script.events.iter().zip(tracks.takes.iter()) {
-        let layout = layouts.read_event(alloc, placed.after)?;
+    for (after, take) in script.places.iter().zip(tracks.takes.iter()) {
+        let layout = layouts.read_event(alloc, *after)?;
         write_take(&mut writer, &layout, take)?;
     }
     write_all(&mut writer, tracks.rest.as_slice())?;

@@ -1,53 +1,44 @@
 -- What is recorded of the script that was read is what is recorded of the text.
-use Rattle.std.proofs.Common.{◌≡◌, ◌≢◌, ℕ, List, length, Some, Ok, sym, ap, subst, ◌∙◌}
-use Rattle.pd_settings.specs.declared.fields.Settings.{Settings}
+use Rattle.std.proofs.Common.{◌≡◌, List, Some, Ok, subst}
 use Rattle.pd_script.specs.Script.{script_of}
 use Rattle.pd_script.specs.declared.script_events.Event.{Event}
-use Rattle.pd_record.specs.Recording.{Tracked, recording_of, tracks_of, events_of}
-use Rattle.pd_record.specs.Answered.{IsRecording}
-use Rattle.pd_layout.specs.Sameness.{IsReadAs}
-use Rattle.pd_record.specs.Scripts.{IsRead, events_placed}
-use Rattle.pd_record.specs.declared.refusals.NotRecorded.TheVariants.{OutOfMemory}
-use Rattle.pd_record.specs.declared.scripts.Placed.{Placed}
-use Rattle.pd_record.specs.declared.scripts.Script.{Script}
+use Rattle.pd_record.specs.Recording.{tracks_of, events_of}
+use Rattle.pd_record.specs.Scripts.{IsRead}
 use Rattle.pd_record.proofs.Again.{Bases}
-use Rattle.pd_record.proofs.Right.{right_recording}
-use Rattle.pd_record.proofs.Whole.{recorded_as_read, refused_with}
+use Rattle.pd_record.proofs.Right.{on_ok, kept_recording, written_recording, settled_recording}
 use Rattle.pd_record.proofs.recording.record.Goals as goal
-
--- the same by the lists that were read and compared
-right_lists : Bases → (text lines : List (List ℕ)) (settings : Settings) (count : ℕ) (tracks : Tracked) (script : Script) (placed : List Placed) (list compared : List Event)
-    → IsRead (script_of text) (Some script) → placed ≡ script.events.items → tracks_of script.header.items (events_placed placed) settings ≡ Ok tracks
-    → list ≡ events_of tracks → compared ≡ list → IsReadAs script.header.items compared lines × (count ≡ length compared)
-    → IsRecording text settings lines count × IsRecording lines settings lines count
-right_lists laws text lines settings count tracks script placed list compared is same h of_tracks as_list told =
-    let its : compared ≡ events_of tracks = as_list ∙ of_tracks in
-    right_recording laws text lines settings count tracks script is
-    (ap (λ (es : List Placed). tracks_of script.header.items (events_placed es) settings) (sym same) ∙ h)
-    (subst (λ (es : List Event). IsReadAs script.header.items es lines) its told.0)
-    (told.1 ∙ ap (λ (es : List Event). length es) its)
 
 pub returns-then-branch-clause-recorded : goal.returns-then-branch-clause-recorded
 returns-then-branch-clause-recorded c =
     let laws : Bases = record { behind = c.advances_are_lawful.ensures.packets; one_by_one = c.sending_goes_one_by_one.ensures; starts = c.runs_are_bounded.ensures.start; steps = c.runs_are_bounded.ensures.step; reasons = c.verdicts_have_reasons.ensures.reasons } in
     let read : IsRead (script_of c.args.lines.now) (Some c.in-Some.script) = subst (IsRead (script_of c.args.lines.now)) c.in-Some.is c.in_ok-script.ensures.read in
-    (right_lists laws c.args.lines.now c.in-Ok.recording.lines c.args.settings.now c.in-Ok.recording.events c.in_ok-tracks.tracks c.in-Some.script
-    c.as_slice.result.now c.in_ok-events.events.items c.as_slice-2.result.now read c.as_slice.ensures.value c.in_ok-tracks.ensures
-    c.in_ok-events.ensures c.as_slice-2.ensures.value (c.in_ok-is_right.ensures c.if-branch.true)).0
+    let tracks : tracks_of c.in-Some.script.header.items c.in-Some.script.events.items c.args.settings.now ≡ Ok c.in_ok-tracks.tracks = subst (λ (es : List Event). tracks_of c.in-Some.script.header.items es c.args.settings.now ≡ Ok c.in_ok-tracks.tracks) c.as_slice.ensures.value c.in_ok-tracks.ensures in
+    on_ok c.keep.result (kept_recording laws c.args.lines.now c.args.settings.now c.in_ok-tracks.tracks c.in-Some.script c.keep.result read tracks (c.in_ok-is_kept.ensures.0 c.if-branch.true).0 c.keep.ensures.same) (λ x both. both.once)
 
 pub returns-then-branch-clause-again : goal.returns-then-branch-clause-again
 returns-then-branch-clause-again c =
     let laws : Bases = record { behind = c.advances_are_lawful.ensures.packets; one_by_one = c.sending_goes_one_by_one.ensures; starts = c.runs_are_bounded.ensures.start; steps = c.runs_are_bounded.ensures.step; reasons = c.verdicts_have_reasons.ensures.reasons } in
     let read : IsRead (script_of c.args.lines.now) (Some c.in-Some.script) = subst (IsRead (script_of c.args.lines.now)) c.in-Some.is c.in_ok-script.ensures.read in
-    (right_lists laws c.args.lines.now c.in-Ok.recording.lines c.args.settings.now c.in-Ok.recording.events c.in_ok-tracks.tracks c.in-Some.script
-    c.as_slice.result.now c.in_ok-events.events.items c.as_slice-2.result.now read c.as_slice.ensures.value c.in_ok-tracks.ensures
-    c.in_ok-events.ensures c.as_slice-2.ensures.value (c.in_ok-is_right.ensures c.if-branch.true)).1
+    let tracks : tracks_of c.in-Some.script.header.items c.in-Some.script.events.items c.args.settings.now ≡ Ok c.in_ok-tracks.tracks = subst (λ (es : List Event). tracks_of c.in-Some.script.header.items es c.args.settings.now ≡ Ok c.in_ok-tracks.tracks) c.as_slice.ensures.value c.in_ok-tracks.ensures in
+    on_ok c.keep.result (kept_recording laws c.args.lines.now c.args.settings.now c.in_ok-tracks.tracks c.in-Some.script c.keep.result read tracks (c.in_ok-is_kept.ensures.0 c.if-branch.true).0 c.keep.ensures.same) (λ x both. both.twice)
 
-pub returns-in_err-tracks-clause-refused : goal.returns-in_err-tracks-clause-refused
-returns-in_err-tracks-clause-refused c =
+pub returns-clause-recorded : goal.returns-clause-recorded
+returns-clause-recorded c =
+    let laws : Bases = record { behind = c.advances_are_lawful.ensures.packets; one_by_one = c.sending_goes_one_by_one.ensures; starts = c.runs_are_bounded.ensures.start; steps = c.runs_are_bounded.ensures.step; reasons = c.verdicts_have_reasons.ensures.reasons } in
     let read : IsRead (script_of c.args.lines.now) (Some c.in-Some.script) = subst (IsRead (script_of c.args.lines.now)) c.in-Some.is c.in_ok-script.ensures.read in
-    refused_with (recording_of c.args.lines.now c.args.settings.now) c.from_residual-in_err-tracks.result c.in_err-tracks.field-0.0 c.from_residual-in_err-tracks.ensures.1
-    (λ (other : c.in_err-tracks.field-0.0 ≢ OutOfMemory).
-    recorded_as_read c.args.lines.now c.args.settings.now c.in-Some.script read
-    ∙ (ap (λ (es : List Placed). tracks_of c.in-Some.script.header.items (events_placed es) c.args.settings.now) (sym c.as_slice.ensures.value)
-    ∙ c.in_err-tracks.ensures other))
+    let tracks : tracks_of c.in-Some.script.header.items c.in-Some.script.events.items c.args.settings.now ≡ Ok c.in_ok-tracks.tracks = subst (λ (es : List Event). tracks_of c.in-Some.script.header.items es c.args.settings.now ≡ Ok c.in_ok-tracks.tracks) c.as_slice.ensures.value c.in_ok-tracks.ensures in
+    on_ok c.write.result (written_recording laws c.args.lines.now c.args.settings.now c.in_ok-tracks.tracks c.in-Some.script c.write.result read tracks c.write.ensures.written) (λ x both. both.once)
+
+pub returns-clause-again : goal.returns-clause-again
+returns-clause-again c =
+    let laws : Bases = record { behind = c.advances_are_lawful.ensures.packets; one_by_one = c.sending_goes_one_by_one.ensures; starts = c.runs_are_bounded.ensures.start; steps = c.runs_are_bounded.ensures.step; reasons = c.verdicts_have_reasons.ensures.reasons } in
+    let read : IsRead (script_of c.args.lines.now) (Some c.in-Some.script) = subst (IsRead (script_of c.args.lines.now)) c.in-Some.is c.in_ok-script.ensures.read in
+    let tracks : tracks_of c.in-Some.script.header.items c.in-Some.script.events.items c.args.settings.now ≡ Ok c.in_ok-tracks.tracks = subst (λ (es : List Event). tracks_of c.in-Some.script.header.items es c.args.settings.now ≡ Ok c.in_ok-tracks.tracks) c.as_slice.ensures.value c.in_ok-tracks.ensures in
+    on_ok c.write.result (written_recording laws c.args.lines.now c.args.settings.now c.in_ok-tracks.tracks c.in-Some.script c.write.result read tracks c.write.ensures.written) (λ x both. both.twice)
+
+pub returns-clause-settled : goal.returns-clause-settled
+returns-clause-settled c =
+    let laws : Bases = record { behind = c.advances_are_lawful.ensures.packets; one_by_one = c.sending_goes_one_by_one.ensures; starts = c.runs_are_bounded.ensures.start; steps = c.runs_are_bounded.ensures.step; reasons = c.verdicts_have_reasons.ensures.reasons } in
+    let read : IsRead (script_of c.args.lines.now) (Some c.in-Some.script) = subst (IsRead (script_of c.args.lines.now)) c.in-Some.is c.in_ok-script.ensures.read in
+    let tracks : tracks_of c.in-Some.script.header.items c.in-Some.script.events.items c.args.settings.now ≡ Ok c.in_ok-tracks.tracks = subst (λ (es : List Event). tracks_of c.in-Some.script.header.items es c.args.settings.now ≡ Ok c.in_ok-tracks.tracks) c.as_slice.ensures.value c.in_ok-tracks.ensures in
+    settled_recording c.args.lines.now c.args.settings.now c.in-Some.script.header.items (events_of c.in_ok-tracks.tracks) c.write.result c.write.ensures.written (written_recording laws c.args.lines.now c.args.settings.now c.in_ok-tracks.tracks c.in-Some.script c.write.result read tracks c.write.ensures.written)

@@ -2,8 +2,6 @@
 use Rattle.std.proofs.Common.{◌≡◌, ◌∙◌, suc, ◌+◌, ◌-◌, true, false, is_some, Some, None, sym, ap, arith}
 use Rattle.pd_script.specs.declared.parsing.Found.{Found}
 use Rattle.pd_script.proofs.Finding.{found_got, found_last, found_over, found_fault, found_zero}
-use Rattle.pd_record.specs.Scripts.{events_placed}
-use Rattle.pd_record.specs.declared.scripts.Placed.{Placed}
 use Rattle.pd_record.proofs.Found.{got_ends, goes_further, none_left, one_longer, stops}
 use Rattle.pd_record.proofs.scripts.read_events.Goals as goal
 use Rattle.pd_record.proofs.scripts.read_events.Goals.{else-i-eq-MAX_EVENTS-via-then-i-eq-MAX_EVENTS+else-is_some, else-i-eq-MAX_EVENTS-via-else-i-eq-MAX_EVENTS}
@@ -15,14 +13,14 @@ returns-then-is_some c =
     let left = rw c.in-Got.is at c.in_ok-event.ensures.left in
     let one : n ≡ 1 = omega (arith, c.if-i-eq-MAX_EVENTS.true) in
     let some : is_some c.in-Got.reach ≡ true = sym c.is_some.ensures ∙ c.if-is_some.true in
-    let found = stops (events_placed c.events.events.items) _ _ c.in-Got.reach c.events.invariant.found (found_last n c.events.reader c.in-Got.event c.in-Got.after c.in-Got.reach c.next_event.new.self one next left some) in
+    let found = stops c.events.events.items _ _ c.in-Got.reach c.events.invariant.found (found_last n c.events.reader c.in-Got.event c.in-Got.after c.in-Got.reach c.next_event.new.self one next left some) in
     record { found = ap (λ (f : Found). is_some f.fault) found ∙ some; few = tt }
 
 pub returns-in-End : goal.returns-in-End
 returns-in-End c =
     let next = rw c.in-End.is at c.in_ok-event.ensures.next in
     record {
-      found = stops (events_placed c.events.events.items) _ _ None c.events.invariant.found (found_over (4096 - c.events.i) c.events.reader next);
+      found = stops c.events.events.items _ _ None c.events.invariant.found (found_over (4096 - c.events.i) c.events.reader next);
       few = omega (arith, c.events.invariant.few, c.events-test.true);
     }
 
@@ -32,7 +30,7 @@ returns-in-Fault c =
     let m = 4096 - (c.events.i + 1) in
     let more : n ≡ suc m = omega (arith, c.events-test.true) in
     let next = rw c.in-Fault.is at c.in_ok-event.ensures.next in
-    let found = stops (events_placed c.events.events.items) _ _ (Some c.in-Fault.field-0) c.events.invariant.found (found_fault n m c.events.reader c.in-Fault.field-0 more next) in
+    let found = stops c.events.events.items _ _ (Some c.in-Fault.field-0) c.events.invariant.found (found_fault n m c.events.reader c.in-Fault.field-0 more next) in
     record { found = ap (λ (f : Found). is_some f.fault) found; few = tt }
 
 pub events-preserved : goal.events-preserved
@@ -48,10 +46,9 @@ events-preserved c =
     ]) in
     let last : m ≡ 0 → is_some c.in-Got.reach ≡ false = λ (z : m ≡ 0). ends (omega (arith, z, c.events-test.true)) in
     let step = found_got n m c.events.reader c.in-Got.event c.in-Got.after c.in-Got.reach c.next_event.new.self more next left last in
-    let p : Placed = record { event = c.in-Got.event; after = c.in-Got.after } in
     record {
-      found = goes_further c.events.events.items c.keep.new.events.items p _ _ _ c.in_ok-keep-in-Got.ensures c.events.invariant.found step;
-      few = one_longer c.events.events.items c.keep.new.events.items p c.events.i c.in_ok-keep-in-Got.ensures c.events.invariant.few;
+      found = goes_further c.events.events.items c.keep.new.events.items c.in-Got.event _ _ _ c.in_ok-keep-in-Got.ensures c.events.invariant.found step;
+      few = one_longer c.events.events.items c.keep.new.events.items c.in-Got.event c.events.i c.in_ok-keep-in-Got.ensures c.events.invariant.few;
       last = λ e. got_ends c.events.reader c.in-Got.event c.in-Got.after c.in-Got.reach c.next_event.new.self next left (ends e);
     }
 
@@ -60,6 +57,6 @@ returns c =
     let all : c.events.i ≡ 4096 = omega (arith, c.events-test.false, c.events.auto.i-end) in
     let none : 4096 - c.events.i ≡ 0 = omega (arith, all) in
     record {
-      found = stops (events_placed c.events.events.items) _ _ None c.events.invariant.found (found_zero (4096 - c.events.i) c.events.reader none ∙ none_left c.events.reader (c.events.invariant.last all));
+      found = stops c.events.events.items _ _ None c.events.invariant.found (found_zero (4096 - c.events.i) c.events.reader none ∙ none_left c.events.reader (c.events.invariant.last all));
       few = omega (arith, c.events.invariant.few, all);
     }

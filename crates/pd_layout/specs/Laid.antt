@@ -1,0 +1,186 @@
+-- When a text is laid out as recordings are.
+use Rattle.std.specs.Prelude.{codes, ℕ, ◌+◌, ◌-◌, ◌==◌, Bool, true, false, not, ◌&&◌, ◌||◌, List, [], ◌∷◌, length, take, drop, Option, Some, None, unwrap_or, bytes_eq, if◌then◌else◌, IsTrue}
+use Rattle.std.specs.Char.{is_ascii_alphanumeric}
+use Rattle.std.specs.List.{position}
+use Rattle.std.specs.Option.{option_map, option_map_or}
+use Rattle.pd_lex.specs.Octets.{is_blank}
+use Rattle.pd_script.specs.Script.{script_of}
+use Rattle.pd_script.specs.declared.calls.Call.{Call}
+use Rattle.pd_script.specs.declared.calls.ErrorName.{ErrorName}
+use Rattle.pd_script.specs.declared.calls.ErrorName.TheVariants as named
+use Rattle.pd_script.specs.declared.calls.Outcome.{Outcome}
+use Rattle.pd_script.specs.declared.calls.Outcome.TheVariants.{Int, Hex, Negative}
+use Rattle.pd_script.specs.declared.script_events.Action.{Action}
+use Rattle.pd_script.specs.declared.script_events.Action.TheVariants as actions
+use Rattle.pd_script.specs.declared.script_events.Event.{Event}
+use Rattle.pd_script.specs.declared.script_header.HeaderItem.{HeaderItem}
+use Rattle.pd_script.specs.declared.timing.Time.{Time}
+use Rattle.pd_seg.specs.declared.answers.Answer.{Answer}
+use Rattle.pd_seg.specs.declared.answers.Answer.TheVariants.{Number, Error}
+use Rattle.pd_seg.specs.declared.answers.Errno.{Errno}
+use Rattle.pd_seg.specs.declared.answers.Errno.TheVariants as answered
+use Rattle.pd_print.specs.Answers.{answer_text}
+use Rattle.pd_print.specs.Numbers.{time_text}
+use Rattle.pd_print.specs.Packets.{event_text}
+use Rattle.pd_print.specs.declared.packet_texts.Direction.TheVariants.{Inbound, Outbound}
+use Rattle.pd_layout.specs.Traces.{is_trace}
+
+-- octets stand at the front of a line, and what follows them passes a test
+abbrev pub behind : List ℕ → (List ℕ → Bool) → List ℕ → Bool
+behind octets test line = bytes_eq (take (length octets) line) octets && test (drop (length octets) line)
+
+-- ---- comments and empty lines
+
+-- what follows the end of a comment in a line; None where the comment goes on in the next line
+abbrev pub after_end : List ℕ → Option (List ℕ)
+after_end [] = None
+after_end (a ∷ []) = None
+after_end (a ∷ b ∷ s) = if a == 42 && b == 47 then Some s else after_end (b ∷ s)
+
+-- a line within a comment, whose end nothing follows: whether the comment goes on in the next line; None where something does
+abbrev pub within : List ℕ → Option Bool
+within line = option_map_or (λ rest. if length rest == 0 then Some false else None) (after_end line) (Some true)
+
+-- a comment alone in its line, behind one blank where it looks like a line of a trace: whether it goes on in the next line;
+-- None where the line is no such comment
+abbrev pub comment : List ℕ → Option Bool
+comment line =
+    if behind (codes " ") is_trace line then Some false
+    else (if behind (codes "//") (λ _. not (is_trace line)) line then Some false
+    else (if behind (codes "/*") (λ _. true) line then within (drop 2 line) else None))
+
+-- a line in front of an event: an empty one or a comment; or a line within a comment
+abbrev pub alone : Bool → List ℕ → Option Bool
+alone true line = within line
+alone false line = if length line == 0 then Some false else comment line
+
+-- lines in front of an event, the first of which may stand within a comment
+abbrev pub lead : Bool → List (List ℕ) → Bool
+lead inside [] = not inside
+lead inside (line ∷ lines) = option_map_or (λ more. lead more lines) (alone inside line) false
+
+-- what stands behind an event in its line: comments, each behind one blank, or the rest of one and further ones; whether the
+-- last of them goes on in the next line
+abbrev pub trail : Bool → List ℕ → Option Bool
+trail true [] = Some true
+trail true (a ∷ []) = Some true
+trail true (a ∷ b ∷ s) = if a == 42 && b == 47 then trail false s else trail true (b ∷ s)
+trail false [] = Some false
+trail false (a ∷ []) = None
+trail false (a ∷ b ∷ []) = None
+trail false (a ∷ b ∷ c ∷ s) = if a == 32 && b == 47 then (if c == 47 then Some false else (if c == 42 then trail true s else None)) else None
+
+-- what stands behind an event up to the next one: comments in its line, and lines in front of the next one
+abbrev pub gap : List (List ℕ) → List ℕ → Bool
+gap lines rest = option_map_or (λ inside. lead inside lines) (trail false rest) false
+
+-- ---- calls
+
+-- a place of a line, and the lines behind it, pass a test
+abbrev pub in_line : (List (List ℕ) → List ℕ → Bool) → List (List ℕ) → List ℕ → Bool
+in_line test lines [] = false
+in_line test lines (b ∷ s) = test lines (b ∷ s) || in_line test lines s
+
+-- so does a place of one of the lines
+abbrev pub in_lines : (List (List ℕ) → List ℕ → Bool) → List (List ℕ) → Bool
+in_lines test [] = false
+in_lines test (line ∷ lines) = in_line test lines line || in_lines test lines
+
+-- the end of a note
+abbrev pub note_end : List (List ℕ) → List ℕ → Bool
+note_end lines = behind (codes ")") (gap lines)
+
+-- what stands behind an answer: a gap, or a note of any octets and a gap
+abbrev pub noted : List (List ℕ) → List ℕ → Bool
+noted lines rest = gap lines rest || behind (codes " (") (λ note. in_lines note_end (note ∷ lines)) rest
+
+-- an equals sign, an answer and what stands behind it
+abbrev pub answered_with : List ℕ → List (List ℕ) → List ℕ → Bool
+answered_with answer lines = behind (codes "= ") (behind answer (noted lines))
+
+-- what begins with a letter, a digit or `_`
+abbrev pub begins_word : List ℕ → Bool
+begins_word [] = false
+begins_word (b ∷ s) = is_ascii_alphanumeric b || b == 95
+
+-- the octets of a call: any that begin a word, up to an equals sign and the answer
+abbrev pub call_octets : List ℕ → List (List ℕ) → List ℕ → Bool
+call_octets answer lines rest = begins_word rest && in_lines (answered_with answer) (rest ∷ lines)
+
+-- the error of a name
+abbrev pub error_of : ErrorName → Option Errno
+error_of named.Ebadf = Some answered.Ebadf
+error_of named.Einval = Some answered.Einval
+error_of named.Eagain = Some answered.Eagain
+error_of named.Epipe = Some answered.Epipe
+error_of named.Unknown = None
+
+-- the answer that a result is
+abbrev pub answer_of : Outcome → Option Answer
+answer_of (Int n) = Some (Number n)
+answer_of (Hex n) = None
+answer_of (Negative n None) = None
+answer_of (Negative n (Some name)) = if n == 1 then option_map (λ error. Error error) (error_of name) else None
+
+-- a call at a time: its time, its octets with the answer that the script expects, and a gap
+abbrev pub call_line : Time → Outcome → List (List ℕ) → List ℕ → Bool
+call_line time result lines line =
+    option_map_or (λ answer. behind (time_text time) (behind (codes " ") (call_octets (answer_text answer) lines)) line) (answer_of result) false
+
+-- ---- events and header items
+
+-- an event: a packet in its one form, or a call, and a gap
+abbrev pub action_line : Time → Action → List (List ℕ) → List ℕ → Bool
+action_line time (actions.Inbound packet) lines line = behind (event_text time Inbound packet) (gap lines) line
+action_line time (actions.Outbound packet) lines line = behind (event_text time Outbound packet) (gap lines) line
+action_line time (actions.Call call) lines line = call_line time call.result lines line
+action_line time actions.Command lines line = false
+action_line time actions.Code lines line = false
+
+-- where a header item ends: at the first blank
+abbrev pub item_end : List ℕ → ℕ
+item_end line = unwrap_or (position is_blank line) (length line)
+
+-- a header item, and a gap
+abbrev pub item_line : List (List ℕ) → List ℕ → Bool
+item_line lines line = gap lines (drop (item_end line) line)
+
+-- the first of some lines passes a test
+abbrev pub first_line : (List (List ℕ) → List ℕ → Bool) → List (List ℕ) → Bool
+first_line test [] = false
+first_line test (line ∷ lines) = test lines line
+
+-- the lines of a text from one up to another, counted from 0
+abbrev pub block : List (List ℕ) → ℕ → ℕ → List (List ℕ)
+block text from to = take (to - from) (drop from text)
+
+-- where the first of some events begins; without one the text's end
+abbrev pub events_at : List (List ℕ) → List Event → ℕ
+events_at text [] = length text
+events_at text (event ∷ others) = event.line - 1
+
+-- each event begins at the start of its line, and its lines up to the next event are its own
+abbrev pub events_laid : List (List ℕ) → List Event → Bool
+events_laid text [] = true
+events_laid text (event ∷ others) =
+    first_line (action_line event.time event.action) (block text (event.line - 1) (events_at text others)) && events_laid text others
+
+-- where the first of some header items begins, with these events behind them
+abbrev pub items_at : List (List ℕ) → List Event → List HeaderItem → ℕ
+items_at text events [] = events_at text events
+items_at text events (item ∷ others) = item.line - 1
+
+-- the same of header items
+abbrev pub items_laid : List (List ℕ) → List Event → List HeaderItem → Bool
+items_laid text events [] = true
+items_laid text events (item ∷ others) =
+    first_line item_line (block text (item.line - 1) (items_at text events others)) && items_laid text events others
+
+-- a text with these header items and events is laid out as recordings are
+abbrev pub is_laid : List (List ℕ) → List HeaderItem → List Event → Bool
+is_laid text items events =
+    lead false (block text 0 (items_at text events items)) && items_laid text events items && events_laid text events
+
+-- a text is laid out as recordings are: so are the header items and events that it is read as
+abbrev pub IsLaid : List (List ℕ) → Type 0
+IsLaid text = IsTrue (is_laid text (script_of text).header.items (script_of text).events)

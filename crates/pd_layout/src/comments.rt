@@ -1,0 +1,106 @@
+//! Comments and empty lines as they stand in recordings.
+ghost use Rattle.std.specs.Prelude.{◌≡◌, ◌≤◌, false, length, option_copied, IfSome};
+ghost use Rattle.pd_layout.specs.Laid.{after_end, within, comment, alone, lead, trail, gap};
+ghost use Rattle.pd_layout.specs.Inner.{lines_of};
+
+use crate::blocks::Block;
+use crate::traces::is_trace;
+
+/// Whether these octets stand behind an event in its line, and lines up to the next event behind them.
+pub fn is_gap(rest: &[u8], lines: Block<'_>) -> bool
+    ensures { result ≡ gap (lines_of lines.entry) rest.now }
+{
+    match trail(rest) {
+        Some(inside) => is_lead(inside, lines),
+        None => false,
+    }
+}
+
+/// Whether these are lines in front of an event, the first of them within a comment or not.
+pub fn is_lead(inside: bool, lines: Block<'_>) -> bool
+    ensures { result ≡ lead inside (lines_of lines.entry) }
+{
+    let mut inside = inside;
+    let mut left = lines;
+    while let Some((line, behind)) = left.split_first() {
+        match alone(inside, line) {
+            Some(more) => inside = more,
+            None => return false,
+        }
+        left = behind;
+    }
+    !inside
+}
+
+/// Whether a comment goes on behind a line in front of an event, which may stand within one; nothing where the line is neither
+/// empty nor a comment.
+fn alone(inside: bool, line: &[u8]) -> Option<bool>
+    ensures { result ≡ alone inside line.now }
+{
+    if inside {
+        within(line)
+    } else if line.is_empty() {
+        Some(false)
+    } else {
+        comment(line)
+    }
+}
+
+/// Whether a comment alone in its line goes on behind it; nothing where the line is none.
+fn comment(line: &[u8]) -> Option<bool>
+    ensures { result ≡ comment line.now }
+{
+    if let Some(rest) = line.strip_prefix(b" ") {
+        return if is_trace(rest) { Some(false) } else { None };
+    }
+    if line.starts_with(b"//") {
+        return if is_trace(line) { None } else { Some(false) };
+    }
+    match line.strip_prefix(b"/*") {
+        Some(rest) => within(rest),
+        None => None,
+    }
+}
+
+/// Whether a comment that a line stands in goes on behind the line; nothing where something follows its end.
+fn within(line: &[u8]) -> Option<bool>
+    ensures { result ≡ within line.now }
+{
+    match after_end(line) {
+        Some(rest) => if rest.is_empty() { Some(false) } else { None },
+        None => Some(true),
+    }
+}
+
+/// Whether the last comment behind an event in its line goes on in the next one; nothing where something else stands there.
+fn trail(line: &[u8]) -> Option<bool>
+    ensures { result ≡ trail false line.now }
+{
+    let mut rest = line;
+    while let Some(comment) = rest.strip_prefix(b" /*") {
+        match after_end(comment) {
+            Some(behind) => rest = behind,
+            None => return Some(true),
+        }
+    }
+    if rest.is_empty() || rest.starts_with(b" //") {
+        Some(false)
+    } else {
+        None
+    }
+}
+
+/// What follows the end of a comment in a line; nothing where the comment goes on in the next line.
+fn after_end(line: &[u8]) -> Option<&[u8]>
+    ensures what { option_copied result ≡ after_end line.now }
+    ensures shorter { IfSome result (λ rest. length rest.now ≤ length line.now) }
+{
+    let mut rest = line;
+    while let [_, behind @ ..] = rest {
+        if let Some(after) = rest.strip_prefix(b"*/") {
+            return Some(after);
+        }
+        rest = behind;
+    }
+    None
+}

@@ -1,0 +1,100 @@
+//! Texts that are recordings already: what is recorded of them are their own events, and they are laid out as recordings are.
+ghost use Rattle.std.specs.Prelude.{◌≡◌, ◌++◌, ◌∷◌, ◌↔◌, [], Some, IfOk, IsTrue};
+ghost use Rattle.pd_layout.specs.Laid.{IsLaid};
+ghost use Rattle.pd_layout.specs.Sameness.{AreTheSame};
+ghost use Rattle.pd_script.specs.Script.{script_of};
+ghost use Rattle.pd_record.specs.Inner.{GoesBehind};
+ghost use Rattle.pd_record.specs.Recording.{event_in, events_in, events_of, events_taken};
+ghost use Rattle.pd_record.specs.Scripts.{IsRead};
+
+use crate::scripts::Script;
+use crate::tape::{Own, Recorded, Take};
+use crate::tracks::Tracks;
+use pd_layout::{is_laid, is_same_event};
+use pd_script::Event;
+use pd_text::Lines;
+use std::alloc::{AllocError, Global};
+
+/// Whether what was recorded of a script are its own events, and its text is laid out as recordings are.
+///
+/// # Errors
+/// `AllocError` where a growth is refused.
+pub fn is_kept(
+    alloc: Global,
+    lines: &Lines,
+    script: &Script,
+    tracks: &Tracks,
+) -> Result<bool, AllocError>
+    requires { IsRead (script_of lines.now) (Some script.now) }
+    ensures { IfOk result (λ kept. IsTrue kept ↔ AreTheSame script.now.events.items (events_of tracks.now) × IsLaid lines.now) }
+{
+    let events = script.events.as_slice();
+    if are_recorded(events, tracks) {
+        is_laid(alloc, lines, script.header.as_slice(), events)
+    } else {
+        Ok(false)
+    }
+}
+
+/// Whether just these events were recorded, but for their lines.
+fn are_recorded(events: &[Event], tracks: &Tracks) -> bool
+    ensures { IsTrue result ↔ AreTheSame events.now (events_of tracks.now) }
+{
+    let mut left = events;
+    for take in tracks.takes.as_slice() {
+        match behind_take(left, take) {
+            Some(behind) => left = behind,
+            None => return false,
+        }
+    }
+    match behind_all(left, tracks.rest.as_slice()) {
+        Some(behind) => behind.is_empty(),
+        None => false,
+    }
+}
+
+/// The events behind those that were recorded of one event of a script; nothing where they don't begin with these.
+fn behind_take<'a>(events: &'a [Event], take: &Take) -> Option<&'a [Event]>
+    ensures { GoesBehind events.now (events_taken take.now) result }
+{
+    let behind = behind_all(events, take.before.as_slice())?;
+    behind_own(behind, &take.own)
+}
+
+/// The events behind what stands in the place of an event.
+fn behind_own<'a>(events: &'a [Event], own: &Option<Own>) -> Option<&'a [Event]>
+    ensures { GoesBehind events.now (event_in own.now) result }
+{
+    match own {
+        Some(own) => behind_one(events, &own.recorded.event),
+        None => Some(events),
+    }
+}
+
+/// The events behind some that were recorded.
+fn behind_all<'a>(events: &'a [Event], list: &[Recorded]) -> Option<&'a [Event]>
+    ensures { GoesBehind events.now (events_in list.now) result }
+{
+    let mut left = events;
+    for recorded in list {
+        match behind_one(left, &recorded.event) {
+            Some(behind) => left = behind,
+            None => return None,
+        }
+    }
+    Some(left)
+}
+
+/// The events behind one.
+fn behind_one<'a>(events: &'a [Event], event: &Event) -> Option<&'a [Event]>
+    ensures { GoesBehind events.now (event.now ∷ []) result }
+{
+    match events {
+        [first, others @ ..] => if is_same_event(first, event) {
+            Some(others)
+        } else {
+            None
+        },
+        [] => None,
+    }
+}
