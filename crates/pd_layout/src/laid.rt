@@ -9,7 +9,7 @@ ghost use Rattle.pd_layout.specs.Inner.{lines_of};
 use crate::blocks::Block;
 use crate::comments::{is_gap, is_lead};
 use crate::laid_calls::{has_gap_behind, is_call_line};
-use pd_print::{Direction, write_event};
+use pd_print::{Direction, put_event};
 use pd_script::{Action, Event, HeaderItem, Packet, Time};
 use pd_text::Lines;
 use std::alloc::{AllocError, Global};
@@ -108,11 +108,12 @@ fn is_blank(octet: u8) -> bool
 fn are_events_laid(alloc: Global, lines: &Lines, events: &[Event]) -> Result<bool, AllocError>
     ensures { IfOk result (λ laid. laid ≡ events_laid lines.now events.now) }
 {
+    let mut text = Vec::new(alloc);
     let mut left = events;
     while let [event, others @ ..] = left {
         let until = events_at(lines, others);
         let block = Block::new(lines, event.line.saturating_sub(1), until);
-        if !is_event_laid(alloc, event, block)? {
+        if !is_event_laid(&mut text, event, block)? {
             return Ok(false);
         }
         left = others;
@@ -120,8 +121,8 @@ fn are_events_laid(alloc: Global, lines: &Lines, events: &[Event]) -> Result<boo
     Ok(true)
 }
 
-/// Whether lines are an event and a gap.
-fn is_event_laid(alloc: Global, event: &Event, lines: Block<'_>) -> Result<bool, AllocError>
+/// Whether lines are an event and a gap; its octets are written into a buffer.
+fn is_event_laid(text: &mut Vec<u8>, event: &Event, lines: Block<'_>) -> Result<bool, AllocError>
     ensures { IfOk result (λ laid. laid ≡ first_line (action_line event.now.time event.now.action) (lines_of lines.entry)) }
 {
     let Some((line, behind)) = lines.split_first() else {
@@ -129,7 +130,7 @@ fn is_event_laid(alloc: Global, event: &Event, lines: Block<'_>) -> Result<bool,
     };
     match &event.action {
         Action::Inbound(packet) => is_packet_line(
-            alloc,
+            text,
             event.time,
             Direction::Inbound,
             packet,
@@ -137,21 +138,21 @@ fn is_event_laid(alloc: Global, event: &Event, lines: Block<'_>) -> Result<bool,
             behind,
         ),
         Action::Outbound(packet) => is_packet_line(
-            alloc,
+            text,
             event.time,
             Direction::Outbound,
             packet,
             line,
             behind,
         ),
-        Action::Call(call) => is_call_line(alloc, event.time, call.result, line, behind),
+        Action::Call(call) => is_call_line(text, event.time, call.result, line, behind),
         Action::Command | Action::Code => Ok(false),
     }
 }
 
 /// Whether a line is, with lines behind it, a packet that arrives or leaves at a time, in its one form, and a gap.
 fn is_packet_line(
-    alloc: Global,
+    text: &mut Vec<u8>,
     time: Time,
     direction: Direction,
     packet: &Packet,
@@ -160,6 +161,7 @@ fn is_packet_line(
 ) -> Result<bool, AllocError>
     ensures { IfOk result (λ laid. laid ≡ behind (event_text time direction packet.now) (gap (lines_of lines.entry)) line.now) }
 {
-    let text = write_event(alloc, time, direction, packet)?;
+    text.clear();
+    put_event(text, time, direction, packet)?;
     Ok(has_gap_behind(text.as_slice(), line, lines))
 }

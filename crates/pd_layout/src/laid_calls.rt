@@ -5,10 +5,10 @@ ghost use Rattle.pd_layout.specs.Inner.{lines_of};
 
 use crate::blocks::Block;
 use crate::comments::is_gap;
-use pd_print::{write_answer, write_time};
+use pd_print::{put_answer, put_time};
 use pd_script::{ErrorName, Outcome, Time};
 use pd_seg::{Answer, Errno};
-use std::alloc::{AllocError, Global};
+use std::alloc::AllocError;
 
 /// What may stand at a place of a call.
 trait Ending {
@@ -123,12 +123,13 @@ fn begins_word(rest: &[u8]) -> bool
     }
 }
 
-/// Whether a line is, with lines behind it, a call at a time with the answer that the script expects, and a gap.
+/// Whether a line is, with lines behind it, a call at a time with the answer that the script expects, and a gap; its time and
+/// its answer are written into a buffer.
 ///
 /// # Errors
 /// `AllocError` where a growth is refused.
 pub fn is_call_line(
-    alloc: Global,
+    text: &mut Vec<u8>,
     time: Time,
     outcome: Outcome,
     line: &[u8],
@@ -139,15 +140,17 @@ pub fn is_call_line(
     let Some(answer) = answer_of(outcome) else {
         return Ok(false);
     };
-    let time = write_time(alloc, time)?;
-    let Some(rest) = line.strip_prefix(time.as_slice()) else {
+    text.clear();
+    put_time(text, time)?;
+    let Some(rest) = line.strip_prefix(text.as_slice()) else {
         return Ok(false);
     };
     let Some(rest) = rest.strip_prefix(b" ") else {
         return Ok(false);
     };
-    let answer = write_answer(alloc, answer)?;
-    Ok(is_call(answer.as_slice(), rest, lines))
+    text.clear();
+    put_answer(text, answer)?;
+    Ok(is_call(text.as_slice(), rest, lines))
 }
 
 /// The answer that a result is.

@@ -24,8 +24,11 @@ pub fn write_answer(alloc: Global, answer: Answer) -> Result<Vec<u8>, AllocError
     Ok(out)
 }
 
-/// Adds an answer.
-fn put_answer(out: &mut Vec<u8>, answer: Answer) -> Result<(), AllocError>
+/// Adds the result of a call as a script writes it.
+///
+/// # Errors
+/// `AllocError` where a growth is refused; some octets may have been added then.
+pub fn put_answer(out: &mut Vec<u8>, answer: Answer) -> Result<(), AllocError>
     ensures text { OnOk result (out.new.items ≡ out.old.items ++ answer_text answer) }
     ensures small { FitsAnswer answer }
 {

@@ -44,7 +44,10 @@ pub fn write_time(alloc: Global, time: Time) -> Result<Vec<u8>, AllocError>
     Ok(out)
 }
 
-/// Adds a time.
+/// Adds a time as a script writes it.
+///
+/// # Errors
+/// `AllocError` where a growth is refused; some octets may have been added then.
 pub fn put_time(out: &mut Vec<u8>, time: Time) -> Result<(), AllocError>
     ensures { OnOk result (out.new.items ≡ out.old.items ++ time_text time) }
 {

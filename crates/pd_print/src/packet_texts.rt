@@ -40,10 +40,25 @@ pub fn write_event(
     ensures back { IfOk result (λ text. FitsTime time → FitsPacket direction packet.now → IsReadAs IsEvent (event_of time (action_of direction packet.now)) text.items) }
 {
     let mut out = Vec::new(alloc);
-    put_time(&mut out, time)?;
-    put_arrow(&mut out, direction)?;
-    put_packet(&mut out, packet)?;
+    put_event(&mut out, time, direction, packet)?;
     Ok(out)
+}
+
+/// Adds the event of a script in which a packet arrives or leaves at a time.
+///
+/// # Errors
+/// `AllocError` where a growth is refused; some octets may have been added then.
+pub fn put_event(
+    out: &mut Vec<u8>,
+    time: Time,
+    direction: Direction,
+    packet: &Packet,
+) -> Result<(), AllocError>
+    ensures { OnOk result (out.new.items ≡ out.old.items ++ event_text time direction packet.now) }
+{
+    put_time(out, time)?;
+    put_arrow(out, direction)?;
+    put_packet(out, packet)
 }
 
 /// Adds the arrow of a direction between blanks.

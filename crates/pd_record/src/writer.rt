@@ -6,7 +6,7 @@ use crate::recordings::{Mark, Recording};
 use crate::refusals::NotRecorded;
 use crate::tape::{Own, Recorded, Reply, Standing};
 use pd_layout::{Extent, Layout, Piece, is_trace, put_extent};
-use pd_print::{Direction, write_answer, write_event, write_time};
+use pd_print::{Direction, put_answer, put_event, put_time};
 use pd_script::{Action, Time};
 use pd_text::{LineList, Lines, MAX_OCTETS};
 use std::alloc::{AllocError, Global};
@@ -116,12 +116,16 @@ impl<'a> Writer<'a> {
     /// Adds an event in which a packet arrives or leaves.
     fn put_moved(&mut self, recorded: &Recorded) -> Result<(), NotRecorded> {
         let time = recorded.event.time;
-        let text = match &recorded.event.action {
-            Action::Inbound(packet) => write_event(self.alloc, time, Direction::Inbound, packet)?,
-            Action::Outbound(packet) => write_event(self.alloc, time, Direction::Outbound, packet)?,
-            Action::Call(_) | Action::Command | Action::Code => Vec::new(self.alloc),
-        };
-        self.line.extend_from_slice(&text)?;
+        match &recorded.event.action {
+            Action::Inbound(packet) => put_event(&mut self.line, time, Direction::Inbound, packet)?,
+            Action::Outbound(packet) => put_event(
+                &mut self.line,
+                time,
+                Direction::Outbound,
+                packet,
+            )?,
+            Action::Call(_) | Action::Command | Action::Code => {}
+        }
         Ok(())
     }
 
@@ -131,12 +135,11 @@ impl<'a> Writer<'a> {
         if !reply.is_written {
             self.put_pieces(&layout.noted)?;
         }
-        self.line.extend_from_slice(&write_time(self.alloc, time)?)?;
+        put_time(&mut self.line, time)?;
         self.line.extend_from_slice(b" ")?;
         put_extent(&mut self.line, self.source, layout.own)?;
         self.line.extend_from_slice(b" ")?;
-        self.line
-            .extend_from_slice(&write_answer(self.alloc, reply.answer)?)?;
+        put_answer(&mut self.line, reply.answer)?;
         if let Some(note) = layout.note {
             if reply.is_written {
                 self.line.extend_from_slice(b" ")?;

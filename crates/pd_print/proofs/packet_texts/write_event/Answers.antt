@@ -10,10 +10,10 @@ use Rattle.pd_print.proofs.packet_texts.write_event.Goals as goal
 
 pub returns-clause-back : goal.returns-clause-back
 returns-clause-back c =
-    let text : c.put_packet.new.out.items ≡ event_text c.args.time c.args.direction c.args.packet.now = search rules in
+    let text : c.put_event.new.out.items ≡ event_text c.args.time c.args.direction c.args.packet.now = search rules in
     λ short fits. subst (λ (s : List ℕ). IsReadAs IsEvent (event_of c.args.time (action_of c.args.direction c.args.packet.now)) s) (sym text) (event_back c.args.time c.args.direction c.args.packet.now short fits)
 
 pub returns-clause-line : goal.returns-clause-line
 returns-clause-line c =
-    let text : c.put_packet.new.out.items ≡ event_text c.args.time c.args.direction c.args.packet.now = search rules in
+    let text : c.put_event.new.out.items ≡ event_text c.args.time c.args.direction c.args.packet.now = search rules in
     λ short fits. ap is_line text ∙ event_inside c.args.time c.args.direction c.args.packet.now short fits
