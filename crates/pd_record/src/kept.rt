@@ -1,5 +1,5 @@
 //! Texts that are recordings already: what is recorded of them are their own events, and they are laid out as recordings are.
-ghost use Rattle.std.specs.Prelude.{◌≡◌, ◌++◌, ◌∷◌, ◌↔◌, [], Some, IfOk, IsTrue};
+ghost use Rattle.std.specs.Prelude.{◌≡◌, ◌++◌, ◌∷◌, ◌↔◌, [], false, Some, IfOk, IsTrue};
 ghost use Rattle.pd_layout.specs.Laid.{IsLaid};
 ghost use Rattle.pd_layout.specs.Sameness.{AreTheSame};
 ghost use Rattle.pd_script.specs.Script.{script_of};
@@ -15,7 +15,7 @@ use pd_script::Event;
 use pd_text::Lines;
 use std::alloc::{AllocError, Global};
 
-/// Whether what was recorded of a script are its own events, and its text is laid out as recordings are.
+/// Whether no trace is asked for, what was recorded of a script are its own events, and its text is laid out as recordings are.
 ///
 /// # Errors
 /// `AllocError` where a growth is refused.
@@ -24,12 +24,13 @@ pub fn is_kept(
     lines: &Lines,
     script: &Script,
     tracks: &Tracks,
+    with_trace: bool,
 ) -> Result<bool, AllocError>
     requires { IsRead (script_of lines.now) (Some script.now) }
-    ensures { IfOk result (λ kept. IsTrue kept ↔ AreTheSame script.now.events.items (events_of tracks.now) × IsLaid lines.now) }
+    ensures { IfOk result (λ kept. IsTrue kept ↔ (with_trace ≡ false) × AreTheSame script.now.events.items (events_of tracks.now) × IsLaid lines.now) }
 {
     let events = script.events.as_slice();
-    if are_recorded(events, tracks) {
+    if !with_trace && are_recorded(events, tracks) {
         is_laid(alloc, lines, script.header.as_slice(), events)
     } else {
         Ok(false)

@@ -41,7 +41,7 @@ pub fn record(
     // Recording it gives the same events, and the same lines: those of a text like it stay as they are.
     ensures again { IfOk result (λ recording. IsRecording recording.lines settings.now recording.lines recording.events) }
     ensures settled { IfOk result (λ recording. IsSettled recording.lines settings.now) }
-    ensures stays { IsSettled lines.now settings.now → IfOk result (λ recording. recording.lines ≡ lines.now) }
+    ensures stays { IsSettled lines.now settings.now → with_trace ≡ false → IfOk result (λ recording. recording.lines ≡ lines.now) }
     ensures spared { IsSettled lines.now settings.now → with_trace ≡ false → IfErr result (λ refusal. refusal ≡ OutOfMemory) }
     ensures refused { IfErr result (Refuses (recording_of lines.now settings.now)) }
 {
@@ -60,39 +60,29 @@ pub fn record(
         settings,
         with_trace,
     )?;
-    if is_kept(alloc, lines, &script, &tracks)? {
-        keep(alloc, lines, &script, &tracks, with_trace)
+    if is_kept(alloc, lines, &script, &tracks, with_trace)? {
+        keep(alloc, lines, &script, &tracks)
     } else {
         write(alloc, lines, &script, tracks)
     }
 }
 
-/// The recording that is its text itself. For a trace it is written nevertheless, to tell where each event ends.
+/// The recording that is its text itself.
 fn keep(
     alloc: Global,
     lines: &Lines,
     script: &Script,
     tracks: &Tracks,
-    with_trace: bool,
 ) -> Result<Recording, NotRecorded>
     ensures same { IfOk result (λ recording. (recording.lines ≡ lines.now) × (recording.events ≡ length script.now.events.items)) }
-    ensures spared { with_trace ≡ false → IfErr result (λ refusal. refusal ≡ OutOfMemory) }
+    ensures spared { IfErr result (λ refusal. refusal ≡ OutOfMemory) }
     ensures refused { IfErr result (Refuses (Ok tracks.now)) }
 {
-    let events = script.events.len();
-    if !with_trace {
-        return Ok(Recording {
-            lines: copy(alloc, lines)?,
-            events,
-            marks: Vec::new(alloc),
-        });
-    }
-    let recording = written(alloc, lines, script, tracks)?;
-    if recording.events == events && recording.lines.is_same(lines) {
-        Ok(recording)
-    } else {
-        Err(NotRecorded::Differs)
-    }
+    Ok(Recording {
+        lines: copy(alloc, lines)?,
+        events: script.events.len(),
+        marks: Vec::new(alloc),
+    })
 }
 
 /// The recording that is written anew, and read again. Then it passes, since each recorded event was a step of the recorder's

@@ -13,14 +13,14 @@ returns-then-branch-clause-recorded c =
     let laws : Bases = record { behind = c.advances_are_lawful.ensures.packets; one_by_one = c.sending_goes_one_by_one.ensures; starts = c.runs_are_bounded.ensures.start; steps = c.runs_are_bounded.ensures.step; reasons = c.verdicts_have_reasons.ensures.reasons } in
     let read : IsRead (script_of c.args.lines.now) (Some c.in-Some.script) = subst (IsRead (script_of c.args.lines.now)) c.in-Some.is c.in_ok-script.ensures.read in
     let tracks : tracks_of c.in-Some.script.header.items c.in-Some.script.events.items c.args.settings.now ≡ Ok c.in_ok-tracks.tracks = subst (λ (es : List Event). tracks_of c.in-Some.script.header.items es c.args.settings.now ≡ Ok c.in_ok-tracks.tracks) c.as_slice.ensures.value c.in_ok-tracks.ensures in
-    on_ok c.keep.result (kept_recording laws c.args.lines.now c.args.settings.now c.in_ok-tracks.tracks c.in-Some.script c.keep.result read tracks (c.in_ok-is_kept.ensures.0 c.if-branch.true).0 c.keep.ensures.same) (λ x both. both.once)
+    on_ok c.keep.result (kept_recording laws c.args.lines.now c.args.settings.now c.in_ok-tracks.tracks c.in-Some.script c.keep.result read tracks (c.in_ok-is_kept.ensures.0 c.if-branch.true).1 c.keep.ensures.same) (λ x both. both.once)
 
 pub returns-then-branch-clause-again : goal.returns-then-branch-clause-again
 returns-then-branch-clause-again c =
     let laws : Bases = record { behind = c.advances_are_lawful.ensures.packets; one_by_one = c.sending_goes_one_by_one.ensures; starts = c.runs_are_bounded.ensures.start; steps = c.runs_are_bounded.ensures.step; reasons = c.verdicts_have_reasons.ensures.reasons } in
     let read : IsRead (script_of c.args.lines.now) (Some c.in-Some.script) = subst (IsRead (script_of c.args.lines.now)) c.in-Some.is c.in_ok-script.ensures.read in
     let tracks : tracks_of c.in-Some.script.header.items c.in-Some.script.events.items c.args.settings.now ≡ Ok c.in_ok-tracks.tracks = subst (λ (es : List Event). tracks_of c.in-Some.script.header.items es c.args.settings.now ≡ Ok c.in_ok-tracks.tracks) c.as_slice.ensures.value c.in_ok-tracks.ensures in
-    on_ok c.keep.result (kept_recording laws c.args.lines.now c.args.settings.now c.in_ok-tracks.tracks c.in-Some.script c.keep.result read tracks (c.in_ok-is_kept.ensures.0 c.if-branch.true).0 c.keep.ensures.same) (λ x both. both.twice)
+    on_ok c.keep.result (kept_recording laws c.args.lines.now c.args.settings.now c.in_ok-tracks.tracks c.in-Some.script c.keep.result read tracks (c.in_ok-is_kept.ensures.0 c.if-branch.true).1 c.keep.ensures.same) (λ x both. both.twice)
 
 pub returns-clause-recorded : goal.returns-clause-recorded
 returns-clause-recorded c =
