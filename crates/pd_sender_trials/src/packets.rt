@@ -27,13 +27,13 @@ pub fn tell_packet(alloc: Global, row: &mut Row<'_>, said: &mut Said) {
 
 /// Compares what is written with the rest of the row, or says it.
 fn compare(text: &[u8], row: &mut Row<'_>, said: &mut Said) {
-    if row.rest.is_empty() {
+    let wanted = row.all();
+    if wanted.is_empty() {
         said.octets(text);
         said.say("\n");
     } else {
-        row.check("its octets", row.rest.as_bytes() == text);
+        row.check("its octets", wanted.as_bytes() == text);
     }
-    row.rest = "";
 }
 
 /// Whether a packet that was put out is copied whole.

@@ -7,7 +7,7 @@ pub const NO_MEMORY: &str = "memory";
 /// The words of a row that aren't read yet, and what differed first from its words.
 #[derive(Drop)]
 pub struct Row<'a> {
-    pub rest: &'a str,
+    rest: &'a str,
     pub difference: Option<&'static str>,
 }
 
@@ -24,6 +24,13 @@ impl<'a> Row<'a> {
         let (word, rest) = self.rest.split_once(" ").unwrap_or((self.rest, ""));
         self.rest = rest;
         word
+    }
+
+    /// All words that are left.
+    pub fn all(&mut self) -> &'a str {
+        let rest = self.rest;
+        self.rest = "";
+        rest
     }
 
     /// The next word as a number; 0 where it is none.

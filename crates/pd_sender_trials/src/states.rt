@@ -48,13 +48,14 @@ fn run(alloc: Global, lines: &Lines, said: &mut Said) {
     let mut watching = Watching::new(alloc);
     let verdict = run_with(alloc, lines, &Settings::new(), &mut watching);
     said.say(watching.states.as_str());
-    match verdict {
-        Ok(Verdict::Pass(_)) => {}
-        Ok(_) => said.say(" stops"),
-        Err(_) => said.is_whole = false,
-    }
-    if !watching.is_copied {
-        said.say(", but not its copy");
-    }
-    said.say("\n");
+    said.say(match verdict {
+        Ok(Verdict::Pass(_)) => "",
+        Ok(_) => " stops",
+        Err(_) => " finds no memory",
+    });
+    said.say(if watching.is_copied {
+        "\n"
+    } else {
+        ", but not its copy\n"
+    });
 }

@@ -41,38 +41,36 @@ impl Tables {
     }
 
     fn tell_rows(&mut self, rows: &str) {
-        for written in rows.lines() {
-            let mut row = Row::new(written);
-            match row.word() {
-                "#" => self.say_line(row.rest),
-                "==" => self.end(row.rest),
-                call => self.take(call, &mut row, written),
+        for row in rows.lines() {
+            self.take(row);
+        }
+    }
+
+    /// Makes the call of a row.
+    fn take(&mut self, written: &str) {
+        let mut row = Row::new(written);
+        match row.word() {
+            "#" => self.say_line(row.all()),
+            "==" => self.end(row.all()),
+            "packet" => {
+                self.begin();
+                tell_packet(self.alloc, &mut row, &mut self.said);
             }
+            "list" => {
+                self.begin();
+                self.trial.begin(&mut row);
+            }
+            call => self.trial.make(call, &mut row),
+        }
+        row.expect_word("the end of the row", "");
+        if let Some(what) = row.difference {
+            self.note(what, written);
         }
     }
 
     fn say_line(&mut self, line: &str) {
         self.said.say(line);
         self.said.say("\n");
-    }
-
-    /// Makes the call of a row.
-    fn take(&mut self, call: &str, row: &mut Row<'_>, written: &str) {
-        match call {
-            "packet" => {
-                self.begin();
-                tell_packet(self.alloc, row, &mut self.said);
-            }
-            "list" => {
-                self.begin();
-                self.trial.begin(row);
-            }
-            _ => self.trial.make(call, row),
-        }
-        row.expect_word("the end of the row", "");
-        if let Some(what) = row.difference {
-            self.note(what, written);
-        }
     }
 
     /// A packet or a list begins.
