@@ -1,7 +1,8 @@
 #!/bin/sh
 # Tests of tools/add_scripts.sh on files that can't be added, of ./pdregress, ./pdsteps, ./pdexplain and ./pdrecord called
 # through links, in a copy whose programs say their names, and of tools/record.sh, in a copy whose programs stand in; and
-# whether tools/random_lists.py makes the rows that are stored. Prints a line for each, and `N passed, M failed` last.
+# whether tools/random_lists.py, tools/random_boards.py and tools/random_packets.py make the rows that are stored. Prints a
+# line for each, and `N passed, M failed` last.
 set -eu
 top=$(cd "$(dirname "$0")/../.." && pwd)
 work=$(mktemp -d)
@@ -191,14 +192,16 @@ test_recording() {
     expect unknown-word "$(printf '! #   tools/record.sh [--check] [--all] [--settings TEXT] FILE..\nstatus 2')" "$work/recording/tools/record.sh" --checked todo.pkt
 }
 
-# The rows that are stored are those that the tool makes, and no others.
-test_random_lists() {
+# The rows that are stored are those that the tools make, and no others.
+test_random_rows() {
     expect random-lists "status 0" sh -c "'$top/tools/random_lists.py' | cmp - '$top/crates/pd_book_trials/data/random_lists.txt'"
+    expect random-boards "status 0" sh -c "'$top/tools/random_boards.py' | cmp - '$top/crates/pd_sender_trials/data/random_boards.txt'"
+    expect random-packets "status 0" sh -c "'$top/tools/random_packets.py' | cmp - '$top/crates/pd_sender_trials/data/random_packets.txt'"
 }
 
 test_adding
 test_links
 test_recording
-test_random_lists
+test_random_rows
 echo "$passed passed, $failed failed"
 [ "$failed" -eq 0 ]

@@ -1,43 +1,39 @@
 //! Tries what the sender is made of: packets as octets, the scoreboard with loss recovery, and the states that scripts lead to.
+//! Tells the tables of the files of `data`, and then the scripts of the input.
 #![tactic(auto)]
 
-mod answers;
-mod copied;
-mod counts;
-mod dice;
-mod drawn;
 mod lines;
-mod lists;
-mod moments;
 mod packets;
-mod plain_board;
-mod plain_window;
 mod reading;
+mod rows;
+mod said;
 mod states;
+mod tables;
 mod trial;
 mod watching;
-mod worked_boards;
-mod worked_packets;
+mod worked;
 
-use crate::counts::Counts;
-use crate::lists::make_all;
-use crate::packets::print_packets;
-use crate::states::states_of;
+use crate::states::say_all_states;
+use crate::tables::Tables;
+use crate::worked::{say_answers, say_moments};
 use std::io;
+use std::rt::Files;
 
 fn main(rt: HostRuntime) -> io::Result<()> {
-    print_packets(&rt)?;
-    let mut counts = Counts::new(rt.alloc());
-    make_all(rt.alloc(), &mut counts)?;
-    counts.print(&rt)?;
-    print_states(&rt)
+    let mut tables = Tables::new(rt.alloc());
+    tell(&rt, &mut tables);
+    tables.said.print(&rt)
 }
 
-/// Prints through which states each line of the input leads the sender.
-fn print_states(rt: &(impl Input + Print + AllocGlobal)) -> io::Result<()> {
-    for line in rt.lines(rt.alloc()) {
-        let states = states_of(rt.alloc(), line?.as_str())?;
-        println!(rt; "{states}")?;
+/// Tells the tables and the scripts.
+fn tell(rt: &(impl Input + Files + AllocGlobal), tables: &mut Tables) {
+    tables.tell(rt, "worked.txt");
+    say_answers(rt.alloc(), &mut tables.said);
+    say_moments(rt.alloc(), &mut tables.said);
+    tables.tell(rt, "random_packets.txt");
+    tables.tell(rt, "random_boards.txt");
+    match io::read_to_string(rt.alloc(), rt.reader()) {
+        Ok(scripts) => say_all_states(rt.alloc(), scripts.as_str(), &mut tables.said),
+        Err(_) => tables.said.is_whole = false,
     }
-    Ok(())
 }

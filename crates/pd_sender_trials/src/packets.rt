@@ -1,53 +1,114 @@
-//! Packets, answers and moments that are printed, those worked out by hand and random ones, each packet read back.
-use crate::answers::print_answers;
-use crate::dice::Dice;
-use crate::drawn::{draw_segment, draw_time};
-use crate::moments::print_moments;
+//! Packets as rows have them: a time, the flags, the numbers, and how many options there are and which.
 use crate::reading::is_read_back;
-use crate::worked_packets::print_worked;
+use crate::rows::{NO_MEMORY, Row};
+use crate::said::Said;
 use pd_print::write_sent;
 use pd_script::Time;
-use pd_seg::Segment;
-use std::alloc::AllocError;
-use std::io;
+use pd_seg::{Flags, SackBlocks, SegOption, SegOptions, Segment, Sent, Span};
+use std::alloc::Global;
 
-const PACKETS: u64 = 2_000;
+/// Writes a packet, reads it back and copies it. What is written is the rest of the row; where the row has none, it is said.
+pub fn tell_packet(alloc: Global, row: &mut Row<'_>, said: &mut Said) {
+    let time = read_time(row);
+    let sent = Sent {
+        segment: read_segment(alloc, row),
+        at: 200_000,
+    };
+    row.check("its copy", is_copied(&sent));
+    match write_sent(alloc, time, &sent.segment) {
+        Ok(text) => {
+            let text = text.as_slice();
+            row.check("what is read back", is_read_back(alloc, text, time, &sent));
+            compare(text, row, said);
+        }
+        Err(_) => row.note(NO_MEMORY),
+    }
+}
 
-/// Prints packets, answers and moments, and how many random packets aren't read back as they were.
-pub fn print_packets(rt: &(impl Print + AllocGlobal)) -> io::Result<()> {
-    print_worked(rt)?;
-    print_answers(rt)?;
-    print_moments(rt)?;
-    let mut dice = Dice::new(20_261_124);
-    let mut differing = 0u64;
-    for packet in 1..=PACKETS {
-        if !is_drawn_back(rt, &mut dice)? {
-            println!(rt; "packet {packet} differs")?;
-            differing = differing.wrapping_add(1);
+/// Compares what is written with the rest of the row, or says it.
+fn compare(text: &[u8], row: &mut Row<'_>, said: &mut Said) {
+    let wanted = row.all();
+    if wanted.is_empty() {
+        said.octets(text);
+        said.say("\n");
+    } else {
+        row.check("its octets", wanted.as_bytes() == text);
+    }
+}
+
+/// Whether a packet that was put out is copied whole.
+fn is_copied(sent: &Sent) -> bool {
+    match sent.copy() {
+        Ok(copy) => copy.is_same(sent),
+        Err(_) => false,
+    }
+}
+
+fn read_time(row: &mut Row<'_>) -> Time {
+    match row.word() {
+        "at" => Time::Absolute(row.number()),
+        "between" => Time::AbsoluteRange(row.number(), row.number()),
+        "after" => Time::Relative(row.number()),
+        "within" => Time::RelativeRange(row.number(), row.number()),
+        _ => Time::Any,
+    }
+}
+
+fn read_segment(alloc: Global, row: &mut Row<'_>) -> Segment {
+    Segment {
+        flags: read_flags(row.word()),
+        start: row.octets(),
+        end: row.octets(),
+        ack: row.octets(),
+        win: row.short(),
+        options: read_options(alloc, row),
+    }
+}
+
+fn read_flags(letters: &str) -> Flags {
+    Flags {
+        syn: letters.contains("S"),
+        fin: letters.contains("F"),
+        rst: letters.contains("R"),
+        psh: letters.contains("P"),
+        ack: letters.contains("."),
+    }
+}
+
+fn read_options(alloc: Global, row: &mut Row<'_>) -> SegOptions {
+    let mut options = SegOptions::new(alloc);
+    for _option in 0..row.number() {
+        let option = read_option(alloc, row);
+        if options.push(option).is_err() {
+            row.note(NO_MEMORY);
         }
     }
-    println!(rt; "{PACKETS} random packets, {differing} differ")
+    options
 }
 
-/// Prints what was written, and what stands behind it.
-pub fn print_text(rt: &(impl Print + AllocGlobal), text: &[u8], behind: &str) -> io::Result<()> {
-    let text = String::from_utf8_lossy(rt.alloc(), text)?;
-    print!(rt; "{text}{behind}")
+fn read_option(alloc: Global, row: &mut Row<'_>) -> SegOption {
+    match row.word() {
+        "mss" => SegOption::Mss(row.short()),
+        "wscale" => SegOption::Wscale(row.word().parse::<u8>().unwrap_or(0)),
+        "sackOK" => SegOption::SackOk,
+        "TS" => SegOption::Timestamp(row.octets(), row.octets()),
+        "sack" => SegOption::Sack(read_blocks(alloc, row)),
+        "nop" => SegOption::Nop,
+        _ => SegOption::Eol,
+    }
 }
 
-/// Draws a packet and a time, and reads back what is printed of them.
-fn is_drawn_back(rt: &impl AllocGlobal, dice: &mut Dice) -> Result<bool, AllocError> {
-    let time = draw_time(dice);
-    let segment = draw_segment(rt.alloc(), dice)?;
-    is_sent_back(rt, time, &segment)
-}
-
-/// Whether a sent segment is read back from its event.
-pub fn is_sent_back(
-    rt: &impl AllocGlobal,
-    time: Time,
-    segment: &Segment,
-) -> Result<bool, AllocError> {
-    let text = write_sent(rt.alloc(), time, segment)?;
-    is_read_back(rt.alloc(), text.as_slice(), time, segment)
+/// Reads how many blocks there are, and their edges.
+fn read_blocks(alloc: Global, row: &mut Row<'_>) -> SackBlocks {
+    let mut blocks = SackBlocks::new(alloc);
+    for _block in 0..row.number() {
+        let block = Span {
+            start: row.octets(),
+            end: row.octets(),
+        };
+        if blocks.push(block).is_err() {
+            row.note(NO_MEMORY);
+        }
+    }
+    blocks
 }

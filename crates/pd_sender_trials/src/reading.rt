@@ -2,63 +2,54 @@
 use crate::lines::one_line;
 use pd_match::{Expect, check_packet};
 use pd_script::{Action, Event, Packet, Parsed, Time, parse};
-use pd_seg::{Segment, Sent};
-use pd_text::TextFault;
-use std::alloc::{AllocError, Global};
+use pd_seg::Sent;
+use std::alloc::Global;
 
 /// Whether a text of this one line is a script with just one event: this segment leaves at this time, all of it written.
-pub fn is_read_back(
-    alloc: Global,
-    text: &[u8],
-    time: Time,
-    segment: &Segment,
-) -> Result<bool, AllocError> {
-    match one_line(alloc, text) {
-        Ok(lines) => is_script(&parse(alloc, &lines)?, time, segment),
-        Err(TextFault::OutOfMemory) => Err(AllocError),
-        Err(_) => Ok(false),
+pub fn is_read_back(alloc: Global, text: &[u8], time: Time, sent: &Sent) -> bool {
+    let Ok(lines) = one_line(alloc, text) else {
+        return false;
+    };
+    match parse(alloc, &lines) {
+        Ok(parsed) => is_script(&parsed, time, sent),
+        Err(_) => false,
     }
 }
 
 /// Whether a script has just one event: this one.
-fn is_script(parsed: &Parsed, time: Time, segment: &Segment) -> Result<bool, AllocError> {
-    if parsed.fault.is_some() || !parsed.header.as_slice().is_empty() {
-        return Ok(false);
-    }
-    match parsed.events.as_slice() {
-        [event] => is_event(event, time, segment),
-        _ => Ok(false),
+fn is_script(parsed: &Parsed, time: Time, sent: &Sent) -> bool {
+    match (
+        parsed.fault,
+        parsed.header.as_slice(),
+        parsed.events.as_slice(),
+    ) {
+        (None, [], [event]) => is_event(event, time, sent),
+        _ => false,
     }
 }
 
-fn is_event(event: &Event, time: Time, segment: &Segment) -> Result<bool, AllocError> {
+fn is_event(event: &Event, time: Time, sent: &Sent) -> bool {
     match &event.action {
-        Action::Outbound(packet) => Ok(
+        Action::Outbound(packet) => {
             event.line == 1
                 && event.until.is_none()
                 && is_time(event.time, time)
-                && is_segment(packet, segment)?,
-        ),
-        _ => Ok(false),
+                && is_segment(packet, sent)
+        }
+        _ => false,
     }
 }
 
 /// Whether all of the segment is written, and nothing else.
-fn is_segment(packet: &Packet, segment: &Segment) -> Result<bool, AllocError> {
+fn is_segment(packet: &Packet, sent: &Sent) -> bool {
     let expect = Expect {
         packet,
         moments: None,
     };
-    let sent = Sent {
-        segment: segment.copy()?,
-        at: 0,
-    };
-    Ok(
-        check_packet(&expect, &sent, 0).is_none()
-            && !packet.flags.other
-            && packet.ack == Some(segment.ack)
-            && packet.win == Some(u32::from(segment.win)),
-    )
+    check_packet(&expect, sent, 0).is_none()
+        && !packet.flags.other
+        && packet.ack == Some(sent.segment.ack)
+        && packet.win == Some(u32::from(sent.segment.win))
 }
 
 fn is_time(read: Time, written: Time) -> bool {

@@ -1,6 +1,7 @@
 //! A stepper that notes through which states a run leads.
 ghost use Rattle.std.specs.Prelude.{◌≡◌};
 
+use crate::said::Said;
 use pd_run::{ConnState, Plain, RunState, StepEnd, Stepper};
 use pd_script::Event;
 use pd_settings::Settings;
@@ -12,8 +13,8 @@ use std::alloc::{AllocError, Global};
 pub struct Watching {
     steps: Plain,
     last: &'static str,
-    states: String,
-    /// Whether a copy of a run that stopped behaved as the run itself.
+    pub states: Said,
+    /// Whether each copy was made, and that of a run that stopped behaved as the run itself.
     pub is_copied: bool,
 }
 
@@ -24,28 +25,21 @@ impl Watching {
         Watching {
             steps: Plain::new(),
             last: "",
-            states: String::new(alloc),
+            states: Said::new(alloc),
             is_copied: true,
         }
     }
 
-    /// The names, parted by spaces.
-    pub fn states(self) -> String {
-        self.states
-    }
-
-    fn note(&mut self, state: ConnState) -> Result<(), AllocError>
+    /// Notes a state.
+    fn note(&mut self, state: ConnState)
         ensures { self.new.steps ≡ self.old.steps }
     {
         let name = name(state);
         if name != self.last {
-            if !self.states.is_empty() {
-                self.states.push(' ')?;
-            }
-            self.states.push_str(name)?;
+            self.states.say(if self.last.is_empty() { "" } else { " " });
+            self.states.say(name);
             self.last = name;
         }
-        Ok(())
     }
 }
 
@@ -58,15 +52,14 @@ impl Stepper for Watching {
         event: &Event,
         settings: &Settings,
     ) -> Result<StepEnd, AllocError> {
-        let end = self.steps.step(state, event, settings)?;
-        if let StepEnd::Go = end {
-            let copy = state.copy()?;
-            *state = copy;
-            self.note(state.conn_state())?;
+        let end = self.steps.step(state, event, settings);
+        if let Ok(StepEnd::Go) = end {
+            self.is_copied = put_copy(state) && self.is_copied;
+            self.note(state.conn_state());
         } else {
-            self.is_copied = is_copied(state)?;
+            self.is_copied = is_copied(state) && self.is_copied;
         }
-        Ok(end)
+        end
     }
 
     fn count(&self) -> u64 {
@@ -74,16 +67,33 @@ impl Stepper for Watching {
     }
 }
 
+/// Puts a copy in the place of the run; whether there was memory for one.
+fn put_copy(state: &mut RunState) -> bool
+    ensures { state.new ≡ state.old }
+{
+    match state.copy() {
+        Ok(copy) => {
+            *state = copy;
+            true
+        }
+        Err(_) => false,
+    }
+}
+
 /// Whether a copy of the run has halted as the run has, and a copy of its sender answers that.
-fn is_copied(state: &RunState) -> Result<bool, AllocError> {
-    let halted = state.host().ended();
-    let is_alike = state.copy()?.host().ended() == halted;
-    let mut sender = state.host().copy()?;
-    let answer = match sender.advance(0) {
-        Ok(()) => None,
-        Err(ending) => Some(ending),
-    };
-    Ok(is_alike && answer == halted)
+fn is_copied(state: &RunState) -> bool {
+    match state.copy() {
+        Ok(copy) => copy.host().ended() == state.host().ended() && answers_alike(state),
+        Err(_) => false,
+    }
+}
+
+/// Whether a copy of the sender answers to what comes next how the sender has ended.
+fn answers_alike(state: &RunState) -> bool {
+    match state.host().copy() {
+        Ok(mut sender) => sender.advance(0).err() == state.host().ended(),
+        Err(_) => false,
+    }
 }
 
 fn name(state: ConnState) -> &'static str {
