@@ -10,6 +10,9 @@ use std::alloc::Global;
 /// How many octets of differences are said, roughly.
 const MAX_SAID: usize = 5_000;
 
+/// The status where something couldn't be read or said.
+pub const STOPPED: u8 = 2;
+
 /// What was read last, how much was compared, how much of it differs, and what is to be printed.
 #[derive(Drop)]
 pub struct Comparison {
@@ -54,11 +57,11 @@ impl Comparison {
         self.is_stopped = true;
     }
 
-    /// The status of the program: 2 where something couldn't be read or said, else 1 where something differs.
+    /// The status of the program: 1 where something differs.
     pub fn status(&self) -> u8 {
         let is_short = self.whole.is_short | self.steps.reading.is_short | self.said.is_short;
         if is_short | self.machine.is_short | self.machine.reading.is_short | self.is_stopped {
-            return 2;
+            return STOPPED;
         }
         u8::from(self.wrong > 0)
     }
@@ -83,18 +86,17 @@ impl Comparison {
         }
     }
 
+    /// Says how a text is read whole, by events and slowly.
     fn say_difference(&mut self, octets: &[u8]) {
         let said = &mut self.said;
         if said.octets.len() > MAX_SAID {
             return;
         }
-        said.add(b" DIFFERS: whole");
+        said.add(b" DIFFERS:");
         said.add_reading(&self.whole);
-        said.add(b", by events");
         said.add_reading(&self.steps.reading);
-        said.add(b", slowly");
         said.add_reading(&self.machine.reading);
-        said.add(b", in: ");
+        said.add(b" in: ");
         said.add(octets);
         said.add(b"\n");
     }

@@ -5,6 +5,7 @@ use crate::measures::Measures;
 use crate::reading::Reading;
 use crate::spelling::Kind;
 use std::alloc::Global;
+use std::mem::swap;
 
 /// The greatest number of events of a script.
 const MAX_EVENTS: usize = 4_096;
@@ -44,8 +45,8 @@ pub struct Machine {
     rests: Vec<Rest>,
     /// The ways that have to be written out.
     open: Vec<Way>,
-    /// The ways with one token to come next.
-    ready: Vec<Way>,
+    /// The ways that the next token leaves.
+    left: Vec<Way>,
     /// Whether nothing more has to come in some way.
     is_whole: bool,
     /// How many events have begun with the last token.
@@ -62,7 +63,7 @@ impl Machine {
             rules: Vec::new(alloc),
             rests: Vec::new(alloc),
             open: Vec::new(alloc),
-            ready: Vec::new(alloc),
+            left: Vec::new(alloc),
             is_whole: false,
             begun: 0,
             reading: Reading::new(alloc),
@@ -88,16 +89,17 @@ impl Machine {
             line: 1,
         };
         for _item in 0..=text.len() {
-            self.write_out();
             let token = items.next();
+            self.go_on(token);
             if token.text.is_empty() && items.rest.is_empty() && self.is_whole {
                 return;
             }
-            if token.text.is_empty() || !self.go_on(token) {
+            if self.left.is_empty() {
                 self.refuse(token.line);
                 return;
             }
             self.note(token.line);
+            swap(&mut self.open, &mut self.left);
         }
     }
 
@@ -106,7 +108,7 @@ impl Machine {
         self.reading.clear();
         self.rests.clear();
         self.open.clear();
-        self.ready.clear();
+        self.left.clear();
         let measures = Measures {
             events: 0,
             first: 0,
@@ -121,39 +123,47 @@ impl Machine {
         self.is_short |= self.open.push(Way { rest, measures }).is_err();
     }
 
-    /// Writes out all ways, each up to one token to come next, or nothing more.
-    fn write_out(&mut self) {
-        self.ready.clear();
+    /// Writes out all ways, each up to one token to come next, or nothing more, and goes on with this token in each way that
+    /// it fits.
+    fn go_on(&mut self, token: Token<'_>) {
+        self.begun = 0;
         self.is_whole = false;
         for _part in 0..MAX_PARTS {
             match self.open.pop() {
-                Some(way) => self.write_out_next(way),
+                Some(way) => self.go_on_in(way, token),
                 None => return,
             }
         }
         self.is_short = true;
     }
 
-    /// Writes out the next part of a way; at its end the rest that stands around it goes on.
-    fn write_out_next(&mut self, way: Way) {
-        let Rest { at, after } = way.rest;
-        let around = self.rests.get(after).copied();
-        match (part_at(at), around) {
-            (Part::Of(name), _) => {
-                let rest = Rest {
-                    at: at.saturating_add(1),
-                    after,
-                };
-                self.write_out_name(name, rest, way.measures);
-            }
-            (Part::Way(_), Some(rest)) => self.push(rest, way.measures),
+    /// Writes out the next part of a way, or goes on with this token; at its end the rest that stands around it goes on.
+    fn go_on_in(&mut self, way: Way, token: Token<'_>) {
+        let Way { rest, measures } = way;
+        let behind = Rest {
+            at: rest.at.saturating_add(1),
+            after: rest.after,
+        };
+        let around = self.rests.get(rest.after).copied();
+        match (part_at(rest.at), around) {
+            (Part::Of(name), _) => self.write_out(name, behind, measures),
+            (Part::Way(_), Some(rest)) => self.push(rest, measures),
             (Part::Way(_), None) => self.is_whole = true,
-            _ => self.is_short |= self.ready.push(way).is_err(),
+            (part, _) => self.take(part, token, behind, measures),
+        }
+    }
+
+    /// Goes on behind this part, if the token is what it asks for.
+    fn take(&mut self, part: Part, token: Token<'_>, rest: Rest, measures: Measures) {
+        let mut measures = measures;
+        if !token.text.is_empty() && measures.take(part, token) {
+            self.begun = self.begun.max(measures.events);
+            self.is_short |= self.left.push(Way { rest, measures }).is_err();
         }
     }
 
     /// Adds each way to write what has this name, with this rest to come after it.
-    fn write_out_name(&mut self, name: Name, rest: Rest, measures: Measures) {
+    fn write_out(&mut self, name: Name, rest: Rest, measures: Measures) {
         let mut measures = measures;
         if name.is(Name::Event) {
             measures.events = measures.events.saturating_add(1);
@@ -177,32 +187,6 @@ impl Machine {
         }
         self.is_short |= self.rests.push(rest).is_err();
         self.rests.len().saturating_sub(1)
-    }
-
-    /// Goes on with this token in each way that it fits; tells whether there is one.
-    fn go_on(&mut self, token: Token<'_>) -> bool {
-        self.begun = 0;
-        for _way in 0..self.ready.len() {
-            if let Some(way) = self.ready.pop() {
-                self.go_on_in(way, token);
-            }
-        }
-        !self.open.is_empty()
-    }
-
-    fn go_on_in(&mut self, way: Way, token: Token<'_>) {
-        let Rest { at, after } = way.rest;
-        let mut measures = way.measures;
-        if measures.take(part_at(at), token) {
-            self.begun = self.begun.max(measures.events);
-            self.push(
-                Rest {
-                    at: at.saturating_add(1),
-                    after,
-                },
-                measures,
-            );
-        }
     }
 
     /// Notes the line of a token, if it is of the header or the first of an event.

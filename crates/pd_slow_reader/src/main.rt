@@ -18,7 +18,7 @@ mod steps;
 mod texts;
 
 use cases::carry_out;
-use comparing::Comparison;
+use comparing::{Comparison, STOPPED};
 use std::process::ExitCode;
 use std::rt::Files;
 
@@ -27,7 +27,11 @@ fn main(rt: HostRuntime) -> ExitCode {
     compare_all(&rt, &mut comparison);
     comparison.say_totals();
     print(&rt, &mut comparison);
-    ExitCode::from(comparison.status())
+    let status = comparison.status();
+    if status == STOPPED {
+        let _ = eprintln!(rt; "pd_slow_reader: a line can't be carried out, or no memory is left");
+    }
+    ExitCode::from(status)
 }
 
 /// Carries out the lines of the input.
