@@ -5,7 +5,7 @@ use crate::items::{Items, value_of};
 use crate::octets::{Octets, halves};
 use crate::rereading::{compare_edited, edit_often};
 use crate::texts::{line_list, text};
-use pd_text::{LineEdit, Lines};
+use pd_text::LineEdit;
 use std::rt::Files;
 use std::{fs, str};
 
@@ -71,31 +71,30 @@ fn check_edit(
     remove: usize,
     insert: &[u8],
 ) {
-    match (
-        text(comparison.alloc, script),
-        line_list(comparison.alloc, insert),
-    ) {
-        (Ok(old), Ok(insert)) => check_edited(
-            comparison,
-            &old,
-            &LineEdit {
+    match line_list(comparison.alloc, insert) {
+        Ok(insert) => {
+            let edit = LineEdit {
                 from,
                 remove,
                 insert,
-            },
-        ),
-        _ => comparison.stop(),
+            };
+            check_edited(comparison, script, &edit);
+        }
+        Err(_) => comparison.stop(),
     }
 }
 
-/// Reads an edited text again, and says how many first lines the edit left and how many events are kept.
-fn check_edited(comparison: &mut Comparison, old: &Lines, edit: &LineEdit) {
-    match old.apply(edit) {
-        Ok(new) => {
-            compare_edited(comparison, old, &new);
-            comparison.said.add_number(b"", old.same_front(&new));
-            comparison.said.add_number(b"", comparison.last_kept);
-        }
+/// Reads an edited script again, and says how many first lines the edit left and how many events are kept.
+fn check_edited(comparison: &mut Comparison, script: &[u8], edit: &LineEdit) {
+    match text(comparison.alloc, script) {
+        Ok(old) => match old.apply(edit) {
+            Ok(new) => {
+                compare_edited(comparison, &old, &new);
+                comparison.said.add_number(b"", old.same_front(&new));
+                comparison.said.add_number(b"", comparison.last_kept);
+            }
+            Err(_) => comparison.stop(),
+        },
         Err(_) => comparison.stop(),
     }
 }

@@ -39,7 +39,10 @@ fn compare_all(rt: &(impl Input + Print + Files + AllocGlobal), comparison: &mut
     for line in rt.lines(rt.alloc()) {
         match line {
             Ok(line) => carry_out(rt, comparison, line.as_bytes()),
-            Err(_) => comparison.stop(),
+            Err(_) => {
+                comparison.stop();
+                break;
+            }
         }
         print(rt, comparison);
     }
