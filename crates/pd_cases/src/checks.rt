@@ -3,15 +3,14 @@ use crate::trial::Trial;
 
 impl Trial {
     /// Makes the check of a line, and tells how many runs it has made. An empty line, a comment and a heading are none.
-    pub fn check_line(&mut self, line: &str) {
-        if line.is_empty() || line.starts_with("#") || line.starts_with("[") {
+    pub fn check_line(&mut self, line: &[u8]) {
+        if let [] | [b'#' | b'[', ..] = line {
             return;
         }
         let (runs, wrong) = (self.runs, self.wrong);
-        let (name, most) = line.split_once(" ").unwrap_or((line, ""));
-        self.check(name, number_of(most.as_bytes()));
+        self.check(line);
         self.rows = self.rows.saturating_add(1);
-        self.told.add(line.as_bytes());
+        self.told.add(line);
         self.told.add(b": ");
         self.tell(
             self.runs.saturating_sub(runs),
@@ -19,14 +18,20 @@ impl Trial {
         );
     }
 
-    fn check(&mut self, name: &str, most: usize) {
-        match name {
-            "reads" => self.check_reads(most),
-            "writes" => self.check_writes(most),
-            "errors" => self.check_unheard(),
-            "newlines" => self.check_newlines(),
-            "memory" => self.check_memory(),
-            _ => self.note(false, 0),
+    fn check(&mut self, line: &[u8]) {
+        let most = number_in(line);
+        if line.starts_with(b"reads ") {
+            self.check_reads(most);
+        } else if line.starts_with(b"writes ") {
+            self.check_writes(most);
+        } else if line.starts_with(b"errors") {
+            self.check_unheard();
+        } else if line.starts_with(b"newlines") {
+            self.check_newlines();
+        } else if line.starts_with(b"memory") {
+            self.check_memory();
+        } else {
+            self.note(false, 0);
         }
     }
 
@@ -46,12 +51,14 @@ impl Trial {
     }
 }
 
-/// The number that decimal digits write; of other octets none.
-fn number_of(digits: &[u8]) -> usize {
+/// The number that the digits of a line write.
+fn number_in(line: &[u8]) -> usize {
     let mut number = 0usize;
-    for octet in digits {
-        let digit = octet.saturating_sub(b'0').min(9);
-        number = number.saturating_mul(10).saturating_add(usize::from(digit));
+    for octet in line {
+        if octet.is_ascii_digit() {
+            let digit = usize::from(octet.saturating_sub(b'0'));
+            number = number.saturating_mul(10).saturating_add(digit);
+        }
     }
     number
 }

@@ -40,7 +40,7 @@ impl Trial {
         self.run_stored(pace);
         let is_whole = self.says(OUTPUT, b"", 0);
         self.note(is_whole, 0);
-        for call in 1..=self.writes {
+        for call in 1..=self.output.calls {
             pace.write_fails = call;
             self.check_fault(pace, WRITE, call);
         }
@@ -49,8 +49,8 @@ impl Trial {
     /// Runs the program on streams that fail at this call, and checks that it tells this fault and stops.
     fn check_fault(&mut self, pace: Pace, fault: &[u8], call: u64) {
         self.run_stored(pace);
-        let said = self.output.as_slice();
-        let is_told = self.status == 2 && self.errors.as_slice() == fault;
+        let said = self.output.taken.as_slice();
+        let is_told = self.status == 2 && self.errors.taken.as_slice() == fault;
         let is_prefix = OUTPUT.starts_with(said) && said.len() < OUTPUT.len();
         let is_stopped = pace.read_fails == 0 || self.reads == pace.read_fails;
         self.note(is_told && is_prefix && is_stopped, call);

@@ -11,40 +11,40 @@ mod streams;
 mod trial;
 
 use crate::trial::Trial;
-use std::alloc::AllocError;
-use std::io;
 use std::process::ExitCode;
 
-/// The status where standard input can't be read, or no memory is found.
+/// The status where something couldn't be read or said.
 const STOPPED: u8 = 2;
 
 fn main(rt: HostRuntime) -> ExitCode {
     let mut trial = Trial::new(rt.alloc());
-    match check_all(&rt, &mut trial) {
-        Ok(()) => ExitCode::from(u8::from(trial.wrong > 0)),
-        Err(error) => {
-            let _ = eprintln!(rt; "pd_cases: {error}");
-            ExitCode::from(STOPPED)
-        }
+    check_all(&rt, &mut trial);
+    trial.end();
+    print(&rt, &mut trial);
+    if trial.told.is_short {
+        let _ = eprintln!(rt; "pd_cases: no memory is left, or a stream failed");
+        return ExitCode::from(STOPPED);
     }
+    ExitCode::from(u8::from(trial.wrong > 0))
 }
 
 /// Makes the checks that standard input names.
-fn check_all(rt: &(impl Input + Print + AllocGlobal), trial: &mut Trial) -> io::Result<()> {
+fn check_all(rt: &(impl Input + Print + AllocGlobal), trial: &mut Trial) {
     for line in rt.lines(rt.alloc()) {
-        trial.check_line(line?.as_str());
-        print(rt, trial)?;
+        match line {
+            Ok(line) => trial.check_line(line.as_bytes()),
+            Err(_) => {
+                trial.told.is_short = true;
+                break;
+            }
+        }
+        print(rt, trial);
     }
-    trial.end();
-    print(rt, trial)
 }
 
-/// Prints what was told since the last time.
-fn print(rt: &impl Print, trial: &mut Trial) -> io::Result<()> {
-    if trial.told.is_short {
-        return Err(AllocError.into());
-    }
-    rt.write_all(trial.told.octets.as_slice())?;
-    trial.told.octets.clear();
-    Ok(())
+/// Prints what was told since the last time, if all of it found room.
+fn print(rt: &impl Print, trial: &mut Trial) {
+    let told = &mut trial.told;
+    told.is_short = told.is_short || rt.write_all(told.octets.as_slice()).is_err();
+    told.octets.clear();
 }

@@ -28,7 +28,7 @@ impl Octets {
         for _digit in 0..20 {
             let digit = number.checked_div(scale).unwrap_or(0) % 10;
             if number >= scale || scale == 1 {
-                self.add(&[b'0'.saturating_add(digit as u8)]);
+                self.add(&[b'0' + digit as u8]);
             }
             scale /= 10;
         }

@@ -1,4 +1,5 @@
 //! A reader and a writer over memory that give and take so many octets a call, and fail at a call.
+use std::alloc::Global;
 use std::io;
 use std::io::{Read, Write};
 
@@ -38,14 +39,33 @@ impl<'a> Read for Source<'a> {
 
 /// A writer that keeps what it takes, at most `most` octets a call; the call of number `fails_at`, from 1, fails.
 #[derive(Drop)]
-pub struct Sink<'a> {
-    pub taken: &'a mut Vec<u8>,
-    pub most: usize,
-    pub fails_at: u64,
+pub struct Sink {
+    pub taken: Vec<u8>,
+    most: usize,
+    fails_at: u64,
     pub calls: u64,
 }
 
-impl<'a> Write for Sink<'a> {
+impl Sink {
+    pub fn new(alloc: Global) -> Sink {
+        Sink {
+            taken: Vec::new(alloc),
+            most: 0,
+            fails_at: 0,
+            calls: 0,
+        }
+    }
+
+    /// Begins anew.
+    pub fn begin(&mut self, most: usize, fails_at: u64) {
+        self.taken.clear();
+        self.most = most;
+        self.fails_at = fails_at;
+        self.calls = 0;
+    }
+}
+
+impl Write for Sink {
     fn write(&mut self, buf: &[u8]) -> io::Result<usize> {
         self.calls = self.calls.saturating_add(1);
         if self.fails_at == self.calls {

@@ -1,7 +1,7 @@
 //! Runs of the program over memory: what it is given and what it says, and how many runs were wrong.
 use crate::octets::Octets;
 use crate::streams::{Sink, Source};
-use pd_cli::Options;
+use pd_cli::{options, refuse, run_alone};
 use std::alloc::Global;
 
 /// How the streams of a run give and take: at most so many octets a call, and at which call they fail or end, if at any.
@@ -32,13 +32,12 @@ pub const STEADY: Pace = Pace {
 #[derive(Drop)]
 pub struct Trial {
     alloc: Global,
-    pub output: Vec<u8>,
-    pub errors: Vec<u8>,
+    pub output: Sink,
+    pub errors: Sink,
     pub status: u8,
     pub reads: u64,
     /// The greatest number of octets that a read asked for.
     pub asked: usize,
-    pub writes: u64,
     /// What is to be printed, until it is taken.
     pub told: Octets,
     pub rows: u64,
@@ -50,12 +49,11 @@ impl Trial {
     pub fn new(alloc: Global) -> Trial {
         Trial {
             alloc,
-            output: Vec::new(alloc),
-            errors: Vec::new(alloc),
+            output: Sink::new(alloc),
+            errors: Sink::new(alloc),
             status: 0,
             reads: 0,
             asked: 0,
-            writes: 0,
             told: Octets::new(alloc),
             rows: 0,
             runs: 0,
@@ -65,8 +63,8 @@ impl Trial {
 
     /// Whether the last run said this.
     pub fn says(&self, output: &[u8], errors: &[u8], status: u8) -> bool {
-        let same_output = self.output.as_slice() == output;
-        let same_errors = self.errors.as_slice() == errors;
+        let same_output = self.output.taken.as_slice() == output;
+        let same_errors = self.errors.taken.as_slice() == errors;
         same_output && same_errors && self.status == status
     }
 
@@ -83,8 +81,8 @@ impl Trial {
 
     /// Runs the program with these words on this input, by streams of this pace.
     pub fn run(&mut self, words: &[&str], input: &[u8], pace: Pace) {
-        self.output.clear();
-        self.errors.clear();
+        self.output.begin(pace.taken, pace.write_fails);
+        self.errors.begin(pace.heard, 0);
         let mut source = Source {
             octets: input,
             most: pace.given,
@@ -94,43 +92,24 @@ impl Trial {
             calls: 0,
             asked: 0,
         };
-        let mut output = Sink {
-            taken: &mut self.output,
-            most: pace.taken,
-            fails_at: pace.write_fails,
-            calls: 0,
-        };
-        let mut errors = Sink {
-            taken: &mut self.errors,
-            most: pace.heard,
-            fails_at: 0,
-            calls: 0,
-        };
-        self.status = run_on(self.alloc, words, &mut source, &mut output, &mut errors);
+        self.run_on(words, &mut source);
         self.reads = source.calls;
         self.asked = source.asked;
-        self.writes = output.calls;
     }
-}
 
-/// Runs the program without workers on these streams and gives its status. Its promises stay in here: callers compare what
-/// was written.
-fn run_on(
-    alloc: Global,
-    words: &[&str],
-    source: &mut Source<'_>,
-    output: &mut Sink<'_>,
-    errors: &mut Sink<'_>,
-) -> u8 {
-    match pd_cli::options(alloc, words) {
-        Ok(options) => {
-            let Options {
-                settings,
-                cache,
-                ..
-            } = options;
-            pd_cli::run_alone(alloc, settings, cache, source, output, errors).status
-        },
-        Err(error) => pd_cli::refuse(alloc, &error, errors).status,
+    /// Runs the program without workers on this input. Its promises stay in here: callers compare what was written.
+    fn run_on(&mut self, words: &[&str], source: &mut Source<'_>) {
+        let exit = match options(self.alloc, words) {
+            Ok(options) => run_alone(
+                self.alloc,
+                options.settings,
+                options.cache,
+                source,
+                &mut self.output,
+                &mut self.errors,
+            ),
+            Err(error) => refuse(self.alloc, &error, &mut self.errors),
+        };
+        self.status = exit.status;
     }
 }

@@ -1,151 +1,142 @@
 //! The lines of the input: each a case, which is said again with what is found.
 use crate::changes::change_everywhere;
 use crate::comparing::Comparison;
-use crate::items::Items;
-use crate::measures::value_of;
-use crate::octets::Octets;
-use crate::rereading::{edit_often, read_both};
-use crate::stops::Stop;
+use crate::items::{Items, value_of};
+use crate::octets::{Octets, halves};
+use crate::rereading::{compare_edited, edit_often};
 use crate::texts::{line_list, text};
-use pd_text::{LineEdit, Lines};
-use std::alloc::Global;
-use std::fs;
+use pd_text::LineEdit;
 use std::rt::Files;
+use std::{fs, str};
 
 /// Carries out a line of the input; an empty one and one with `#` in front say nothing.
-pub fn carry_out(
-    rt: &(impl Files + AllocGlobal),
-    comparison: &mut Comparison,
-    line: &str,
-) -> Result<(), Stop> {
-    if line.is_empty() || line.starts_with("#") {
-        return Ok(());
+pub fn carry_out(rt: &(impl Files + AllocGlobal), comparison: &mut Comparison, line: &[u8]) {
+    if let [] | [b'#', ..] = line {
+        return;
     }
-    let (asked, rest) = halves(line, ":");
-    let rest = rest.strip_prefix(" ").unwrap_or(rest);
-    let (kind, numbers) = halves(asked, " ");
-    comparison.said.add(line.as_bytes());
+    let (asked, rest) = halves(line, b':');
+    let rest = rest.get(1..).unwrap_or(&[]);
+    let (kind, numbers) = halves(asked, b' ');
+    comparison.said.add(line);
     comparison.said.add(b" ->");
-    if kind.starts_with("edit") || kind == "script" {
-        check_file(rt, comparison, kind, numbers, rest)?;
+    if kind.starts_with(b"edit") || kind.starts_with(b"script") {
+        check_file(rt, comparison, kind, numbers, rest);
     } else {
-        check_row(comparison, kind, rest)?;
+        check_row(comparison, kind, rest);
     }
     comparison.said.add(b"\n");
-    Ok(())
-}
-
-/// What stands before the first mark and after it.
-fn halves<'a>(text: &'a str, mark: &str) -> (&'a str, &'a str) {
-    text.split_once(mark).unwrap_or((text, ""))
 }
 
 /// Checks the script of a file.
 fn check_file(
     rt: &(impl Files + AllocGlobal),
     comparison: &mut Comparison,
-    kind: &str,
-    numbers: &str,
-    rest: &str,
-) -> Result<(), Stop> {
-    let (name, insert) = halves(rest, " ");
-    let script = fs::read(rt, name)?;
-    check_script(comparison, kind, numbers, script.as_slice(), insert)
+    kind: &[u8],
+    numbers: &[u8],
+    rest: &[u8],
+) {
+    let (name, insert) = halves(rest, b' ');
+    match fs::read(rt, str::from_utf8(name).unwrap_or("")) {
+        Ok(script) => check_script(comparison, kind, numbers, script.as_slice(), insert),
+        Err(_) => comparison.stop(),
+    }
 }
 
 /// Checks a script and each way to cut or change it, or edits it as these numbers say.
 fn check_script(
     comparison: &mut Comparison,
-    kind: &str,
-    numbers: &str,
+    kind: &[u8],
+    numbers: &[u8],
     script: &[u8],
-    insert: &str,
-) -> Result<(), Stop> {
-    let (first, second) = halves(numbers, " ");
-    let first = number_of(first);
-    match kind {
-        "script" => {
-            comparison.check(script)?;
-            change_everywhere(comparison, script)
-        }
-        "edits" => edit_often(comparison, script, first),
-        _ => {
-            let old = text(comparison.alloc, script)?;
-            check_edit(comparison, &old, first, number_of(second), insert)
-        }
+    insert: &[u8],
+) {
+    let (first, second) = halves(numbers, b' ');
+    let (first, second) = (value_of(first, 10) as usize, value_of(second, 10) as usize);
+    if kind.starts_with(b"script") {
+        comparison.compare(script);
+        comparison.say_reading();
+        change_everywhere(comparison, script);
+    } else if kind.starts_with(b"edits") {
+        edit_often(comparison, script, first);
+    } else {
+        check_edit(comparison, script, first, second, insert);
     }
 }
 
-fn number_of(digits: &str) -> usize {
-    usize::try_from(value_of(digits.as_bytes(), 10)).unwrap_or(0)
-}
-
-/// Edits a text, and compares.
+/// Edits a script.
 fn check_edit(
     comparison: &mut Comparison,
-    old: &Lines,
+    script: &[u8],
     from: usize,
     remove: usize,
-    insert: &str,
-) -> Result<(), Stop> {
-    let insert = line_list(comparison.alloc, insert.as_bytes())?;
-    let edit = LineEdit {
-        from,
-        remove,
-        insert,
-    };
-    match old.apply(&edit) {
-        Ok(new) => check_edited(comparison, old, &new),
-        Err(fault) => Err(fault.into()),
+    insert: &[u8],
+) {
+    match line_list(comparison.alloc, insert) {
+        Ok(insert) => {
+            let edit = LineEdit {
+                from,
+                remove,
+                insert,
+            };
+            check_edited(comparison, script, &edit);
+        }
+        Err(_) => comparison.stop(),
     }
 }
 
-/// Reads an edited text again, and says how many first lines the edit left and how many events are kept.
-fn check_edited(comparison: &mut Comparison, old: &Lines, new: &Lines) -> Result<(), Stop> {
-    let outcome = read_both(comparison.alloc, old, new)?;
-    comparison.note_edit(outcome);
-    comparison.said.say_number("", outcome.same);
-    comparison.said.say_number("", outcome.kept);
-    Ok(())
+/// Reads an edited script again, and says how many first lines the edit left and how many events are kept.
+fn check_edited(comparison: &mut Comparison, script: &[u8], edit: &LineEdit) {
+    match text(comparison.alloc, script) {
+        Ok(old) => match old.apply(edit) {
+            Ok(new) => {
+                compare_edited(comparison, &old, &new);
+                comparison.said.add_number(b"", old.same_front(&new));
+                comparison.said.add_number(b"", comparison.last_kept);
+            }
+            Err(_) => comparison.stop(),
+        },
+        Err(_) => comparison.stop(),
+    }
 }
 
 /// Reads a text both ways, and says of it what is asked.
-fn check_row(comparison: &mut Comparison, kind: &str, row: &str) -> Result<(), Stop> {
+fn check_row(comparison: &mut Comparison, kind: &[u8], row: &[u8]) {
     let mut octets = Octets::new(comparison.alloc);
-    if kind == "many" {
-        let (event, rest) = halves(row, " ");
+    if kind.starts_with(b"many") {
+        let (event, rest) = halves(row, b' ');
         octets.add_rows(4_096, event);
         octets.add_rows(1, rest);
     } else {
         octets.add_rows(1, row);
     }
-    check_text(comparison, kind, octets.as_slice())
+    check_text(comparison, kind, octets.octets.as_slice());
+    comparison.said.is_short |= octets.is_short;
 }
 
-fn check_text(comparison: &mut Comparison, kind: &str, text: &[u8]) -> Result<(), Stop> {
-    match kind {
-        "tokens" => {
-            comparison.compare(text)?;
-            say_kinds(&mut comparison.said, text);
-            Ok(())
-        }
-        "steps" => {
-            comparison.compare(text)?;
-            comparison.said.say_steps(&comparison.steps);
-            Ok(())
-        }
-        "many" | "reads" => comparison.check(text),
-        _ => Err(Stop::BadCase),
+fn check_text(comparison: &mut Comparison, kind: &[u8], text: &[u8]) {
+    comparison.compare(text);
+    if kind.starts_with(b"tokens") {
+        say_kinds(&mut comparison.said, text);
+    } else if kind.starts_with(b"steps") {
+        comparison.say_steps();
+    } else if kind.starts_with(b"reads") || kind.starts_with(b"many") {
+        comparison.say_reading();
+    } else {
+        comparison.stop();
     }
 }
 
 /// Says the kinds of a text's tokens, by their names.
 fn say_kinds(said: &mut Octets, text: &[u8]) {
-    let mut items = Items::of(text);
+    let mut items = Items {
+        rest: text,
+        line: 1,
+    };
     for _item in 0..text.len() {
-        let Some(token) = items.next() else {
+        let token = items.next();
+        if token.text.is_empty() {
             return;
-        };
+        }
         said.add(b" ");
         said.add(token.kind.name().as_bytes());
     }

@@ -1,39 +1,8 @@
-//! The grammar of scripts: each part with all the ways to write it.
+//! The grammar of scripts: each thing with all the ways to write it.
 use crate::spelling::Kind;
+use Bound::*;
 use Name::*;
-use Part::{Of, One};
-use Test::*;
-
-/// What one token has to be.
-#[derive(Clone, Copy)]
-pub enum Test {
-    /// Any of this kind.
-    Token(Kind),
-    Symbol(u8),
-    /// This word.
-    Named(&'static [u8]),
-    /// A word of flags.
-    Letters,
-    /// The seconds of a time, the first of a range.
-    First,
-    /// The second of a range.
-    Second,
-    /// The end of a blocking call.
-    Seconds,
-    /// The three numbers of a packet.
-    Start,
-    End,
-    Length,
-    Number,
-    Hexadecimal,
-    /// Any token but a bracket.
-    Plain,
-    /// Any token but a bracket and a comma.
-    Argued,
-    /// A bracket that opens a pair, and one that closes it.
-    Opening(u8),
-    Closing(u8),
-}
+use Part::*;
 
 /// What is written by none, one or more tokens.
 #[derive(Clone, Copy)]
@@ -66,97 +35,119 @@ pub enum Name {
     Note,
 }
 
+/// What a number has to be.
+#[derive(Clone, Copy)]
+pub enum Bound {
+    Free,
+    /// The first of a range.
+    First,
+    /// The second, which is no less.
+    Second,
+    /// The length of a range.
+    Length,
+}
+
+/// A part of the grammar: the beginning of a way, all of one name, or what one token has to be.
+#[derive(Clone, Copy)]
+pub enum Part {
+    /// What follows, up to the next such part, is a way to write what has this name.
+    Way(Name),
+    Of(Name),
+    /// Any token of this kind.
+    Token(Kind),
+    Symbol(u8),
+    /// This word.
+    Named(&'static [u8]),
+    /// A word of flags.
+    Letters,
+    /// The seconds of a time.
+    Seconds(Bound),
+    Number(Bound),
+    Hexadecimal,
+    /// Any token but a bracket.
+    Plain,
+    /// Any token but a bracket and a comma.
+    Argued,
+    /// A bracket that opens a pair, and one that closes it.
+    Opening(u8),
+    Closing(u8),
+}
+
 impl Name {
     pub fn is(self, name: Name) -> bool {
         self as u8 == name as u8
     }
 }
 
-/// A part of a script.
-#[derive(Clone, Copy)]
-pub enum Part {
-    One(Test),
-    Of(Name),
-}
-
-/// A way to write what has this name, as parts in turn.
-#[derive(Clone, Copy)]
-pub struct Rule(pub Name, pub &'static [Part]);
-
-/// All ways.
-pub fn rules() -> &'static [Rule] {
-    RULES
-}
-
 #[rattlefmt::skip]
-const RULES: &[Rule] = &[
-    Rule(Script, &[Of(Header), Of(Events)]),
-    Rule(Header, &[]),
-    Rule(Header, &[One(Token(Kind::Opt)), Of(Header)]),
-    Rule(Header, &[One(Token(Kind::Cmd)), Of(Header)]),
-    Rule(Events, &[]),
-    Rule(Events, &[Of(Event), Of(Events)]),
-    Rule(Event, &[Of(Time), Of(Until), Of(Action)]),
-    Rule(Time, &[One(Symbol(b'*'))]),
-    Rule(Time, &[One(First)]),
-    Rule(Time, &[One(First), One(Symbol(b'~')), One(Second)]),
-    Rule(Time, &[One(Symbol(b'+')), One(First)]),
-    Rule(Time, &[One(Symbol(b'+')), One(First), One(Symbol(b'~')), One(Second)]),
-    Rule(Time, &[One(Symbol(b'+')), One(First), One(Symbol(b'~')), One(Symbol(b'+')), One(Second)]),
-    Rule(Until, &[]),
-    Rule(Until, &[One(Token(Kind::Dots)), One(Seconds)]),
-    Rule(Until, &[One(Token(Kind::Dots)), One(Symbol(b'+')), One(Seconds)]),
-    Rule(Action, &[One(Symbol(b'<')), Of(Arriving)]),
-    Rule(Action, &[One(Symbol(b'>')), Of(Leaving)]),
-    Rule(Action, &[Of(Call)]),
-    Rule(Action, &[One(Token(Kind::Cmd))]),
-    Rule(Action, &[One(Token(Kind::Code))]),
-    Rule(Arriving, &[Of(Flags), Of(Octets), Of(Ack), One(Named(b"win")), One(Number), Of(Options)]),
-    Rule(Leaving, &[Of(Flags), Of(Octets), Of(Ack), Of(Win), Of(Options)]),
-    Rule(Leaving, &[Of(Flags), Of(Octets), Of(Ack), Of(Win), One(Symbol(b'<')), One(Token(Kind::Dots)), One(Symbol(b'>'))]),
-    Rule(Flags, &[One(Letters)]),
-    Rule(Flags, &[One(Symbol(b'.'))]),
-    Rule(Flags, &[One(Letters), One(Symbol(b'.'))]),
-    Rule(Flags, &[One(Symbol(b'-'))]),
-    Rule(Octets, &[One(Start), One(Symbol(b':')), One(End), One(Symbol(b'(')), One(Length), One(Symbol(b')'))]),
-    Rule(Ack, &[]),
-    Rule(Ack, &[One(Named(b"ack")), One(Number)]),
-    Rule(Win, &[]),
-    Rule(Win, &[One(Named(b"win")), One(Number)]),
-    Rule(Options, &[]),
-    Rule(Options, &[One(Symbol(b'<')), One(Symbol(b'>'))]),
-    Rule(Options, &[One(Symbol(b'<')), Of(TcpOption), Of(MoreOptions), One(Symbol(b'>'))]),
-    Rule(MoreOptions, &[]),
-    Rule(MoreOptions, &[One(Symbol(b',')), Of(TcpOption), Of(MoreOptions)]),
-    Rule(TcpOption, &[One(Named(b"mss")), One(Number)]),
-    Rule(TcpOption, &[One(Named(b"wscale")), One(Number)]),
-    Rule(TcpOption, &[One(Named(b"sackOK"))]),
-    Rule(TcpOption, &[One(Named(b"nop"))]),
-    Rule(TcpOption, &[One(Named(b"eol"))]),
-    Rule(TcpOption, &[One(Named(b"TS")), One(Named(b"val")), One(Number), One(Named(b"ecr")), One(Number)]),
-    Rule(TcpOption, &[One(Named(b"sack")), Of(Block), Of(Blocks)]),
-    Rule(Blocks, &[]),
-    Rule(Blocks, &[Of(Block), Of(Blocks)]),
-    Rule(Block, &[One(Number), One(Symbol(b':')), One(Number)]),
-    Rule(Call, &[One(Token(Kind::Word)), One(Symbol(b'(')), Of(Arguments), One(Symbol(b')')), One(Symbol(b'=')), Of(Outcome), Of(Note)]),
-    Rule(Arguments, &[]),
-    Rule(Arguments, &[Of(Argument), Of(MoreArguments)]),
-    Rule(MoreArguments, &[]),
-    Rule(MoreArguments, &[One(Symbol(b',')), Of(Argument), Of(MoreArguments)]),
-    Rule(Argument, &[One(Argued)]),
-    Rule(Argument, &[Of(Pair)]),
-    Rule(Argument, &[One(Argued), Of(Argument)]),
-    Rule(Argument, &[Of(Pair), Of(Argument)]),
-    Rule(Pair, &[One(Opening(b'(')), Of(Inside), One(Closing(b')'))]),
-    Rule(Pair, &[One(Opening(b'[')), Of(Inside), One(Closing(b']'))]),
-    Rule(Pair, &[One(Opening(b'{')), Of(Inside), One(Closing(b'}'))]),
-    Rule(Inside, &[]),
-    Rule(Inside, &[One(Plain), Of(Inside)]),
-    Rule(Inside, &[Of(Pair), Of(Inside)]),
-    Rule(Outcome, &[One(Number)]),
-    Rule(Outcome, &[One(Hexadecimal)]),
-    Rule(Outcome, &[One(Symbol(b'-')), One(Number)]),
-    Rule(Outcome, &[One(Symbol(b'-')), One(Number), One(Token(Kind::Word))]),
-    Rule(Note, &[]),
-    Rule(Note, &[One(Opening(b'(')), Of(Inside), One(Closing(b')'))]),
+pub static GRAMMAR: [Part; 211] = [
+    Way(Script), Of(Header), Of(Events),
+    Way(Header),
+    Way(Header), Token(Kind::Opt), Of(Header),
+    Way(Header), Token(Kind::Cmd), Of(Header),
+    Way(Events),
+    Way(Events), Of(Event), Of(Events),
+    Way(Event), Of(Time), Of(Until), Of(Action),
+    Way(Time), Symbol(b'*'),
+    Way(Time), Seconds(First),
+    Way(Time), Seconds(First), Symbol(b'~'), Seconds(Second),
+    Way(Time), Symbol(b'+'), Seconds(First),
+    Way(Time), Symbol(b'+'), Seconds(First), Symbol(b'~'), Seconds(Second),
+    Way(Time), Symbol(b'+'), Seconds(First), Symbol(b'~'), Symbol(b'+'), Seconds(Second),
+    Way(Until),
+    Way(Until), Token(Kind::Dots), Seconds(Free),
+    Way(Until), Token(Kind::Dots), Symbol(b'+'), Seconds(Free),
+    Way(Action), Symbol(b'<'), Of(Arriving),
+    Way(Action), Symbol(b'>'), Of(Leaving),
+    Way(Action), Of(Call),
+    Way(Action), Token(Kind::Cmd),
+    Way(Action), Token(Kind::Code),
+    Way(Arriving), Of(Flags), Of(Octets), Of(Ack), Named(b"win"), Number(Free), Of(Options),
+    Way(Leaving), Of(Flags), Of(Octets), Of(Ack), Of(Win), Of(Options),
+    Way(Leaving), Of(Flags), Of(Octets), Of(Ack), Of(Win), Symbol(b'<'), Token(Kind::Dots), Symbol(b'>'),
+    Way(Flags), Letters,
+    Way(Flags), Symbol(b'.'),
+    Way(Flags), Letters, Symbol(b'.'),
+    Way(Flags), Symbol(b'-'),
+    Way(Octets), Number(First), Symbol(b':'), Number(Second), Symbol(b'('), Number(Length), Symbol(b')'),
+    Way(Ack),
+    Way(Ack), Named(b"ack"), Number(Free),
+    Way(Win),
+    Way(Win), Named(b"win"), Number(Free),
+    Way(Options),
+    Way(Options), Symbol(b'<'), Symbol(b'>'),
+    Way(Options), Symbol(b'<'), Of(TcpOption), Of(MoreOptions), Symbol(b'>'),
+    Way(MoreOptions),
+    Way(MoreOptions), Symbol(b','), Of(TcpOption), Of(MoreOptions),
+    Way(TcpOption), Named(b"mss"), Number(Free),
+    Way(TcpOption), Named(b"wscale"), Number(Free),
+    Way(TcpOption), Named(b"sackOK"),
+    Way(TcpOption), Named(b"nop"),
+    Way(TcpOption), Named(b"eol"),
+    Way(TcpOption), Named(b"TS"), Named(b"val"), Number(Free), Named(b"ecr"), Number(Free),
+    Way(TcpOption), Named(b"sack"), Of(Block), Of(Blocks),
+    Way(Blocks),
+    Way(Blocks), Of(Block), Of(Blocks),
+    Way(Block), Number(Free), Symbol(b':'), Number(Free),
+    Way(Call), Token(Kind::Word), Symbol(b'('), Of(Arguments), Symbol(b')'), Symbol(b'='), Of(Outcome), Of(Note),
+    Way(Arguments),
+    Way(Arguments), Of(Argument), Of(MoreArguments),
+    Way(MoreArguments),
+    Way(MoreArguments), Symbol(b','), Of(Argument), Of(MoreArguments),
+    Way(Argument), Argued,
+    Way(Argument), Of(Pair),
+    Way(Argument), Argued, Of(Argument),
+    Way(Argument), Of(Pair), Of(Argument),
+    Way(Pair), Opening(b'('), Of(Inside), Closing(b')'),
+    Way(Pair), Opening(b'['), Of(Inside), Closing(b']'),
+    Way(Pair), Opening(b'{'), Of(Inside), Closing(b'}'),
+    Way(Inside),
+    Way(Inside), Plain, Of(Inside),
+    Way(Inside), Of(Pair), Of(Inside),
+    Way(Outcome), Number(Free),
+    Way(Outcome), Hexadecimal,
+    Way(Outcome), Symbol(b'-'), Number(Free),
+    Way(Outcome), Symbol(b'-'), Number(Free), Token(Kind::Word),
+    Way(Note),
+    Way(Note), Opening(b'('), Of(Inside), Closing(b')'),
 ];

@@ -1,7 +1,11 @@
 //! The items of a text: its tokens, up to its end or the first place where no token can be read.
-use crate::spelling::{KINDS, Kind};
+use crate::octets::halves;
+use crate::spelling::{Kind, SPELLINGS, Step};
 
-/// A token as written, and the line of its first octet.
+/// The greatest number of a time, a packet or a result.
+const MAX_NUMBER: u64 = 4_294_967_295;
+
+/// A token as written, and the line of its first octet; where there is none, nothing in the line of the place.
 #[derive(Clone, Copy)]
 pub struct Token<'a> {
     pub kind: Kind,
@@ -17,50 +21,97 @@ pub struct Items<'a> {
 }
 
 impl<'a> Items<'a> {
-    pub fn of(text: &'a [u8]) -> Items<'a> {
-        Items {
-            rest: text,
-            line: 1,
-        }
-    }
-
-    /// Takes the next token; where there is none, nothing is left or no token can be read.
-    pub fn next(&mut self) -> Option<Token<'a>> {
-        for _piece in 0..self.rest.len() {
-            let piece = self.take_piece()?;
+    /// Takes the next token.
+    pub fn next(&mut self) -> Token<'a> {
+        let mut piece = self.take_piece();
+        for _gap in 0..=self.rest.len() {
             if !piece.kind.is_gap() {
-                return Some(piece);
+                break;
             }
+            piece = self.take_piece();
         }
-        None
+        piece
     }
 
     /// Takes the longest piece that stands next, of any kind.
-    fn take_piece(&mut self) -> Option<Token<'a>> {
-        let mut longest = Kind::Blank;
-        let mut most = 0usize;
-        for kind in KINDS {
-            let octets = kind.longest(self.rest);
-            if octets > most {
-                longest = *kind;
-                most = octets;
-            }
-        }
-        if most == 0 {
-            return None;
-        }
+    fn take_piece(&mut self) -> Token<'a> {
+        let (kind, most) = self.longest();
         let (text, rest) = self.rest.split_at(most.min(self.rest.len()));
-        let piece = Token {
-            kind: longest,
-            text,
-            line: self.line,
-        };
+        let line = self.line;
         self.rest = rest;
         for octet in text {
             if *octet == b'\n' {
                 self.line = self.line.saturating_add(1);
             }
         }
-        Some(piece)
+        Token { kind, text, line }
     }
+
+    /// The kind of the longest piece that stands next, and how many octets it has.
+    fn longest(&self) -> (Kind, usize) {
+        let mut longest = Kind::Nothing;
+        let mut most = 0usize;
+        let mut taken = Some(0usize);
+        for step in &SPELLINGS {
+            if let Step::Is(kind) = *step {
+                let octets = taken.unwrap_or(0);
+                if octets > most {
+                    longest = kind;
+                    most = octets;
+                }
+                taken = Some(0);
+            } else if let Some(octets) = taken {
+                taken = step.after(self.rest, octets);
+            }
+        }
+        (longest, most)
+    }
+}
+
+impl<'a> Token<'a> {
+    pub fn is_symbol(self, octets: &[u8]) -> bool {
+        match self.text {
+            [octet] => self.kind.is(Kind::Symbol) && octets.contains(octet),
+            _ => false,
+        }
+    }
+
+    /// Whether it is a number of this kind that isn't too large, of a Decimal in its whole part.
+    pub fn is_number(self, kind: Kind) -> bool {
+        self.kind.is(kind) && self.whole() <= MAX_NUMBER
+    }
+
+    /// The value of an Int or a Hex, or of the digits of a Decimal before its point, as great as it can be.
+    pub fn whole(self) -> u64 {
+        match self.text {
+            [b'0', b'x', digits @ ..] => value_of(digits, 16),
+            text => value_of(halves(text, b'.').0, 10),
+        }
+    }
+
+    /// The microseconds of an Int or a Decimal of seconds.
+    pub fn microseconds(self) -> u64 {
+        let (_, decimals) = halves(self.text, b'.');
+        let mut value = self.whole();
+        for place in 0..6 {
+            let digit = decimals.get(place).copied().unwrap_or(b'0');
+            value = longer(value, digit, 10);
+        }
+        value
+    }
+}
+
+/// The value of digits.
+pub fn value_of(digits: &[u8], base: u64) -> u64 {
+    let mut value = 0u64;
+    for digit in digits {
+        value = longer(value, *digit, base);
+    }
+    value
+}
+
+/// The value with one more digit.
+fn longer(value: u64, digit: u8, base: u64) -> u64 {
+    let digit = char::from(digit).to_digit(16).unwrap_or(0);
+    value.saturating_mul(base).saturating_add(u64::from(digit))
 }

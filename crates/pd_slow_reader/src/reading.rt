@@ -1,15 +1,16 @@
 //! What a text is read as, by the lines in which its parts begin.
-use pd_script::Header;
+use pd_script::{Header, Parsed, parse};
+use pd_text::Lines;
 use std::alloc::Global;
 
 #[derive(Drop)]
 pub struct Reading {
     /// The line at which no script goes on.
     pub fault: Option<usize>,
-    /// The options and commands before the events.
-    pub header: Vec<usize>,
-    /// The events, before a fault those whose next token stands before it.
-    pub events: Vec<usize>,
+    /// How many options and commands stand before the events.
+    pub header: usize,
+    /// Their lines, and then those of the events, before a fault of those whose next token stands before it.
+    pub lines: Vec<usize>,
     /// Whether no memory was found for some of them.
     pub is_short: bool,
 }
@@ -18,8 +19,8 @@ impl Reading {
     pub fn new(alloc: Global) -> Reading {
         Reading {
             fault: None,
-            header: Vec::new(alloc),
-            events: Vec::new(alloc),
+            header: 0,
+            lines: Vec::new(alloc),
             is_short: false,
         }
     }
@@ -27,32 +28,49 @@ impl Reading {
     /// Begins anew.
     pub fn clear(&mut self) {
         self.fault = None;
-        self.header.clear();
-        self.events.clear();
+        self.header = 0;
+        self.lines.clear();
     }
 
     pub fn is_same(&self, other: &Reading) -> bool {
         self.fault == other.fault
-            && self.header.as_slice() == other.header.as_slice()
-            && self.events.as_slice() == other.events.as_slice()
+            && self.header == other.header
+            && self.lines.as_slice() == other.lines.as_slice()
     }
 
-    /// Adds the lines of a header's items.
+    /// How many events there are.
+    pub fn events(&self) -> usize {
+        self.lines.len().saturating_sub(self.header)
+    }
+
+    /// Adds the line of a header item or an event.
+    pub fn add(&mut self, line: usize) {
+        if self.lines.push(line).is_err() {
+            self.is_short = true;
+        }
+    }
+
     pub fn add_header(&mut self, header: &Header) {
+        self.header = header.len();
         for item in header.as_slice() {
-            self.add_item(item.line);
+            self.add(item.line);
         }
     }
 
-    pub fn add_item(&mut self, line: usize) {
-        if self.header.push(line).is_err() {
-            self.is_short = true;
+    /// Has the product read a text at once.
+    pub fn read_whole(&mut self, alloc: Global, lines: &Lines) {
+        match parse(alloc, lines) {
+            Ok(parsed) => self.take(&parsed),
+            Err(_) => self.is_short = true,
         }
     }
 
-    pub fn add_event(&mut self, line: usize) {
-        if self.events.push(line).is_err() {
-            self.is_short = true;
+    fn take(&mut self, parsed: &Parsed) {
+        self.clear();
+        self.fault = parsed.fault;
+        self.add_header(&parsed.header);
+        for event in parsed.events.as_slice() {
+            self.add(event.line);
         }
     }
 }

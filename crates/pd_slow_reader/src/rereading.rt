@@ -3,118 +3,116 @@ ghost use Rattle.std.specs.Prelude.{◌≡◌, IfOk};
 ghost use Rattle.pd_reparse.specs.Reading.{reading_of};
 
 use crate::comparing::Comparison;
-use crate::dice::Dice;
-use crate::edits::random_edit;
-use crate::events::Numbers;
-use crate::stops::Stop;
+use crate::edits::Editor;
+use crate::octets::Octets;
 use crate::texts::text;
-use pd_reparse::{Reading, Reread, read, reread};
+use pd_layout::is_same_event;
+use pd_reparse::{Decided, Reading, Reread, read, reread};
+use pd_script::{Header, HeaderItem, HeaderKind};
 use pd_text::Lines;
 use std::alloc::{AllocError, Global};
 
-/// What came of reading an edited text again.
-#[derive(Clone, Copy)]
-pub struct Outcome {
-    /// How many first lines the edit left.
-    pub same: usize,
-    pub kept: usize,
-    /// Whether the reading is that of the whole text, and what was kept is what counting gives.
-    pub is_right: bool,
-}
-
 /// Edits a script so many times, again and again, from time to time from its beginning on.
-pub fn edit_often(comparison: &mut Comparison, script: &[u8], edits: usize) -> Result<(), Stop> {
-    let mut dice = Dice::new(20_261_123);
-    let mut old = text(comparison.alloc, script)?;
+pub fn edit_often(comparison: &mut Comparison, script: &[u8], edits: usize) {
+    let mut before = Octets::new(comparison.alloc);
+    before.add(script);
+    let mut editor = Editor {
+        state: 20_261_123,
+        text: Octets::new(comparison.alloc),
+    };
     for _edit in 0..edits {
-        old = edit_once(comparison, &old, &mut dice, script)?;
+        edit_once(comparison, before.octets.as_slice(), &mut editor);
+        before.octets.clear();
+        if editor.index(3) > 0 {
+            before.add(editor.text.octets.as_slice());
+        } else {
+            before.add(script);
+        }
     }
-    Ok(())
+    comparison.said.is_short |= before.is_short | editor.text.is_short;
 }
 
-/// Edits a text; gives the edited one, or from time to time the script.
-fn edit_once(
-    comparison: &mut Comparison,
-    old: &Lines,
-    dice: &mut Dice,
-    script: &[u8],
-) -> Result<Lines, Stop> {
-    let new = edit(comparison, old, dice)?;
-    if dice.below(3) > 0 {
-        return Ok(new);
+/// Edits a text, and compares.
+fn edit_once(comparison: &mut Comparison, before: &[u8], editor: &mut Editor) {
+    match text(comparison.alloc, before) {
+        Ok(old) => {
+            editor.edit(&old);
+            compare_text(comparison, &old, editor.text.octets.as_slice());
+        }
+        Err(_) => comparison.stop(),
     }
-    Ok(text(comparison.alloc, script)?)
 }
 
-/// Edits a text, and gives the edited one.
-fn edit(comparison: &mut Comparison, old: &Lines, dice: &mut Dice) -> Result<Lines, Stop> {
-    let octets = random_edit(comparison.alloc, old, dice);
-    let new = text(comparison.alloc, octets.as_slice())?;
-    let outcome = read_both(comparison.alloc, old, &new)?;
-    comparison.note_edit(outcome);
-    Ok(new)
+fn compare_text(comparison: &mut Comparison, old: &Lines, octets: &[u8]) {
+    match text(comparison.alloc, octets) {
+        Ok(new) => compare_edited(comparison, old, &new),
+        Err(_) => comparison.stop(),
+    }
 }
 
 /// Reads a text, and an edited one again and whole; and after that the first text once more.
-pub fn read_both(alloc: Global, old: &Lines, new: &Lines) -> Result<Outcome, AllocError> {
-    let same = old.same_front(new);
-    let kept = count_kept(alloc, old, same)?;
-    let is_again = is_read_again(alloc, old, new, kept)?;
-    let is_back = is_read_back(alloc, old, new)?;
-    Ok(Outcome {
-        same,
-        kept,
-        is_right: is_again && is_back,
-    })
+pub fn compare_edited(comparison: &mut Comparison, old: &Lines, new: &Lines) {
+    match read(comparison.alloc, old) {
+        Ok(before) => compare_again(comparison, old, new, &before),
+        Err(_) => comparison.stop(),
+    }
 }
 
-/// How many events of a text its first lines decide.
-fn count_kept(alloc: Global, old: &Lines, same: usize) -> Result<usize, AllocError> {
-    let reading = read(alloc, old)?;
-    Ok(counted(&reading, same))
+fn compare_again(comparison: &mut Comparison, old: &Lines, new: &Lines, before: &Reading)
+    requires { before.now ≡ reading_of old.now }
+{
+    match read_again(comparison.alloc, old, new, before) {
+        Ok(again) => {
+            let same = old.same_front(new);
+            comparison.note_edit(again.kept);
+            comparison.note(again.kept == counted(before, same));
+            compare_whole(comparison, new, &again.reading);
+            compare_back(comparison, new, old, &again.reading, before);
+        }
+        Err(_) => comparison.stop(),
+    }
 }
 
-/// Whether an edited text is read again as it is whole, and so many events are kept.
-fn is_read_again(alloc: Global, old: &Lines, new: &Lines, kept: usize) -> Result<bool, AllocError> {
-    let again = read_again(alloc, old, new)?;
-    Ok(is_read_so(alloc, new, &again.reading)? && again.kept == kept)
+/// Compares what was read again with what is read of the whole text.
+fn compare_whole(comparison: &mut Comparison, new: &Lines, again: &Reading) {
+    match read(comparison.alloc, new) {
+        Ok(whole) => comparison.note(is_same(&whole, again)),
+        Err(_) => comparison.stop(),
+    }
 }
 
-/// The same of the first text, read after the edited one.
-fn is_read_back(alloc: Global, old: &Lines, new: &Lines) -> Result<bool, AllocError> {
-    let kept = count_kept(alloc, new, new.same_front(old))?;
-    let back = read_back(alloc, old, new)?;
-    Ok(is_read_so(alloc, old, &back.reading)? && back.kept == kept)
+/// Reads the first text once more after the edited one, and compares with what was read of it.
+fn compare_back(
+    comparison: &mut Comparison,
+    new: &Lines,
+    old: &Lines,
+    again: &Reading,
+    before: &Reading,
+)
+    requires { again.now ≡ reading_of new.now }
+{
+    match read_again(comparison.alloc, new, old, again) {
+        Ok(back) => {
+            comparison.note(back.kept == counted(again, new.same_front(old)));
+            comparison.note(is_same(&back.reading, before));
+        }
+        Err(_) => comparison.stop(),
+    }
 }
 
-/// Whether a text is read so when it is read whole.
-fn is_read_so(alloc: Global, lines: &Lines, reading: &Reading) -> Result<bool, AllocError> {
-    let whole = read(alloc, lines)?;
-    Ok(is_same(alloc, &whole, reading))
-}
-
-fn is_same(alloc: Global, one: &Reading, other: &Reading) -> bool {
-    let one = Numbers::of(alloc, one);
-    let other = Numbers::of(alloc, other);
-    one.is_same(&other)
-}
-
-/// Reads an edited text again.
-fn read_again(alloc: Global, old: &Lines, new: &Lines) -> Result<Reread, AllocError>
+/// Reads an edited text again, after what was read of the text before.
+fn read_again(
+    alloc: Global,
+    old: &Lines,
+    new: &Lines,
+    before: &Reading,
+) -> Result<Reread, AllocError>
+    requires { before.now ≡ reading_of old.now }
     ensures { IfOk result (λ again. again.reading ≡ reading_of new.now) }
 {
-    let before = read(alloc, old)?;
     // A look at a line tells that no line holds a newline.
     let _ = old.line(1);
-    reread(alloc, &before, new, old.same_front(new))
-}
-
-/// Reads an edited text again, and after that the first one.
-fn read_back(alloc: Global, old: &Lines, new: &Lines) -> Result<Reread, AllocError> {
-    let again = read_again(alloc, old, new)?;
-    // A look at a line tells that no line holds a newline.
-    let _ = new.line(1);
-    reread(alloc, &again.reading, old, new.same_front(old))
+    reread(alloc, before, new, old.same_front(new))
 }
 
 /// The number of events that the first lines decide.
@@ -127,4 +125,43 @@ fn counted(reading: &Reading, same: usize) -> usize {
         }
     }
     count
+}
+
+/// Whether two readings agree in all that they hold.
+fn is_same(one: &Reading, other: &Reading) -> bool {
+    let (events, others) = (one.events(), other.events());
+    let mut is_same = one.fault() == other.fault() && events.len() == others.len();
+    for i in 0..events.len().min(others.len()) {
+        is_same = is_same && is_same_decided(events.at(i), others.at(i));
+    }
+    is_same && is_same_header(one.header(), other.header())
+}
+
+fn is_same_decided(one: &Decided, other: &Decided) -> bool {
+    one.reach == other.reach
+        && one.after.line == other.after.line
+        && one.after.at == other.after.at
+        && one.event.line == other.event.line
+        && is_same_event(&one.event, &other.event)
+}
+
+fn is_same_header(one: &Header, other: &Header) -> bool {
+    let mut is_same = one.len() == other.len()
+        && one.end().line == other.end().line
+        && one.end().at == other.end().at;
+    let (items, others) = (one.as_slice(), other.as_slice());
+    for i in 0..items.len().min(others.len()) {
+        is_same = is_same && is_same_item(items[i], others[i]);
+    }
+    is_same
+}
+
+fn is_same_item(one: HeaderItem, other: HeaderItem) -> bool {
+    one.line == other.line
+        && match (one.kind, other.kind) {
+            (HeaderKind::Tolerance(mine), HeaderKind::Tolerance(its)) => mine == its,
+            (HeaderKind::OtherOption, HeaderKind::OtherOption) => true,
+            (HeaderKind::Command, HeaderKind::Command) => true,
+            _ => false,
+        }
 }

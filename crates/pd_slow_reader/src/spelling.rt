@@ -1,9 +1,11 @@
-//! How each kind of piece is spelled, asked of a whole piece.
+//! How each kind of piece of a text is spelled.
+use Class::*;
+use Step::{Any, Is, Many, One, Quoted, Text, To, Unless};
 
-/// A kind of piece of a text: a blank, a comment or a token.
+/// A kind of piece: what parts tokens, a token, or nothing.
 #[derive(Clone, Copy)]
 pub enum Kind {
-    Blank,
+    Blanks,
     LineComment,
     BlockComment,
     Int,
@@ -16,22 +18,80 @@ pub enum Kind {
     Cmd,
     Code,
     Symbol,
+    Nothing,
 }
 
-pub const KINDS: &[Kind] = &[
-    Kind::Blank,
-    Kind::LineComment,
-    Kind::BlockComment,
-    Kind::Int,
-    Kind::Hex,
-    Kind::Word,
-    Kind::Decimal,
-    Kind::Dots,
-    Kind::Opt,
-    Kind::Str,
-    Kind::Cmd,
-    Kind::Code,
-    Kind::Symbol,
+static NAMES: [&str; 14] = [
+    "Blanks",
+    "LineComment",
+    "BlockComment",
+    "Int",
+    "Hex",
+    "Word",
+    "Decimal",
+    "Dots",
+    "Opt",
+    "Str",
+    "Cmd",
+    "Code",
+    "Symbol",
+    "Nothing",
+];
+
+/// A class of octets.
+#[derive(Clone, Copy)]
+pub enum Class {
+    Digit,
+    HexDigit,
+    /// Letters, digits and `_`.
+    Run,
+    /// The letters of flags.
+    Flag,
+    Blank,
+    /// Any but a blank.
+    Solid,
+    /// Any but a newline.
+    InLine,
+    /// What prints, but `_`, and what has to be closed.
+    Mark,
+}
+
+/// A step of how a piece is spelled.
+#[derive(Clone, Copy)]
+pub enum Step {
+    /// These octets.
+    Text(&'static [u8]),
+    /// One octet of a class; one or more; as many as there are.
+    One(Class),
+    Many(Class),
+    Any(Class),
+    /// Everything up to the first of these octets, and they.
+    To(&'static [u8]),
+    /// Everything up to the first `"` that no backslash takes, and it.
+    Quoted,
+    /// Nothing, where these octets don't stand next.
+    Unless(&'static [u8]),
+    /// The steps since the last such one spell a piece of this kind.
+    Is(Kind),
+}
+
+/// How pieces are spelled. Of two that are equally long the first is taken.
+#[rattlefmt::skip]
+pub static SPELLINGS: [Step; 42] = [
+    Many(Blank), Is(Kind::Blanks),
+    Text(b"//"), Any(InLine), Is(Kind::LineComment),
+    Text(b"/*"), To(b"*/"), Is(Kind::BlockComment),
+    Many(Digit), Is(Kind::Int),
+    Text(b"0x"), Many(HexDigit), Is(Kind::Hex),
+    Many(Run), Is(Kind::Word),
+    Any(Digit), Text(b"."), Many(Digit), Is(Kind::Decimal),
+    Text(b"..."), Is(Kind::Dots),
+    Text(b"--"), Many(Run), Is(Kind::Opt),
+    Text(b"--"), Many(Run), Text(b"="), Any(Solid), Is(Kind::Opt),
+    Text(b"\""), Quoted, Is(Kind::Str),
+    Text(b"`"), To(b"`"), Is(Kind::Cmd),
+    Text(b"%{"), To(b"}%"), Is(Kind::Code),
+    Unless(b"/*"), Unless(b"%{"), One(Mark), Is(Kind::Symbol),
 ];
 
 impl Kind {
@@ -45,182 +105,73 @@ impl Kind {
     }
 
     pub fn name(self) -> &'static str {
-        match self {
-            Kind::Blank => "Blank",
-            Kind::LineComment => "LineComment",
-            Kind::BlockComment => "BlockComment",
-            Kind::Int => "Int",
-            Kind::Hex => "Hex",
-            Kind::Word => "Word",
-            Kind::Decimal => "Decimal",
-            Kind::Dots => "Dots",
-            Kind::Opt => "Opt",
-            Kind::Str => "Str",
-            Kind::Cmd => "Cmd",
-            Kind::Code => "Code",
-            Kind::Symbol => "Symbol",
-        }
+        NAMES[self as usize]
     }
-
-    /// How many octets the longest piece of this kind has at the front of a text; 0 where there is none. No symbol stands
-    /// where a comment or code is opened.
-    pub fn longest(self, text: &[u8]) -> usize {
-        let first = text.first().copied().unwrap_or(b'\n');
-        let is_opened = text.starts_with(b"/*") || text.starts_with(b"%{");
-        if !self.may_begin(first) || (is_opened && self.is(Kind::Symbol)) {
-            return 0;
-        }
-        for fewer in 0..text.len() {
-            let octets = text.len().saturating_sub(fewer);
-            if self.is_spelled(text.get(..octets).unwrap_or(&[])) {
-                return octets;
-            }
-        }
-        0
-    }
-
-    /// Whether a piece of this kind may begin with this octet: others needn't be tried.
-    fn may_begin(self, octet: u8) -> bool {
-        let first: &[u8] = match self {
-            Kind::Blank => b" \t\r\n",
-            Kind::LineComment | Kind::BlockComment => b"/",
-            Kind::Int | Kind::Hex => b"0123456789",
-            Kind::Decimal => b".0123456789",
-            Kind::Dots => b".",
-            Kind::Opt => b"-",
-            Kind::Str => b"\"",
-            Kind::Cmd => b"`",
-            Kind::Code => b"%",
-            Kind::Word | Kind::Symbol => return Class::Solid.has(octet),
-        };
-        first.contains(&octet)
-    }
-
-    /// Whether a piece, of one octet or more, is of this kind.
-    fn is_spelled(self, piece: &[u8]) -> bool {
-        match self {
-            Kind::Blank => piece.len() == 1 && !Class::Solid.fills(piece),
-            Kind::LineComment => piece.starts_with(b"//") && Class::InLine.fills(piece),
-            Kind::BlockComment => is_enclosed(piece, b"/*", b"*/"),
-            Kind::Int => Class::Digit.fills(piece),
-            Kind::Hex => is_hex(piece),
-            Kind::Word => Class::Run.fills(piece) && !Class::Digit.fills(piece) && !is_hex(piece),
-            Kind::Decimal => is_decimal(piece),
-            Kind::Dots => piece.len() == 3 && piece.starts_with(b"..."),
-            Kind::Opt => is_option(piece),
-            Kind::Str => is_string(piece),
-            Kind::Cmd => is_enclosed(piece, b"`", b"`"),
-            Kind::Code => is_enclosed(piece, b"%{", b"}%"),
-            Kind::Symbol => piece.len() == 1 && Class::Mark.fills(piece),
-        }
-    }
-}
-
-/// A class of octets.
-#[derive(Clone, Copy)]
-pub enum Class {
-    Digit,
-    HexDigit,
-    /// Letters, digits and `_`.
-    Run,
-    /// The letters of flags.
-    Flag,
-    /// Any but a blank.
-    Solid,
-    /// Any but a newline.
-    InLine,
-    /// What prints, but `_`, and what has to be closed.
-    Mark,
 }
 
 impl Class {
     fn has(self, octet: u8) -> bool {
         match self {
-            Class::Digit => octet.is_ascii_digit(),
-            Class::HexDigit => octet.is_ascii_hexdigit(),
-            Class::Run => octet.is_ascii_alphanumeric() || octet == b'_',
-            Class::Flag => b"FSRPUEWC".contains(&octet),
-            Class::Solid => !b" \t\r\n".contains(&octet),
-            Class::InLine => octet != b'\n',
-            Class::Mark => octet.is_ascii_punctuation() && !b"\"`_".contains(&octet),
+            Digit => octet.is_ascii_digit(),
+            HexDigit => octet.is_ascii_hexdigit(),
+            Run => octet.is_ascii_alphanumeric() || octet == b'_',
+            Flag => b"FSRPUEWC".contains(&octet),
+            Blank => b" \t\r\n".contains(&octet),
+            Solid => !b" \t\r\n".contains(&octet),
+            InLine => octet != b'\n',
+            Mark => octet.is_ascii_punctuation() && !b"\"`_".contains(&octet),
         }
     }
 
     /// How many octets of this class stand at the front.
     pub fn front_len(self, octets: &[u8]) -> usize {
-        let mut count = 0usize;
-        for octet in octets {
-            if !self.has(*octet) {
-                return count;
+        for at in 0..octets.len() {
+            if !self.has(octets[at]) {
+                return at;
             }
-            count = count.saturating_add(1);
         }
-        count
-    }
-
-    /// Whether they are one or more octets, all of this class.
-    pub fn fills(self, octets: &[u8]) -> bool {
-        !octets.is_empty() && self.front_len(octets) == octets.len()
+        octets.len()
     }
 }
 
-fn is_hex(piece: &[u8]) -> bool {
-    match piece {
-        [b'0', b'x', digits @ ..] => Class::HexDigit.fills(digits),
-        _ => false,
-    }
-}
-
-/// Whether it goes from this opening just to the first closing after it.
-fn is_enclosed(piece: &[u8], opening: &[u8], closing: &[u8]) -> bool {
-    if !piece.starts_with(opening) {
-        return false;
-    }
-    for at in opening.len()..piece.len() {
-        let rest = piece.get(at..).unwrap_or(&[]);
-        if rest.starts_with(closing) {
-            return rest.len() == closing.len();
+impl Step {
+    /// How many octets are taken after this step too, if it is spelled so behind those that were taken before.
+    pub fn after(self, text: &[u8], taken: usize) -> Option<usize> {
+        let rest = text.get(taken..).unwrap_or(&[]);
+        let (octets, is_spelled) = match self {
+            Text(octets) => (octets.len(), rest.starts_with(octets)),
+            One(class) => (1, class.front_len(rest) > 0),
+            Many(class) => some(class.front_len(rest)),
+            Any(class) => (class.front_len(rest), true),
+            To(closing) => some(end_of(rest, closing, false)),
+            Quoted => some(end_of(rest, b"\"", true)),
+            Unless(octets) => (0, !rest.starts_with(octets)),
+            Is(_) => (0, true),
+        };
+        if is_spelled {
+            Some(taken.saturating_add(octets))
+        } else {
+            None
         }
     }
-    false
 }
 
-/// Whether it is zero or more digits, a point and one or more digits.
-fn is_decimal(piece: &[u8]) -> bool {
-    match piece.get(Class::Digit.front_len(piece)..) {
-        Some([b'.', digits @ ..]) => Class::Digit.fills(digits),
-        _ => false,
-    }
+/// So many octets, if there are any.
+fn some(octets: usize) -> (usize, bool) {
+    (octets, octets > 0)
 }
 
-/// Whether it is `--`, a name, and with `=` a value without blanks.
-fn is_option(piece: &[u8]) -> bool {
-    let [b'-', b'-', rest @ ..] = piece else {
-        return false;
-    };
-    let name = Class::Run.front_len(rest);
-    name > 0
-        && match rest.get(name..) {
-            Some([b'=', value @ ..]) => Class::Solid.front_len(value) == value.len(),
-            _ => name == rest.len(),
-        }
-}
-
-/// Whether it goes from `"` just to the next that no backslash takes.
-fn is_string(piece: &[u8]) -> bool {
-    let [b'"', inside @ ..] = piece else {
-        return false;
-    };
-    let mut left = inside.len();
+/// How many octets there are up to the end of the first closing, 0 without one; a backslash may take the octet after it.
+fn end_of(text: &[u8], closing: &[u8], is_taking: bool) -> usize {
     let mut is_taken = false;
-    for octet in inside {
-        left = left.saturating_sub(1);
-        match *octet {
-            _ if is_taken => is_taken = false,
-            b'\\' => is_taken = true,
-            b'"' => return left == 0,
-            _ => {},
+    for at in 0..text.len() {
+        if is_taken {
+            is_taken = false;
+        } else if text[at..].starts_with(closing) {
+            return at.saturating_add(closing.len());
+        } else {
+            is_taken = is_taking && text[at] == b'\\';
         }
     }
-    false
+    0
 }

@@ -3,4 +3,4 @@ use Rattle.pd_reparse.proofs.First.{reads_front}
 use Rattle.pd_slow_reader.proofs.rereading.read_again.Goals as goal
 
 pub reread-requires : goal.reread-requires
-reread-requires c = reads_front c.args.old.now c.args.new.now c.in_ok-before.before c.same_front.result c.line.ensures.lines c.in_ok-before.ensures c.same_front.ensures
+reread-requires c = reads_front c.args.old.now c.args.new.now c.args.before.now c.same_front.result c.line.ensures.lines c.requires c.same_front.ensures
