@@ -1,50 +1,18 @@
-//! A seat at a desk: as rows call it, what it shows, and who sits there.
+//! Seats at a desk, as rows call them, and what is said there.
 use pd_book::{Act, Done, Report};
-use pd_desk::Desk;
+use pd_desk::{Desk, Gate};
 use pd_rows::{
     Calls, Form, Said, Task, Texts, Words, abandoned, call, changed, finished, say_report, started,
 };
 use pd_seat::Seat;
-use pd_settings::{Settings, Value};
+use pd_settings::Value;
 use pd_text::{LineEdit, Lines, Name};
 use std::alloc::{AllocError, Global};
-use std::sync::Wait;
+use std::sync::{Mutex, Wait};
+use std::thread::Threads;
 
 /// The size of a book's cache.
 pub const CACHE: usize = 64;
-
-/// A desk, its last seat, and all others.
-#[derive(Drop)]
-pub struct Opened {
-    pub desk: Desk,
-    pub seats: Vec<Seat>,
-    pub seat: Seat,
-}
-
-impl Opened {
-    /// Opens a desk for so many workers, with so many seats, but at least one.
-    pub fn new(alloc: Global, workers: usize, count: usize) -> Result<Opened, AllocError> {
-        let (desk, mut seats) = Desk::open(alloc, CACHE, Settings::new(), workers, count.max(1))?;
-        match seats.pop() {
-            Some(seat) => Ok(Opened { desk, seats, seat }),
-            None => Err(AllocError),
-        }
-    }
-}
-
-/// Somebody's seat, and what was said there.
-#[derive(Drop)]
-pub struct Guest {
-    pub seat: Seat,
-    pub said: Said,
-}
-
-impl Guest {
-    pub fn new(alloc: Global, seat: Seat) -> Result<Guest, AllocError> {
-        let said = Said::new(alloc, Form::Short)?;
-        Ok(Guest { seat, said })
-    }
-}
 
 /// A seat at a desk, as rows call it. The promises of a desk's calls stay in here.
 #[derive(Drop)]
@@ -113,41 +81,64 @@ impl<'a, 'b, R: Wait> Chair<'a, 'b, R> {
         said: &mut Said,
     ) {
         if word == "settle" {
-            settle(self.rt, self.desk, self.seat, said);
+            say_shown(said, self.settle());
         } else if !call(self, tasks, texts, word, words, said) {
             said.say("(no such call)");
         }
     }
 
-    /// Takes out all scripts and makes an act, which wakes whoever waits for a verdict or for the desk to be shut.
-    pub fn free(&mut self) {
-        if let Ok(report) = self.show() {
-            for row in report.rows() {
-                self.remove(&row.name);
+    /// The report that a settling shows, or why there is none.
+    pub fn settle(&mut self) -> Result<Report, &'static str> {
+        match self.desk.settle(self.rt, self.seat) {
+            Ok(report) => Ok(report),
+            Err(fault) => Err(fault.text()),
+        }
+    }
+
+    /// Takes out the scripts a and b and makes an act, which wakes whoever waits for a verdict or for the desk to be shut.
+    pub fn free(&mut self, alloc: Global) {
+        let texts = Texts::new(alloc);
+        for letter in b"ab" {
+            if let Ok(name) = texts.name(&[*letter]) {
+                self.remove(&name);
             }
         }
         self.set(b"nagle", Value::Truth(true));
     }
 }
 
-/// Says the rows of a report.
-pub fn say_rows(said: &mut Said, report: &Report) {
-    say_report(said, report, false);
-    said.say("end");
-}
-
-/// Says the rows of the report, or the fault.
-pub fn show<R: Wait>(rt: &R, desk: &Desk, seat: &mut Seat, said: &mut Said) {
-    match desk.show(rt, seat) {
-        Ok(report) => say_rows(said, &report),
-        Err(fault) => said.say(fault.text()),
+/// Says the rows of a report, or why there is none.
+pub fn say_shown(said: &mut Said, shown: Result<Report, &'static str>) {
+    match shown {
+        Ok(report) => {
+            say_report(said, &report, false);
+            said.say("end");
+        }
+        Err(word) => said.say(word),
     }
 }
 
-/// Says the rows of the report that a settling shows, or the fault.
-pub fn settle<R: Wait>(rt: &R, desk: &Desk, seat: &mut Seat, said: &mut Said) {
-    match desk.settle(rt, seat) {
-        Ok(report) => say_rows(said, &report),
-        Err(fault) => said.say(fault.text()),
+/// Runs a worker at each of these seats until all have left: `ok`, or the fault that is answered.
+pub fn pool<R: Threads + Wait + Sync>(
+    rt: &R,
+    alloc: Global,
+    desk: &Desk,
+    gate: &(impl Gate + Sync),
+    seats: &mut [Seat],
+) -> &'static str {
+    match desk.pool(rt, alloc, seats, gate) {
+        Ok(()) => "ok",
+        Err(fault) => fault.text(),
     }
+}
+
+/// Where so many threads answer, each by itself.
+pub fn answers(alloc: Global, count: usize) -> Result<Vec<Mutex<Said>>, AllocError> {
+    let mut answers = Vec::new(alloc);
+    for _thread in 0..count {
+        answers
+            .push(Mutex::new(Said::new(alloc, Form::Short)?))
+            .or(Err(AllocError))?;
+    }
+    Ok(answers)
 }

@@ -5,15 +5,14 @@
 #![tactic(auto)]
 
 mod chairs;
-mod counts;
+mod hand;
 mod orders;
 mod overlap;
-mod playing;
-mod replay;
+mod progress;
 mod schedules;
 mod serving;
 mod stories;
-mod turns;
+mod tally;
 mod watched;
 
 use crate::orders::try_orders;
@@ -26,25 +25,11 @@ use std::sync::Wait;
 use std::thread::Threads;
 use std::{env, io};
 
-/// The status where the input or the output failed, or what tells the stories found no memory.
+/// The status where the input or the output failed, or there was no memory.
 const NOT_TRIED: u8 = 2;
 
-/// What is tried.
-#[derive(Clone, Copy)]
-enum Part {
-    All,
-    Stories,
-    Overlap,
-    Schedules,
-    Orders,
-}
-
 fn main(rt: HostRuntime) -> ExitCode {
-    let part = match part_of(&rt) {
-        Ok(part) => part,
-        Err(_) => part_of(&rt).unwrap_or(Part::All),
-    };
-    match try_part(&rt, part) {
+    match try_parts(&rt) {
         Ok(true) => ExitCode::SUCCESS,
         Ok(false) => ExitCode::FAILURE,
         Err(_) => {
@@ -54,38 +39,39 @@ fn main(rt: HostRuntime) -> ExitCode {
     }
 }
 
+/// What is tried.
+#[derive(Clone, Copy)]
+struct Parts {
+    stories: bool,
+    overlap: bool,
+    schedules: bool,
+    orders: bool,
+}
+
 /// What the program's word asks for.
-fn part_of(rt: &(impl Env + AllocGlobal)) -> io::Result<Part> {
+fn parts_asked(rt: &(impl Env + AllocGlobal)) -> io::Result<Parts> {
     let words = env::args(rt)?.collect::<Vec<String>>(rt.alloc())?;
-    Ok(match words.get(1) {
-        None => Part::All,
-        Some(word) => match word.as_str() {
-            "overlap" => Part::Overlap,
-            "schedules" => Part::Schedules,
-            "orders" => Part::Orders,
-            _ => Part::Stories,
-        },
+    let word = match words.get(1) {
+        Some(word) => word.as_str(),
+        None => "",
+    };
+    let is_all = word.is_empty();
+    Ok(Parts {
+        stories: is_all || word == "stories",
+        overlap: is_all || word == "overlap",
+        schedules: is_all || word == "schedules",
+        orders: is_all || word == "orders",
     })
 }
 
 /// Whether all that was tried agrees.
-fn try_part<R: Input + Print + AllocGlobal + Threads + Wait + Sync>(
+fn try_parts<R: Env + Input + Print + AllocGlobal + Threads + Wait + Sync>(
     rt: &R,
-    part: Part,
 ) -> io::Result<bool> {
-    match part {
-        Part::All => try_all(rt),
-        Part::Stories => tell(rt),
-        Part::Overlap => try_overlap(rt),
-        Part::Schedules => try_schedules(rt),
-        Part::Orders => try_orders(rt),
-    }
-}
-
-fn try_all<R: Input + Print + AllocGlobal + Threads + Wait + Sync>(rt: &R) -> io::Result<bool> {
-    let is_told = tell(rt)?;
-    let is_overlapped = try_overlap(rt)?;
-    let is_scheduled = try_schedules(rt)?;
-    let is_ordered = try_orders(rt)?;
+    let parts = parts_asked(rt)?;
+    let is_told = !parts.stories || tell(rt)?;
+    let is_overlapped = !parts.overlap || try_overlap(rt)?;
+    let is_scheduled = !parts.schedules || try_schedules(rt)?;
+    let is_ordered = !parts.orders || try_orders(rt)?;
     Ok(is_told && is_overlapped && is_scheduled && is_ordered)
 }

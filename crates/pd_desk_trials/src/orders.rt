@@ -2,24 +2,22 @@
 //! in all orders, up to the names of the workers.
 mod choices;
 mod director;
-mod hand;
 mod players;
-mod stage;
+pub mod stage;
 
-use self::choices::Choices;
-use self::director::{Director, Notes};
-use self::players::Player;
+use self::director::Director;
+use self::players::play;
 use self::stage::Stage;
-use crate::chairs::{Guest, Opened, say_rows, show};
-use crate::counts::print_counts;
-use crate::playing::play_all;
-use crate::replay::made_again;
+use crate::chairs::CACHE;
+use crate::hand::Hand;
+use crate::tally::Tally;
 use pd_desk::Desk;
 use pd_seat::Seat;
+use pd_settings::Settings;
 use std::alloc::{AllocError, Global};
-use std::io;
 use std::sync::Wait;
 use std::thread::Threads;
+use std::{io, thread};
 
 /// Callers have the first numbers, workers those after them.
 const CALLERS: usize = 2;
@@ -42,141 +40,99 @@ const MOST: u64 = 100_000;
 
 /// Makes the calls of each list in all orders, and prints how many there are and how many differ; whether none does.
 pub fn try_orders(rt: &(impl Print + AllocGlobal + Threads + Wait + Sync)) -> io::Result<bool> {
-    let mut orders = 0u64;
-    let mut differing = 0u64;
+    let mut tally = Tally::new(rt.alloc())?;
+    try_lists(rt, rt.alloc(), &mut tally)?;
+    tally.print(rt, " orders, ")
+}
+
+/// Does so, up to what is printed.
+fn try_lists<R: Threads + Wait + Sync>(
+    rt: &R,
+    alloc: Global,
+    tally: &mut Tally,
+) -> Result<(), AllocError> {
+    let stage = Stage::new(alloc)?;
+    let mut director = Director::new(alloc)?;
     for list in LISTS.split("\n") {
-        if !try_list(rt, rt.alloc(), list, &mut orders) {
-            differing = differing.wrapping_add(1);
-            rt.print("an order differs: ")?;
-            rt.print(list)?;
-            rt.print("\n")?;
-        }
+        try_list(rt, alloc, list, &stage, &mut director, tally);
     }
-    print_counts(rt, orders, " orders, ", differing)?;
-    Ok(differing == 0)
+    Ok(())
 }
 
-/// Makes the calls of a list in all orders, up to one that differs, and counts them; whether none does.
-fn try_list<R: Threads + Wait + Sync>(rt: &R, alloc: Global, list: &str, orders: &mut u64) -> bool {
-    let mut choices = Choices::new(alloc);
+/// Makes the calls of a list in all orders, up to one that differs, and counts them.
+fn try_list<R: Threads + Wait + Sync>(
+    rt: &R,
+    alloc: Global,
+    list: &'static str,
+    stage: &Stage,
+    director: &mut Director<'static>,
+    tally: &mut Tally,
+) {
+    director.choices.clear();
     for _order in 0..MOST {
-        *orders = orders.wrapping_add(1);
-        if !try_order(rt, alloc, list, &mut choices) {
-            return false;
-        }
-        if !choices.advance() {
-            return true;
+        tally.begin();
+        let is_right = try_order(rt, alloc, list, stage, director);
+        if !is_right || !director.choices.advance() {
+            return tally.must(is_right, list);
         }
     }
-    false
+    tally.must(false, list);
 }
 
-/// Makes calls in the order of these choices, or of the first that go on from them; whether all answers are right, and the
-/// closed book's history, made again, has the last report, which is the one from scratch of all calls.
+/// Makes calls in the order of the director's choices, or of the first that go on from them; whether all answers are right,
+/// and the closed book's history, made again, has the last report, which is the one from scratch of all calls.
 fn try_order<R: Threads + Wait + Sync>(
     rt: &R,
     alloc: Global,
-    list: &str,
-    choices: &mut Choices,
+    list: &'static str,
+    stage: &Stage,
+    director: &mut Director<'static>,
 ) -> bool {
-    let Ok(Opened { desk, seats, seat }) = Opened::new(alloc, WORKERS, PLAYERS + 1) else {
+    let Ok((desk, mut seats)) = Desk::open(alloc, CACHE, Settings::new(), WORKERS, PLAYERS + 1)
+    else {
         return false;
     };
-    match play_to_end(rt, alloc, &desk, seats, seat, list, choices) {
-        Some((seats, mut notes)) => is_closed(alloc, desk, seats, &mut notes),
-        None => false,
+    let is_played = play_all(
+        rt,
+        alloc,
+        &desk,
+        list,
+        stage,
+        director,
+        seats.as_mut_slice(),
+    );
+    match desk.close(seats) {
+        Ok(book) => is_played && director.is_right_history(book.history()),
+        Err(_) => false,
     }
 }
 
-/// Lets all players play while a seat looks on. All seats and the last report, if all answers were right and it is the
-/// one from scratch of all calls.
-fn play_to_end<R: Threads + Wait + Sync>(
+/// Lets all players play while the last seat looks on; whether all answers were right, and all have ended.
+fn play_all<R: Threads + Wait + Sync>(
     rt: &R,
     alloc: Global,
     desk: &Desk,
-    seats: Vec<Seat>,
-    mut seat: Seat,
-    list: &str,
-    choices: &mut Choices,
-) -> Option<(Vec<Seat>, Notes)> {
-    let stage = Stage::new(alloc).ok()?;
-    let (mut seats, mut notes) = play(rt, alloc, desk, &stage, seats, &mut seat, list, choices)?;
-    notes.shown.clear();
-    show(rt, desk, &mut seat, &mut notes.shown);
-    if notes.differ() || seats.push(seat).is_err() {
-        return None;
-    }
-    Some((seats, notes))
-}
-
-/// Lets all players play: their seats, and the report from scratch of all calls, if all answers were right.
-fn play<'x, 'y, R: Threads + Wait + Sync>(
-    rt: &'x R,
-    alloc: Global,
-    desk: &'x Desk,
-    stage: &'x Stage,
-    seats: Vec<Seat>,
-    seat: &'y mut Seat,
-    list: &'x str,
-    choices: &'y mut Choices,
-) -> Option<(Vec<Seat>, Notes)> {
+    list: &'static str,
+    stage: &Stage,
+    director: &mut Director<'static>,
+    seats: &mut [Seat],
+) -> bool {
+    let Some((seat, players)) = seats.split_last_mut() else {
+        return false;
+    };
     let lists = list.split_once(" / ").unwrap_or((list, ""));
-    let players = at_seats(rt, alloc, desk, stage, seats, lists).ok()?;
-    let director = Director::new(rt, alloc, desk, stage, seat, lists, choices).ok()?;
-    let (played, notes) = play_all(rt, alloc, players, director)?;
-    Some((seats_of(alloc, played)?, notes?))
-}
-
-/// The seats of those that have played.
-fn seats_of(alloc: Global, played: Vec<Guest>) -> Option<Vec<Seat>> {
-    let mut seats = Vec::new(alloc);
-    for guest in played {
-        let Guest { seat, said: _ } = guest;
-        if seats.push(seat).is_err() {
-            return None;
-        }
-    }
-    Some(seats)
-}
-
-/// A player at each of these seats.
-fn at_seats<'x, R>(
-    rt: &'x R,
-    alloc: Global,
-    desk: &'x Desk,
-    stage: &'x Stage,
-    seats: Vec<Seat>,
-    lists: (&'x str, &'x str),
-) -> Result<Vec<Player<'x, R>>, AllocError> {
-    let mut players = Vec::new(alloc);
-    for seat in seats {
-        let me = seat.number();
-        let player = Player {
+    stage.begin(rt);
+    director.begin(lists);
+    let mut hand = Hand::new(alloc);
+    let mut play = || {
+        thread::for_each_mut(
             rt,
-            alloc,
-            desk,
-            stage,
-            me,
-            guest: Guest::new(alloc, seat)?,
-            calls: if me == 0 { lists.0 } else { lists.1 },
-        };
-        players.push(player).or(Err(AllocError))?;
-    }
-    Ok(players)
-}
-
-/// Whether a desk closes with these seats, and its history, made again, has the report that is wanted.
-fn is_closed(alloc: Global, desk: Desk, seats: Vec<Seat>, notes: &mut Notes) -> bool {
-    let Ok(book) = desk.close(seats) else {
-        return false;
+            players,
+            PLAYERS,
+            &|me, seat| { play(rt, alloc, desk, stage, lists, me, seat) },
+        )
     };
-    let Ok(Some(again)) = made_again(alloc, book.history()) else {
-        return false;
-    };
-    let Ok(report) = again.show() else {
-        return false;
-    };
-    notes.shown.clear();
-    say_rows(&mut notes.shown, &report);
-    !notes.differ()
+    let mut direct = || director.direct(rt, desk, stage, seat, &mut hand);
+    let ((), is_right) = thread::join_mut(rt, &mut play, &mut direct);
+    is_right && stage.look(rt).have_ended()
 }

@@ -1,6 +1,6 @@
 //! Two workers that overlap: one is held at job 1 until the other has begun job 2, and an edit comes once job 1 has begun.
+use crate::progress::await_count;
 use crate::serving::Served;
-use crate::turns::await_count;
 use pd_desk::Gate;
 use std::io;
 use std::io::Read;
@@ -28,7 +28,7 @@ settle
 ";
 
 /// What is to be written.
-const WANTED: &[u8] = b"a fail 9 seq
+const WANTED: &str = "a fail 9 seq
 total 1 pass 0 fail 1 syntax 0 unsupported 0 limit 0 pending 0
 a fail 9 seq
 total 1 pass 0 fail 1 syntax 0 unsupported 0 limit 0 pending 0
@@ -37,10 +37,10 @@ total 1 pass 0 fail 1 syntax 0 unsupported 0 limit 0 pending 0
 /// Serves beside two workers that overlap; prints and tells whether both began and what was written is as wanted.
 pub fn try_overlap(rt: &(impl Print + AllocGlobal + Threads + Wait + Sync)) -> io::Result<bool> {
     let gate = HeldGate::new();
-    let mut served = Served::new(rt.alloc());
+    let mut served = Served::new(rt.alloc())?;
     serve_held(rt, &gate, &mut served);
     let is_late = gate.late.load(Ordering::SeqCst) != 0;
-    let is_served = served.octets.as_slice() == WANTED && served.passes.is_some();
+    let is_served = served.said.as_str() == WANTED && served.passes.is_some();
     rt.print(if is_late {
         "job 2 didn't begin while job 1 was held\n"
     } else if is_served {

@@ -4,27 +4,24 @@ mod comparing;
 mod delays;
 mod dice;
 mod inputs;
-mod seated;
 
-use self::comparing::{Trouble, is_served, must};
+use self::comparing::is_served;
 use self::delays::{Delays, SlowReader};
 use self::dice::Dice;
-use self::inputs::{Input, random_input};
-use self::seated::serve_beside;
-use crate::chairs::Opened;
-use crate::counts::print_counts;
-use crate::playing::Pooled;
-use crate::replay::made_again;
+use self::inputs::Input;
+use crate::chairs::{CACHE, pool};
+use crate::hand::Hand;
 use crate::serving::Served;
-use pd_book::Book;
+use crate::tally::Tally;
+use pd_book::{Book, Report};
 use pd_cli::render;
 use pd_desk::Desk;
-use pd_rows::{Form, Said};
 use pd_seat::Seat;
+use pd_settings::Settings;
 use std::alloc::{AllocError, Global};
-use std::io;
 use std::sync::Wait;
 use std::thread::Threads;
+use std::{io, thread};
 
 /// The most workers, and how many inputs each number of them has.
 const WORKERS: u8 = 8;
@@ -36,127 +33,127 @@ const COMMANDS: u64 = 24;
 /// Serves each input beside workers, and prints how many differ; whether none does.
 pub fn try_schedules(rt: &(impl Print + AllocGlobal + Threads + Wait + Sync)) -> io::Result<bool> {
     let mut dice = Dice::new(20_261_123);
-    let mut runs = 0u64;
-    let mut differing = 0u64;
+    let mut trial = Trial::new(rt.alloc())?;
     for _round in 0..ROUNDS {
         for workers in 1..=WORKERS {
-            runs = runs.wrapping_add(1);
-            match try_input(rt, rt.alloc(), &mut dice, workers) {
-                Ok(()) => {}
-                Err(Trouble::Differs(what)) => {
-                    differing = differing.wrapping_add(1);
-                    print_difference(rt, runs, what)?;
-                }
-                Err(Trouble::OutOfMemory) => return Err(io::Error::from(AllocError)),
-            }
+            trial.tally.begin();
+            trial.try_input(rt, &mut dice, workers);
         }
     }
-    print_counts(rt, runs, " schedules, ", differing)?;
-    Ok(differing == 0)
+    trial.tally.print(rt, " schedules, ")
 }
 
-fn print_difference(rt: &(impl Print + AllocGlobal), run: u64, what: &str) -> io::Result<()> {
-    let mut said = Said::new(rt.alloc(), Form::Short)?;
-    said.say("run ");
-    said.number(run);
-    said.say(": ");
-    said.say(what);
-    said.say(" differs\n");
-    rt.print(said.whole()?)?;
-    Ok(())
-}
-
-/// Serves random commands beside so many workers, and again at a seat of a desk, which is then closed.
-fn try_input<R: Threads + Wait + Sync>(
-    rt: &R,
+/// An input, what is served of it without threads and beside workers, and what differs.
+#[derive(Drop)]
+struct Trial {
     alloc: Global,
-    dice: &mut Dice,
-    workers: u8,
-) -> Result<(), Trouble> {
-    let gate = Delays {
-        seed: dice.below(1_000_000),
-    };
-    let input = random_input(alloc, dice, COMMANDS)?;
-    let mut alone = Served::new(alloc);
-    let mut reader = SlowReader::new(input.settled.as_slice(), 0);
-    alone.serve_alone(alloc, &mut reader);
-    must(
-        is_served_beside(rt, alloc, &gate, workers, &input, &alone),
-        "what is served",
-    )?;
-    try_desk(rt, alloc, &gate, workers, &input, &alone)
+    input: Input,
+    alone: Served,
+    served: Served,
+    tally: Tally,
 }
 
-/// Whether commands are served beside so many workers as they are without threads.
-fn is_served_beside<R: Threads + Wait + Sync>(
-    rt: &R,
-    alloc: Global,
-    gate: &Delays,
-    workers: u8,
-    input: &Input,
-    alone: &Served,
-) -> bool {
-    let mut served = Served::new(alloc);
-    let mut reader = SlowReader::new(input.octets.as_slice(), gate.seed);
-    served.serve_beside(rt, alloc, &mut reader, workers, gate);
-    is_served(&served, alone, input.is_settled.as_slice())
-}
+impl Trial {
+    fn new(alloc: Global) -> Result<Trial, AllocError> {
+        Ok(Trial {
+            alloc,
+            input: Input::new(alloc)?,
+            alone: Served::new(alloc)?,
+            served: Served::new(alloc)?,
+            tally: Tally::new(alloc)?,
+        })
+    }
 
-/// Opens a desk for so many workers, serves the commands while they run, and closes it.
-fn try_desk<R: Threads + Wait + Sync>(
-    rt: &R,
-    alloc: Global,
-    gate: &Delays,
-    workers: u8,
-    input: &Input,
-    alone: &Served,
-) -> Result<(), Trouble> {
-    let workers = usize::from(workers);
-    let Opened { desk, seats, seat } = Opened::new(alloc, workers, workers + 1)?;
-    let mut served = Served::new(alloc);
-    let octets = input.octets.as_slice();
-    let seats = serve_seated(rt, alloc, &desk, gate, seats, seat, octets, &mut served)?;
-    must(
-        is_served(&served, alone, input.is_settled.as_slice()),
-        "what a seat is served",
-    )?;
-    match desk.close(seats) {
-        Ok(book) => compare_history(alloc, &book, alone),
-        Err(_) => Err(Trouble::Differs("the closing")),
+    /// Serves random commands beside so many workers, and again at a seat of a desk, which is then closed.
+    fn try_input<R: Threads + Wait + Sync>(&mut self, rt: &R, dice: &mut Dice, workers: u8) {
+        let gate = Delays {
+            seed: dice.below(1_000_000),
+        };
+        self.input.throw(dice, COMMANDS);
+        let mut reader = SlowReader::new(self.input.settled.as_str(), 0);
+        self.alone.serve_alone(self.alloc, &mut reader);
+        let mut reader = SlowReader::new(self.input.written.as_str(), gate.seed);
+        self.served
+            .serve_beside(rt, self.alloc, &mut reader, workers, &gate);
+        self.compare("what is served");
+        self.try_desk(rt, &gate, workers);
+    }
+
+    fn compare(&mut self, what: &str) {
+        let are_settled = self.input.are_settled.as_slice();
+        let is_same = is_served(&self.served, &self.alone, are_settled);
+        self.tally.must(is_same, what);
+    }
+
+    /// Opens a desk for so many workers, serves the commands while they run, and closes it.
+    fn try_desk<R: Threads + Wait + Sync>(&mut self, rt: &R, gate: &Delays, workers: u8) {
+        let workers = usize::from(workers);
+        match Desk::open(self.alloc, CACHE, Settings::new(), workers, workers + 1) {
+            Ok((desk, mut seats)) => {
+                self.serve_seated(rt, &desk, gate, seats.as_mut_slice());
+                self.close(desk, seats);
+            }
+            Err(_) => self.tally.must(false, "the opening"),
+        }
+    }
+
+    /// Serves the commands at the last of these seats, while workers run at the others.
+    fn serve_seated<R: Threads + Wait + Sync>(
+        &mut self,
+        rt: &R,
+        desk: &Desk,
+        gate: &Delays,
+        seats: &mut [Seat],
+    ) {
+        if let Some((seat, workers)) = seats.split_last_mut() {
+            let alloc = self.alloc;
+            let served = &mut self.served;
+            let mut reader = SlowReader::new(self.input.written.as_str(), gate.seed);
+            let mut work = || pool(rt, alloc, desk, gate, workers);
+            let mut serve = || {
+                served.serve_at_seat(rt, alloc, desk, seat, &mut reader);
+                desk.shut(rt);
+            };
+            let (left, ()) = thread::join_mut(rt, &mut work, &mut serve);
+            self.compare("what a seat is served");
+            self.tally.must(left == "ok", "how a worker left");
+        }
+    }
+
+    /// Closes a desk, and compares its book.
+    fn close(&mut self, desk: Desk, seats: Vec<Seat>) {
+        match desk.close(seats) {
+            Ok(book) => self.compare_book(&book),
+            Err(_) => self.tally.must(false, "the closing"),
+        }
+    }
+
+    /// Compares a book's report and that of its history, made again, with the last that was written without threads.
+    fn compare_book(&mut self, book: &Book) {
+        self.compare_last(shown(book), "the closed book");
+        let mut again = Hand::new(self.alloc);
+        let are_made = again.are_made(book.history(), &mut self.served.said);
+        self.tally.must(are_made, "an act");
+        self.compare_last(again.report(), "the report of the history");
+    }
+
+    fn compare_last(&mut self, shown: Result<Report, &'static str>, what: &str) {
+        let is_same = match shown {
+            Ok(report) => is_last(self.alloc, &report, &self.alone),
+            Err(_) => false,
+        };
+        self.tally.must(is_same, what);
     }
 }
 
-/// Serves these octets at one seat while workers run at others: all seats, if no worker left with a fault.
-fn serve_seated<R: Threads + Wait + Sync>(
-    rt: &R,
-    alloc: Global,
-    desk: &Desk,
-    gate: &Delays,
-    seats: Vec<Seat>,
-    mut seat: Seat,
-    octets: &[u8],
-    served: &mut Served,
-) -> Result<Vec<Seat>, Trouble> {
-    let Some(pooled) = serve_beside(rt, alloc, desk, gate, seats, &mut seat, octets, served) else {
-        return Err(Trouble::OutOfMemory);
-    };
-    let Pooled { mut seats, left } = pooled;
-    must(left.is_ok(), "how a worker left")?;
-    seats.push(seat).or(Err(AllocError))?;
-    Ok(seats)
+fn shown(book: &Book) -> Result<Report, &'static str> {
+    book.show().or(Err("no memory"))
 }
 
-/// Compares a closed book's report and that of its history, made again, with the last that was written without threads.
-fn compare_history(alloc: Global, book: &Book, alone: &Served) -> Result<(), Trouble> {
-    must(is_last(alloc, book, alone)?, "the closed book")?;
-    match made_again(alloc, book.history())? {
-        Some(again) => must(is_last(alloc, &again, alone)?, "the report of the history"),
-        None => Err(Trouble::Differs("an act")),
+/// Whether a report is the last that was written.
+fn is_last(alloc: Global, report: &Report, alone: &Served) -> bool {
+    match render(alloc, report) {
+        Ok(octets) => alone.said.as_str().as_bytes().ends_with(octets.as_slice()),
+        Err(_) => false,
     }
-}
-
-/// Whether a book's report is the last that was written.
-fn is_last(alloc: Global, book: &Book, alone: &Served) -> Result<bool, AllocError> {
-    let shown = render(alloc, &book.show()?)?;
-    Ok(alone.octets.as_slice().ends_with(shown.as_slice()))
 }

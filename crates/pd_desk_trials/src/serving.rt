@@ -1,9 +1,10 @@
 //! Serving: without threads, beside workers, and at a seat of a desk that can be closed.
 use crate::chairs::CACHE;
 use pd_desk::{Desk, Gate};
+use pd_rows::{Form, Said};
 use pd_seat::Seat;
 use pd_settings::Settings;
-use std::alloc::Global;
+use std::alloc::{AllocError, Global};
 use std::io;
 use std::io::{Read, Write};
 use std::sync::Wait;
@@ -12,13 +13,13 @@ use std::thread::Threads;
 /// What was written, and whether the last report passes; `None` where serving stopped at a fault.
 #[derive(Drop)]
 pub struct Served {
-    pub octets: Vec<u8>,
+    pub said: Said,
     pub passes: Option<bool>,
 }
 
 impl Write for Served {
     fn write(&mut self, buf: &[u8]) -> io::Result<usize> {
-        self.octets.extend_from_slice(buf)?;
+        self.said.say_octets(buf);
         Ok(buf.len())
     }
 
@@ -28,15 +29,16 @@ impl Write for Served {
 }
 
 impl Served {
-    pub fn new(alloc: Global) -> Served {
-        Served {
-            octets: Vec::new(alloc),
+    pub fn new(alloc: Global) -> Result<Served, AllocError> {
+        Ok(Served {
+            said: Said::new(alloc, Form::Short)?,
             passes: None,
-        }
+        })
     }
 
     /// Serves what this reader gives, without threads.
     pub fn serve_alone(&mut self, alloc: Global, reader: &mut impl Read) {
+        self.said.clear();
         let ended = pd_cli::serve_alone(alloc, Settings::new(), CACHE, reader, self);
         self.passes = ended.ok();
     }
@@ -50,6 +52,7 @@ impl Served {
         workers: u8,
         gate: &(impl Gate + Sync),
     ) {
+        self.said.clear();
         let workers = usize::from(workers.min(64));
         let settings = Settings::new();
         let ended = pd_cli::serve(rt, alloc, settings, CACHE, workers, reader, self, gate);
@@ -65,6 +68,7 @@ impl Served {
         seat: &mut Seat,
         reader: &mut impl Read,
     ) {
+        self.said.clear();
         let ended = pd_cli::serve_seat(rt, alloc, desk, seat, Settings::new(), reader, self);
         self.passes = ended.ok();
     }

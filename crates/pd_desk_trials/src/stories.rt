@@ -1,12 +1,10 @@
 //! Stories of a desk: rows of calls with the answers that are wanted. A line that begins `# ` or `== ` is a title.
 mod beside;
 mod changes;
-mod gates;
-mod here;
-mod settling;
+mod sitting;
 mod story;
 mod table;
-mod waiters;
+mod working;
 
 use self::story::Story;
 use pd_rows::{Form, Teller, call_of};

@@ -1,5 +1,5 @@
 //! All lists of choices, one after the other.
-use std::alloc::{AllocError, Global};
+use std::alloc::Global;
 
 /// Which of how many was chosen.
 #[derive(Clone, Copy)]
@@ -23,15 +23,25 @@ impl Choices {
         }
     }
 
-    /// Chooses one of so many: as before, or where nothing was chosen yet the first.
-    pub fn choose(&mut self, of: usize) -> Result<usize, AllocError> {
+    pub fn clear(&mut self) {
+        self.made.clear();
+        self.next = 0;
+    }
+
+    /// Chooses one of so many: as before, or where nothing was chosen yet the first; none of them where there is no memory.
+    pub fn choose(&mut self, of: usize) -> usize {
         let next = self.next;
         self.next = next.wrapping_add(1);
-        if let Some(choice) = self.made.get(next) {
-            return Ok(choice.taken);
+        match self.made.get(next) {
+            Some(choice) => choice.taken,
+            None => {
+                if self.made.push(Choice { taken: 0, of }).is_ok() {
+                    0
+                } else {
+                    of
+                }
+            }
         }
-        self.made.push(Choice { taken: 0, of })?;
-        Ok(0)
     }
 
     /// Goes on to the next list of choices; whether there is one.

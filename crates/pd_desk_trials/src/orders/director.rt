@@ -1,13 +1,13 @@
 //! Who gives the turns: one player at a time goes on, and the next once nothing moves any more.
-use crate::chairs::{Chair, show};
+use crate::chairs::{Chair, say_shown};
+use crate::hand::{Hand, say_scratch};
 use crate::orders::choices::Choices;
-use crate::orders::hand::{Hand, say_scratch};
-use crate::orders::stage::{Spot, Stage};
+use crate::orders::stage::{Spot, Stage, Standing};
 use crate::orders::{CALLERS, PLAYERS, WORKERS};
-use crate::playing::Part;
-use crate::turns::TURNS;
+use crate::progress::TURNS;
+use pd_book::Act;
 use pd_desk::Desk;
-use pd_rows::{Form, Said};
+use pd_rows::{Calls, Form, Said};
 use pd_seat::Seat;
 use std::alloc::{AllocError, Global};
 use std::sync::Wait;
@@ -16,192 +16,170 @@ use std::thread;
 /// The most turns of an order.
 const MOVES: usize = 200;
 
-/// What is wanted, and what was said.
-#[derive(Drop)]
-pub struct Notes {
-    pub wanted: Said,
-    pub shown: Said,
-}
-
-impl Notes {
-    pub fn new(alloc: Global) -> Result<Notes, AllocError> {
-        let wanted = Said::new(alloc, Form::Short)?;
-        let shown = Said::new(alloc, Form::Short)?;
-        Ok(Notes { wanted, shown })
-    }
-
-    pub fn differ(&self) -> bool {
-        self.wanted.as_str() != self.shown.as_str()
-    }
-}
-
-/// A caller: the calls that it has left, and of the one whose answer it hasn't told, if there is one, what was answered by
-/// hand, how many calls were made before it, and whether it settles.
-#[derive(Drop)]
+/// A caller: the calls that it has left, how many calls were made before its last one, and whether that is a settling whose
+/// answer it hasn't told.
+#[derive(Clone, Copy)]
 struct Caller<'a> {
     left: &'a str,
-    said: Said,
     before: usize,
-    is_open: bool,
-    is_settle: bool,
+    settles: bool,
 }
 
 impl<'a> Caller<'a> {
-    fn new(alloc: Global, left: &'a str) -> Result<Caller<'a>, AllocError> {
-        Ok(Caller {
+    fn new(left: &'a str) -> Caller<'a> {
+        Caller {
             left,
-            said: Said::new(alloc, Form::Short)?,
             before: 0,
-            is_open: false,
-            is_settle: false,
-        })
+            settles: false,
+        }
     }
 }
 
 /// Gives the turns of players at a desk, and makes the same calls by hand.
 #[derive(Drop)]
-pub struct Director<'a, 'b, R> {
-    rt: &'a R,
+pub struct Director<'a> {
     alloc: Global,
-    desk: &'a Desk,
-    stage: &'a Stage,
-    /// A seat that looks on.
-    seat: &'b mut Seat,
-    choices: &'b mut Choices,
-    notes: Notes,
-    hand: Hand,
+    pub choices: Choices,
     callers: Vec<Caller<'a>>,
     /// The calls that were made, in the order of the turns.
     made: Vec<&'a str>,
     /// How many workers have a job.
     busy: usize,
+    /// What was answered by hand to the last call, the report that is wanted, and the one that is shown.
+    answer: Said,
+    wanted: Said,
+    shown: Said,
 }
 
-impl<'a, 'b, R: Wait> Part for Director<'a, 'b, R> {
-    type Output = Option<Notes>;
-
-    /// Gives turns until all has come to rest. The report from scratch of all calls, if all answers were right.
-    fn play(self) -> Option<Notes> {
-        let rt = self.rt;
-        let mut director = self;
-        let is_right = director.direct();
-        if !is_right {
-            director.give_up();
-        }
-        director.desk.shut(rt);
-        let count = director.made.len();
-        director.say_scratch(count);
-        let Director { notes, .. } = director;
-        if is_right { Some(notes) } else { None }
-    }
-}
-
-impl<'a, 'b, R: Wait> Director<'a, 'b, R> {
-    pub fn new(
-        rt: &'a R,
-        alloc: Global,
-        desk: &'a Desk,
-        stage: &'a Stage,
-        seat: &'b mut Seat,
-        lists: (&'a str, &'a str),
-        choices: &'b mut Choices,
-    ) -> Result<Director<'a, 'b, R>, AllocError> {
-        let mut callers = Vec::new(alloc);
-        callers
-            .push(Caller::new(alloc, lists.0)?)
-            .or(Err(AllocError))?;
-        callers
-            .push(Caller::new(alloc, lists.1)?)
-            .or(Err(AllocError))?;
+impl<'a> Director<'a> {
+    pub fn new(alloc: Global) -> Result<Director<'a>, AllocError> {
         Ok(Director {
-            rt,
+            answer: Said::new(alloc, Form::Short)?,
+            wanted: Said::new(alloc, Form::Short)?,
+            shown: Said::new(alloc, Form::Short)?,
             alloc,
-            desk,
-            stage,
-            seat,
-            choices,
-            notes: Notes::new(alloc)?,
-            hand: Hand::new(alloc),
-            callers,
+            choices: Choices::new(alloc),
+            callers: Vec::new(alloc),
             made: Vec::new(alloc),
             busy: 0,
         })
     }
 
-    /// Gives the turns; whether all answers are right.
-    fn direct(&mut self) -> bool {
+    /// Begins with these calls of the two callers.
+    pub fn begin(&mut self, lists: (&'a str, &'a str)) {
+        self.callers.clear();
+        let _ = self.callers.push(Caller::new(lists.0));
+        let _ = self.callers.push(Caller::new(lists.1));
+        self.made.clear();
+        self.busy = 0;
+    }
+
+    /// Gives turns until all has come to rest, and shuts the desk; whether all answers are right, and the last report is
+    /// the one from scratch of all calls.
+    pub fn direct<'x, R: Wait>(
+        &mut self,
+        rt: &'x R,
+        desk: &'x Desk,
+        stage: &Stage,
+        seat: &mut Seat,
+        hand: &mut Hand,
+    ) -> bool {
+        let mut chair = Chair { rt, desk, seat };
+        let is_right = self.give_turns(rt, stage, &mut chair, hand);
+        if !is_right {
+            stage.give_up(rt);
+            chair.free(self.alloc);
+        }
+        desk.shut(rt);
+        let count = self.made.len();
+        self.say_scratch(count);
+        self.is_shown(&mut chair) && is_right
+    }
+
+    /// Whether a history, made again, has the report that is wanted.
+    pub fn is_right_history(&mut self, acts: &[Act]) -> bool {
+        let mut again = Hand::new(self.alloc);
+        let are_made = again.are_made(acts, &mut self.shown);
+        again.call("show", &mut self.shown);
+        are_made && self.wanted.as_str() == self.shown.as_str()
+    }
+
+    fn give_turns<R: Wait>(
+        &mut self,
+        rt: &R,
+        stage: &Stage,
+        chair: &mut Chair<'_, '_, R>,
+        hand: &mut Hand,
+    ) -> bool {
         for _move in 0..MOVES {
-            if !self.await_rest() || !self.are_right() {
+            if !self.await_rest(rt, stage, chair, hand) || !self.are_right(rt, stage) {
                 return false;
             }
-            let (count, options) = self.stage.standing.lock(self.rt).options();
+            let standing = stage.look(rt);
+            let (count, options) = standing.options();
             if count == 0 {
                 return true;
             }
-            let Ok(place) = self.choices.choose(count) else {
-                return false;
-            };
-            if !self.let_go_on(options.get(place).copied()) {
-                return false;
+            match options.get(self.choices.choose(count)) {
+                Some(who) => self.let_go_on(rt, stage, *who, standing, hand),
+                None => return false,
             }
         }
         false
     }
 
-    /// Lets a player go on, a caller with its next call; whether there is one.
-    fn let_go_on(&mut self, who: Option<usize>) -> bool {
-        let Some(who) = who else {
-            return false;
-        };
-        if who >= CALLERS {
-            self.let_work(who);
-        } else if !self.let_call(who) {
-            return false;
-        }
-        self.stage.grant(self.rt, who);
-        self.start_by_hand();
-        true
-    }
-
-    /// Makes a caller's next call by hand; whether it is noted.
-    fn let_call(&mut self, who: usize) -> bool {
-        let Some(caller) = self.callers.get_mut(who) else {
-            return false;
-        };
-        let (call, left) = caller.left.split_once("; ").unwrap_or((caller.left, ""));
-        caller.left = left;
-        caller.before = self.made.len();
-        caller.is_open = true;
-        caller.is_settle = call == "settle";
-        self.hand.call(call, &mut caller.said);
-        self.made.push(call).is_ok()
-    }
-
-    /// Where a worker hands its result in, this is done by hand.
-    fn let_work(&mut self, who: usize) {
-        let place = self.stage.standing.lock(self.rt).place(who);
-        if matches!(place.spot, Spot::Done) {
-            self.hand.finish(place.job);
+    /// Lets a player go on, and does the same by hand: makes a caller's next call, or hands in a worker's result; then starts
+    /// what workers that are free start now.
+    fn let_go_on<R: Wait>(
+        &mut self,
+        rt: &R,
+        stage: &Stage,
+        who: usize,
+        standing: Standing,
+        hand: &mut Hand,
+    ) {
+        let place = standing.place(who);
+        if who < CALLERS {
+            self.let_call(who, hand);
+        } else if matches!(place.spot, Spot::Done) {
+            hand.finish(place.job);
             self.busy = self.busy.wrapping_sub(1);
         }
-    }
-
-    /// Starts by hand what workers that are free start now.
-    fn start_by_hand(&mut self) {
+        stage.grant(rt, who);
         for _worker in self.busy..WORKERS {
-            if self.hand.start(&mut self.notes.shown) {
+            if hand.start(&mut self.shown) {
                 self.busy = self.busy.wrapping_add(1);
             }
         }
     }
 
+    /// Makes a caller's next call by hand, and notes it.
+    fn let_call(&mut self, who: usize, hand: &mut Hand) {
+        if let Some(caller) = self.callers.get_mut(who) {
+            let (call, left) = caller.left.split_once("; ").unwrap_or((caller.left, ""));
+            *caller = Caller {
+                left,
+                before: self.made.len(),
+                settles: call == "settle",
+            };
+            hand.call(call, &mut self.answer);
+            let _ = self.made.push(call);
+        }
+    }
+
     /// Waits until whoever goes on waits for a turn or for verdicts, and the report is that of the calls made by hand;
     /// whether it is so within the turns.
-    fn await_rest(&mut self) -> bool {
-        self.hand.call("show", &mut self.notes.wanted);
-        let is_owed = self.notes.wanted.as_str().contains("pending");
+    fn await_rest<R: Wait>(
+        &mut self,
+        rt: &R,
+        stage: &Stage,
+        chair: &mut Chair<'_, '_, R>,
+        hand: &mut Hand,
+    ) -> bool {
+        hand.call("show", &mut self.wanted);
+        let is_owed = self.wanted.as_str().contains("pending");
         for _turn in 0..TURNS {
-            if self.is_at_rest(is_owed) && self.is_shown() {
+            if self.is_at_rest(stage.look(rt), is_owed) && self.is_shown(chair) {
                 return true;
             }
             thread::yield_now();
@@ -210,88 +188,70 @@ impl<'a, 'b, R: Wait> Director<'a, 'b, R> {
     }
 
     /// Whether the report is the one that is wanted.
-    fn is_shown(&mut self) -> bool {
-        self.notes.shown.clear();
-        show(self.rt, self.desk, self.seat, &mut self.notes.shown);
-        !self.notes.differ()
+    fn is_shown<R: Wait>(&mut self, chair: &mut Chair<'_, '_, R>) -> bool {
+        self.shown.clear();
+        say_shown(&mut self.shown, chair.show());
+        self.wanted.as_str() == self.shown.as_str()
     }
 
     /// Whether the turn was taken, as many workers wait for one as have jobs, and all callers but those that settle while a
     /// verdict is owed.
-    fn is_at_rest(&self, is_owed: bool) -> bool {
-        let standing = self.stage.standing.lock(self.rt);
+    fn is_at_rest(&self, standing: Standing, is_owed: bool) -> bool {
         let mut workers = 0usize;
         let mut are_heard = true;
         for who in 0..PLAYERS {
-            let is_away = matches!(standing.place(who).spot, Spot::Away);
-            if who >= CALLERS {
-                workers = workers.wrapping_add(usize::from(!is_away));
-            } else if is_away && !(is_owed && self.settles(who)) {
-                are_heard = false;
+            let is_away = standing.is_away(who);
+            match self.callers.get(who) {
+                Some(caller) => are_heard = are_heard && (!is_away || (is_owed && caller.settles)),
+                None => workers = workers.wrapping_add(usize::from(!is_away)),
             }
         }
         are_heard && workers == self.busy && standing.turn.is_none()
     }
 
-    /// Whether a caller settles.
-    fn settles(&self, who: usize) -> bool {
-        match self.callers.get(who) {
-            Some(caller) => caller.is_open && caller.is_settle,
-            None => false,
-        }
-    }
-
     /// Whether what callers were answered is right: to a call what was answered by hand, and to a settling the report from
     /// scratch of the calls before it and some of those since, in the order of their turns.
-    fn are_right(&mut self) -> bool {
+    fn are_right<R: Wait>(&mut self, rt: &R, stage: &Stage) -> bool {
+        let standing = stage.look(rt);
+        let mut are_right = true;
         for who in 0..CALLERS {
-            let is_said = self.stage.take_said(self.rt, who, &mut self.notes.shown);
-            if is_said && !self.is_right(who) {
-                return false;
+            if !standing.is_away(who)
+                && let Some(answer) = stage.answers.get(who)
+            {
+                let mut said = answer.lock(rt);
+                are_right = self.is_right(who, said.as_str()) && are_right;
+                said.clear();
             }
         }
-        true
+        are_right
     }
 
-    /// Whether what was said is right as the answer to a caller's call.
-    fn is_right(&mut self, who: usize) -> bool {
-        let Some(caller) = self.callers.get_mut(who) else {
-            return false;
-        };
-        let is_open = caller.is_open;
-        caller.is_open = false;
-        if is_open && caller.is_settle {
-            let before = caller.before;
-            return self.is_report(before);
+    /// Whether what was said, if anything was, is right as the answer to a caller's last call.
+    fn is_right(&mut self, who: usize, said: &str) -> bool {
+        match self.callers.get_mut(who) {
+            Some(caller) if caller.settles => {
+                caller.settles = false;
+                let before = caller.before;
+                self.is_report(before, said)
+            }
+            _ => said.is_empty() || said == self.answer.as_str(),
         }
-        is_open && caller.said.as_str() == self.notes.shown.as_str()
     }
 
     /// Whether what was said is the report from scratch of so many calls or more.
-    fn is_report(&mut self, before: usize) -> bool {
+    fn is_report(&mut self, before: usize, said: &str) -> bool {
         for count in before..=self.made.len() {
             self.say_scratch(count);
-            if !self.notes.differ() {
+            if self.wanted.as_str() == said {
                 return true;
             }
         }
         false
     }
 
-    /// Notes the report from scratch of the first so many calls.
+    /// Notes the report from scratch of the first so many calls as the one that is wanted.
     fn say_scratch(&mut self, count: usize) {
         let made = self.made.get(..count).unwrap_or(&[]);
-        say_scratch(self.alloc, made, &mut self.notes.wanted);
-    }
-
-    /// Lets all go on, and takes out all scripts, so that nothing is owed.
-    fn give_up(&mut self) {
-        self.stage.give_up(self.rt);
-        let mut chair = Chair {
-            rt: self.rt,
-            desk: self.desk,
-            seat: &mut *self.seat,
-        };
-        chair.free();
+        say_scratch(self.alloc, made, &mut self.wanted);
     }
 }

@@ -1,123 +1,65 @@
 //! Players: callers that make calls of a list, and workers, who hand the turn on before each call, round each job and after
 //! each of its steps.
-use crate::chairs::{Chair, Guest};
+use crate::chairs::Chair;
 use crate::orders::CALLERS;
 use crate::orders::stage::{Spot, Stage};
-use crate::playing::Role;
-use crate::watched::{Watch, work};
-use pd_desk::{Desk, Gate};
-use pd_rows::{Texts, Words};
+use crate::watched::{Manner, work};
+use pd_desk::Desk;
+use pd_rows::{Said, Texts, Words};
 use pd_seat::Seat;
-use std::alloc::{AllocError, Global};
+use std::alloc::Global;
 use std::sync::Wait;
-use std::sync::atomic::{AtomicU64, Ordering};
 
-/// A caller with its calls, parted by `; `, or a worker.
-#[derive(Drop)]
-pub struct Player<'a, R> {
-    pub rt: &'a R,
-    pub alloc: Global,
-    pub desk: &'a Desk,
-    pub stage: &'a Stage,
-    pub me: usize,
-    pub guest: Guest,
-    pub calls: &'a str,
-}
-
-impl<'a, R: Wait> Role for Player<'a, R> {
-    fn play(self) -> Option<Guest> {
-        let Player {
-            rt,
-            alloc,
-            desk,
-            stage,
-            me,
-            mut guest,
-            calls,
-        } = self;
-        if me < CALLERS {
-            call_all(rt, alloc, desk, stage, me, &mut guest, calls);
-        } else if !work_to_end(rt, alloc, desk, stage, me, &mut guest.seat) {
-            return None;
-        }
-        Some(guest)
+/// Makes a caller's calls, each on its turn, or works until the desk is shut.
+pub fn play<R: Wait>(
+    rt: &R,
+    alloc: Global,
+    desk: &Desk,
+    stage: &Stage,
+    lists: (&str, &str),
+    me: usize,
+    seat: &mut Seat,
+) {
+    let is_played = match me {
+        0 => call_all(rt, alloc, desk, stage, lists.0, me, seat),
+        1 => call_all(rt, alloc, desk, stage, lists.1, me, seat),
+        _ => work(rt, alloc, desk, Manner::Turns(stage, me), seat) == "left",
+    };
+    if is_played {
+        stage.put(rt, me, Spot::Gone, 0);
     }
 }
 
-/// Makes the calls, each on its turn.
+/// Makes the calls, each on its turn; whether all were made.
 fn call_all<R: Wait>(
     rt: &R,
     alloc: Global,
     desk: &Desk,
     stage: &Stage,
-    me: usize,
-    guest: &mut Guest,
     calls: &str,
-) {
-    let Guest { seat, said } = guest;
-    let mut chair = Chair { rt, desk, seat };
-    let texts = Texts::new(alloc);
-    let mut tasks = Vec::new(alloc);
-    for call in calls.split("; ") {
-        if !stage.stand(rt, me, Spot::Here, 0, said.as_str()) {
-            return;
-        }
-        said.clear();
-        let mut words = Words::new(call);
-        let word = words.word();
-        chair.call(&mut tasks, &texts, word, &mut words, said);
-    }
-    stage.put(rt, me, Spot::Gone, 0, said.as_str());
-}
-
-/// Works until the desk is shut; whether it left then.
-fn work_to_end<R: Wait>(
-    rt: &R,
-    alloc: Global,
-    desk: &Desk,
-    stage: &Stage,
     me: usize,
     seat: &mut Seat,
 ) -> bool {
-    let turns = Turns {
-        rt,
-        stage,
-        me,
-        job: AtomicU64::new(0),
-    };
-    work(rt, alloc, desk, seat, &turns, &turns) == "left"
+    let mut chair = Chair { rt, desk, seat };
+    let mut is_going_on = true;
+    for call in calls.split("; ") {
+        is_going_on = stage.stand(rt, me, Spot::Here, 0);
+        if is_going_on && let Some(answer) = stage.answers.get(me) {
+            make_call(&mut chair, alloc, call, &mut answer.lock(rt));
+        }
+    }
+    is_going_on
 }
 
-/// The turns of a worker: before its job, after each step, and after its job.
-#[derive(Drop)]
-struct Turns<'a, R> {
-    rt: &'a R,
-    stage: &'a Stage,
-    me: usize,
-    job: AtomicU64,
-}
-
-impl<'a, R: Wait> Turns<'a, R> {
-    fn hand_on(&self, spot: Spot) {
-        let job = self.job.load(Ordering::SeqCst);
-        let _ = self.stage.stand(self.rt, self.me, spot, job, "");
-    }
-}
-
-impl<'a, R: Wait> Gate for Turns<'a, R> {
-    fn before(&self, job: u64) {
-        self.job.store(job, Ordering::SeqCst);
-        self.hand_on(Spot::Here);
-    }
-
-    fn after(&self, _job: u64) {
-        self.hand_on(Spot::Done);
-    }
-}
-
-impl<'a, R: Wait> Watch for Turns<'a, R> {
-    fn look(&self, _count: u64) -> Result<(), AllocError> {
-        self.hand_on(Spot::Here);
-        Ok(())
-    }
+/// Makes a call, and says its answer.
+fn make_call<R: Wait>(chair: &mut Chair<'_, '_, R>, alloc: Global, call: &str, said: &mut Said) {
+    let mut words = Words::new(call);
+    let word = words.word();
+    chair.call(
+        &mut Vec::new(alloc),
+        &Texts::new(alloc),
+        word,
+        &mut words,
+        said,
+    );
 }

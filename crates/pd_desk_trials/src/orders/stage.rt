@@ -1,6 +1,7 @@
 //! Where threads hand the turn on.
+use crate::chairs::answers;
 use crate::orders::{CALLERS, PLAYERS};
-use pd_rows::{Form, Said};
+use pd_rows::Said;
 use std::alloc::{AllocError, Global};
 use std::sync::{Condvar, Mutex, Wait};
 
@@ -24,44 +25,44 @@ pub struct Place {
     pub job: u64,
 }
 
-/// The players, what callers were answered and nobody took along yet, whose turn it is, and whether nobody waits for a turn
-/// any more.
-#[derive(Drop)]
+/// The players, whose turn it is, and whether nobody waits for a turn any more.
+#[derive(Clone, Copy)]
 pub struct Standing {
     places: [Place; PLAYERS],
-    said: Vec<Said>,
     pub turn: Option<usize>,
     is_over: bool,
 }
 
+/// All players as they go on at first.
+const AT_FIRST: Standing = Standing {
+    places: [Place {
+        spot: Spot::Away,
+        job: 0,
+    }; PLAYERS],
+    turn: None,
+    is_over: false,
+};
+
 impl Standing {
-    fn new(alloc: Global) -> Result<Standing, AllocError> {
-        let mut said = Vec::new(alloc);
-        for _caller in 0..CALLERS {
-            said.push(Said::new(alloc, Form::Short)?)
-                .or(Err(AllocError))?;
-        }
-        Ok(Standing {
-            places: [Place {
-                spot: Spot::Away,
-                job: 0,
-            }; PLAYERS],
-            said,
-            turn: None,
-            is_over: false,
-        })
-    }
-
-    fn is_awaited(&self, me: usize) -> bool {
-        !self.is_over && self.turn != Some(me)
-    }
-
     /// A player's place; that of one who has ended where there is no such player.
     pub fn place(&self, who: usize) -> Place {
         self.places.get(who).copied().unwrap_or(Place {
             spot: Spot::Gone,
             job: 0,
         })
+    }
+
+    pub fn is_away(&self, who: usize) -> bool {
+        matches!(self.place(who).spot, Spot::Away)
+    }
+
+    /// Whether all have ended.
+    pub fn have_ended(&self) -> bool {
+        let mut have_ended = true;
+        for place in &self.places {
+            have_ended = have_ended && matches!(place.spot, Spot::Gone);
+        }
+        have_ended
     }
 
     /// How many may go on, and who these are, first of all: the callers, and then the workers by the numbers of their jobs.
@@ -86,39 +87,49 @@ impl Standing {
     }
 }
 
-/// Where players wait for their turns.
+/// Where players wait for their turns, and callers answer.
 #[derive(Drop)]
 pub struct Stage {
-    pub standing: Mutex<Standing>,
+    standing: Mutex<Standing>,
     moved: Condvar,
+    pub answers: Vec<Mutex<Said>>,
 }
 
 impl Stage {
     pub fn new(alloc: Global) -> Result<Stage, AllocError> {
         Ok(Stage {
-            standing: Mutex::new(Standing::new(alloc)?),
+            answers: answers(alloc, CALLERS)?,
+            standing: Mutex::new(AT_FIRST),
             moved: Condvar::new(),
         })
     }
 
-    /// Puts a player in its place, with the job that it has and what it was answered since, if anything.
-    pub fn put<R: Wait>(&self, rt: &R, me: usize, spot: Spot, job: u64, said: &str) {
-        let mut standing = self.standing.lock(rt);
-        if let Some(place) = standing.places.get_mut(me) {
-            *place = Place { spot, job };
+    /// Begins anew.
+    pub fn begin<R: Wait>(&self, rt: &R) {
+        *self.standing.lock(rt) = AT_FIRST;
+        for answer in self.answers.iter() {
+            answer.lock(rt).clear();
         }
-        if let Some(old) = standing.said.get_mut(me) {
-            old.say(said);
+    }
+
+    pub fn look<R: Wait>(&self, rt: &R) -> Standing {
+        *self.standing.lock(rt)
+    }
+
+    /// Puts a player in its place, with the job that it has.
+    pub fn put<R: Wait>(&self, rt: &R, me: usize, spot: Spot, job: u64) {
+        if let Some(place) = self.standing.lock(rt).places.get_mut(me) {
+            *place = Place { spot, job };
         }
     }
 
     /// Does so, and waits for the player's turn; false where nobody does any more.
-    pub fn stand<R: Wait>(&self, rt: &R, me: usize, spot: Spot, job: u64, said: &str) -> bool {
-        self.put(rt, me, spot, job, said);
+    pub fn stand<R: Wait>(&self, rt: &R, me: usize, spot: Spot, job: u64) -> bool {
+        self.put(rt, me, spot, job);
         let mut standing = self
             .moved
             .wait_while(rt, self.standing.lock(rt), |standing| {
-                standing.is_awaited(me)
+                !standing.is_over && standing.turn != Some(me)
             });
         standing.turn = None;
         !standing.is_over
@@ -139,16 +150,5 @@ impl Stage {
     pub fn give_up<R: Wait>(&self, rt: &R) {
         self.standing.lock(rt).is_over = true;
         self.moved.notify_all();
-    }
-
-    /// Takes along what a player was answered; whether it was answered anything since the last time.
-    pub fn take_said<R: Wait>(&self, rt: &R, who: usize, to: &mut Said) -> bool {
-        let mut standing = self.standing.lock(rt);
-        to.clear();
-        if let Some(said) = standing.said.get_mut(who) {
-            to.say(said.as_str());
-            said.clear();
-        }
-        !to.as_str().is_empty()
     }
 }

@@ -41,9 +41,9 @@ pub struct SlowReader<'a> {
 const MOST: usize = 24;
 
 impl<'a> SlowReader<'a> {
-    pub fn new(octets: &'a [u8], seed: u64) -> SlowReader<'a> {
+    pub fn new(written: &'a str, seed: u64) -> SlowReader<'a> {
         SlowReader {
-            octets,
+            octets: written.as_bytes(),
             seed,
             calls: 0,
         }

@@ -1,15 +1,16 @@
 //! Commands, as they come at random.
 use crate::schedules::dice::Dice;
+use pd_rows::{Form, Said};
 use std::alloc::{AllocError, Global};
 
 /// Commands, as they are served beside workers and without.
 #[derive(Drop)]
 pub struct Input {
-    pub octets: Vec<u8>,
+    pub written: Said,
     /// The same, but that each `show` is a `settle`.
-    pub settled: Vec<u8>,
+    pub settled: Said,
     /// Of each report that is printed, also the last, whether it is settled.
-    pub is_settled: Vec<bool>,
+    pub are_settled: Vec<bool>,
 }
 
 const SCRIPTS: [&str; 5] = ["a", "b", "c", "d", "e"];
@@ -37,22 +38,27 @@ const SETTINGS: [&str; 4] = [
     "nagle true",
 ];
 
-/// So many commands.
-pub fn random_input(alloc: Global, dice: &mut Dice, commands: u64) -> Result<Input, AllocError> {
-    let mut input = Input {
-        octets: Vec::new(alloc),
-        settled: Vec::new(alloc),
-        is_settled: Vec::new(alloc),
-    };
-    for _command in 0..commands {
-        input.add_command(dice)?;
-    }
-    input.is_settled.push(true)?;
-    Ok(input)
-}
-
 impl Input {
-    fn add_command(&mut self, dice: &mut Dice) -> Result<(), AllocError> {
+    pub fn new(alloc: Global) -> Result<Input, AllocError> {
+        Ok(Input {
+            written: Said::new(alloc, Form::Short)?,
+            settled: Said::new(alloc, Form::Short)?,
+            are_settled: Vec::new(alloc),
+        })
+    }
+
+    /// So many commands in place of those before.
+    pub fn throw(&mut self, dice: &mut Dice, commands: u64) {
+        self.written.clear();
+        self.settled.clear();
+        self.are_settled.clear();
+        for _command in 0..commands {
+            self.add_command(dice);
+        }
+        self.note_report(true);
+    }
+
+    fn add_command(&mut self, dice: &mut Dice) {
         let script = dice.pick(&SCRIPTS);
         let line = dice.pick(&LINES);
         match dice.below(16) {
@@ -66,18 +72,22 @@ impl Input {
     }
 
     /// Adds these pieces to both.
-    fn put(&mut self, pieces: &[&str]) -> Result<(), AllocError> {
+    fn put(&mut self, pieces: &[&str]) {
         for piece in pieces {
-            self.octets.extend_from_slice(piece.as_bytes())?;
-            self.settled.extend_from_slice(piece.as_bytes())?;
+            self.written.say(piece);
+            self.settled.say(piece);
         }
-        Ok(())
     }
 
-    fn report(&mut self, word: &str, is_settled: bool) -> Result<(), AllocError> {
-        self.octets.extend_from_slice(word.as_bytes())?;
-        self.settled.extend_from_slice(b"settle\n")?;
-        self.is_settled.push(is_settled)?;
-        Ok(())
+    fn report(&mut self, word: &str, is_settled: bool) {
+        self.written.say(word);
+        self.settled.say("settle\n");
+        self.note_report(is_settled);
+    }
+
+    fn note_report(&mut self, is_settled: bool) {
+        if self.are_settled.push(is_settled).is_err() {
+            self.written.is_whole = false;
+        }
     }
 }

@@ -1,55 +1,20 @@
 //! Calls beside threads that wait.
-use crate::chairs::{Chair, Guest};
-use crate::playing::{Part, play_all};
+use crate::chairs::{Chair, answers};
+use crate::progress::Progress;
+use crate::stories::sitting::sit;
 use crate::stories::table::Table;
-use crate::stories::waiters::{Progress, Waiter, Way};
 use pd_desk::Desk;
-use pd_rows::{Form, MISSING, Said, Words};
-use std::alloc::{AllocError, Global};
-use std::sync::Wait;
-use std::sync::atomic::Ordering;
+use pd_rows::{MISSING, Said, Words};
+use pd_seat::Seat;
+use std::alloc::Global;
+use std::sync::atomic::{AtomicU64, Ordering};
+use std::sync::{Mutex, Wait};
 use std::thread::Threads;
-
-/// Calls to be made beside threads that wait.
-#[derive(Drop)]
-struct Calls<'a, 'b, R> {
-    rt: &'a R,
-    desk: &'a Desk,
-    progress: &'a Progress,
-    table: &'b mut Table,
-    calls: &'b str,
-    said: &'b mut Said,
-}
-
-impl<'a, 'b, R: Wait> Part for Calls<'a, 'b, R> {
-    type Output = ();
-
-    /// Makes the calls, and when all but the workers have ended shuts the desk. Those that aren't woken within the turns are
-    /// set free.
-    fn play(self) {
-        let Calls {
-            rt,
-            desk,
-            progress,
-            table,
-            calls,
-            said,
-        } = self;
-        progress.begin_after(progress.workers.wrapping_add(progress.others));
-        table.act_all(rt, desk, calls, said);
-        if !progress.is_reached(&progress.ended, progress.others) {
-            table.free(rt, desk);
-        }
-        desk.shut(rt);
-        if !progress.is_reached(&progress.left, progress.workers) {
-            table.free(rt, desk);
-        }
-    }
-}
+use std::{mem, thread};
 
 impl Table {
     /// Makes calls, parted by `; `, while at each seat that is away, the first number first, a thread does what its letter
-    /// says. Says the answers of the calls and of these seats; `late` before them where a thread wasn't woken.
+    /// says. Says the answers of the calls and of these seats; `late` behind them where a thread wasn't woken.
     pub fn answer_beside<R: Threads + Wait + Sync>(
         &mut self,
         rt: &R,
@@ -58,41 +23,24 @@ impl Table {
         said: &mut Said,
     ) {
         let letters = words.word();
-        match Progress::of(letters) {
-            Some(progress) if letters.len() <= self.away.len() => {
-                if self
-                    .say_beside(rt, desk, &progress, letters, words.rest, said)
-                    .is_none()
-                {
-                    said.is_whole = false;
-                }
+        if letters.len() > self.away.len() {
+            return said.say(MISSING);
+        }
+        let progress = Progress::of(letters);
+        match answers(self.alloc, letters.len()) {
+            Ok(answers) => {
+                let answers = answers.as_slice();
+                self.call_beside(rt, desk, &progress, letters, words.rest, answers, said);
+                say_answers(rt, answers, said);
             }
-            _ => said.say(MISSING),
+            Err(_) => said.is_whole = false,
         }
-    }
-
-    /// Does so with threads that have these letters. None where there is no memory.
-    fn say_beside<R: Threads + Wait + Sync>(
-        &mut self,
-        rt: &R,
-        desk: &Desk,
-        progress: &Progress,
-        letters: &str,
-        calls: &str,
-        said: &mut Said,
-    ) -> Option<()> {
-        let mut answers = Said::new(self.alloc, Form::Short).ok()?;
-        let guests = self.call_beside(rt, desk, progress, letters, calls, &mut answers)?;
         if progress.late.load(Ordering::SeqCst) != 0 {
-            said.say("late; ");
+            said.say("; late");
         }
-        said.say(answers.as_str());
-        self.take_back(guests, said);
-        answers.whole().ok()?;
-        Some(())
     }
 
-    /// Makes the calls beside the threads: those that sat at the seats. None where there is no memory.
+    /// Makes the calls beside the threads.
     fn call_beside<R: Threads + Wait + Sync>(
         &mut self,
         rt: &R,
@@ -100,67 +48,29 @@ impl Table {
         progress: &Progress,
         letters: &str,
         calls: &str,
+        answers: &[Mutex<Said>],
         said: &mut Said,
-    ) -> Option<Vec<Guest>> {
+    ) {
         let alloc = self.alloc;
-        let waiters = self.waiters(rt, desk, progress, letters).ok()?;
-        let beside = Calls {
-            rt,
-            desk,
-            progress,
-            table: &mut *self,
-            calls,
-            said,
-        };
-        match play_all(rt, alloc, waiters, beside) {
-            Some((guests, _)) => Some(guests),
-            None => None,
-        }
+        let mut away = mem::replace(&mut self.away, Vec::new(alloc));
+        let seats = away.as_mut_slice();
+        let mut sit = || sit_all(rt, alloc, desk, progress, letters, answers, seats);
+        let mut call = || self.call_all(rt, desk, progress, calls, said);
+        thread::join_mut(rt, &mut sit, &mut call);
+        self.away = away;
     }
 
-    /// A thread's part for each letter, at the seats that are away.
-    fn waiters<'a, R>(
+    /// Makes the calls, and when all but the workers have ended shuts the desk. Those that aren't woken within the turns are
+    /// set free.
+    fn call_all<R: Wait>(
         &mut self,
-        rt: &'a R,
-        desk: &'a Desk,
-        progress: &'a Progress,
-        letters: &str,
-    ) -> Result<Vec<Waiter<'a, R>>, AllocError> {
-        let mut waiters = Vec::new(self.alloc);
-        for letter in letters.bytes() {
-            let (Some(way), Some(seat)) = (Way::of(letter), self.away.pop()) else {
-                break;
-            };
-            let waiter = Waiter {
-                rt,
-                alloc: self.alloc,
-                desk,
-                progress,
-                guest: Guest::new(self.alloc, seat)?,
-                way,
-                before: waiters.len() as u64,
-            };
-            waiters.push(waiter).or(Err(AllocError))?;
-        }
-        Ok(waiters)
-    }
-
-    /// Says what was said at seats, and takes these back.
-    fn take_back(&mut self, guests: Vec<Guest>, said: &mut Said) {
-        for guest in guests.iter() {
-            said.say("; ");
-            said.say(guest.said.as_str());
-        }
-        for guest in guests.into_iter().rev() {
-            let Guest { seat, said: _ } = guest;
-            if self.away.push(seat).is_err() {
-                said.is_whole = false;
-            }
-        }
-    }
-
-    /// Makes calls that are parted by `; `, and says their answers so.
-    fn act_all<R: Wait>(&mut self, rt: &R, desk: &Desk, calls: &str, said: &mut Said) {
+        rt: &R,
+        desk: &Desk,
+        progress: &Progress,
+        calls: &str,
+        said: &mut Said,
+    ) {
+        progress.begin_after(progress.workers.wrapping_add(progress.others));
         for call in calls.split("; ") {
             if !said.as_str().is_empty() {
                 said.say("; ");
@@ -169,13 +79,56 @@ impl Table {
             let word = words.word();
             self.act(rt, desk, word, &mut words, said);
         }
+        self.await_or_free(rt, desk, progress, &progress.ended, progress.others);
+        desk.shut(rt);
+        self.await_or_free(rt, desk, progress, &progress.left, progress.workers);
     }
 
-    /// Wakes whoever waits at the desk.
-    fn free<R: Wait>(&mut self, rt: &R, desk: &Desk) {
-        if let Some(seat) = self.seats.get_mut(0) {
-            let mut chair = Chair { rt, desk, seat };
-            chair.free();
+    /// Waits until so many are counted. Where they aren't within the turns, wakes whoever waits at the desk.
+    fn await_or_free<R: Wait>(
+        &mut self,
+        rt: &R,
+        desk: &Desk,
+        progress: &Progress,
+        counted: &AtomicU64,
+        count: u64,
+    ) {
+        if !progress.is_reached(counted, count) {
+            if let Some(seat) = self.seats.get_mut(0) {
+                Chair { rt, desk, seat }.free(self.alloc);
+            }
         }
+    }
+}
+
+/// Lets a thread sit at each of these seats, of which the last has the first letter.
+fn sit_all<R: Threads + Wait + Sync>(
+    rt: &R,
+    alloc: Global,
+    desk: &Desk,
+    progress: &Progress,
+    letters: &str,
+    answers: &[Mutex<Said>],
+    seats: &mut [Seat],
+) {
+    let count = seats.len();
+    thread::for_each_mut(
+        rt,
+        seats,
+        count.max(1),
+        &|place, seat| {
+            let turn = count.wrapping_sub(place).wrapping_sub(1);
+            sit(rt, alloc, desk, progress, letters, answers, turn, seat)
+        },
+    );
+}
+
+/// Says what was answered at each seat.
+fn say_answers<R: Wait>(rt: &R, answers: &[Mutex<Said>], said: &mut Said) {
+    for answer in answers {
+        let answer = answer.lock(rt);
+        said.say("; ");
+        said.say(answer.as_str());
+        said.is_whole = said.is_whole && answer.is_whole;
     }
 }

@@ -1,7 +1,7 @@
 //! Changes that a thread makes over and over, of a script of its own.
 use crate::chairs::Chair;
-use pd_rows::{Calls, Said, Texts, Words};
-use pd_text::Name;
+use pd_rows::{Calls, REFUSED, Said, Texts, Words};
+use pd_text::{LineEdit, Name};
 use std::alloc::Global;
 use std::sync::Wait;
 
@@ -13,8 +13,8 @@ const LINE: &str = "0 socket(..., SOCK_STREAM, IPPROTO_TCP) = 3";
 
 const EDIT: &str = "1 1 +0 listen(3, 1) = 0";
 
-/// Adds a script, edits it if that is asked for, and removes it, over and over. Says `changed`, or `refused` where a change
-/// was.
+/// Adds a script named by the number of the seat, edits it and gives up a job if that is asked for, and removes it, over and
+/// over. Says `changed`, or `refused` where a change was.
 pub fn change_often<R: Wait>(
     chair: &mut Chair<'_, '_, R>,
     alloc: Global,
@@ -23,50 +23,48 @@ pub fn change_often<R: Wait>(
 ) {
     let texts = Texts::new(alloc);
     said.number(chair.seat.number() as u64);
-    for _change in 0..CHANGES {
-        if !is_changed(chair, &texts, said.as_str().as_bytes(), is_edited) {
-            said.clear();
-            return said.say("refused");
-        }
-    }
+    let name = texts.name(said.as_str().as_bytes());
+    let edit = texts.edit(&mut Words::new(EDIT));
     said.clear();
-    said.say("changed");
+    match (name, edit) {
+        (Ok(name), Ok(edit)) => said.say(repeat(chair, &texts, &name, &edit, is_edited)),
+        _ => said.say(REFUSED),
+    }
 }
 
-/// Adds the script of this name, edits it if that is asked for, and removes it; whether nothing is refused.
-fn is_changed<R: Wait>(
+fn repeat<R: Wait>(
     chair: &mut Chair<'_, '_, R>,
     texts: &Texts,
-    own: &[u8],
+    name: &Name,
+    edit: &LineEdit,
     is_edited: bool,
-) -> bool {
-    let is_added = is_added(chair, texts, own);
-    let Ok(name) = texts.name(own) else {
-        return false;
-    };
-    let is_left = !is_edited || is_edited_again(chair, texts, &name);
-    is_added && is_left && chair.remove(&name) == "ok"
+) -> &'static str {
+    let mut are_made = true;
+    for _change in 0..CHANGES {
+        let is_added = add(chair, texts, name) == "ok";
+        let is_left = !is_edited || edit_again(chair, name, edit) == "ok";
+        let is_removed = chair.remove(name) == "ok";
+        are_made = are_made && is_added && is_left && is_removed;
+    }
+    if are_made { "changed" } else { "refused" }
 }
 
-fn is_added<R: Wait>(chair: &mut Chair<'_, '_, R>, texts: &Texts, own: &[u8]) -> bool {
-    let Ok(name) = texts.name(own) else {
-        return false;
-    };
+fn add<R: Wait>(chair: &mut Chair<'_, '_, R>, texts: &Texts, name: &Name) -> &'static str {
     match texts.text(LINE) {
-        Ok(lines) => chair.add(name, lines) == "ok",
-        Err(_) => false,
+        Ok(lines) => match name.share() {
+            Ok(name) => chair.add(name, lines),
+            Err(_) => REFUSED,
+        },
+        Err(_) => REFUSED,
     }
 }
 
-/// Edits a script, and starts and gives up a job; whether nothing is refused.
-fn is_edited_again<R: Wait>(chair: &mut Chair<'_, '_, R>, texts: &Texts, name: &Name) -> bool {
-    let Ok(edit) = texts.edit(&mut Words::new(EDIT)) else {
-        return false;
+/// Edits a script, and starts and gives up a job, if one waits: `ok`, or a refusal.
+fn edit_again<R: Wait>(chair: &mut Chair<'_, '_, R>, name: &Name, edit: &LineEdit) -> &'static str {
+    let edited = chair.edit(name, edit);
+    let given_up = match chair.start() {
+        Ok(task) => chair.abandon(task.job.number(), task.seat),
+        Err(_) => "ok",
     };
-    let is_edited = chair.edit(name, &edit) == "ok";
-    let is_given_up = match chair.start() {
-        Ok(task) => chair.abandon(task.job.number(), task.seat) == "ok",
-        Err(_) => true,
-    };
-    is_edited && is_given_up
+    if edited == "ok" { given_up } else { edited }
 }

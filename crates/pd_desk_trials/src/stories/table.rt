@@ -1,11 +1,15 @@
 //! Those at a desk, as a story tells of them.
-use crate::chairs::Chair;
-use crate::stories::here::{fill, work_here};
-use pd_desk::{Desk, DeskFault, OpenGate};
+use crate::chairs::{Chair, pool, say_shown};
+use crate::progress::await_count;
+use crate::stories::working::work_here;
+use pd_desk::{Desk, OpenGate};
 use pd_rows::{MISSING, Said, Task, Texts, Words, move_last, say_steps};
 use pd_seat::Seat;
+use pd_settings::Value;
 use std::alloc::Global;
 use std::sync::Wait;
+use std::sync::atomic::{AtomicU64, Ordering};
+use std::thread;
 use std::thread::Threads;
 
 /// The seats that are here and those that are away, the texts that were written, and each job that was started by hand: the
@@ -57,7 +61,7 @@ impl Table {
         }
     }
 
-    /// Makes a call that may be made beside others.
+    /// Makes a call that may be made beside others: shuts the desk, or makes the call of a seat that is here.
     pub fn act<R: Wait>(
         &mut self,
         rt: &R,
@@ -66,35 +70,26 @@ impl Table {
         words: &mut Words<'_>,
         said: &mut Said,
     ) {
-        match word {
-            "seat" => self.act_at(rt, desk, words, said),
-            "shut" => {
-                desk.shut(rt);
-                said.say("ok");
-            }
-            _ => said.say("(no such call)"),
+        if word == "shut" {
+            desk.shut(rt);
+            return said.say("ok");
         }
-    }
-
-    /// Makes the call of a seat that is here.
-    fn act_at<R: Wait>(&mut self, rt: &R, desk: &Desk, words: &mut Words<'_>, said: &mut Said) {
-        let Some(seat) = self.seats.get_mut(words.number() as usize) else {
+        let Table {
+            alloc,
+            seats,
+            away,
+            texts,
+            tasks,
+        } = self;
+        let Some(seat) = seats.get_mut(words.number() as usize) else {
             return said.say(MISSING);
         };
         match words.word() {
             "fill" => said.say(fill(rt, desk, seat, words.number())),
-            "work" => work_here(
-                rt,
-                self.alloc,
-                desk,
-                seat,
-                &mut self.away,
-                words.word(),
-                said,
-            ),
+            "work" => work_here(rt, *alloc, desk, seat, away, words.word(), said),
             word => {
                 let mut chair = Chair { rt, desk, seat };
-                chair.call(&mut self.tasks, &self.texts, word, words, said);
+                chair.call(tasks, texts, word, words, said);
             }
         }
     }
@@ -102,15 +97,61 @@ impl Table {
     /// Runs a worker at each seat that is here, of which one isn't let in and another finds a full history, and tells
     /// whether the pool ends with the fault of the first in the order of the seats.
     fn first_of_pool<R: Threads + Wait + Sync>(&mut self, rt: &R, desk: &Desk) -> &'static str {
-        let left = desk.pool(rt, self.alloc, self.seats.as_mut_slice(), &OpenGate);
+        let left = pool(rt, self.alloc, desk, &OpenGate, self.seats.as_mut_slice());
         let is_in = match self.seats.get(0) {
             Some(seat) => !seat.acts().is_empty(),
             None => false,
         };
         match left {
-            Err(DeskFault::HistoryFull) if is_in => "yes",
-            Err(DeskFault::NoWorkers) if !is_in => "yes",
+            "11 HistoryFull" if is_in => "yes",
+            "12 NoWorkers" if !is_in => "yes",
             _ => "no",
         }
     }
+
+    /// Settles at the first seat that is away, while a worker runs at each seat that is here; then shuts the desk.
+    fn settle_beside<R: Threads + Wait + Sync>(&mut self, rt: &R, desk: &Desk, said: &mut Said) {
+        let alloc = self.alloc;
+        let Some(seat) = self.away.get_mut(0) else {
+            return said.say(MISSING);
+        };
+        let seats = self.seats.as_mut_slice();
+        let begun = AtomicU64::new(0);
+        let mut work = || {
+            begun.store(1, Ordering::SeqCst);
+            pool(rt, alloc, desk, &OpenGate, seats)
+        };
+        let mut settle = || settle_once_begun(rt, desk, seat, &begun, said);
+        let (left, ()) = thread::join_mut(rt, &mut work, &mut settle);
+        if !said.is_refused() {
+            said.say("; pool ");
+            said.say(left);
+        }
+    }
+}
+
+/// Settles once the workers have begun, which they don't where no thread can be made, and shuts the desk.
+fn settle_once_begun<R: Wait>(
+    rt: &R,
+    desk: &Desk,
+    seat: &mut Seat,
+    begun: &AtomicU64,
+    said: &mut Said,
+) {
+    if await_count(begun, 1) {
+        say_shown(said, Chair { rt, desk, seat }.settle());
+    } else {
+        said.is_whole = false;
+    }
+    desk.shut(rt);
+}
+
+/// Makes so many acts that change nothing: `ok`, or the first refusal.
+fn fill<R: Wait>(rt: &R, desk: &Desk, seat: &mut Seat, count: u64) -> &'static str {
+    for _act in 0..count {
+        if let Err(fault) = desk.set(rt, seat, b"mss", Value::Number(1460)) {
+            return fault.text();
+        }
+    }
+    "ok"
 }
