@@ -51,54 +51,51 @@ fn main(rt: HostRuntime) -> ExitCode {
 /// What the word after the program's name asks for.
 fn read_word(rt: &(impl Env + AllocGlobal)) -> io::Result<Asked> {
     let words = env::args(rt)?.collect::<Vec<String>>(rt.alloc())?;
-    Ok(match words.get(1) {
+    Ok(asked_by(words.get(1)))
+}
+
+fn asked_by(word: Option<&String>) -> Asked {
+    match word {
         None => Asked::All,
         Some(word) if word.as_str() == "stories" => Asked::Stories,
         Some(_) => Asked::Memory,
-    })
+    }
 }
 
 /// Whether all rows that are told are answered as they are written.
 fn tell(rt: &(impl Input + Print + Files + AllocGlobal), asked: Asked) -> io::Result<bool> {
-    let mut tables = match Tables::new(rt.alloc()) {
-        Ok(tables) => tables,
-        Err(_) => Tables::new(rt.alloc())?,
-    };
-    tell_asked(rt, asked, &mut tables)?;
-    Ok(tables.teller.agrees)
+    let mut tables = Tables::new(rt.alloc())?;
+    tell_asked(rt, asked, &mut tables)
 }
 
 fn tell_asked(
     rt: &(impl Input + Print + Files + AllocGlobal),
     asked: Asked,
     tables: &mut Tables,
-) -> io::Result<()> {
+) -> io::Result<bool> {
     match asked {
         Asked::All => {
             tell_stories(rt, tables)?;
             tell_lists(rt, tables)?;
+            tables.take_all(ROWS);
         }
-        Asked::Memory => {}
-        Asked::Stories => return tell_stories(rt, tables),
+        Asked::Memory => tables.take_all(ROWS),
+        Asked::Stories => tell_stories(rt, tables)?,
     }
-    tables.take_all(ROWS);
-    tables.teller.print(rt)
+    tables.teller.print(rt)?;
+    Ok(tables.teller.agrees)
 }
 
 /// Tells the stories of the input.
-fn tell_stories(rt: &(impl Input + Print + AllocGlobal), tables: &mut Tables) -> io::Result<()> {
-    for line in rt.lines(rt.alloc()) {
-        let line = line?;
-        tables.take(line.as_str());
-        tables.teller.print(rt)?;
-    }
-    tables.teller.end();
-    tables.teller.print(rt)
+fn tell_stories(rt: &(impl Input + AllocGlobal), tables: &mut Tables) -> io::Result<()> {
+    let rows = io::read_to_string(rt.alloc(), rt.reader())?;
+    tables.take_all(rows.as_str());
+    Ok(())
 }
 
 /// Tells the random lists of calls.
-fn tell_lists(rt: &(impl Print + Files + AllocGlobal), tables: &mut Tables) -> io::Result<()> {
-    let lists = fs::read_to_string(rt, LISTS)?;
-    tables.take_all(lists.as_str());
-    tables.teller.print(rt)
+fn tell_lists(rt: &(impl Files + AllocGlobal), tables: &mut Tables) -> io::Result<()> {
+    let rows = fs::read_to_string(rt, LISTS)?;
+    tables.take_all(rows.as_str());
+    Ok(())
 }

@@ -13,23 +13,32 @@ pub struct Tables {
 
 impl Tables {
     pub fn new(alloc: Global) -> Result<Tables, AllocError> {
+        let teller = match Teller::new(alloc, Form::Full) {
+            Ok(teller) => teller,
+            Err(_) => Teller::new(alloc, Form::Full)?,
+        };
         Ok(Tables {
-            teller: Teller::new(alloc, Form::Full)?,
+            teller,
             story: Story::new(alloc),
         })
     }
 
-    /// Takes one line.
-    pub fn take(&mut self, line: &str) {
-        if line.is_empty() {
-            return;
+    /// Takes each line of a text.
+    pub fn take_all(&mut self, text: &str) {
+        for line in text.split("\n") {
+            self.take(line);
         }
+        self.teller.end();
+    }
+
+    /// Takes one line.
+    fn take(&mut self, line: &str) {
         if line.starts_with("== ") {
             self.teller.begin_table(line);
         } else if line.starts_with("# ") {
             self.teller.begin_story();
             self.story.begin();
-        } else {
+        } else if !line.is_empty() {
             self.tell(line);
         }
     }
@@ -42,13 +51,5 @@ impl Tables {
             self.story.answer(call, self.teller.hear());
         }
         self.teller.compare(row);
-    }
-
-    /// Takes each line of a text.
-    pub fn take_all(&mut self, text: &str) {
-        for line in text.split("\n") {
-            self.take(line);
-        }
-        self.teller.end();
     }
 }
