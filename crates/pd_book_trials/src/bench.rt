@@ -30,16 +30,13 @@ pub fn answer(
         "seats" => open(benches, texts.alloc, words, said),
         "close" => close(benches, said),
         "trade" => trade(benches.as_mut_slice(), said),
-        "other-bench" => turn_round(benches, said),
+        "other-bench" => {
+            benches.reverse();
+            said.say("ok");
+        }
         _ => return answer_there(benches, texts, word, words, said),
     }
     true
-}
-
-/// Goes to the other book.
-fn turn_round(benches: &mut Vec<Bench>, said: &mut Said) {
-    benches.reverse();
-    said.say("ok");
 }
 
 /// Opens a book with so many seats, once there is room to keep it.
@@ -120,30 +117,25 @@ impl Bench {
         words: &mut Words<'_>,
         said: &mut Said,
     ) -> bool {
-        match self.seats.get_mut(place) {
-            Some(seat) => answer_seated(&mut self.held, seat, &mut self.tasks, texts, words, said),
-            None => {
-                said.say(MISSING);
+        let Some(seat) = self.seats.get_mut(place) else {
+            said.say(MISSING);
+            return true;
+        };
+        let held = &mut self.held;
+        match words.word() {
+            "number" => {
+                said.number(seat.number() as u64);
                 true
             }
+            word => call(
+                &mut Seated { held, seat },
+                &mut self.tasks,
+                texts,
+                word,
+                words,
+                said,
+            ),
         }
-    }
-}
-
-fn answer_seated(
-    held: &mut Held,
-    seat: &mut Seat,
-    tasks: &mut Vec<Task>,
-    texts: &Texts,
-    words: &mut Words<'_>,
-    said: &mut Said,
-) -> bool {
-    match words.word() {
-        "number" => {
-            said.number(seat.number() as u64);
-            true
-        }
-        word => call(&mut Seated { held, seat }, tasks, texts, word, words, said),
     }
 }
 

@@ -10,6 +10,7 @@ mod parts;
 mod scripts;
 mod seated;
 mod settings;
+mod shelf;
 mod story;
 mod tables;
 
@@ -73,29 +74,20 @@ fn tell_asked(
     asked: Asked,
     tables: &mut Tables,
 ) -> io::Result<bool> {
-    match asked {
-        Asked::All => {
-            tell_stories(rt, tables)?;
-            tell_lists(rt, tables)?;
-            tables.take_all(ROWS);
-        }
-        Asked::Memory => tables.take_all(ROWS),
-        Asked::Stories => tell_stories(rt, tables)?,
+    if !matches!(asked, Asked::Memory) {
+        tables.take_all(read_stories(rt)?.as_str());
+    }
+    if matches!(asked, Asked::All) {
+        tables.take_all(fs::read_to_string(rt, LISTS)?.as_str());
+    }
+    if !matches!(asked, Asked::Stories) {
+        tables.take_all(ROWS);
     }
     tables.teller.print(rt)?;
     Ok(tables.teller.agrees)
 }
 
-/// Tells the stories of the input.
-fn tell_stories(rt: &(impl Input + AllocGlobal), tables: &mut Tables) -> io::Result<()> {
-    let rows = io::read_to_string(rt.alloc(), rt.reader())?;
-    tables.take_all(rows.as_str());
-    Ok(())
-}
-
-/// Tells the random lists of calls.
-fn tell_lists(rt: &(impl Files + AllocGlobal), tables: &mut Tables) -> io::Result<()> {
-    let rows = fs::read_to_string(rt, LISTS)?;
-    tables.take_all(rows.as_str());
-    Ok(())
+/// The stories of the input.
+fn read_stories(rt: &(impl Input + AllocGlobal)) -> io::Result<String> {
+    io::read_to_string(rt.alloc(), rt.reader())
 }

@@ -1,11 +1,89 @@
-//! The calls of a text.
+//! The texts and the settings that a story is at below any book, and their calls.
 use crate::scripts::{counted, plain, script, tokens};
-use pd_rows::{Said, Texts, Words, say_lines};
+use crate::settings;
+use pd_rows::{MISSING, REFUSED, Said, Texts, Words, say_lines};
 use pd_settings::Settings;
 use pd_text::{LineEdit, Lines, TextFault};
+use std::alloc::Global;
+
+/// The texts that were written, the last of which is looked at, and settings.
+#[derive(Drop)]
+pub struct Parts {
+    written: Vec<Lines>,
+    settings: Settings,
+}
+
+impl Parts {
+    pub fn new(alloc: Global) -> Parts {
+        Parts {
+            written: Vec::new(alloc),
+            settings: Settings::new(),
+        }
+    }
+
+    /// Begins from nothing.
+    pub fn begin(&mut self) {
+        self.written.clear();
+        self.settings = Settings::new();
+    }
+
+    /// Makes a call of the parts below a book; whether there is such a call.
+    pub fn answer(
+        &mut self,
+        texts: &Texts,
+        word: &str,
+        words: &mut Words<'_>,
+        said: &mut Said,
+    ) -> bool {
+        match word {
+            "text" => keep(&mut self.written, texts.text(words.rest), said),
+            "become" => change(&mut self.written, texts, words, said),
+            _ => {
+                return settings::answer(&mut self.settings, texts, word, words, said)
+                    || self.look(texts, word, words, said);
+            }
+        }
+        true
+    }
+
+    /// Looks at the last text, if there is one; whether there is such a call.
+    fn look(&self, texts: &Texts, word: &str, words: &mut Words<'_>, said: &mut Said) -> bool {
+        match self.written.last() {
+            Some(lines) => look(texts, lines, &self.settings, word, words, said),
+            None => false,
+        }
+    }
+}
+
+/// Goes on with a text, and says how many lines it has.
+fn keep(written: &mut Vec<Lines>, made: Result<Lines, TextFault>, said: &mut Said) {
+    match made {
+        Ok(lines) => push(written, lines, said),
+        Err(fault) => said.say(fault.text()),
+    }
+}
+
+fn push(written: &mut Vec<Lines>, lines: Lines, said: &mut Said) {
+    let count = lines.len();
+    match written.push(lines) {
+        Ok(()) => said.number(count as u64),
+        Err(_) => said.say(REFUSED),
+    }
+}
+
+/// Goes on with the last text after an edit.
+fn change(written: &mut Vec<Lines>, texts: &Texts, words: &mut Words<'_>, said: &mut Said) {
+    match written.last() {
+        Some(lines) => {
+            let made = edited(texts, lines, words);
+            keep(written, made, said);
+        }
+        None => said.say(MISSING),
+    }
+}
 
 /// Looks at a text, reads it or runs it; whether there is such a call.
-pub fn look(
+fn look(
     texts: &Texts,
     lines: &Lines,
     settings: &Settings,
@@ -42,7 +120,7 @@ fn run(
 }
 
 /// The text after an edit, by a copy of the edit.
-pub fn edited(texts: &Texts, lines: &Lines, words: &mut Words<'_>) -> Result<Lines, TextFault> {
+fn edited(texts: &Texts, lines: &Lines, words: &mut Words<'_>) -> Result<Lines, TextFault> {
     match texts.edit(words) {
         Ok(edit) => edited_by_copy(lines, &edit),
         Err(_) => Err(TextFault::OutOfMemory),

@@ -31,25 +31,20 @@ impl Tables {
         self.teller.end();
     }
 
-    /// Takes one line.
+    /// Takes one line. The call of a row is made again where it found no memory.
     fn take(&mut self, line: &str) {
+        let Tables { teller, story } = self;
         if line.starts_with("== ") {
-            self.teller.begin_table(line);
+            teller.begin_table(line);
         } else if line.starts_with("# ") {
-            self.teller.begin_story();
-            self.story.begin();
+            teller.begin_story();
+            story.begin();
         } else if !line.is_empty() {
-            self.tell(line);
+            story.answer(call_of(line), teller.hear());
+            if teller.is_refused(line) {
+                story.answer(call_of(line), teller.hear());
+            }
+            teller.compare(line);
         }
-    }
-
-    /// Makes the call of a row, and again where it found no memory.
-    fn tell(&mut self, row: &str) {
-        let call = call_of(row);
-        self.story.answer(call, self.teller.hear());
-        if self.teller.is_refused(row) {
-            self.story.answer(call, self.teller.hear());
-        }
-        self.teller.compare(row);
     }
 }
