@@ -1,102 +1,180 @@
-//! A book that seats share, its seats, the seats that left, and the jobs that were handed out.
+//! Books that seats share, their seats, the seats that left, and the jobs that were handed out.
+ghost use Rattle.std.specs.Prelude.{◌<◌, vec_len, vec_capacity};
+
 use crate::seated::Seated;
+use pd_book::Book;
 use pd_rows::{MISSING, REFUSED, Said, Task, Texts, Words, call, move_last, say_acts};
 use pd_seat::{CloseFault, Held, Seat};
 use pd_settings::Settings;
 use std::alloc::Global;
 use std::mem;
 
+/// A book, and what there is of it.
 #[derive(Drop)]
 pub struct Bench {
-    alloc: Global,
-    held: Option<Held>,
-    pub seats: Vec<Seat>,
+    held: Held,
+    seats: Vec<Seat>,
     away: Vec<Seat>,
     tasks: Vec<Task>,
 }
 
-impl Bench {
-    pub fn new(alloc: Global) -> Bench {
-        Bench {
-            alloc,
-            held: None,
-            seats: Vec::new(alloc),
-            away: Vec::new(alloc),
-            tasks: Vec::new(alloc),
+/// Makes a call of a book that seats share, the last of these; whether there is such a call.
+pub fn answer(
+    benches: &mut Vec<Bench>,
+    texts: &Texts,
+    word: &str,
+    words: &mut Words<'_>,
+    said: &mut Said,
+) -> bool {
+    match word {
+        "seats" => open(benches, texts.alloc, words, said),
+        "close" => close(benches, said),
+        "trade" => trade(benches.as_mut_slice(), said),
+        "other-bench" => {
+            benches.reverse();
+            said.say("ok");
+        }
+        _ => return answer_there(benches, texts, word, words, said),
+    }
+    true
+}
+
+/// Opens a book with so many seats, once there is room to keep it.
+fn open(benches: &mut Vec<Bench>, alloc: Global, words: &mut Words<'_>, said: &mut Said) {
+    let count = words.number() as usize;
+    if benches.reserve(1).is_err() {
+        return said.say(REFUSED);
+    }
+    match Held::new(alloc, 64, Settings::new(), count.max(1)) {
+        Ok((held, seats)) => {
+            benches.push_reserved(Bench {
+                held,
+                seats,
+                away: Vec::new(alloc),
+                tasks: Vec::new(alloc),
+            });
+            said.say("ok");
+        }
+        Err(_) => said.say(REFUSED),
+    }
+}
+
+/// Makes a call of a book with seats, if there is one; whether there is such a call.
+fn answer_there(
+    benches: &mut Vec<Bench>,
+    texts: &Texts,
+    word: &str,
+    words: &mut Words<'_>,
+    said: &mut Said,
+) -> bool {
+    match word {
+        "seat" | "leave" | "call-back" => {}
+        _ => return false,
+    }
+    match benches.last_mut() {
+        Some(bench) => bench.answer(texts, word, words, said),
+        None => {
+            said.say(MISSING);
+            true
         }
     }
+}
 
-    /// Makes a call of a book that seats share; whether there is such a call.
-    pub fn answer(
+/// Each of two books has the other's seats from now on.
+fn trade(benches: &mut [Bench], said: &mut Said) {
+    match benches {
+        [one, other] => {
+            mem::swap(&mut one.seats, &mut other.seats);
+            said.say("ok");
+        }
+        _ => said.say(MISSING),
+    }
+}
+
+impl Bench {
+    /// Makes a call; whether there is such a call.
+    fn answer(
         &mut self,
         texts: &Texts,
         word: &str,
         words: &mut Words<'_>,
         said: &mut Said,
     ) -> bool {
+        let number = words.number();
         match word {
-            "seats" => self.open(words.number() as usize, said),
-            "seat" => return self.answer_of_seat(texts, words, said),
-            "leave" => move_last(&mut self.seats, &mut self.away, words.number(), said),
-            "call-back" => move_last(&mut self.away, &mut self.seats, words.number(), said),
-            "close" => self.close(said),
-            _ => return false,
+            "leave" => move_last(&mut self.seats, &mut self.away, number, said),
+            "call-back" => move_last(&mut self.away, &mut self.seats, number, said),
+            _ => return self.answer_of_seat(number as usize, texts, words, said),
         }
         true
     }
 
-    /// Opens a book with so many seats.
-    fn open(&mut self, count: usize, said: &mut Said) {
-        match Held::new(self.alloc, 64, Settings::new(), count.max(1)) {
-            Ok((held, seats)) => {
-                self.held = Some(held);
-                self.seats = seats;
-                said.say("ok");
-            }
-            Err(_) => said.say(REFUSED),
-        }
-    }
-
     /// Makes the call of a seat; whether there is such a call.
-    fn answer_of_seat(&mut self, texts: &Texts, words: &mut Words<'_>, said: &mut Said) -> bool {
-        let seat = self.seats.get_mut(words.number() as usize);
-        let (Some(held), Some(seat)) = (&mut self.held, seat) else {
+    fn answer_of_seat(
+        &mut self,
+        place: usize,
+        texts: &Texts,
+        words: &mut Words<'_>,
+        said: &mut Said,
+    ) -> bool {
+        let Some(seat) = self.seats.get_mut(place) else {
             said.say(MISSING);
             return true;
         };
-        let word = words.word();
-        if word == "number" {
-            said.number(seat.number() as u64);
-            return true;
-        }
-        let mut book = Seated { held, seat };
-        call(&mut book, &mut self.tasks, texts, word, words, said)
-    }
-
-    /// Closes the book with the seats that are here, and says its acts.
-    fn close(&mut self, said: &mut Said) {
-        let Some(held) = self.held.take() else {
-            return said.say(MISSING);
-        };
-        let seats = mem::replace(&mut self.seats, Vec::new(self.alloc));
-        match held.close(seats) {
-            Ok(book) => say_acts(said, book.history(), false),
-            Err(fault) => self.keep(fault, said),
-        }
-    }
-
-    /// Says why the book isn't closed, and keeps what came back.
-    fn keep(&mut self, fault: CloseFault<Held>, said: &mut Said) {
-        said.say(fault.text());
-        match fault {
-            CloseFault::Differs(book) => {
-                said.say(", ");
-                say_acts(said, book.history(), false);
+        let held = &mut self.held;
+        match words.word() {
+            "number" => {
+                said.number(seat.number() as u64);
+                true
             }
-            CloseFault::MissingSeat(held, seats) => {
-                self.held = Some(held);
-                self.seats = seats;
+            word => call(
+                &mut Seated { held, seat },
+                &mut self.tasks,
+                texts,
+                word,
+                words,
+                said,
+            ),
+        }
+    }
+}
+
+/// Closes the book with the seats that are here, and says its acts, or why it isn't closed.
+fn close(benches: &mut Vec<Bench>, said: &mut Said) {
+    match benches.pop() {
+        Some(bench) => close_bench(benches, bench, said),
+        None => said.say(MISSING),
+    }
+}
+
+fn close_bench(benches: &mut Vec<Bench>, bench: Bench, said: &mut Said)
+    requires { vec_len benches.old < vec_capacity benches.old }
+{
+    let Bench {
+        held,
+        seats,
+        away,
+        tasks,
+    } = bench;
+    match held.close(seats) {
+        Ok(book) => say_book(said, "", book),
+        Err(fault) => {
+            said.say(fault.text());
+            match fault {
+                CloseFault::Differs(book) => say_book(said, ", ", book),
+                CloseFault::MissingSeat(held, seats) => benches.push_reserved(Bench {
+                    held,
+                    seats,
+                    away,
+                    tasks,
+                }),
             }
         }
     }
+}
+
+/// Says the acts of a book that is closed.
+fn say_book(said: &mut Said, before: &str, book: Book) {
+    said.say(before);
+    say_acts(said, book.history(), false);
 }

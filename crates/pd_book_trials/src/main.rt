@@ -10,6 +10,7 @@ mod parts;
 mod scripts;
 mod seated;
 mod settings;
+mod shelf;
 mod story;
 mod tables;
 
@@ -51,54 +52,42 @@ fn main(rt: HostRuntime) -> ExitCode {
 /// What the word after the program's name asks for.
 fn read_word(rt: &(impl Env + AllocGlobal)) -> io::Result<Asked> {
     let words = env::args(rt)?.collect::<Vec<String>>(rt.alloc())?;
-    Ok(match words.get(1) {
+    Ok(asked_by(words.get(1)))
+}
+
+fn asked_by(word: Option<&String>) -> Asked {
+    match word {
         None => Asked::All,
         Some(word) if word.as_str() == "stories" => Asked::Stories,
         Some(_) => Asked::Memory,
-    })
+    }
 }
 
 /// Whether all rows that are told are answered as they are written.
 fn tell(rt: &(impl Input + Print + Files + AllocGlobal), asked: Asked) -> io::Result<bool> {
-    let mut tables = match Tables::new(rt.alloc()) {
-        Ok(tables) => tables,
-        Err(_) => Tables::new(rt.alloc())?,
-    };
-    tell_asked(rt, asked, &mut tables)?;
-    Ok(tables.teller.agrees)
+    let mut tables = Tables::new(rt.alloc())?;
+    tell_asked(rt, asked, &mut tables)
 }
 
 fn tell_asked(
     rt: &(impl Input + Print + Files + AllocGlobal),
     asked: Asked,
     tables: &mut Tables,
-) -> io::Result<()> {
-    match asked {
-        Asked::All => {
-            tell_stories(rt, tables)?;
-            tell_lists(rt, tables)?;
-        }
-        Asked::Memory => {}
-        Asked::Stories => return tell_stories(rt, tables),
+) -> io::Result<bool> {
+    if !matches!(asked, Asked::Memory) {
+        tables.take_all(read_stories(rt)?.as_str());
     }
-    tables.take_all(ROWS);
-    tables.teller.print(rt)
+    if matches!(asked, Asked::All) {
+        tables.take_all(fs::read_to_string(rt, LISTS)?.as_str());
+    }
+    if !matches!(asked, Asked::Stories) {
+        tables.take_all(ROWS);
+    }
+    tables.teller.print(rt)?;
+    Ok(tables.teller.agrees)
 }
 
-/// Tells the stories of the input.
-fn tell_stories(rt: &(impl Input + Print + AllocGlobal), tables: &mut Tables) -> io::Result<()> {
-    for line in rt.lines(rt.alloc()) {
-        let line = line?;
-        tables.take(line.as_str());
-        tables.teller.print(rt)?;
-    }
-    tables.teller.end();
-    tables.teller.print(rt)
-}
-
-/// Tells the random lists of calls.
-fn tell_lists(rt: &(impl Print + Files + AllocGlobal), tables: &mut Tables) -> io::Result<()> {
-    let lists = fs::read_to_string(rt, LISTS)?;
-    tables.take_all(lists.as_str());
-    tables.teller.print(rt)
+/// The stories of the input.
+fn read_stories(rt: &(impl Input + AllocGlobal)) -> io::Result<String> {
+    io::read_to_string(rt.alloc(), rt.reader())
 }

@@ -1,18 +1,32 @@
-//! The text and the settings that a story is at below any book, and the calls of texts and names.
+//! The texts and the settings that a story is at below any book, and their calls.
 use crate::scripts::{counted, plain, script, tokens};
-use crate::settings::answer;
-use pd_rows::{REFUSED, Said, Texts, Words, say_lines};
+use crate::settings;
+use pd_rows::{MISSING, REFUSED, Said, Texts, Words, say_lines};
 use pd_settings::Settings;
-use pd_text::{Lines, TextFault};
+use pd_text::{LineEdit, Lines, TextFault};
+use std::alloc::Global;
 
-/// A text, once one is written, and settings.
+/// The texts that were written, the last of which is looked at, and settings.
 #[derive(Drop)]
 pub struct Parts {
-    pub lines: Option<Lines>,
-    pub settings: Settings,
+    written: Vec<Lines>,
+    settings: Settings,
 }
 
 impl Parts {
+    pub fn new(alloc: Global) -> Parts {
+        Parts {
+            written: Vec::new(alloc),
+            settings: Settings::new(),
+        }
+    }
+
+    /// Begins from nothing.
+    pub fn begin(&mut self) {
+        self.written.clear();
+        self.settings = Settings::new();
+    }
+
     /// Makes a call of the parts below a book; whether there is such a call.
     pub fn answer(
         &mut self,
@@ -22,68 +36,101 @@ impl Parts {
         said: &mut Said,
     ) -> bool {
         match word {
-            "text" => self.keep(texts.text(words.rest), said),
-            "become" => self.keep(self.edited(texts, words), said),
-            "name" => said.say(name_kind(texts, words.name())),
+            "text" => keep(&mut self.written, texts.text(words.rest), said),
+            "become" => change(&mut self.written, texts, words, said),
             _ => {
-                return answer(&mut self.settings, texts, word, words, said)
-                    || self.look(texts, word, words, said)
-                    || self.run(texts, word, words, said);
+                return settings::answer(&mut self.settings, texts, word, words, said)
+                    || self.look(texts, word, words, said);
             }
         }
         true
     }
 
-    /// Goes on with a text, and says how many lines it has.
-    fn keep(&mut self, made: Result<Lines, TextFault>, said: &mut Said) {
-        match made {
-            Ok(lines) => {
-                said.number(lines.len() as u64);
-                self.lines = Some(lines);
-            }
-            Err(fault) => said.say(fault.text()),
-        }
-    }
-
-    /// The text after an edit.
-    fn edited(&self, texts: &Texts, words: &mut Words<'_>) -> Result<Lines, TextFault> {
-        let edit = texts.edit(words)?;
-        match &self.lines {
-            Some(lines) => lines.apply(&edit.copy()?),
-            None => texts.text(""),
-        }
-    }
-
-    /// Looks at the text; whether there is such a call.
+    /// Looks at the last text, if there is one; whether there is such a call.
     fn look(&self, texts: &Texts, word: &str, words: &mut Words<'_>, said: &mut Said) -> bool {
-        let Some(lines) = &self.lines else {
-            return false;
-        };
-        match word {
-            "edited" => say_made(said, self.edited(texts, words)),
-            "line" => {
-                let line = lines.line(words.number() as usize);
-                said.say_octets(line.unwrap_or(b"(none)"));
-            }
-            "same" => said.say(compare(lines, texts.text(words.rest))),
-            _ => return false,
+        match self.written.last() {
+            Some(lines) => look(texts, lines, &self.settings, word, words, said),
+            None => false,
         }
-        true
     }
+}
 
-    /// Reads or runs the text; whether there is such a call.
-    fn run(&self, texts: &Texts, word: &str, words: &mut Words<'_>, said: &mut Said) -> bool {
-        let Some(lines) = &self.lines else {
-            return false;
-        };
-        match word {
-            "tokens" => tokens(lines, words, said),
-            "script" => script(texts, lines, said),
-            "verdict" => counted(texts, lines, &self.settings, said),
-            "plain-verdict" => plain(texts, lines, &self.settings, said),
-            _ => return false,
+/// Goes on with a text, and says how many lines it has.
+fn keep(written: &mut Vec<Lines>, made: Result<Lines, TextFault>, said: &mut Said) {
+    match made {
+        Ok(lines) => push(written, lines, said),
+        Err(fault) => said.say(fault.text()),
+    }
+}
+
+fn push(written: &mut Vec<Lines>, lines: Lines, said: &mut Said) {
+    let count = lines.len();
+    match written.push(lines) {
+        Ok(()) => said.number(count as u64),
+        Err(_) => said.say(REFUSED),
+    }
+}
+
+/// Goes on with the last text after an edit.
+fn change(written: &mut Vec<Lines>, texts: &Texts, words: &mut Words<'_>, said: &mut Said) {
+    match written.last() {
+        Some(lines) => {
+            let made = edited(texts, lines, words);
+            keep(written, made, said);
         }
-        true
+        None => said.say(MISSING),
+    }
+}
+
+/// Looks at a text, reads it or runs it; whether there is such a call.
+fn look(
+    texts: &Texts,
+    lines: &Lines,
+    settings: &Settings,
+    word: &str,
+    words: &mut Words<'_>,
+    said: &mut Said,
+) -> bool {
+    match word {
+        "edited" => say_made(said, edited(texts, lines, words)),
+        "line" => say_line(said, lines, words.number()),
+        "same" => said.say(compare(lines, texts.text(words.rest))),
+        _ => return run(texts, lines, settings, word, words, said),
+    }
+    true
+}
+
+/// Reads or runs a text; whether there is such a call.
+fn run(
+    texts: &Texts,
+    lines: &Lines,
+    settings: &Settings,
+    word: &str,
+    words: &mut Words<'_>,
+    said: &mut Said,
+) -> bool {
+    match word {
+        "tokens" => tokens(lines, words, said),
+        "script" => script(texts, lines, said),
+        "verdict" => counted(texts, lines, settings, said),
+        "plain-verdict" => plain(texts, lines, settings, said),
+        _ => return false,
+    }
+    true
+}
+
+/// The text after an edit, by a copy of the edit.
+fn edited(texts: &Texts, lines: &Lines, words: &mut Words<'_>) -> Result<Lines, TextFault> {
+    match texts.edit(words) {
+        Ok(edit) => edited_by_copy(lines, &edit),
+        Err(_) => Err(TextFault::OutOfMemory),
+    }
+}
+
+fn edited_by_copy(lines: &Lines, edit: &LineEdit) -> Result<Lines, TextFault> {
+    match edit.copy() {
+        Ok(copy) => lines.apply(&copy),
+        Err(_) => Err(TextFault::OutOfMemory),
     }
 }
 
@@ -95,24 +142,18 @@ fn say_made(said: &mut Said, made: Result<Lines, TextFault>) {
     }
 }
 
+fn say_line(said: &mut Said, lines: &Lines, number: u64) {
+    said.say_octets(lines.line(number as usize).unwrap_or(b"(none)"));
+}
+
 /// Whether a text has these lines.
 fn compare(lines: &Lines, other: Result<Lines, TextFault>) -> &'static str {
     match other {
-        Ok(other) if lines.is_same(&other) => "true",
-        Ok(_) => "false",
+        Ok(other) => truth(lines.is_same(&other)),
         Err(fault) => fault.text(),
     }
 }
 
-/// Whether a name is a script's, by a copy of it.
-fn name_kind(texts: &Texts, octets: &[u8]) -> &'static str {
-    let Ok(name) = texts.name(octets) else {
-        return REFUSED;
-    };
-    match name.share() {
-        Ok(copy) if !copy.is_same(&name) => "other",
-        Ok(copy) if copy.is_valid() => "valid",
-        Ok(_) => "refused",
-        Err(_) => REFUSED,
-    }
+fn truth(is_so: bool) -> &'static str {
+    if is_so { "true" } else { "false" }
 }

@@ -16,14 +16,9 @@ pub fn tokens(lines: &Lines, words: &mut Words<'_>, said: &mut Said) {
         match next_token(lines, place) {
             Lexed::Token(token) => {
                 place = token.to;
-                said.say(kind_name(token.kind));
-                said.number(token.from.line as u64);
-                said.say(", ");
+                said.count(kind_name(token.kind), token.from.line as u64, ", ");
             }
-            Lexed::Bad(line) => {
-                said.say("Bad ");
-                return said.number(line as u64);
-            }
+            Lexed::Bad(line) => return said.count("Bad ", line as u64, ""),
             Lexed::End => return said.say("End"),
         }
     }
@@ -54,16 +49,13 @@ pub fn script(texts: &Texts, lines: &Lines, said: &mut Said) {
 
 fn say_parsed(said: &mut Said, parsed: &Parsed) {
     for item in parsed.header.as_slice() {
-        said.number(item.line as u64);
-        said.say(" item, ");
+        said.count("", item.line as u64, " item, ");
     }
     for event in parsed.events.as_slice() {
-        said.number(event.line as u64);
-        said.say(" event, ");
+        said.count("", event.line as u64, " event, ");
     }
     if let Some(line) = parsed.fault {
-        said.number(line as u64);
-        said.say(" fault, ");
+        said.count("", line as u64, " fault, ");
     }
     said.say("end");
 }

@@ -1,8 +1,11 @@
-//! The calls of settings.
+//! The calls of settings and names.
 use pd_rows::{MISSING, REFUSED, Said, Texts, Words, say_value, value_of, with};
 use pd_settings::{Key, Settings};
+use pd_text::Name;
+use std::alloc::Global;
+use toml::Table;
 
-/// Makes a call of settings; whether there is such a call.
+/// Makes a call of settings, or of a name; whether there is such a call.
 pub fn answer(
     settings: &mut Settings,
     texts: &Texts,
@@ -13,7 +16,8 @@ pub fn answer(
     match word {
         "get" => get(settings, words.rest, said),
         "with" => said.say(change(settings, words)),
-        "toml" => said.say(compare(texts, settings, words.rest)),
+        "toml" => said.say(compare(texts.alloc, settings, words.rest)),
+        "name" => said.say(name_kind(texts, words.name())),
         _ => return false,
     }
     true
@@ -40,22 +44,53 @@ fn change(settings: &mut Settings, words: &mut Words<'_>) -> &'static str {
 }
 
 /// Whether a table, its lines parted by ` | `, gives these settings.
-fn compare(texts: &Texts, settings: &Settings, written: &str) -> &'static str {
-    match read(texts, written) {
-        Ok(read) if read.is_same(settings) => "same",
-        Ok(_) => "other",
-        Err(fault) => fault,
+fn compare(alloc: Global, settings: &Settings, written: &str) -> &'static str {
+    match written.replace(alloc, " | ", "\n") {
+        Ok(text) => compare_text(alloc, settings, text.as_str()),
+        Err(_) => REFUSED,
     }
 }
 
-/// The settings of a table that is written so, or why there are none.
-fn read(texts: &Texts, written: &str) -> Result<Settings, &'static str> {
-    let Ok(text) = written.replace(texts.alloc, " | ", "\n") else {
-        return Err(REFUSED);
-    };
-    match toml::table_from_str(texts.alloc, text.as_str()) {
-        Ok(table) => Settings::from_table(&table).map_err(|fault| fault.text()),
-        Err(error) if error.is_memory() => Err(REFUSED),
-        Err(_) => Err("(not a table)"),
+fn compare_text(alloc: Global, settings: &Settings, text: &str) -> &'static str {
+    match toml::table_from_str(alloc, text) {
+        Ok(table) => compare_table(settings, &table),
+        Err(error) if error.is_memory() => REFUSED,
+        Err(_) => "(not a table)",
+    }
+}
+
+fn compare_table(settings: &Settings, table: &Table) -> &'static str {
+    match Settings::from_table(table) {
+        Ok(read) => sameness(&read, settings),
+        Err(fault) => fault.text(),
+    }
+}
+
+fn sameness(one: &Settings, other: &Settings) -> &'static str {
+    if one.is_same(other) { "same" } else { "other" }
+}
+
+/// Whether a name is a script's, by a copy of it.
+fn name_kind(texts: &Texts, octets: &[u8]) -> &'static str {
+    match texts.name(octets) {
+        Ok(name) => shared_kind(&name),
+        Err(_) => REFUSED,
+    }
+}
+
+fn shared_kind(name: &Name) -> &'static str {
+    match name.share() {
+        Ok(copy) => kind_of(name, &copy),
+        Err(_) => REFUSED,
+    }
+}
+
+fn kind_of(name: &Name, copy: &Name) -> &'static str {
+    if !copy.is_same(name) {
+        "other"
+    } else if copy.is_valid() {
+        "valid"
+    } else {
+        "refused"
     }
 }

@@ -13,35 +13,14 @@ pub struct Tables {
 
 impl Tables {
     pub fn new(alloc: Global) -> Result<Tables, AllocError> {
+        let teller = match Teller::new(alloc, Form::Full) {
+            Ok(teller) => teller,
+            Err(_) => Teller::new(alloc, Form::Full)?,
+        };
         Ok(Tables {
-            teller: Teller::new(alloc, Form::Full)?,
+            teller,
             story: Story::new(alloc),
         })
-    }
-
-    /// Takes one line.
-    pub fn take(&mut self, line: &str) {
-        if line.is_empty() {
-            return;
-        }
-        if line.starts_with("== ") {
-            self.teller.begin_table(line);
-        } else if line.starts_with("# ") {
-            self.teller.begin_story();
-            self.story.begin();
-        } else {
-            self.tell(line);
-        }
-    }
-
-    /// Makes the call of a row, and again where it found no memory.
-    fn tell(&mut self, row: &str) {
-        let call = call_of(row);
-        self.story.answer(call, self.teller.hear());
-        if self.teller.is_refused(row) {
-            self.story.answer(call, self.teller.hear());
-        }
-        self.teller.compare(row);
     }
 
     /// Takes each line of a text.
@@ -50,5 +29,22 @@ impl Tables {
             self.take(line);
         }
         self.teller.end();
+    }
+
+    /// Takes one line. The call of a row is made again where it found no memory.
+    fn take(&mut self, line: &str) {
+        let Tables { teller, story } = self;
+        if line.starts_with("== ") {
+            teller.begin_table(line);
+        } else if line.starts_with("# ") {
+            teller.begin_story();
+            story.begin();
+        } else if !line.is_empty() {
+            story.answer(call_of(line), teller.hear());
+            if teller.is_refused(line) {
+                story.answer(call_of(line), teller.hear());
+            }
+            teller.compare(line);
+        }
     }
 }

@@ -20,44 +20,29 @@ fn failed(kind: Kind) -> &'static str {
     }
 }
 
-/// The name of a verdict's class, its number, and what follows it.
-fn full_parts(verdict: Verdict) -> (&'static str, usize, &'static str) {
+/// The class of a verdict, in full and in short, its number, and what follows that in full.
+fn parts(verdict: Verdict) -> (&'static str, &'static str, usize, &'static str) {
     match verdict {
-        Verdict::Pass(events) => ("Pass(", events, ")"),
-        Verdict::Fail(line, kind) => ("Fail(", line, failed(kind)),
-        Verdict::Syntax(line) => ("Syntax(", line, ")"),
-        Verdict::Unsupported(line) => ("Unsupported(", line, ")"),
-        Verdict::Limit(line) => ("Limit(", line, ")"),
-    }
-}
-
-/// The same of one that is said in short.
-fn short_parts(verdict: Verdict) -> (&'static str, usize, &'static str) {
-    match verdict {
-        Verdict::Pass(events) => ("pass ", events, ""),
-        Verdict::Fail(line, _) => ("fail ", line, ""),
-        Verdict::Syntax(line) => ("syntax ", line, ""),
-        Verdict::Unsupported(line) => ("unsupported ", line, ""),
-        Verdict::Limit(line) => ("limit ", line, ""),
+        Verdict::Pass(events) => ("Pass(", "pass ", events, ")"),
+        Verdict::Fail(line, kind) => ("Fail(", "fail ", line, failed(kind)),
+        Verdict::Syntax(line) => ("Syntax(", "syntax ", line, ")"),
+        Verdict::Unsupported(line) => ("Unsupported(", "unsupported ", line, ")"),
+        Verdict::Limit(line) => ("Limit(", "limit ", line, ")"),
     }
 }
 
 pub fn say_verdict(said: &mut Said, verdict: Verdict) {
-    let (class, number, rest) = match said.form {
-        Form::Short => short_parts(verdict),
-        Form::Full => full_parts(verdict),
-    };
-    said.say(class);
-    said.number(number as u64);
-    said.say(rest);
+    let (full, short, number, behind) = parts(verdict);
+    match said.form {
+        Form::Short => said.count(short, number as u64, ""),
+        Form::Full => said.count(full, number as u64, behind),
+    }
 }
 
 /// Says the verdict of a run, and how many steps it took.
 pub fn say_ran(said: &mut Said, verdict: Verdict, steps: u64) {
     say_verdict(said, verdict);
-    said.say(", ");
-    said.number(steps);
-    said.say(" steps");
+    said.count(", ", steps, " steps");
 }
 
 /// Says each script and its verdict, with its text and the settings or without.
@@ -66,16 +51,12 @@ pub fn say_report(said: &mut Said, report: &Report, is_whole: bool) {
         say_settings(said, &report.settings());
     }
     for row in report.rows() {
-        say_row(said, row);
-        if is_whole {
-            say_lines(said, row.text.lines());
-            said.say(", ");
-        }
+        say_row(said, row, is_whole);
     }
 }
 
-/// Says a script's name, and its verdict or `pending`.
-fn say_row(said: &mut Said, row: &Row) {
+/// Says a script's name, and its verdict or `pending`, with its text or without.
+fn say_row(said: &mut Said, row: &Row, is_whole: bool) {
     said.say_octets(row.name.as_slice());
     said.say(" ");
     match row.verdict {
@@ -83,50 +64,55 @@ fn say_row(said: &mut Said, row: &Row) {
         None => said.say("pending"),
     }
     said.say(", ");
+    if is_whole {
+        say_lines(said, row.text.lines());
+        said.say(", ");
+    }
 }
 
 /// Says how many verdicts are owed; `end` where nobody counts them.
 pub fn say_owed(said: &mut Said, owed: Option<usize>) {
     match owed {
-        Some(owed) => {
-            said.number(owed as u64);
-            said.say(" owed");
-        }
+        Some(owed) => said.count("", owed as u64, " owed"),
         None => said.say("end"),
     }
 }
 
-/// Says a job's number, script and lines, and its tolerance unless that is said in short.
-pub fn say_start(said: &mut Said, job: &Job) {
-    said.number(job.number());
-    said.say(" ");
+/// Says a job's number and script.
+fn say_task(said: &mut Said, job: &Job) {
+    said.count("", job.number(), " ");
     said.say_octets(job.name().as_slice());
     said.say(", ");
-    said.number(job.text().lines().len() as u64);
-    said.say(" lines");
-    if matches!(said.form, Form::Full) {
-        said.say(", ");
-        said.number(job.settings().tolerance_us);
-        said.say(" us");
+}
+
+/// Says a job's number, script and lines, and its tolerance unless that is said in short.
+pub fn say_start(said: &mut Said, job: &Job) {
+    say_task(said, job);
+    said.count("", job.text().lines().len() as u64, " lines");
+    match said.form {
+        Form::Short => {}
+        Form::Full => said.count(", ", job.settings().tolerance_us, " us"),
     }
 }
 
 /// Says a job in whole: its number, script, settings and text.
 pub fn say_job(said: &mut Said, job: &Job) {
-    said.number(job.number());
-    said.say(" ");
-    said.say_octets(job.name().as_slice());
-    said.say(", ");
+    say_task(said, job);
     say_settings(said, &job.settings());
     say_lines(said, job.text().lines());
 }
 
 /// Says the lines of a text, parted by ` | `.
 pub fn say_lines(said: &mut Said, lines: &Lines) {
-    for number in 1..=lines.len() {
-        if number != 1 {
-            said.say(" | ");
-        }
-        said.say_octets(lines.line(number).unwrap_or(b"(none)"));
+    for place in 0..lines.len() {
+        say_line(said, place, lines.line(place + 1));
     }
+}
+
+/// Says a line at its place, from 0 on.
+pub fn say_line(said: &mut Said, place: usize, line: Option<&[u8]>) {
+    if place != 0 {
+        said.say(" | ");
+    }
+    said.say_octets(line.unwrap_or(b"(none)"));
 }

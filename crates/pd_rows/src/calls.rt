@@ -47,7 +47,7 @@ pub fn call<C: Calls>(
     let owed = book.owed();
     let is_known = change(book, texts, word, words, said)
         || work(book, tasks, texts, word, words, said)
-        || look(book, tasks, word, words, said);
+        || look(book, tasks.as_slice(), word, words, said);
     if said.is_refused() && (book.acts().len() != acts || book.owed() != owed) {
         said.say(", and something changed");
     }

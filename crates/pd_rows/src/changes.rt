@@ -3,6 +3,7 @@ use crate::calls::Calls;
 use crate::said::{REFUSED, Said};
 use crate::texts::Texts;
 use crate::words::Words;
+use pd_text::Name;
 
 /// Makes a change; whether there is such a call.
 pub fn change<C: Calls>(
@@ -13,41 +14,45 @@ pub fn change<C: Calls>(
     said: &mut Said,
 ) -> bool {
     match word {
-        "add" => said.say(add(book, texts, words)),
-        "edit" => said.say(edit(book, texts, words)),
-        "remove" => said.say(remove(book, texts, words)),
-        "set" => {
-            let key = words.word().as_bytes();
-            said.say(book.set(key, words.value()));
-        }
+        "set" => set(book, words, said),
+        "add" | "edit" | "remove" => said.say(change_script(book, texts, word, words)),
         _ => return false,
     }
     true
 }
 
-fn add<C: Calls>(book: &mut C, texts: &Texts, words: &mut Words<'_>) -> &'static str {
-    let Ok(name) = texts.name(words.name()) else {
-        return REFUSED;
-    };
-    match texts.text(words.rest) {
+fn set<C: Calls>(book: &mut C, words: &mut Words<'_>, said: &mut Said) {
+    let key = words.word().as_bytes();
+    said.say(book.set(key, words.value()));
+}
+
+/// Adds, edits or removes the script that is named.
+fn change_script<C: Calls>(
+    book: &mut C,
+    texts: &Texts,
+    word: &str,
+    words: &mut Words<'_>,
+) -> &'static str {
+    match texts.name(words.name()) {
+        Ok(name) => match word {
+            "add" => add(book, texts, name, words.rest),
+            "edit" => edit(book, texts, &name, words),
+            _ => book.remove(&name),
+        },
+        Err(_) => REFUSED,
+    }
+}
+
+fn add<C: Calls>(book: &mut C, texts: &Texts, name: Name, written: &str) -> &'static str {
+    match texts.text(written) {
         Ok(text) => book.add(name, text),
         Err(fault) => fault.text(),
     }
 }
 
-fn edit<C: Calls>(book: &mut C, texts: &Texts, words: &mut Words<'_>) -> &'static str {
-    let Ok(name) = texts.name(words.name()) else {
-        return REFUSED;
-    };
+fn edit<C: Calls>(book: &mut C, texts: &Texts, name: &Name, words: &mut Words<'_>) -> &'static str {
     match texts.edit(words) {
-        Ok(edit) => book.edit(&name, &edit),
-        Err(_) => REFUSED,
-    }
-}
-
-fn remove<C: Calls>(book: &mut C, texts: &Texts, words: &mut Words<'_>) -> &'static str {
-    match texts.name(words.name()) {
-        Ok(name) => book.remove(&name),
+        Ok(edit) => book.edit(name, &edit),
         Err(_) => REFUSED,
     }
 }

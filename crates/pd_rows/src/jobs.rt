@@ -1,4 +1,6 @@
 //! Jobs of a book: their start, their run and their end.
+ghost use Rattle.std.specs.Prelude.{◌<◌, vec_len, vec_capacity};
+
 use crate::answers::{say_ran, say_start};
 use crate::calls::Calls;
 use crate::said::{MISSING, REFUSED, Said};
@@ -9,6 +11,7 @@ use crate::words::Words;
 use pd_book::Job;
 use pd_settings::{Settings, Value};
 use pd_text::{Text, TextFault};
+use std::alloc::Global;
 
 /// Starts, runs or ends a job; whether there is such a call.
 pub fn work<C: Calls>(
@@ -21,18 +24,13 @@ pub fn work<C: Calls>(
 ) -> bool {
     match word {
         "start" => start(book, tasks, said),
-        "run" => say_run(tasks, texts, words.number(), said),
-        "finish" => said.say(finish(book, tasks, texts, words.number())),
-        "give" => said.say(give(book, tasks, texts, words)),
-        "abandon" => said.say(abandon(book, tasks, words.number())),
+        "run" => say_run(tasks, texts, words, said),
+        "finish" => say_finish(book, tasks, texts, words, said),
+        "give" => give(book, tasks, texts, words, said),
+        "abandon" => abandon(book, tasks, words, said),
         _ => return false,
     }
     true
-}
-
-/// The job of a number, of those from 1 on.
-pub fn job(tasks: &mut Vec<Task>, number: u64) -> Option<&mut Task> {
-    tasks.get_mut((number as usize).wrapping_sub(1))
 }
 
 /// Starts a job, once there is room to keep it.
@@ -41,35 +39,56 @@ fn start<C: Calls>(book: &mut C, tasks: &mut Vec<Task>, said: &mut Said) {
         return said.say(REFUSED);
     }
     match book.start() {
-        Ok(task) => {
-            say_start(said, &task.job);
-            if tasks.push(task).is_err() {
-                said.is_whole = false;
-            }
-        }
+        Ok(task) => keep(tasks, task, said),
         Err(word) => said.say(word),
     }
 }
 
-/// Runs a job, and says its verdict and its steps.
-fn say_run(tasks: &mut Vec<Task>, texts: &Texts, number: u64, said: &mut Said) {
+fn keep(tasks: &mut Vec<Task>, task: Task, said: &mut Said)
+    requires { vec_len tasks.old < vec_capacity tasks.old }
+{
+    say_start(said, &task.job);
+    tasks.push_reserved(task);
+}
+
+/// The job of a number, of those from 1 on.
+pub fn job(tasks: &[Task], number: u64) -> Option<&Task> {
+    tasks.get((number as usize).wrapping_sub(1))
+}
+
+/// The seat that a job was given to.
+fn seat_of(tasks: &[Task], number: u64) -> Option<usize> {
     match job(tasks, number) {
-        Some(task) => match task.result(texts) {
-            Some(ran) => say_ran(said, ran.done.verdict(), ran.steps),
-            None => said.say(REFUSED),
-        },
-        None => said.say(MISSING),
+        Some(task) => task.seat,
+        None => None,
+    }
+}
+
+/// The result of the job of a number, or why there is none.
+fn result_of<'a>(
+    tasks: &'a mut Vec<Task>,
+    texts: &Texts,
+    number: u64,
+) -> Result<&'a Ran, &'static str> {
+    match tasks.get_mut((number as usize).wrapping_sub(1)) {
+        Some(task) => task.result(texts.alloc).ok_or(REFUSED),
+        None => Err(MISSING),
+    }
+}
+
+/// Runs a job, and says its verdict and its steps.
+fn say_run(tasks: &mut Vec<Task>, texts: &Texts, words: &mut Words<'_>, said: &mut Said) {
+    match result_of(tasks, texts, words.number()) {
+        Ok(ran) => say_ran(said, ran.done.verdict(), ran.steps),
+        Err(word) => said.say(word),
     }
 }
 
 /// Says how many steps a job took, which is run first if it wasn't yet.
 pub fn say_steps(tasks: &mut Vec<Task>, texts: &Texts, number: u64, said: &mut Said) {
-    match job(tasks, number) {
-        Some(task) => match task.result(texts) {
-            Some(ran) => said.number(ran.steps),
-            None => said.say(REFUSED),
-        },
-        None => said.say(MISSING),
+    match result_of(tasks, texts, number) {
+        Ok(ran) => said.number(ran.steps),
+        Err(word) => said.say(word),
     }
 }
 
@@ -80,41 +99,57 @@ pub fn finish<C: Calls>(
     texts: &Texts,
     number: u64,
 ) -> &'static str {
-    let Some(task) = job(tasks, number) else {
-        return MISSING;
-    };
-    let seat = task.seat;
-    match task.result(texts) {
-        Some(ran) => book.finish(&ran.done, seat),
-        None => REFUSED,
+    let seat = seat_of(tasks.as_slice(), number);
+    match result_of(tasks, texts, number) {
+        Ok(ran) => book.finish(&ran.done, seat),
+        Err(word) => word,
     }
+}
+
+fn say_finish<C: Calls>(
+    book: &mut C,
+    tasks: &mut Vec<Task>,
+    texts: &Texts,
+    words: &mut Words<'_>,
+    said: &mut Said,
+) {
+    said.say(finish(book, tasks, texts, words.number()));
 }
 
 /// Finishes a job with the result of one that no book handed out.
 fn give<C: Calls>(
     book: &mut C,
-    tasks: &mut Vec<Task>,
+    tasks: &[Task],
     texts: &Texts,
     words: &mut Words<'_>,
-) -> &'static str {
+    said: &mut Said,
+) {
     match foreign(tasks, texts, words) {
-        Ok(ran) => book.finish(&ran.done, None),
-        Err(fault) => fault.text(),
+        Ok(job) => said.say(finish_foreign(book, texts.alloc, job)),
+        Err(fault) => said.say(fault.text()),
     }
 }
 
-/// The result of a job of the number, the script, the tolerance and the text that a call names, with the other settings of
-/// the job of that number.
-fn foreign(tasks: &mut Vec<Task>, texts: &Texts, words: &mut Words<'_>) -> Result<Ran, TextFault> {
+fn finish_foreign<C: Calls>(book: &mut C, alloc: Global, job: Job) -> &'static str {
+    match run(alloc, job) {
+        Some(ran) => book.finish(&ran.done, None),
+        None => REFUSED,
+    }
+}
+
+/// The job of the number, the script, the tolerance and the text that a call names, with the other settings of the job of
+/// that number.
+fn foreign(tasks: &[Task], texts: &Texts, words: &mut Words<'_>) -> Result<Job, TextFault> {
     let number = words.number();
-    let name = texts.name(words.name())?;
+    let octets = words.name();
     let settings = settings_like(tasks, number, words.number());
     let text = Text::new(texts.alloc, texts.text(words.rest)?)?;
-    Ok(run(texts, Job::new(number, name, text, settings, None))?)
+    let name = texts.name(octets)?;
+    Ok(Job::new(number, name, text, settings, None))
 }
 
 /// The settings of the job of a number, or the defaults where there is none, with a tolerance in microseconds.
-fn settings_like(tasks: &mut Vec<Task>, number: u64, tolerance: u64) -> Settings {
+fn settings_like(tasks: &[Task], number: u64, tolerance: u64) -> Settings {
     let settings = match job(tasks, number) {
         Some(task) => task.job.settings(),
         None => Settings::new(),
@@ -122,10 +157,7 @@ fn settings_like(tasks: &mut Vec<Task>, number: u64, tolerance: u64) -> Settings
     with(&settings, b"tolerance_us", Value::Number(tolerance)).unwrap_or(settings)
 }
 
-fn abandon<C: Calls>(book: &mut C, tasks: &mut Vec<Task>, number: u64) -> &'static str {
-    let seat = match job(tasks, number) {
-        Some(task) => task.seat,
-        None => None,
-    };
-    book.abandon(number, seat)
+fn abandon<C: Calls>(book: &mut C, tasks: &[Task], words: &mut Words<'_>, said: &mut Said) {
+    let number = words.number();
+    said.say(book.abandon(number, seat_of(tasks, number)));
 }

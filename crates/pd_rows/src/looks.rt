@@ -6,28 +6,12 @@ use crate::jobs::job;
 use crate::said::{MISSING, Said};
 use crate::tasks::Task;
 use crate::words::Words;
+use pd_book::Act;
 
 /// Looks at a book, or at a job; whether there is such a call.
 pub fn look<C: Calls>(
     book: &mut C,
-    tasks: &mut Vec<Task>,
-    word: &str,
-    words: &mut Words<'_>,
-    said: &mut Said,
-) -> bool {
-    match word {
-        "acts" => say_acts(said, book.acts(), false),
-        "log" => say_acts(said, book.acts(), true),
-        "history" => said.number(book.acts().len() as u64),
-        "owed" => say_owed(said, book.owed()),
-        _ => return look_again(book, tasks, word, words, said),
-    }
-    true
-}
-
-fn look_again<C: Calls>(
-    book: &mut C,
-    tasks: &mut Vec<Task>,
+    tasks: &[Task],
     word: &str,
     words: &mut Words<'_>,
     said: &mut Said,
@@ -35,13 +19,29 @@ fn look_again<C: Calls>(
     match word {
         "show" => show(book, said, false),
         "whole" => show(book, said, true),
-        "job" => match job(tasks, words.number()) {
-            Some(task) => say_job(said, &task.job),
-            None => said.say(MISSING),
-        },
+        "owed" => say_owed(said, book.owed()),
+        "job" => say_one(tasks, words, said),
+        _ => return look_back(book.acts(), word, said),
+    }
+    true
+}
+
+/// Looks at the acts of a book; whether there is such a call.
+fn look_back(acts: &[Act], word: &str, said: &mut Said) -> bool {
+    match word {
+        "acts" => say_acts(said, acts, false),
+        "log" => say_acts(said, acts, true),
+        "history" => said.number(acts.len() as u64),
         _ => return false,
     }
     true
+}
+
+fn say_one(tasks: &[Task], words: &mut Words<'_>, said: &mut Said) {
+    match job(tasks, words.number()) {
+        Some(task) => say_job(said, &task.job),
+        None => said.say(MISSING),
+    }
 }
 
 /// Says each script and its verdict, with its text and the settings or without, and how many verdicts are owed.

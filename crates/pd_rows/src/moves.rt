@@ -4,11 +4,9 @@ use crate::said::{MISSING, Said};
 /// Moves so many of the last items, the last first, and says `ok`, or that there are fewer.
 pub fn move_last<T: Drop>(from: &mut Vec<T>, to: &mut Vec<T>, count: u64, said: &mut Said) {
     for _item in 0..count {
-        let Some(item) = from.pop() else {
-            return said.say(MISSING);
-        };
-        if to.push(item).is_err() {
-            said.is_whole = false;
+        match from.pop() {
+            Some(item) => said.is_whole &= to.push(item).is_ok(),
+            None => return said.say(MISSING),
         }
     }
     said.say("ok");

@@ -69,9 +69,7 @@ impl Said {
     }
 
     pub fn say(&mut self, piece: &str) {
-        if self.text.push_str(piece).is_err() {
-            self.is_whole = false;
-        }
+        self.is_whole &= self.text.push_str(piece).is_ok();
     }
 
     pub fn say_octets(&mut self, octets: &[u8]) {
@@ -92,9 +90,14 @@ impl Said {
     /// Says the last digit of a number.
     fn digit(&mut self, number: u64) {
         let digit = b'0' + (number % 10) as u8;
-        if self.text.push(char::from(digit)).is_err() {
-            self.is_whole = false;
-        }
+        self.is_whole &= self.text.push(char::from(digit)).is_ok();
+    }
+
+    /// Says a number, what stands before it and what behind it.
+    pub fn count(&mut self, before: &str, number: u64, behind: &str) {
+        self.say(before);
+        self.number(number);
+        self.say(behind);
     }
 
     /// Whether the call found no memory.

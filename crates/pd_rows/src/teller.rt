@@ -4,14 +4,33 @@ use crate::said::{Form, REFUSED, Said};
 use std::alloc::{AllocError, Global};
 use std::io;
 
-/// The call of a row, and what follows ` -> `: the answers that are wanted.
-fn halves(row: &str) -> (&str, &str) {
-    row.split_once(" -> ").unwrap_or((row, ""))
+/// What parts a call from its answers, and one of these from the next.
+const GIVES: &str = " -> ";
+
+const OR: &str = " or ";
+
+/// What stands before a mark, and what behind it: nothing where there is no mark.
+fn halves<'a>(text: &'a str, mark: &str) -> (&'a str, &'a str) {
+    text.split_once(mark).unwrap_or((text, ""))
 }
 
 /// The call of a row.
 pub fn call_of(row: &str) -> &str {
-    halves(row).0
+    halves(row, GIVES).0
+}
+
+/// The answers of a row.
+fn answers_of(row: &str) -> &str {
+    halves(row, GIVES).1
+}
+
+/// Whether an answer is one of those that are written.
+fn is_among(answer: &str, written: &str) -> bool {
+    let mut is_there = false;
+    for one in written.split(OR) {
+        is_there |= one == answer;
+    }
+    is_there
 }
 
 /// How many stories and rows a table has so far, and what is to be printed of it.
@@ -68,22 +87,27 @@ impl Teller {
 
     /// Whether the call of a row found no memory, and is to be made again.
     pub fn is_refused(&mut self, row: &str) -> bool {
-        let is_refused = self.said.is_refused() && halves(row).1 != REFUSED;
-        self.is_repeated = self.is_repeated || is_refused;
+        let is_refused = self.said.is_refused() && answers_of(row) != REFUSED;
+        self.is_repeated |= is_refused;
         is_refused
     }
 
     /// Compares the answer with those that are written. Where it is none of these, the row is to be printed.
     pub fn compare(&mut self, row: &str) {
         self.rows = self.rows.wrapping_add(1);
-        let mut is_first = true;
-        for one in halves(row).1.split(" or ") {
-            if self.said.as_str() == one {
-                self.is_otherwise = self.is_otherwise || !is_first;
-                return;
-            }
-            is_first = false;
+        let written = answers_of(row);
+        if self.said.as_str() == halves(written, OR).0 {
+            return;
         }
+        if is_among(self.said.as_str(), written) {
+            self.is_otherwise = true;
+        } else {
+            self.differ(row);
+        }
+    }
+
+    /// Tells a row that got another answer.
+    fn differ(&mut self, row: &str) {
         self.differing = self.differing.wrapping_add(1);
         self.agrees = false;
         self.told.say(row);
@@ -105,13 +129,10 @@ impl Teller {
     /// Says how many rows there are and how many of them differ, and how many stories where these are counted.
     fn say_counts(&mut self) {
         if self.stories != 0 {
-            self.told.number(self.stories);
-            self.told.say(" stories, ");
+            self.told.count("", self.stories, " stories, ");
         }
-        self.told.number(self.rows);
-        self.told.say(" rows, ");
-        self.told.number(self.differing);
-        self.told.say(" differ\n");
+        self.told.count("", self.rows, " rows, ");
+        self.told.count("", self.differing, " differ\n");
     }
 
     /// Ends the last table.
@@ -131,9 +152,11 @@ impl Teller {
     /// # Errors
     /// Where the output fails, or something that was to be said found no room.
     pub fn print(&mut self, rt: &impl Print) -> io::Result<()> {
-        self.said.whole()?;
-        rt.print(self.told.whole()?)?;
+        if !(self.said.is_whole && self.told.is_whole) {
+            return Err(AllocError.into());
+        }
+        let printed = rt.print(self.told.as_str());
         self.told.clear();
-        Ok(())
+        printed
     }
 }

@@ -6,11 +6,11 @@ use crate::words::Words;
 use pd_text::{LineEdit, LineList, Lines, Name, TextFault};
 use std::alloc::{AllocError, Global};
 
-/// A word, and the lines that it stands for, parted by ` | `.
+/// A word, and the lines that it stands for.
 #[derive(Drop)]
 struct Meaning {
     word: String,
-    lines: String,
+    lines: LineList,
 }
 
 /// The words that stand for lines, the newest last.
@@ -30,19 +30,19 @@ impl Texts {
 
     /// From now on a word stands for these lines.
     pub fn define(&mut self, word: &str, lines: &str) -> Result<(), AllocError> {
-        let meaning = Meaning {
-            word: String::from_str(self.alloc, word)?,
-            lines: String::from_str(self.alloc, lines)?,
-        };
-        self.meanings.push(meaning).or(Err(AllocError))
+        let word = String::from_str(self.alloc, word)?;
+        let lines = self.list(lines)?;
+        self.meanings
+            .push(Meaning { word, lines })
+            .or(Err(AllocError))
     }
 
-    /// The lines that a word stands for; it stands for itself where nothing else is said.
-    fn meaning<'a>(&'a self, word: &'a str) -> &'a str {
-        let mut lines = word;
+    /// The lines that a word stands for, if it does.
+    fn meaning(&self, word: &str) -> Option<&LineList> {
+        let mut lines = None;
         for meaning in self.meanings.iter() {
             if meaning.word.as_str() == word {
-                lines = meaning.lines.as_str();
+                lines = Some(&meaning.lines);
             }
         }
         lines
@@ -51,26 +51,26 @@ impl Texts {
     /// The list of the lines and words that are written, parted by ` | `.
     fn list(&self, written: &str) -> Result<LineList, AllocError> {
         let mut list = LineList::new(self.alloc);
+        let mut is_whole = true;
         for word in written.split(" | ") {
-            self.add_lines(&mut list, self.meaning(word))?;
+            is_whole &= self.add(&mut list, word).is_ok();
         }
-        Ok(list)
+        if is_whole { Ok(list) } else { Err(AllocError) }
     }
 
-    fn add_lines(&self, list: &mut LineList, lines: &str) -> Result<(), AllocError> {
-        if lines.is_empty() {
-            return Ok(());
+    /// Adds the lines that a word stands for, or it as a line.
+    fn add(&self, list: &mut LineList, word: &str) -> Result<(), AllocError> {
+        match self.meaning(word) {
+            Some(lines) => list.push_lines(lines, 0, lines.len()),
+            None => self.add_line(list, word),
         }
-        for line in lines.split(" | ") {
-            self.add_line(list, line)?;
-        }
-        Ok(())
     }
 
-    /// Adds a line: `(empty)` is the empty one, `(blanks) N` one of so many blanks.
+    /// Adds a line, unless nothing is written: `(empty)` is the empty one, `(blanks) N` one of so many blanks.
     fn add_line(&self, list: &mut LineList, written: &str) -> Result<(), AllocError> {
         let mut words = Words::new(written);
         match words.word() {
+            "" => Ok(()),
             "(empty)" => push(list, b""),
             "(blanks)" => self.add_blanks(list, words.number() as usize),
             _ => push(list, written.as_bytes()),
@@ -111,9 +111,10 @@ impl Texts {
 /// Adds a line, if it has no newline.
 fn push(list: &mut LineList, octets: &[u8]) -> Result<(), AllocError> {
     if is_line(octets) {
-        list.push(octets)?;
+        list.push(octets)
+    } else {
+        Ok(())
     }
-    Ok(())
 }
 
 fn is_line(octets: &[u8]) -> bool

@@ -34,12 +34,17 @@ pub fn say_value(said: &mut Said, value: Value) {
     }
 }
 
+/// Says a setting and its value.
+pub fn say_set(said: &mut Said, key: Key, value: Value) {
+    said.say_octets(key.name());
+    said.say(" ");
+    say_value(said, value);
+}
+
 /// Says what each setting is set to.
 pub fn say_settings(said: &mut Said, settings: &Settings) {
-    for key in Key::ALL {
-        said.say_octets(key.name());
-        said.say(" ");
-        say_value(said, value_of(settings, key));
+    for key in Key::ALL.iter() {
+        say_set(said, *key, value_of(settings, *key));
         said.say(", ");
     }
 }
