@@ -9,6 +9,7 @@ use pd_seat::Seat;
 use std::alloc::Global;
 use std::sync::atomic::Ordering;
 use std::sync::{Mutex, Wait};
+use std::thread;
 
 /// Does what the letter of this place says, once those before it had turns to fall asleep.
 pub fn sit<R: Wait>(
@@ -59,6 +60,9 @@ fn settle_often<R: Wait>(chair: &mut Chair<'_, '_, R>, progress: &Progress) -> &
         }
         if progress.changing.load(Ordering::SeqCst) == 0 {
             break;
+        }
+        for _turn in 0..16 {
+            thread::yield_now();
         }
     }
     "settled"
