@@ -19,6 +19,13 @@ pub fn await_count(counted: &AtomicU64, count: u64) -> bool {
     false
 }
 
+/// Gives so many turns to others.
+pub fn give_way(turns: u64) {
+    for _turn in 0..turns {
+        thread::yield_now();
+    }
+}
+
 /// How many threads work until the desk is shut, and how many end by themselves. How far they are: how many have begun, ended,
 /// or ended to work, how many make changes, how many took a first step, and how many waits came to no end within the turns.
 #[derive(Drop)]
@@ -60,9 +67,7 @@ impl Progress {
     /// Waits until so many have begun, gives them turns to fall asleep, and begins.
     pub fn begin_after(&self, before: u64) {
         let _ = await_count(&self.begun, before);
-        for _turn in 0..SLEEP {
-            thread::yield_now();
-        }
+        give_way(SLEEP);
         self.begun.fetch_add(1, Ordering::SeqCst);
     }
 

@@ -1,6 +1,6 @@
 //! What a thread does at a seat of its own.
 use crate::chairs::{Chair, say_shown};
-use crate::progress::Progress;
+use crate::progress::{Progress, give_way};
 use crate::stories::changes::change_often;
 use crate::watched::{Manner, work};
 use pd_desk::Desk;
@@ -9,7 +9,10 @@ use pd_seat::Seat;
 use std::alloc::Global;
 use std::sync::atomic::Ordering;
 use std::sync::{Mutex, Wait};
-use std::thread;
+
+/// How many turns lie between two settles of a thread. A lock goes to whoever asks for it while it is free: without these turns
+/// those that wait for it starve on few processors.
+const BETWEEN: u64 = 16;
 
 /// Does what the letter of this place says, once those before it had turns to fall asleep.
 pub fn sit<R: Wait>(
@@ -61,9 +64,7 @@ fn settle_often<R: Wait>(chair: &mut Chair<'_, '_, R>, progress: &Progress) -> &
         if progress.changing.load(Ordering::SeqCst) == 0 {
             break;
         }
-        for _turn in 0..16 {
-            thread::yield_now();
-        }
+        give_way(BETWEEN);
     }
     "settled"
 }
