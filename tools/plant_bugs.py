@@ -1,13 +1,15 @@
 #!/usr/bin/env -S python3 -I
-"""Plants the bugs of crates/*/bugs, which no contract refuses, one at a time, and tells whether a test sees each of them.
+"""Plants the bugs of crates/*/bugs, which no contract refuses, one at a time, and tells whether its test sees each.
 
 A bug is a file `NAME.edit`. Its line `fails:` names the test that has to see it: `story TITLE`, a story of
-crates/pd_desk_trials/stdin, or `run NAME`, a run of crates/pdregress/runs.txt. Then come a line `file:` and lines `old:` and
-`new:`, as in an edit that must fail; but there may be several of these pairs, and blanks and newlines count alike.
+crates/pd_desk_trials/stdin, or `run NAME`, a run of crates/pdregress/runs.txt. Then come a line `file:` and lines
+`old:` and `new:`, as in an edit that must fail; but there may be several of these pairs, and blanks and newlines count
+alike.
 
-The programs are built without proofs, on copies of the crates. First each test is to pass on the crates as they are. Then a bug
-is seen where its test answers otherwise, or comes to no end in time, each time that it is run. Prints a line for each bug, and
-`N seen, M not seen` last; the status is 0 where M is 0. Outside the gate: run it when the desk changes, or its tests.
+The programs are built without proofs, on copies of the crates. First each test is to pass on the crates as they are.
+Then a bug is seen where its test answers otherwise, or comes to no end in time, each time that it is run. Prints a line
+for each bug, and `N seen, M not seen` last; the status is 0 where M is 0. Outside the gate: run it when the desk
+changes, or its tests.
 """
 
 import argparse
@@ -17,6 +19,7 @@ import shutil
 import subprocess
 import sys
 import tempfile
+from collections.abc import Iterator
 from concurrent.futures import ThreadPoolExecutor
 from dataclasses import dataclass
 from pathlib import Path
@@ -24,8 +27,9 @@ from pathlib import Path
 TOP = Path(__file__).resolve().parents[1]
 STORIES = TOP / "crates" / "pd_desk_trials" / "stdin"
 RUNS = TOP / "crates" / "pdregress" / "runs.txt"
-# What `rt try` says of a case: its name, what the program says, and how it ended, with a status if it did.
-SAID = re.compile(r"^== (case\d+)\n(.*?)^case=\1 ([^\n]*)$", re.MULTILINE | re.DOTALL)
+# The line with which `rt try` ends what it says of a case.
+END = re.compile(r"^case=(case\d+) (.*)$", re.MULTILINE)
+LATE = "did not end within the time limit"
 
 
 class Refused(Exception):
@@ -133,7 +137,8 @@ def run(lines: "list[str]") -> Test:
 
     words = after("$ ")
     given = "".join(f"{line}\n" for line in after("< "))
-    wanted = "".join(f"{line}\n" for line in after("> ", "! ")) + "".join(f"status {status}\n" for status in after("= "))
+    statuses = (f"status {status}" for status in after("= "))
+    wanted = "".join(f"{line}\n" for line in (*after("> ", "! "), *statuses))
     counts = [count for line in after("* ") for count in line.split()]
     cases = (Case((*words, "--workers", count), given, wanted) for count in counts)
     return Test("pdregress", tuple(cases))
@@ -181,15 +186,23 @@ def differing(test: Test, top: Path, times: int, seconds: int) -> "tuple[int, in
         text=True,
         errors="replace",
     ).stdout
-    said = SAID.findall(tried)
-    if len(said) != len(wanted):
+    said = dict(answers(tried))
+    if said.keys() != wanted.keys():
         raise Refused(f"{test.program} isn't built:\n{tried[-1000:]}")
-    return sum(lines + status_line(end) != wanted[name] for name, lines, end in said), len(wanted)
+    return sum(said[name] != wanted[name] for name in wanted), len(wanted)
 
 
-def status_line(end: str) -> str:
-    status = re.search(r"\bstatus=(\d+)", end)
-    return f"status {status[1]}\n" if status else "no end\n"
+def answers(tried: str) -> "Iterator[tuple[str, str]]":
+    """What `rt try` says of each case that has a status, or that came to no end in time, by the case's name."""
+    begin = 0
+    for end in END.finditer(tried):
+        said = tried[begin : end.start()].partition(f"== {end[1]}\n")[2]
+        status = re.search(r"\bstatus=(\d+)", end[2])
+        if status:
+            yield end[1], f"{said}status {status[1]}\n"
+        elif LATE in tried[begin : end.start()]:
+            yield end[1], "no end\n"
+        begin = end.end() + 1
 
 
 def try_bug(bug: Bug, test: Test, work: Path, times: int, seconds: int) -> bool:
@@ -221,7 +234,8 @@ def refuse_failing(wanted: "dict[str, Test]", work: Path, seconds: int) -> None:
 
 
 def parse_words() -> argparse.Namespace:
-    parser = argparse.ArgumentParser(description="Plants the bugs of crates/*/bugs, and tells whether a test sees each.")
+    about = "Plants the bugs of crates/*/bugs, and tells whether its test sees each."
+    parser = argparse.ArgumentParser(description=about)
     parser.add_argument("names", metavar="NAME", nargs="*", help="the bugs to plant; all if none is named")
     parser.add_argument("-j", dest="at_once", type=int, default=os.cpu_count() or 1, help="how many are tried at once")
     parser.add_argument("--times", type=int, default=10, help="how often each test is run (10)")
@@ -244,7 +258,8 @@ def main() -> int:
         work = Path(folder)
         refuse_failing({bug.test: known[bug.test] for bug in chosen}, work, words.seconds)
         with ThreadPoolExecutor(max(1, words.at_once)) as pool:
-            seen = list(pool.map(lambda bug: try_bug(bug, known[bug.test], work, words.times, words.seconds), chosen))
+            tried = [pool.submit(try_bug, bug, known[bug.test], work, words.times, words.seconds) for bug in chosen]
+            seen = [one.result() for one in tried]
     print(f"{sum(seen)} seen, {len(seen) - sum(seen)} not seen")
     return 0 if all(seen) else 1
 
