@@ -6,7 +6,7 @@ use std::alloc::Global;
 use std::sync::Wait;
 
 /// How often a thread that changes scripts does so.
-const CHANGES: u64 = 300;
+const CHANGES: u64 = 1_000;
 
 /// The script of a thread, and an edit of it.
 const LINE: &str = "0 socket(..., SOCK_STREAM, IPPROTO_TCP) = 3";
