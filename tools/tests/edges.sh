@@ -1,8 +1,9 @@
 #!/bin/sh
 # Tests of tools/add_scripts.sh on files that can't be added, of ./pdregress, ./pdsteps, ./pdexplain and ./pdrecord called
-# through links, in a copy whose programs say their names, and of tools/record.sh, in a copy whose programs stand in; and
-# whether tools/random_lists.py, tools/random_boards.py and tools/random_packets.py make the rows that are stored. Prints a
-# line for each, and `N passed, M failed` last.
+# through links, in a copy whose programs say their names, of tools/build.py, on crates of which an `rt` says that they are
+# proved, and of tools/record.sh, in a copy whose programs stand in; and whether tools/random_lists.py,
+# tools/random_boards.py and tools/random_packets.py make the rows that are stored. Prints a line for each, and
+# `N passed, M failed` last.
 set -eu
 top=$(cd "$(dirname "$0")/../.." && pwd)
 work=$(mktemp -d)
@@ -138,6 +139,76 @@ test_links() {
     expect folders-to-search "$(printf 'pdregress \nstatus 0')" in_folder "$work" env CDPATH="$work/far:/" tree/pdregress
 }
 
+# Crates that stand on each other, and an `rt` that stands in: it proves a crate once those that it names are proved there, in
+# a moment, and notes in which tree.
+make_crates() {
+    mkdir -p "$work/build/tools" "$work/rt"
+    cp "$top/tools/build.py" "$top/tools/crate_graph.py" "$top/tools/built.sh" "$top/tools/crates_below.sh" "$work/build/tools"
+    cp "$top/pdregress" "$top/HANDLES" "$work/build"
+    printf '%s\n' '# NAME: DEP DEP ..' low: 'left: low' 'right may_wait=1: low toml' 'high: left right' 'pdregress: high' >"$work/build/crates.txt"
+    for crate in low left right high pdregress; do
+        mkdir -p "$work/build/crates/$crate/src"
+        echo 'fn f() {}' >"$work/build/crates/$crate/src/lib.rt"
+    done
+    cat >"$work/rt/rt" <<END
+#!/bin/sh
+crate=\${PWD##*/}
+for low in \$(sed -n "s/^\$crate[ :].*: *//p; s/^\$crate://p" ../../crates.txt); do
+    [ "\$low" = toml ] || [ -e "../\$low/out/rlib/proved" ] || { echo "lacks \$low"; exit 1; }
+done
+! grep -q goal src/lib.rt || { echo 'a goal'; exit 1; }
+echo "\${PWD%/crates/*}" >>"$work/rt/trees"
+sleep "\${TAKES:-0}"
+mkdir -p out/rlib out/incremental
+echo "\$crate" >out/rlib/proved
+[ "\$1" = lib ] || { printf '#!/bin/sh\necho built\n' >"out/\$crate"; chmod +x "out/\$crate"; }
+END
+    chmod +x "$work/rt/rt"
+}
+
+build() { # WORD.. by the `rt` that stands in
+    env PATH="$work/rt:$PATH" python3 -B "$work/build/tools/build.py" "$@"
+}
+
+begun() { # what is said to be begun, in the order of the names
+    build "$@" 2>&1 | sed 's/,.*//' | LC_ALL=C sort
+}
+
+two_calls() { # what two say, of which one begins while the other builds: it has nothing to do
+    (TAKES=1 build pdregress 2>&1 | sed 's/,.*//' >"$work/first") &
+    while [ ! -e "$work/rt/trees" ]; do sleep 0.1; done
+    build pdregress >>"$work/second" 2>&1
+    wait
+    LC_ALL=C sort "$work/first" "$work/second"
+}
+
+proved() { # what is kept of the crates, in the first tree, and how many trees there were
+    (cd "$work/build/crates" && LC_ALL=C ls -d */out/*)
+    sort -u "$work/rt/trees" | wc -l
+}
+
+anew() {
+    rm -rf "$work"/build/crates/*/out "$work/rt/trees"
+}
+
+test_building() {
+    make_crates
+    expect one-lane "$(printf '! pdregress: proving %s left after it\n' 'low, 1 of 5, 4' 'left, 2 of 5, 3' 'right, 3 of 5, 2' 'high, 4 of 5, 1' 'pdregress, 5 of 5, 0'; echo status 0)" build --lanes 1 pdregress
+    anew
+    expect two-lanes "$(printf 'pdregress: proving %s\n' high left low pdregress right; echo status 0)" begun --lanes 2 pdregress
+    expect both-lanes-are-used "$(printf '%s\n' high left low | sed 's,.*,&/out/build.log\n&/out/incremental\n&/out/rlib,'; printf 'pdregress/out/%s\n' build.log incremental pdregress rlib; printf 'right/out/%s\n' build.log incremental rlib; printf '2\nstatus 0')" proved
+    expect program-is-built "$(printf 'built\nstatus 0')" "$work/build/pdregress"
+    anew
+    expect two-calls "$(printf 'pdregress: proving %s\n' high left low pdregress right; echo 'pdregress: waiting for another call that builds here'; echo status 0)" two_calls
+    anew
+    echo '// goal' >>"$work/build/crates/right/src/lib.rt"
+    log=$work/build/crates/right/out/build.log
+    expect not-proved "$(printf '! pdregress: right isn'"'"'t proved; the end of the log (%s):\n! a goal\nstatus 2' "$log")" sh -c "PATH='$work/rt:$PATH' '$work/build/pdregress' 2>&1 | grep -v 'proving' >&2; exit 2"
+    sed -i /goal/d "$work/build/crates/right/src/lib.rt"
+    expect interrupted "$(printf '! pdregress: proving low, 1 of 5, 4 left after it\n! pdregress: interrupted at low; what was proved is kept: run it again to go on\nstatus 124')" timeout -k 5 1 env TAKES=30 PATH="$work/rt:$PATH" python3 -B "$work/build/tools/build.py" --lanes 2 pdregress
+    expect no-lane-is-left "$(printf '0\nstatus 0')" sh -c "ls -d '$work'/build/crates/pdregress/out/lane-* 2>/dev/null | wc -l"
+}
+
 # A copy of tools/record.sh whose programs stand in: `todo` is what a script lacks, pdrecord does it, and can't where a line
 # says `bad`. It writes PLAIN for plain, which passes, and hands on its settings where a line says `settings`.
 make_recording() {
@@ -201,6 +272,7 @@ test_random_rows() {
 
 test_adding
 test_links
+test_building
 test_recording
 test_random_rows
 echo "$passed passed, $failed failed"
