@@ -84,7 +84,8 @@ class Lane:
         with self.lock:
             self.is_stopped = True
         if self.proving is not None and self.proving.poll() is None:
-            os.killpg(self.proving.pid, signal.SIGTERM)
+            with contextlib.suppress(ProcessLookupError):
+                os.killpg(self.proving.pid, signal.SIGTERM)
             self.proving.wait()
 
 
@@ -268,7 +269,8 @@ def is_built(program: str) -> bool:
 def interrupt(_number: int, _frame: object) -> NoReturn:
     """Lets the first signal end the work, and none after it what is done at the end."""
     for number in SIGNALS:
-        signal.signal(number, pass_over)
+        if signal.getsignal(number) == interrupt:
+            signal.signal(number, pass_over)
     raise KeyboardInterrupt
 
 
@@ -282,7 +284,9 @@ def main() -> int:
     parser.add_argument("--lanes", type=int, choices=(1, 2), default=2 if has_room() else 1)
     asked = parser.parse_args()
     for number in SIGNALS:
-        signal.signal(number, interrupt)
+        # What nohup has ignored stays so. A shell ignores SIGINT for each program that it starts beside itself.
+        if number == signal.SIGINT or signal.getsignal(number) != signal.SIG_IGN:
+            signal.signal(number, interrupt)
     try:
         with alone(asked.program) as has_waited:
             if not (has_waited and is_built(asked.program)):
@@ -296,6 +300,9 @@ def main() -> int:
         return 2
     except Interrupted as at:
         say(asked.program, f"interrupted at {at}; what was proved is kept: run it again to go on")
+        return 2
+    except OSError as error:
+        say(asked.program, f"can't go on: {error}")
         return 2
     except KeyboardInterrupt:
         return 2

@@ -182,6 +182,16 @@ two_calls() { # what two say, of which one begins while the other builds: it has
     LC_ALL=C sort "$work/first" "$work/second"
 }
 
+hung_up() { # the status of one whose terminal is closed, as `nohup` begins it
+    (
+        trap '' HUP
+        TAKES=1 exec env PATH="$work/rt:$PATH" python3 -B "$work/build/tools/build.py" pdregress
+    ) 2>/dev/null &
+    while [ ! -e "$work/rt/trees" ]; do sleep 0.1; done
+    kill -HUP $!
+    wait $! && echo 0
+}
+
 proved() { # what is kept of the crates, in the first tree, and how many trees there were
     (cd "$work/build/crates" && LC_ALL=C ls -d */out/*)
     sort -u "$work/rt/trees" | wc -l
@@ -206,6 +216,11 @@ test_building() {
     expect not-proved "$(printf '! pdregress: right isn'"'"'t proved; the end of the log (%s):\n! a goal\nstatus 2' "$log")" sh -c "PATH='$work/rt:$PATH' '$work/build/pdregress' 2>&1 | grep -v 'proving' >&2; exit 2"
     sed -i /goal/d "$work/build/crates/right/src/lib.rt"
     expect interrupted "$(printf '! pdregress: proving low, 1 of 5, 4 left after it\n! pdregress: interrupted at low; what was proved is kept: run it again to go on\nstatus 124')" timeout -k 5 1 env TAKES=30 PATH="$work/rt:$PATH" python3 -B "$work/build/tools/build.py" --lanes 2 pdregress
+    anew
+    expect hung-up-under-nohup "$(printf '0\nstatus 0')" hung_up
+    anew
+    : >"$work/build/crates/low/out"
+    expect no-folder "$(printf '! pdregress: proving low, 1 of 5, 4 left after it\n! pdregress: can'"'"'t go on: [Errno 17] File exists: '"'%s'"'\nstatus 2' "$work/build/crates/low/out")" build --lanes 1 pdregress
     expect no-lane-is-left "$(printf '0\nstatus 0')" sh -c "ls -d '$work'/build/crates/pdregress/out/lane-* 2>/dev/null | wc -l"
 }
 
