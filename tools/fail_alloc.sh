@@ -5,22 +5,20 @@
 #     with a settings text that is taken and one that is refused, each without workers, with one and with two. It says so
 #     by status 2 and the fault 19 (beside workers also 12, where they all left), and what it wrote is a prefix of what it
 #     writes with memory; or the refusal made no difference.
-#   - the calls below it, table by table of crates/pd_book_trials/memory.txt, and those of a desk and of its workers, of
-#     crates/pd_desk_trials/memory.txt: a call that is refused is made again, and it and all calls after it are to answer
+#   - the calls below it, table by table of crates/pd_book_trials/memory.txt, and those of a desk and of its workers, and
+#     a run of the program over memory, of crates/pd_desk_trials/memory.txt: a call that is refused is made again, and it and all calls after it are to answer
 #     as with memory, or as a row says of a worker that left. Where what tells the rows found no memory, no call did.
 #   - the built pdrecord, with no input, with a script that is recorded, with a trace too, and with one that isn't. It says so
 #     by status 2 and the fault 19 and writes nothing, or the refusal made no difference.
-#   - the programs pd_book_trials, with its word `memory`, and pd_cases on its file memory.cases, which let a first want
-#     of memory pass and make the call again.
-# No run may take longer than ten seconds. Outside the gate: needs a C compiler, and pd_book_trials, pd_desk_trials and
-# pd_cases as `rt run` leaves them in out/. PROGRAM, RECORD, TRIALS, DESK and CASES name other builds of the five.
+#   - the program pd_book_trials, with its word `memory`, which lets a first want of memory pass and makes the call again.
+# No run may take longer than ten seconds. Outside the gate: needs a C compiler, and pd_book_trials and pd_desk_trials as
+# `rt run` leaves them in out/. PROGRAM, RECORD, TRIALS and DESK name other builds of the four.
 #
 #   tools/fail_alloc.sh [INPUT..]
 set -eu
 top=$(cd "$(dirname "$0")/.." && pwd)
 program=${PROGRAM:-$top/crates/pdregress/out/pdregress}
 record=${RECORD:-$top/crates/pdrecord/out/pdrecord}
-cases=${CASES:-$top/crates/pd_cases/out/pd_cases}
 trials=${TRIALS:-$top/crates/pd_book_trials/out/pd_book_trials}
 desk=${DESK:-$top/crates/pd_desk_trials/out/pd_desk_trials}
 work=$(mktemp -d)
@@ -28,7 +26,7 @@ trap 'rm -rf "$work"' EXIT
 cc -O2 -shared -fPIC -o "$work/fail_alloc.so" "$top/tools/fail_alloc.c" -ldl
 [ -n "${PROGRAM:-}" ] || "$top/pdregress" </dev/null >/dev/null
 [ -n "${RECORD:-}" ] || "$top/pdrecord" </dev/null >/dev/null
-for built in "$program" "$record" "$cases" "$trials" "$desk"; do
+for built in "$program" "$record" "$trials" "$desk"; do
     [ -x "$built" ] || { echo "$built: not built"; exit 2; }
 done
 bad=0
@@ -137,9 +135,6 @@ try_tables "$top/crates/pd_desk_trials/memory.txt" "$desk"
 
 input=/dev/null
 try_test "pd_book_trials memory" "$trials" memory
-input=$top/crates/pd_cases/data/memory.cases
-try_program "pd_cases memory.cases" "$cases"
-grep -q ' 1 runs, 0 wrong$' "$work/whole" || complain "pd_cases memory.cases: fails with memory"
 
 cd "$top"
 [ $# -gt 0 ] || set -- examples/*.txt

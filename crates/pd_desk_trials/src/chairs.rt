@@ -1,11 +1,12 @@
 //! Seats at a desk, as rows call them, and what is said there.
-use pd_book::{Act, Done, Report};
+use crate::watched::{Manner, Shuts, Watch, Watched};
+use pd_book::{Act, Book, Done, Report};
 use pd_desk::{Desk, Gate};
 use pd_rows::{
     Calls, Form, Said, Task, Texts, Words, abandoned, call, changed, finished, say_report, started,
 };
 use pd_seat::Seat;
-use pd_settings::Value;
+use pd_settings::{Settings, Value};
 use pd_text::{LineEdit, Lines, Name};
 use std::alloc::{AllocError, Global};
 use std::sync::{Mutex, Wait};
@@ -70,41 +71,88 @@ impl<'a, 'b, R: Wait> Calls for Chair<'a, 'b, R> {
     }
 }
 
-impl<'a, 'b, R: Wait> Chair<'a, 'b, R> {
-    /// Makes a call that is written, and says its answer.
-    pub fn call(
-        &mut self,
-        tasks: &mut Vec<Task>,
-        texts: &Texts,
-        word: &str,
-        words: &mut Words<'_>,
-        said: &mut Said,
-    ) {
-        if word == "settle" {
-            say_shown(said, self.settle());
-        } else if !call(self, tasks, texts, word, words, said) {
-            said.say("(no such call)");
-        }
+/// What else is done at a seat of a desk.
+pub trait Sits: Calls {
+    fn number(&self) -> usize;
+    /// The report that a settling shows, or why there is none.
+    fn settle(&mut self) -> Result<Report, &'static str>;
+    /// Works until the desk is shut: `left`, or the fault.
+    fn work(&mut self, alloc: Global, manner: Manner<'_>) -> &'static str;
+    /// Shuts the desk.
+    fn shut(&self);
+}
+
+impl<'a, 'b, R: Wait> Sits for Chair<'a, 'b, R> {
+    fn number(&self) -> usize {
+        self.seat.number()
     }
 
-    /// The report that a settling shows, or why there is none.
-    pub fn settle(&mut self) -> Result<Report, &'static str> {
+    fn settle(&mut self) -> Result<Report, &'static str> {
         match self.desk.settle(self.rt, self.seat) {
             Ok(report) => Ok(report),
             Err(fault) => Err(fault.text()),
         }
     }
 
-    /// Takes out the scripts a and b and makes an act, which wakes whoever waits for a verdict or for the desk to be shut.
-    pub fn free(&mut self, alloc: Global) {
-        let texts = Texts::new(alloc);
-        for letter in b"ab" {
-            if let Ok(name) = texts.name(&[*letter]) {
-                self.remove(&name);
-            }
+    fn work(&mut self, alloc: Global, manner: Manner<'_>) -> &'static str {
+        let door = Door {
+            rt: self.rt,
+            desk: self.desk,
+        };
+        let watch = Watch::new(self.rt, &door, manner);
+        let mut stepper = Watched::new(&watch);
+        match self
+            .desk
+            .work(self.rt, alloc, self.seat, &mut stepper, &watch)
+        {
+            Ok(()) => "left",
+            Err(fault) => fault.text(),
         }
-        self.set(b"nagle", Value::Truth(true));
     }
+
+    fn shut(&self) {
+        self.desk.shut(self.rt);
+    }
+}
+
+/// By what the desk is shut while a worker sits at a seat of it.
+#[derive(Drop)]
+struct Door<'a, R> {
+    rt: &'a R,
+    desk: &'a Desk,
+}
+
+impl<'a, R: Wait> Shuts for Door<'a, R> {
+    fn shut(&self) {
+        self.desk.shut(self.rt);
+    }
+}
+
+/// Makes a call that is written, and says its answer.
+pub fn call_at(
+    chair: &mut impl Sits,
+    tasks: &mut Vec<Task>,
+    texts: &Texts,
+    word: &str,
+    words: &mut Words<'_>,
+    said: &mut Said,
+) {
+    if word == "settle" {
+        say_shown(said, chair.settle());
+    } else if !call(chair, tasks, texts, word, words, said) {
+        said.say("(no such call)");
+    }
+}
+
+/// Takes out the scripts a and b and makes an act, which wakes whoever waits for a verdict or for the desk to be shut.
+pub fn free(chair: &mut impl Calls, alloc: Global) {
+    let texts = Texts::new(alloc);
+    for letter in b"ab" {
+        if let Ok(name) = texts.name(&[*letter]) {
+            chair.remove(&name);
+        }
+    }
+    chair.set(b"nagle", Value::Truth(true));
 }
 
 /// Says the rows of a report, or why there is none.
@@ -116,6 +164,16 @@ pub fn say_shown(said: &mut Said, shown: Result<Report, &'static str>) {
         }
         Err(word) => said.say(word),
     }
+}
+
+/// A desk for so many workers, and so many seats; none where there was no memory.
+pub fn open(alloc: Global, workers: usize, seats: usize) -> Option<(Desk, Vec<Seat>)> {
+    Desk::open(alloc, CACHE, Settings::new(), workers, seats.max(1)).ok()
+}
+
+/// The book of a desk that is closed; none where it can't be.
+pub fn close(desk: Desk, seats: Vec<Seat>) -> Option<Book> {
+    desk.close(seats).ok()
 }
 
 /// Runs a worker at each of these seats until all have left: `ok`, or the fault that is answered.

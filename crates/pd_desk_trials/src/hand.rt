@@ -122,6 +122,14 @@ impl Hand {
     }
 }
 
+/// Makes the acts of a history in a book alone, and says its report; whether each is accepted, with the same reply.
+pub fn make_again(alloc: Global, acts: &[Act], said: &mut Said) -> bool {
+    let mut again = Hand::new(alloc);
+    let are_made = again.are_made(acts, said);
+    again.call("show", said);
+    are_made
+}
+
 /// Says the report from scratch of these calls.
 pub fn say_scratch(alloc: Global, calls: &[&str], said: &mut Said) {
     Hand::new(alloc).settle(calls, said);

@@ -1,9 +1,10 @@
-//! Tries a desk: tells the stories of the input, serves beside two workers that overlap, and on random schedules, and
-//! compares what is written with what is written without threads; and makes calls in all orders in which threads may hand
-//! the turn on. With a word, `stories`, `overlap`, `schedules` or `orders`, it does that alone; a status of 2 says that it
+//! Tries a desk, and the program on streams that fail: tells the stories of the input, serves beside two workers that overlap,
+//! and on random schedules, and compares what is written with what is written without threads; and makes calls in all orders
+//! in which threads may hand the turn on. With a word, `stories`, `overlap`, `schedules` or `orders`, it does that alone; a status of 2 says that it
 //! wasn't tried to the end.
 #![tactic(auto)]
 
+mod aside;
 mod chairs;
 mod hand;
 mod orders;
@@ -12,6 +13,7 @@ mod progress;
 mod schedules;
 mod serving;
 mod stories;
+mod streams;
 mod tally;
 mod watched;
 
@@ -48,19 +50,28 @@ struct Parts {
     orders: bool,
 }
 
+impl Parts {
+    /// Those of a name, or all where it is empty.
+    fn named(name: &str) -> Parts {
+        Parts {
+            stories: is_named(name, "stories"),
+            overlap: is_named(name, "overlap"),
+            schedules: is_named(name, "schedules"),
+            orders: is_named(name, "orders"),
+        }
+    }
+}
+
+fn is_named(name: &str, part: &str) -> bool {
+    name.is_empty() || name == part
+}
+
 /// What the program's word asks for.
 fn parts_asked(rt: &(impl Env + AllocGlobal)) -> io::Result<Parts> {
     let words = env::args(rt)?.collect::<Vec<String>>(rt.alloc())?;
-    let word = match words.get(1) {
-        Some(word) => word.as_str(),
-        None => "",
-    };
-    let is_all = word.is_empty();
-    Ok(Parts {
-        stories: is_all || word == "stories",
-        overlap: is_all || word == "overlap",
-        schedules: is_all || word == "schedules",
-        orders: is_all || word == "orders",
+    Ok(match words.get(1) {
+        Some(word) => Parts::named(word.as_str()),
+        None => Parts::named(""),
     })
 }
 

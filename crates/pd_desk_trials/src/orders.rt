@@ -6,16 +6,15 @@ mod players;
 pub mod stage;
 
 use self::director::Director;
-use self::players::play;
+use self::players::Cast;
 use self::stage::Stage;
-use crate::chairs::CACHE;
-use crate::hand::Hand;
+use crate::chairs::{Chair, close, open};
 use crate::tally::Tally;
+use pd_book::Act;
 use pd_desk::Desk;
 use pd_seat::Seat;
-use pd_settings::Settings;
 use std::alloc::{AllocError, Global};
-use std::sync::Wait;
+use std::sync::{Mutex, Wait};
 use std::thread::Threads;
 use std::{io, thread};
 
@@ -52,87 +51,79 @@ fn try_lists<R: Threads + Wait + Sync>(
     tally: &mut Tally,
 ) -> Result<(), AllocError> {
     let stage = Stage::new(alloc)?;
-    let mut director = Director::new(alloc)?;
-    for list in LISTS.split("\n") {
-        try_list(rt, alloc, list, &stage, &mut director, tally);
-    }
+    let director = Mutex::new(Director::new(alloc)?);
+    try_all(rt, alloc, &stage, &director, tally);
     Ok(())
 }
 
-/// Makes the calls of a list in all orders, up to one that differs, and counts them.
-fn try_list<R: Threads + Wait + Sync>(
+fn try_all<R: Threads + Wait + Sync>(
     rt: &R,
     alloc: Global,
-    list: &'static str,
     stage: &Stage,
-    director: &mut Director<'static>,
+    director: &Mutex<Director<'static>>,
     tally: &mut Tally,
 ) {
-    director.choices.clear();
-    for _order in 0..MOST {
-        tally.begin();
-        let is_right = try_order(rt, alloc, list, stage, director);
-        if !is_right || !director.choices.advance() {
-            return tally.must(is_right, list);
+    for list in LISTS.split("\n") {
+        let cast = Cast {
+            rt,
+            alloc,
+            stage,
+            director,
+            lists: list.split_once(" / ").unwrap_or((list, "")),
+        };
+        cast.try_list(list, tally);
+    }
+}
+
+impl<'a, 'b, R: Threads + Wait + Sync> Cast<'a, 'b, R> {
+    /// Makes the calls in all orders, up to one that differs, and counts them.
+    fn try_list(&self, list: &str, tally: &mut Tally) {
+        self.director.lock(self.rt).choices.clear();
+        for _order in 0..MOST {
+            tally.begin();
+            let is_right = self.try_order();
+            if !is_right || !self.director.lock(self.rt).choices.advance() {
+                return tally.must(is_right, list);
+            }
+        }
+        tally.must(false, list);
+    }
+
+    /// Makes calls in the order of the director's choices, or of the first that go on from them; whether all answers are
+    /// right, all players have ended, and the closed book's history, made again, has the last report, which is the one from
+    /// scratch of all calls.
+    fn try_order(&self) -> bool {
+        match open(self.alloc, WORKERS, PLAYERS + 1) {
+            Some((desk, seats)) => self.try_at(desk, seats),
+            None => false,
         }
     }
-    tally.must(false, list);
-}
 
-/// Makes calls in the order of the director's choices, or of the first that go on from them; whether all answers are right,
-/// and the closed book's history, made again, has the last report, which is the one from scratch of all calls.
-fn try_order<R: Threads + Wait + Sync>(
-    rt: &R,
-    alloc: Global,
-    list: &'static str,
-    stage: &Stage,
-    director: &mut Director<'static>,
-) -> bool {
-    let Ok((desk, mut seats)) = Desk::open(alloc, CACHE, Settings::new(), WORKERS, PLAYERS + 1)
-    else {
-        return false;
-    };
-    let is_played = play_all(
-        rt,
-        alloc,
-        &desk,
-        list,
-        stage,
-        director,
-        seats.as_mut_slice(),
-    );
-    match desk.close(seats) {
-        Ok(book) => is_played && director.is_right_history(book.history()),
-        Err(_) => false,
+    fn try_at(&self, desk: Desk, mut seats: Vec<Seat>) -> bool {
+        self.play_all(&desk, seats.as_mut_slice());
+        match close(desk, seats) {
+            Some(book) => self.is_right(book.history()),
+            None => false,
+        }
     }
-}
 
-/// Lets all players play while the last seat looks on; whether all answers were right, and all have ended.
-fn play_all<R: Threads + Wait + Sync>(
-    rt: &R,
-    alloc: Global,
-    desk: &Desk,
-    list: &'static str,
-    stage: &Stage,
-    director: &mut Director<'static>,
-    seats: &mut [Seat],
-) -> bool {
-    let Some((seat, players)) = seats.split_last_mut() else {
-        return false;
-    };
-    let lists = list.split_once(" / ").unwrap_or((list, ""));
-    stage.begin(rt);
-    director.begin(lists);
-    let mut hand = Hand::new(alloc);
-    let mut play = || {
+    /// Lets all players play, while the director gives their turns at the last seat.
+    fn play_all(&self, desk: &Desk, seats: &mut [Seat]) {
+        self.stage.begin(self.rt);
+        self.director.lock(self.rt).begin(self.lists);
         thread::for_each_mut(
-            rt,
-            players,
-            PLAYERS,
-            &|me, seat| { play(rt, alloc, desk, stage, lists, me, seat) },
-        )
-    };
-    let mut direct = || director.direct(rt, desk, stage, seat, &mut hand);
-    let ((), is_right) = thread::join_mut(rt, &mut play, &mut direct);
-    is_right && stage.look(rt).have_ended()
+            self.rt,
+            seats,
+            PLAYERS + 1,
+            &|me, seat| {
+                let rt = self.rt;
+                self.play(me, &mut Chair { rt, desk, seat });
+            },
+        );
+    }
+
+    fn is_right(&self, acts: &[Act]) -> bool {
+        let is_right = self.director.lock(self.rt).is_right_history(acts);
+        is_right && self.stage.look(self.rt).have_ended()
+    }
 }

@@ -34,21 +34,28 @@ a fail 9 seq
 total 1 pass 0 fail 1 syntax 0 unsupported 0 limit 0 pending 0
 ";
 
+/// What is printed where all is as wanted.
+const OVERLAP: &str = "two workers overlap\n";
+
 /// Serves beside two workers that overlap; prints and tells whether both began and what was written is as wanted.
 pub fn try_overlap(rt: &(impl Print + AllocGlobal + Threads + Wait + Sync)) -> io::Result<bool> {
     let gate = HeldGate::new();
     let mut served = Served::new(rt.alloc())?;
     serve_held(rt, &gate, &mut served);
-    let is_late = gate.late.load(Ordering::SeqCst) != 0;
-    let is_served = served.said.as_str() == WANTED && served.passes.is_some();
-    rt.print(if is_late {
+    let found = found(&gate, &served);
+    rt.print(found)?;
+    Ok(found == OVERLAP)
+}
+
+/// What is printed of it.
+fn found(gate: &HeldGate, served: &Served) -> &'static str {
+    if gate.late.load(Ordering::SeqCst) != 0 {
         "job 2 didn't begin while job 1 was held\n"
-    } else if is_served {
-        "two workers overlap\n"
+    } else if served.said.as_str() == WANTED && served.passes.is_some() {
+        OVERLAP
     } else {
         "an edit under a job isn't served\n"
-    })?;
-    Ok(is_served && !is_late)
+    }
 }
 
 fn serve_held(

@@ -27,7 +27,8 @@ pub fn give_way(turns: u64) {
 }
 
 /// How many threads work until the desk is shut, and how many end by themselves. How far they are: how many have begun, ended,
-/// or ended to work, how many make changes, how many took a first step, and how many waits came to no end within the turns.
+/// or ended to work, how many make changes and how many changes they made, how many took a first step, and how many waits came
+/// to no end within the turns.
 #[derive(Drop)]
 pub struct Progress {
     pub workers: u64,
@@ -36,6 +37,7 @@ pub struct Progress {
     pub ended: AtomicU64,
     pub left: AtomicU64,
     pub changing: AtomicU64,
+    pub changes: AtomicU64,
     met: AtomicU64,
     pub late: AtomicU64,
 }
@@ -59,6 +61,7 @@ impl Progress {
             ended: AtomicU64::new(0),
             left: AtomicU64::new(0),
             changing: AtomicU64::new(changing),
+            changes: AtomicU64::new(0),
             met: AtomicU64::new(0),
             late: AtomicU64::new(0),
         }
@@ -71,13 +74,24 @@ impl Progress {
         self.begun.fetch_add(1, Ordering::SeqCst);
     }
 
-    /// Waits until so many are counted; whether they are within the turns.
+    /// Waits until so many are counted; whether they are within the turns since the last change.
     pub fn is_reached(&self, counted: &AtomicU64, count: u64) -> bool {
-        let is_reached = await_count(counted, count);
-        if !is_reached {
-            self.late.fetch_add(1, Ordering::SeqCst);
+        for _wait in 0..TURNS {
+            let changes = self.changes.load(Ordering::SeqCst);
+            if await_count(counted, count) {
+                return true;
+            }
+            if self.changes.load(Ordering::SeqCst) == changes {
+                break;
+            }
         }
-        is_reached
+        self.late.fetch_add(1, Ordering::SeqCst);
+        false
+    }
+
+    /// Waits until a worker has taken its first step.
+    pub fn await_worker(&self) {
+        self.is_reached(&self.met, 1);
     }
 
     /// Waits after a first step until another worker took its own.

@@ -6,10 +6,12 @@ mod dice;
 mod inputs;
 
 use self::comparing::is_served;
-use self::delays::{Delays, SlowReader};
+use self::delays::Delays;
+pub use self::delays::SlowReader;
 use self::dice::Dice;
 use self::inputs::Input;
-use crate::chairs::{CACHE, pool};
+use crate::aside::{Aside, run_aside};
+use crate::chairs::{close, open};
 use crate::hand::Hand;
 use crate::serving::Served;
 use crate::tally::Tally;
@@ -17,11 +19,10 @@ use pd_book::{Book, Report};
 use pd_cli::render;
 use pd_desk::Desk;
 use pd_seat::Seat;
-use pd_settings::Settings;
 use std::alloc::{AllocError, Global};
-use std::sync::Wait;
+use std::io;
+use std::sync::{Mutex, Wait};
 use std::thread::Threads;
-use std::{io, thread};
 
 /// The most workers, and how many inputs each number of them has.
 const WORKERS: u8 = 8;
@@ -49,7 +50,7 @@ struct Trial {
     alloc: Global,
     input: Input,
     alone: Served,
-    served: Served,
+    served: Mutex<Served>,
     tally: Tally,
 }
 
@@ -59,7 +60,7 @@ impl Trial {
             alloc,
             input: Input::new(alloc)?,
             alone: Served::new(alloc)?,
-            served: Served::new(alloc)?,
+            served: Mutex::new(Served::new(alloc)?),
             tally: Tally::new(alloc)?,
         })
     }
@@ -74,26 +75,27 @@ impl Trial {
         self.alone.serve_alone(self.alloc, &mut reader);
         let mut reader = SlowReader::new(self.input.written.as_str(), gate.seed);
         self.served
+            .lock(rt)
             .serve_beside(rt, self.alloc, &mut reader, workers, &gate);
-        self.compare("what is served");
+        self.compare(rt, "what is served");
         self.try_desk(rt, &gate, workers);
     }
 
-    fn compare(&mut self, what: &str) {
+    fn compare<R: Wait>(&mut self, rt: &R, what: &str) {
         let are_settled = self.input.are_settled.as_slice();
-        let is_same = is_served(&self.served, &self.alone, are_settled);
+        let is_same = is_served(&self.served.lock(rt), &self.alone, are_settled);
         self.tally.must(is_same, what);
     }
 
     /// Opens a desk for so many workers, serves the commands while they run, and closes it.
     fn try_desk<R: Threads + Wait + Sync>(&mut self, rt: &R, gate: &Delays, workers: u8) {
         let workers = usize::from(workers);
-        match Desk::open(self.alloc, CACHE, Settings::new(), workers, workers + 1) {
-            Ok((desk, mut seats)) => {
+        match open(self.alloc, workers, workers.saturating_add(1)) {
+            Some((desk, mut seats)) => {
                 self.serve_seated(rt, &desk, gate, seats.as_mut_slice());
-                self.close(desk, seats);
+                self.close(rt, desk, seats);
             }
-            Err(_) => self.tally.must(false, "the opening"),
+            None => self.tally.must(false, "the opening"),
         }
     }
 
@@ -105,34 +107,26 @@ impl Trial {
         gate: &Delays,
         seats: &mut [Seat],
     ) {
-        if let Some((seat, workers)) = seats.split_last_mut() {
-            let alloc = self.alloc;
-            let served = &mut self.served;
-            let mut reader = SlowReader::new(self.input.written.as_str(), gate.seed);
-            let mut work = || pool(rt, alloc, desk, gate, workers);
-            let mut serve = || {
-                served.serve_at_seat(rt, alloc, desk, seat, &mut reader);
-                desk.shut(rt);
-            };
-            let (left, ()) = thread::join_mut(rt, &mut work, &mut serve);
-            self.compare("what a seat is served");
-            self.tally.must(left == "ok", "how a worker left");
-        }
+        let written = self.input.written.as_str();
+        let aside = Aside::Serve(&self.served, written, gate.seed);
+        let left = run_aside(rt, self.alloc, desk, gate, seats, aside);
+        self.compare(rt, "what a seat is served");
+        self.tally.must(left == "ok", "how a worker left");
     }
 
     /// Closes a desk, and compares its book.
-    fn close(&mut self, desk: Desk, seats: Vec<Seat>) {
-        match desk.close(seats) {
-            Ok(book) => self.compare_book(&book),
-            Err(_) => self.tally.must(false, "the closing"),
+    fn close<R: Wait>(&mut self, rt: &R, desk: Desk, seats: Vec<Seat>) {
+        match close(desk, seats) {
+            Some(book) => self.compare_book(rt, &book),
+            None => self.tally.must(false, "the closing"),
         }
     }
 
     /// Compares a book's report and that of its history, made again, with the last that was written without threads.
-    fn compare_book(&mut self, book: &Book) {
+    fn compare_book<R: Wait>(&mut self, rt: &R, book: &Book) {
         self.compare_last(shown(book), "the closed book");
         let mut again = Hand::new(self.alloc);
-        let are_made = again.are_made(book.history(), &mut self.served.said);
+        let are_made = again.are_made(book.history(), &mut self.served.lock(rt).said);
         self.tally.must(are_made, "an act");
         self.compare_last(again.report(), "the report of the history");
     }

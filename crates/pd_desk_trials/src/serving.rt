@@ -10,17 +10,26 @@ use std::io::{Read, Write};
 use std::sync::Wait;
 use std::thread::Threads;
 
-/// What was written, and whether the last report passes; `None` where serving stopped at a fault.
+/// What was written, and whether the last report passes; `None` where serving stopped at a fault. At most so many octets are
+/// taken a call, and the call of number `fails_at`, from 1, fails.
 #[derive(Drop)]
 pub struct Served {
     pub said: Said,
     pub passes: Option<bool>,
+    most: usize,
+    fails_at: u64,
+    pub calls: u64,
 }
 
 impl Write for Served {
     fn write(&mut self, buf: &[u8]) -> io::Result<usize> {
-        self.said.say_octets(buf);
-        Ok(buf.len())
+        self.calls = self.calls.saturating_add(1);
+        if self.fails_at == self.calls {
+            return Err(io::ErrorKind::BrokenPipe.into());
+        }
+        let count = self.most.min(buf.len());
+        self.said.say_octets(&buf[..count]);
+        Ok(count)
     }
 
     fn flush(&mut self) -> io::Result<()> {
@@ -33,7 +42,18 @@ impl Served {
         Ok(Served {
             said: Said::new(alloc, Form::Short)?,
             passes: None,
+            most: usize::MAX,
+            fails_at: 0,
+            calls: 0,
         })
+    }
+
+    /// Begins anew, with so many octets a call and this call that fails.
+    pub fn begin(&mut self, most: usize, fails_at: u64) {
+        self.said.clear();
+        self.most = most;
+        self.fails_at = fails_at;
+        self.calls = 0;
     }
 
     /// Serves what this reader gives, without threads.

@@ -1,9 +1,10 @@
-//! Stories of a desk: rows of calls with the answers that are wanted. A line that begins `# ` or `== ` is a title.
+//! Stories of a desk, and of the program on streams that fail: rows of calls with the answers that are wanted. A line that begins `# ` or `== ` is a title.
 mod beside;
 mod changes;
+mod kept;
+mod pools;
 mod sitting;
 mod story;
-mod table;
 mod working;
 
 use self::story::Story;

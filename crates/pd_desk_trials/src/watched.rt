@@ -3,15 +3,21 @@ ghost use Rattle.std.specs.Prelude.{◌≡◌};
 
 use crate::orders::stage::{Spot, Stage};
 use crate::progress::Progress;
-use pd_desk::{Desk, Gate};
+use pd_desk::Gate;
 use pd_run::{Plain, RunState, StepEnd, Stepper};
 use pd_script::Event;
-use pd_seat::Seat;
 use pd_settings::Settings;
-use std::alloc::{AllocError, Global};
+use std::alloc::AllocError;
 use std::marker::Model;
+use std::sync::Wait;
 use std::sync::atomic::{AtomicU64, Ordering};
-use std::sync::{Mutex, Wait};
+
+/// How many steps a worker had taken before its last job, and after it.
+#[derive(Drop)]
+pub struct Noted {
+    pub before: AtomicU64,
+    pub after: AtomicU64,
+}
 
 /// What a worker meets.
 #[derive(Clone, Copy)]
@@ -22,45 +28,35 @@ pub enum Manner<'a> {
     Short,
     /// It waits after its first step for another worker's.
     Meet(&'a Progress),
-    /// The desk is shut before each job, so that the worker leaves after it.
-    Shut,
-    /// Job 1 is given up at the last of these seats before it is run, and the desk is shut before each other one.
-    Robbed(&'a Mutex<Vec<Seat>>),
+    /// The desk is shut before each job, so that the worker leaves after it, and its steps are noted.
+    Shut(&'a Noted),
     /// It hands the turn on, as the player of this number, before each job, after each step and after each job.
     Turns(&'a Stage, usize),
 }
 
-/// Stands round the jobs of a worker, and counts its steps: in all, before its last job and after it.
+/// What shuts a desk.
+pub trait Shuts {
+    fn shut(&self);
+}
+
+/// Stands round the jobs of a worker, and counts its steps.
 #[derive(Drop)]
-pub struct Watch<'a, R> {
+pub struct Watch<'a, R, D> {
     rt: &'a R,
-    desk: &'a Desk,
+    door: &'a D,
     manner: Manner<'a>,
     job: AtomicU64,
     steps: AtomicU64,
-    pub before: AtomicU64,
-    pub after: AtomicU64,
 }
 
-impl<'a, R: Wait> Watch<'a, R> {
-    pub fn new(rt: &'a R, desk: &'a Desk, manner: Manner<'a>) -> Watch<'a, R> {
+impl<'a, R: Wait, D: Shuts> Watch<'a, R, D> {
+    pub fn new(rt: &'a R, door: &'a D, manner: Manner<'a>) -> Watch<'a, R, D> {
         Watch {
             rt,
-            desk,
+            door,
             manner,
             job: AtomicU64::new(0),
             steps: AtomicU64::new(0),
-            before: AtomicU64::new(0),
-            after: AtomicU64::new(0),
-        }
-    }
-
-    /// Works at a seat until the desk is shut: `left`, or the fault.
-    pub fn work(&self, alloc: Global, seat: &mut Seat) -> &'static str {
-        let mut stepper = Watched::new(self);
-        match self.desk.work(self.rt, alloc, seat, &mut stepper, self) {
-            Ok(()) => "left",
-            Err(fault) => fault.text(),
         }
     }
 
@@ -77,37 +73,18 @@ impl<'a, R: Wait> Watch<'a, R> {
         }
         matches!(self.manner, Manner::Short)
     }
-
-    /// Gives up job 1 at the last seat in place of shutting the desk.
-    fn rob(&self, seats: &Mutex<Vec<Seat>>, job: u64) {
-        match seats.lock(self.rt).last_mut() {
-            Some(seat) if job == 1 => {
-                let _ = self.desk.abandon(self.rt, seat, job);
-            }
-            _ => self.desk.shut(self.rt),
-        }
-    }
 }
 
-/// Works at a seat until the desk is shut: `left`, or the fault.
-pub fn work<R: Wait>(
-    rt: &R,
-    alloc: Global,
-    desk: &Desk,
-    manner: Manner<'_>,
-    seat: &mut Seat,
-) -> &'static str {
-    Watch::new(rt, desk, manner).work(alloc, seat)
-}
-
-impl<'a, R: Wait> Gate for Watch<'a, R> {
+impl<'a, R: Wait, D: Shuts> Gate for Watch<'a, R, D> {
     fn before(&self, job: u64) {
         self.job.store(job, Ordering::SeqCst);
-        let steps = self.steps.load(Ordering::SeqCst);
-        self.before.store(steps, Ordering::SeqCst);
         match self.manner {
-            Manner::Shut => self.desk.shut(self.rt),
-            Manner::Robbed(seats) => self.rob(seats, job),
+            Manner::Shut(noted) => {
+                noted
+                    .before
+                    .store(self.steps.load(Ordering::SeqCst), Ordering::SeqCst);
+                self.door.shut();
+            }
             Manner::Turns(stage, me) => {
                 stage.stand(self.rt, me, Spot::Here, job);
             }
@@ -116,22 +93,28 @@ impl<'a, R: Wait> Gate for Watch<'a, R> {
     }
 
     fn after(&self, job: u64) {
-        let steps = self.steps.load(Ordering::SeqCst);
-        self.after.store(steps, Ordering::SeqCst);
-        if let Manner::Turns(stage, me) = self.manner {
-            stage.stand(self.rt, me, Spot::Done, job);
+        match self.manner {
+            Manner::Shut(noted) => {
+                noted
+                    .after
+                    .store(self.steps.load(Ordering::SeqCst), Ordering::SeqCst);
+            }
+            Manner::Turns(stage, me) => {
+                stage.stand(self.rt, me, Spot::Done, job);
+            }
+            _ => {}
         }
     }
 }
 
 /// A stepper that is watched, seen as the number of its steps.
 #[derive(Drop)]
-struct Watched<'a, R> {
+pub struct Watched<'a, R, D> {
     plain: Plain,
-    watch: &'a Watch<'a, R>,
+    watch: &'a Watch<'a, R, D>,
 }
 
-impl<'a, R> Model for Watched<'a, R> {
+impl<'a, R, D> Model for Watched<'a, R, D> {
     ghost use Rattle.std.specs.Prelude.{ℕ};
 
     ghost Value = { ℕ };
@@ -139,9 +122,9 @@ impl<'a, R> Model for Watched<'a, R> {
     ghost view = { λ s. s.plain };
 }
 
-impl<'a, R> Watched<'a, R> {
+impl<'a, R, D> Watched<'a, R, D> {
     /// One that has taken no step.
-    fn new(watch: &'a Watch<'a, R>) -> Watched<'a, R>
+    pub fn new(watch: &'a Watch<'a, R, D>) -> Watched<'a, R, D>
         ensures { result ≡ 0 }
     {
         Watched {
@@ -151,7 +134,7 @@ impl<'a, R> Watched<'a, R> {
     }
 }
 
-impl<'a, R: Wait> Stepper for Watched<'a, R> {
+impl<'a, R: Wait, D: Shuts> Stepper for Watched<'a, R, D> {
     ghost counted = { λ steps. steps };
 
     fn step(

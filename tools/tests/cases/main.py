@@ -55,8 +55,6 @@ def main(words: list[str]) -> int:
     passed = failed = rows = runs = 0
     try:
         for table in all_tables(chosen.data):
-            if table.kind == "checks":
-                continue
             tally = check_table(programs, table)
             word = "FAILED" if tally.faults else "ok"
             print(f"{word} {table.heading.file} {table.name}: {tally.rows} rows, {tally.runs} runs")

@@ -1,14 +1,12 @@
 //! Who gives the turns: one player at a time goes on, and the next once nothing moves any more.
-use crate::chairs::{Chair, say_shown};
-use crate::hand::{Hand, say_scratch};
+use crate::chairs::{Sits, free, say_shown};
+use crate::hand::{Hand, make_again, say_scratch};
 use crate::orders::choices::Choices;
 use crate::orders::stage::{Spot, Stage, Standing};
 use crate::orders::{CALLERS, PLAYERS, WORKERS};
 use crate::progress::TURNS;
 use pd_book::Act;
-use pd_desk::Desk;
 use pd_rows::{Calls, Form, Said};
-use pd_seat::Seat;
 use std::alloc::{AllocError, Global};
 use std::sync::Wait;
 use std::thread;
@@ -16,23 +14,11 @@ use std::thread;
 /// The most turns of an order.
 const MOVES: usize = 200;
 
-/// A caller: the calls that it has left, how many calls were made before its last one, and whether that is a settling whose
-/// answer it hasn't told.
+/// A caller: the calls that it has left, and of a settling whose answer it hasn't told how many calls were made before it.
 #[derive(Clone, Copy)]
 struct Caller<'a> {
     left: &'a str,
-    before: usize,
-    settles: bool,
-}
-
-impl<'a> Caller<'a> {
-    fn new(left: &'a str) -> Caller<'a> {
-        Caller {
-            left,
-            before: 0,
-            settles: false,
-        }
-    }
+    settling: Option<usize>,
 }
 
 /// Gives the turns of players at a desk, and makes the same calls by hand.
@@ -45,6 +31,8 @@ pub struct Director<'a> {
     made: Vec<&'a str>,
     /// How many workers have a job.
     busy: usize,
+    /// Whether all answers were right.
+    is_right: bool,
     /// What was answered by hand to the last call, the report that is wanted, and the one that is shown.
     answer: Said,
     wanted: Said,
@@ -62,53 +50,53 @@ impl<'a> Director<'a> {
             callers: Vec::new(alloc),
             made: Vec::new(alloc),
             busy: 0,
+            is_right: false,
         })
     }
 
     /// Begins with these calls of the two callers.
     pub fn begin(&mut self, lists: (&'a str, &'a str)) {
         self.callers.clear();
-        let _ = self.callers.push(Caller::new(lists.0));
-        let _ = self.callers.push(Caller::new(lists.1));
+        for left in [lists.0, lists.1] {
+            let settling = None;
+            let _ = self.callers.push(Caller { left, settling });
+        }
         self.made.clear();
         self.busy = 0;
+        self.is_right = false;
     }
 
-    /// Gives turns until all has come to rest, and shuts the desk; whether all answers are right, and the last report is
+    /// Gives turns until all has come to rest, and shuts the desk. All is right where all answers are, and the last report is
     /// the one from scratch of all calls.
-    pub fn direct<'x, R: Wait>(
+    pub fn direct<R: Wait>(
         &mut self,
-        rt: &'x R,
-        desk: &'x Desk,
+        rt: &R,
         stage: &Stage,
-        seat: &mut Seat,
+        chair: &mut impl Sits,
         hand: &mut Hand,
-    ) -> bool {
-        let mut chair = Chair { rt, desk, seat };
-        let is_right = self.give_turns(rt, stage, &mut chair, hand);
-        if !is_right {
+    ) {
+        self.is_right = self.give_turns(rt, stage, chair, hand);
+        if !self.is_right {
             stage.give_up(rt);
-            chair.free(self.alloc);
+            free(chair, self.alloc);
         }
-        desk.shut(rt);
+        chair.shut();
         let count = self.made.len();
         self.say_scratch(count);
-        self.is_shown(&mut chair) && is_right
+        self.is_right = self.is_shown(chair) && self.is_right;
     }
 
-    /// Whether a history, made again, has the report that is wanted.
+    /// Whether all was right, and a history, made again, has the report that is wanted.
     pub fn is_right_history(&mut self, acts: &[Act]) -> bool {
-        let mut again = Hand::new(self.alloc);
-        let are_made = again.are_made(acts, &mut self.shown);
-        again.call("show", &mut self.shown);
-        are_made && self.wanted.as_str() == self.shown.as_str()
+        let are_made = make_again(self.alloc, acts, &mut self.shown);
+        self.is_right && are_made && self.wanted.as_str() == self.shown.as_str()
     }
 
     fn give_turns<R: Wait>(
         &mut self,
         rt: &R,
         stage: &Stage,
-        chair: &mut Chair<'_, '_, R>,
+        chair: &mut impl Calls,
         hand: &mut Hand,
     ) -> bool {
         for _move in 0..MOVES {
@@ -157,10 +145,11 @@ impl<'a> Director<'a> {
     fn let_call(&mut self, who: usize, hand: &mut Hand) {
         if let Some(caller) = self.callers.get_mut(who) {
             let (call, left) = caller.left.split_once("; ").unwrap_or((caller.left, ""));
-            *caller = Caller {
-                left,
-                before: self.made.len(),
-                settles: call == "settle",
+            caller.left = left;
+            caller.settling = if call == "settle" {
+                Some(self.made.len())
+            } else {
+                None
             };
             hand.call(call, &mut self.answer);
             let _ = self.made.push(call);
@@ -173,7 +162,7 @@ impl<'a> Director<'a> {
         &mut self,
         rt: &R,
         stage: &Stage,
-        chair: &mut Chair<'_, '_, R>,
+        chair: &mut impl Calls,
         hand: &mut Hand,
     ) -> bool {
         hand.call("show", &mut self.wanted);
@@ -188,7 +177,7 @@ impl<'a> Director<'a> {
     }
 
     /// Whether the report is the one that is wanted.
-    fn is_shown<R: Wait>(&mut self, chair: &mut Chair<'_, '_, R>) -> bool {
+    fn is_shown(&mut self, chair: &mut impl Calls) -> bool {
         self.shown.clear();
         say_shown(&mut self.shown, chair.show());
         self.wanted.as_str() == self.shown.as_str()
@@ -202,7 +191,9 @@ impl<'a> Director<'a> {
         for who in 0..PLAYERS {
             let is_away = standing.is_away(who);
             match self.callers.get(who) {
-                Some(caller) => are_heard = are_heard && (!is_away || (is_owed && caller.settles)),
+                Some(caller) => {
+                    are_heard = are_heard && (!is_away || (is_owed && caller.settling.is_some()));
+                }
                 None => workers = workers.wrapping_add(usize::from(!is_away)),
             }
         }
@@ -228,13 +219,13 @@ impl<'a> Director<'a> {
 
     /// Whether what was said, if anything was, is right as the answer to a caller's last call.
     fn is_right(&mut self, who: usize, said: &str) -> bool {
-        match self.callers.get_mut(who) {
-            Some(caller) if caller.settles => {
-                caller.settles = false;
-                let before = caller.before;
-                self.is_report(before, said)
-            }
-            _ => said.is_empty() || said == self.answer.as_str(),
+        let settling = match self.callers.get_mut(who) {
+            Some(caller) => caller.settling.take(),
+            None => None,
+        };
+        match settling {
+            Some(before) => self.is_report(before, said),
+            None => said.is_empty() || said == self.answer.as_str(),
         }
     }
 

@@ -1,65 +1,67 @@
-//! Players: callers that make calls of a list, and workers, who hand the turn on before each call, round each job and after
-//! each of its steps.
-use crate::chairs::Chair;
-use crate::orders::CALLERS;
+//! Players: callers that make calls of a list, workers, and the director; they hand the turn on before each call, round each
+//! job and after each of its steps.
+use crate::chairs::{Sits, call_at};
+use crate::hand::Hand;
+use crate::orders::PLAYERS;
+use crate::orders::director::Director;
 use crate::orders::stage::{Spot, Stage};
-use crate::watched::{Manner, work};
-use pd_desk::Desk;
-use pd_rows::{Said, Texts, Words};
-use pd_seat::Seat;
+use crate::watched::Manner;
+use pd_rows::{Texts, Words};
 use std::alloc::Global;
-use std::sync::Wait;
+use std::sync::{Mutex, Wait};
 
-/// Makes a caller's calls, each on its turn, or works until the desk is shut.
-pub fn play<R: Wait>(
-    rt: &R,
-    alloc: Global,
-    desk: &Desk,
-    stage: &Stage,
-    lists: (&str, &str),
-    me: usize,
-    seat: &mut Seat,
-) {
-    let is_played = match me {
-        0 => call_all(rt, alloc, desk, stage, lists.0, me, seat),
-        1 => call_all(rt, alloc, desk, stage, lists.1, me, seat),
-        _ => work(rt, alloc, desk, Manner::Turns(stage, me), seat) == "left",
-    };
-    if is_played {
-        stage.put(rt, me, Spot::Gone, 0);
-    }
+/// Where the players of these lists of calls meet, and who gives their turns.
+#[derive(Drop)]
+pub struct Cast<'a, 'b, R> {
+    pub rt: &'a R,
+    pub alloc: Global,
+    pub stage: &'a Stage,
+    pub director: &'a Mutex<Director<'b>>,
+    pub lists: (&'b str, &'b str),
 }
 
-/// Makes the calls, each on its turn; whether all were made.
-fn call_all<R: Wait>(
-    rt: &R,
-    alloc: Global,
-    desk: &Desk,
-    stage: &Stage,
-    calls: &str,
-    me: usize,
-    seat: &mut Seat,
-) -> bool {
-    let mut chair = Chair { rt, desk, seat };
-    let mut is_going_on = true;
-    for call in calls.split("; ") {
-        is_going_on = stage.stand(rt, me, Spot::Here, 0);
-        if is_going_on && let Some(answer) = stage.answers.get(me) {
-            make_call(&mut chair, alloc, call, &mut answer.lock(rt));
+impl<'a, 'b, R: Wait> Cast<'a, 'b, R> {
+    /// Makes a caller's calls, each on its turn, works until the desk is shut, or gives the turns.
+    pub fn play(&self, me: usize, chair: &mut impl Sits) {
+        let is_played = match me {
+            0 => self.call_all(self.lists.0, me, chair),
+            1 => self.call_all(self.lists.1, me, chair),
+            PLAYERS => return self.direct(chair),
+            _ => chair.work(self.alloc, Manner::Turns(self.stage, me)) == "left",
+        };
+        if is_played {
+            self.stage.put(self.rt, me, Spot::Gone, 0);
         }
     }
-    is_going_on
-}
 
-/// Makes a call, and says its answer.
-fn make_call<R: Wait>(chair: &mut Chair<'_, '_, R>, alloc: Global, call: &str, said: &mut Said) {
-    let mut words = Words::new(call);
-    let word = words.word();
-    chair.call(
-        &mut Vec::new(alloc),
-        &Texts::new(alloc),
-        word,
-        &mut words,
-        said,
-    );
+    /// Gives all turns, while a book alone is called by hand.
+    fn direct(&self, chair: &mut impl Sits) {
+        let mut hand = Hand::new(self.alloc);
+        let mut director = self.director.lock(self.rt);
+        director.direct(self.rt, self.stage, chair, &mut hand);
+    }
+
+    /// Makes the calls, each on its turn; whether all were made.
+    fn call_all(&self, calls: &str, me: usize, chair: &mut impl Sits) -> bool {
+        let mut is_going_on = true;
+        for call in calls.split("; ") {
+            is_going_on = self.stage.stand(self.rt, me, Spot::Here, 0);
+            if is_going_on {
+                self.make_call(call, me, chair);
+            }
+        }
+        is_going_on
+    }
+
+    /// Makes a call, and says its answer.
+    fn make_call(&self, call: &str, me: usize, chair: &mut impl Sits) {
+        let mut words = Words::new(call);
+        let word = words.word();
+        let mut tasks = Vec::new(self.alloc);
+        let texts = Texts::new(self.alloc);
+        if let Some(answer) = self.stage.answers.get(me) {
+            let mut said = answer.lock(self.rt);
+            call_at(chair, &mut tasks, &texts, word, &mut words, &mut said);
+        }
+    }
 }

@@ -1,16 +1,17 @@
 //! Readers that give little or fail, and writers that take little or fail: a fault stops the run, and what was written
 //! before it is a prefix.
-use crate::stored::{INPUT, OUTPUT};
-use crate::trial::{Pace, STEADY, Trial};
+use crate::streams::Runs;
+use crate::streams::source::{Pace, STEADY};
+use crate::streams::stored::{INPUT, OUTPUT};
 
-const READ: &[u8] = b"pdregress: 17 Read\n";
+const READ: &str = "pdregress: 17 Read\n";
 
-const WRITE: &[u8] = b"pdregress: 18 Write\n";
+const WRITE: &str = "pdregress: 18 Write\n";
 
 /// How many reads a run makes at most.
 const READS: u64 = 1_048_576;
 
-impl Trial {
+impl Runs {
     /// Fails each read in turn, of readers that give so many octets a call, and then one that is never made: there is a
     /// call for each piece of the input, and one that tells the end.
     pub fn check_reads(&mut self, most: usize) {
@@ -23,9 +24,9 @@ impl Trial {
             self.check_fault(pace, READ, pace.read_fails);
         }
         pace.read_fails = pieces.saturating_add(2);
-        self.run_stored(pace);
+        self.run("", INPUT, pace);
         let is_read = self.reads == pieces.saturating_add(1) && self.asked <= 4096;
-        let is_whole = self.says(OUTPUT, b"", 0);
+        let is_whole = self.says(OUTPUT, "", 0);
         self.note(is_whole && is_read, pace.read_fails);
     }
 
@@ -34,11 +35,10 @@ impl Trial {
         let mut pace = STEADY;
         pace.taken = most;
         if most == 0 {
-            self.check_fault(pace, WRITE, 1);
-            return;
+            return self.check_fault(pace, WRITE, 1);
         }
-        self.run_stored(pace);
-        let is_whole = self.says(OUTPUT, b"", 0);
+        self.run("", INPUT, pace);
+        let is_whole = self.says(OUTPUT, "", 0);
         self.note(is_whole, 0);
         for call in 1..=self.output.calls {
             pace.write_fails = call;
@@ -47,26 +47,21 @@ impl Trial {
     }
 
     /// Runs the program on streams that fail at this call, and checks that it tells this fault and stops.
-    fn check_fault(&mut self, pace: Pace, fault: &[u8], call: u64) {
-        self.run_stored(pace);
-        let said = self.output.taken.as_slice();
-        let is_told = self.status == 2 && self.errors.taken.as_slice() == fault;
+    fn check_fault(&mut self, pace: Pace, fault: &str, call: u64) {
+        self.run("", INPUT, pace);
+        let said = self.output.said.as_str();
+        let is_told = self.status == 2 && self.errors.said.as_str() == fault;
         let is_prefix = OUTPUT.starts_with(said) && said.len() < OUTPUT.len();
         let is_stopped = pace.read_fails == 0 || self.reads == pace.read_fails;
         self.note(is_told && is_prefix && is_stopped, call);
-    }
-
-    /// Runs the program on the stored input and streams of this pace.
-    fn run_stored(&mut self, pace: Pace) {
-        self.run(&["pdregress"], INPUT, pace);
     }
 
     /// The status stands where the error text can't be written.
     pub fn check_unheard(&mut self) {
         let mut pace = STEADY;
         pace.heard = 0;
-        self.run(&["pdregress"], b"bye\n", pace);
-        let is_right = self.says(b"", b"", 2);
+        self.run("", "bye\n", pace);
+        let is_right = self.says("", "", 2);
         self.note(is_right, 0);
     }
 
@@ -75,12 +70,12 @@ impl Trial {
         let mut pace = STEADY;
         pace.given = 1;
         pace.is_endless = true;
-        self.run(&["pdregress"], b"\n", pace);
-        let is_told = self.says(b"", READ, 2);
+        self.run("", "\n", pace);
+        let is_told = self.says("", READ, 2);
         self.note(is_told && self.reads == READS, 0);
 
         pace.read_ends = READS;
-        self.run(&["pdregress"], b"\n", pace);
+        self.run("", "\n", pace);
         self.note(self.status == 0 && self.reads == READS, READS);
     }
 }
