@@ -1,6 +1,6 @@
 //! What is done at one seat of a desk while a pool of workers runs at the others.
 use crate::chairs::{Chair, Sits, pool, say_shown};
-use crate::progress::await_count;
+use crate::progress::{SLEEP, await_count, give_way};
 use crate::schedules::SlowReader;
 use crate::serving::Served;
 use pd_desk::{Desk, Gate};
@@ -38,7 +38,7 @@ pub fn run_aside<R: Threads + Wait + Sync>(
         workers,
         &|first, seats| {
             if first == 0 {
-                begun.store(1, Ordering::SeqCst);
+                aside.await_sleep(&begun);
                 *left.lock(rt) = pool(rt, alloc, desk, gate, seats);
             } else {
                 aside.carry_out(rt, alloc, desk, seats, &begun);
@@ -49,7 +49,16 @@ pub fn run_aside<R: Threads + Wait + Sync>(
 }
 
 impl<'a> Aside<'a> {
-    /// Does it once the workers have begun, which they don't where no thread can be made, and shuts the desk.
+    /// Notes that there is a thread for the workers. Those beside whom it settles begin once it had turns to fall asleep.
+    fn await_sleep(self, begun: &AtomicU64) {
+        begun.store(1, Ordering::SeqCst);
+        if let Aside::Settle(_) = self {
+            let _ = await_count(begun, 2);
+            give_way(SLEEP);
+        }
+    }
+
+    /// Does it once there is a thread for the workers, which there isn't where none can be made, and shuts the desk.
     fn carry_out<R: Wait>(
         self,
         rt: &R,
@@ -61,6 +70,7 @@ impl<'a> Aside<'a> {
         if await_count(begun, 1)
             && let Some(seat) = seats.first_mut()
         {
+            begun.store(2, Ordering::SeqCst);
             self.carry_out_at(rt, alloc, desk, seat);
         } else if let Aside::Settle(said) = self {
             said.lock(rt).is_whole = false;

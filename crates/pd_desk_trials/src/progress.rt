@@ -6,7 +6,7 @@ use std::thread;
 pub const TURNS: u64 = 10_000_000;
 
 /// How many turns the others are given to fall asleep.
-const SLEEP: u64 = 2_000;
+pub const SLEEP: u64 = 2_000;
 
 /// Waits until so many are counted; whether they are within the turns.
 pub fn await_count(counted: &AtomicU64, count: u64) -> bool {
