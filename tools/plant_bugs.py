@@ -239,7 +239,7 @@ def parse_words() -> argparse.Namespace:
     parser.add_argument("names", metavar="NAME", nargs="*", help="the bugs to plant; all if none is named")
     parser.add_argument("-j", dest="at_once", type=int, default=os.cpu_count() or 1, help="how many are tried at once")
     parser.add_argument("--times", type=int, default=10, help="how often each test is run (10)")
-    parser.add_argument("--seconds", type=int, default=10, help="how long one run of a test may take (10)")
+    parser.add_argument("--seconds", type=int, default=40, help="how long one run of a test may take (40)")
     return parser.parse_args()
 
 
