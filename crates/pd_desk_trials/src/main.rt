@@ -1,7 +1,7 @@
-//! Tries a desk, and the program on streams that fail: tells the stories of the input, serves beside two workers that overlap,
-//! and on random schedules, and compares what is written with what is written without threads; and makes calls in all orders
-//! in which threads may hand the turn on. With a word, `stories`, `overlap`, `schedules` or `orders`, it does that alone; a status of 2 says that it
-//! wasn't tried to the end.
+//! Tries a desk, and the program on streams that fail: tells the stories of the input, serves beside two workers that
+//! overlap, and on random schedules, and compares what is written with what is written without threads; and makes calls in
+//! all orders in which threads may hand the turn on. With a word, `stories`, `overlap`, `schedules` or `orders`, it does that
+//! alone; a status of 2 says that it wasn't tried to the end.
 #![tactic(auto)]
 
 mod aside;

@@ -1,4 +1,5 @@
-//! Stories of a desk, and of the program on streams that fail: rows of calls with the answers that are wanted. A line that begins `# ` or `== ` is a title.
+//! Stories of a desk, and of the program on streams that fail: rows of calls with the answers that are wanted.
+//! A line that begins `# ` or `== ` is a title.
 mod beside;
 mod changes;
 mod kept;

@@ -14,8 +14,8 @@ const LINE: &str = "0 socket(..., SOCK_STREAM, IPPROTO_TCP) = 3";
 
 const EDIT: &str = "1 1 +0 listen(3, 1) = 0";
 
-/// Adds a script named by the number of the seat, edits it and gives up a job if that is asked for, and removes it, over and over. Says
-/// `changed`, or `refused` where a change was.
+/// Adds a script named by the number of the seat, edits it and gives up a job if that is asked for, and removes it, over and
+/// over. Says `changed`, or `refused` where a change was.
 pub fn change_often(
     chair: &mut impl Sits,
     alloc: Global,

@@ -2,7 +2,7 @@
 use crate::aside::{Aside, run_aside};
 use crate::chairs::pool;
 use pd_desk::{Desk, OpenGate};
-use pd_rows::{Form, Said};
+use pd_rows::{Form, MISSING, Said};
 use pd_seat::Seat;
 use std::alloc::Global;
 use std::sync::{Mutex, Wait};
@@ -37,6 +37,9 @@ pub fn settle_beside<R: Threads + Wait + Sync>(
     seats: &mut [Seat],
     said: &mut Said,
 ) {
+    if seats.len() < 2 {
+        return said.say(MISSING);
+    }
     match Said::new(alloc, Form::Short) {
         Ok(told) => {
             let told = Mutex::new(told);
