@@ -128,7 +128,8 @@ def longest_chain(spans: dict[Work, Span], uses: dict[str, list[str]]) -> list[L
     """
 
     def last(works: list[Work]) -> Work | None:
-        return max((it for it in works if it in spans), key=lambda it: spans[it].ended, default=None)
+        seen = [it for it in works if it in spans]
+        return max(seen, key=lambda it: spans[it].ended) if seen else None
 
     links: list[Link] = []
     work = last([it for it in spans if it.kind in ("proof", "edits") and it.crate in uses])
@@ -191,8 +192,18 @@ def chain_table(gate: Gate, chain: list[Link]) -> Iterator[str]:
         yield row("what came after, the runs", "", minutes(rest), minutes(gate.elapsed))
 
 
+def only_crates(gate: Gate, uses: dict[str, list[str]]) -> Gate:
+    """The same, where what crates that a test makes up took is counted as the gate's own.
+
+    >>> gate = Gate({Work("a", "proof"): 90.0, Work("made_up", "proof"): 1.0}, 95.0, {}, 0.0)
+    >>> only_crates(gate, {"a": []}).charged
+    {Work(crate='a', kind='proof'): 90.0}
+    """
+    return gate._replace(charged={work: it for work, it in gate.charged.items() if work.crate in uses})
+
+
 def report(gate: Gate, unit: Unit | None, uses: dict[str, list[str]]) -> Iterator[str]:
-    yield from cost_table(gate, unit)
+    yield from cost_table(only_crates(gate, uses), unit)
     yield ""
     if unit:
         yield (
