@@ -6,8 +6,9 @@
 #     by status 2 and the fault 19 (beside workers also 12, where they all left), and what it wrote is a prefix of what it
 #     writes with memory; or the refusal made no difference.
 #   - the calls below it, table by table of crates/pd_book_trials/memory.txt, and those of a desk and of its workers, and
-#     a run of the program over memory, of crates/pd_desk_trials/memory.txt: a call that is refused is made again, and it and all calls after it are to answer
-#     as with memory, or as a row says of a worker that left. Where what tells the rows found no memory, no call did.
+#     a run of the program over memory, of crates/pd_desk_trials/memory.txt: a call that is refused is made again, and it
+#     and all calls after it are to answer as with memory, or as a row says of a worker that left. Where what tells the
+#     rows found no memory, no call did.
 #   - the built pdrecord, with no input, with a script that is recorded, with a trace too, and with one that isn't. It says so
 #     by status 2 and the fault 19 and writes nothing, or the refusal made no difference.
 #   - the program pd_book_trials, with its word `memory`, which lets a first want of memory pass and makes the call again.
