@@ -6,7 +6,7 @@
 #   bench/explain.sh [SCRIPTS]      1,000 scripts of 60 events if nothing is said. EXPLAIN names another build of pdexplain
 . "$(dirname "$0")/program.sh"
 explain=${EXPLAIN:-$top/crates/pdexplain/out/pdexplain}
-[ -n "${EXPLAIN:-}" ] || "$top/pdexplain" </dev/null >/dev/null
+[ -n "${EXPLAIN:-}" ] || "$top/prove" pdexplain
 scripts=${1:-1000}
 
 # The same scripts with another end: the last acknowledgment once more, a write, and another packet than the one it sends.

@@ -5,7 +5,7 @@ top=$(cd "$(dirname "$0")/.." && pwd)
 program=${PROGRAM:-$top/crates/pdregress/out/pdregress}
 work=$(mktemp -d)
 trap 'rm -rf "$work"' EXIT
-[ -n "${PROGRAM:-}" ] || "$top/pdregress" </dev/null >/dev/null
+[ -n "${PROGRAM:-}" ] || "$top/prove" pdregress
 
 # Scripts that open, bind and then listen on the descriptor again and again, each at times of its own.
 generate() { # how many, and of how many events

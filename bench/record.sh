@@ -8,7 +8,7 @@
 #                                  names another build of pdrecord
 . "$(dirname "$0")/program.sh"
 record=${RECORD:-$top/crates/pdrecord/out/pdrecord}
-[ -n "${RECORD:-}" ] || "$top/pdrecord" </dev/null >/dev/null
+[ -n "${RECORD:-}" ] || "$top/prove" pdrecord
 scripts=${1:-100}
 
 transfers "$scripts" >"$work/input"

@@ -30,7 +30,7 @@ esac
 scripts=${1:-100000}
 events=${2:-20}
 explain=${EXPLAIN:-$top/crates/pdexplain/out/pdexplain}
-[ -n "${EXPLAIN:-}" ] || "$top/pdexplain" </dev/null >/dev/null
+[ -n "${EXPLAIN:-}" ] || "$top/prove" pdexplain
 mkdir "$work/programs"
 ln -s "$(realpath "$program")" "$work/programs/pdregress"
 ln -s "$(realpath "$explain")" "$work/programs/pdexplain"

@@ -25,8 +25,8 @@ desk=${DESK:-$top/crates/pd_desk_trials/out/pd_desk_trials}
 work=$(mktemp -d)
 trap 'rm -rf "$work"' EXIT
 cc -O2 -shared -fPIC -o "$work/fail_alloc.so" "$top/tools/fail_alloc.c" -ldl
-[ -n "${PROGRAM:-}" ] || "$top/pdregress" </dev/null >/dev/null
-[ -n "${RECORD:-}" ] || "$top/pdrecord" </dev/null >/dev/null
+[ -n "${PROGRAM:-}" ] || "$top/prove" pdregress
+[ -n "${RECORD:-}" ] || "$top/prove" pdrecord
 for built in "$program" "$record" "$trials" "$desk"; do
     [ -x "$built" ] || { echo "$built: not built"; exit 2; }
 done

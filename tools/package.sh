@@ -53,8 +53,8 @@ put() { # MODE FILE.. FOLDER, below the root of what is packed
 }
 
 programs() {
+    "$top/prove" || true
     for program in $(cat "$top/packaging/programs.txt"); do
-        "$top/$program" </dev/null >/dev/null || true
         built=$("$top/tools/built.sh" "$program") || die "$program isn't proved and built"
         put 755 "$built" usr/bin
         page "$program" "$built"

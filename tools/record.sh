@@ -9,11 +9,9 @@
 #   --settings TEXT   the settings, as a TOML text
 #
 # The status is 2 where a file isn't recorded, the others being done; else 1 where --check finds a change; else 0.
-# PDRECORD and PDREGRESS name other builds of the two programs.
+# It takes the proved programs alone; PDRECORD and PDREGRESS name other builds of the two.
 set -eu
 top=$(CDPATH='' cd -P -- "$(dirname -- "$0")/.." && pwd -P)
-record=${PDRECORD:-$top/pdrecord}
-regress=${PDREGRESS:-$top/pdregress}
 settings=
 check=false
 all=false
@@ -37,6 +35,8 @@ while [ $# -gt 0 ]; do
     shift
 done
 [ $# -gt 0 ] || { sed -n '5p' "$0" >&2; exit 2; }
+record=${PDRECORD:-$("$top/tools/built.sh" pdrecord)}
+regress=${PDREGRESS:-$("$top/tools/built.sh" pdregress)}
 work=$(mktemp -d)
 new=
 trap 'rm -rf "$work"; [ -z "$new" ] || rm -f "$new"' EXIT

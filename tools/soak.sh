@@ -12,6 +12,6 @@ set -eu
 top=$(cd "$(dirname "$0")/.." && pwd)
 program=${PROGRAM:-$top/crates/pdregress/out/pdregress}
 explain=${EXPLAIN:-$top/crates/pdexplain/out/pdexplain}
-[ -n "${PROGRAM:-}" ] || "$top/pdregress" </dev/null >/dev/null
-[ -n "${EXPLAIN:-}" ] || "$top/pdexplain" </dev/null >/dev/null
+[ -n "${PROGRAM:-}" ] || "$top/prove" pdregress
+[ -n "${EXPLAIN:-}" ] || "$top/prove" pdexplain
 exec python3 "$top/tools/soak.py" "$program" "$explain" "${1:-10}" "${2:-1}"

@@ -75,7 +75,7 @@ def test_a_program_that_is_not_built_is_named_with_its_command(words: list[str],
     write(tmp_path / "client", a=PASSES)
     environment = without_programs()
     done = subprocess.run([command, *words], cwd=tmp_path, env=environment, capture_output=True, text=True)
-    said = "pdregress isn't built, or is older than its sources: run ./pdregress </dev/null"
+    said = "pdregress isn't proved and built, or has changed since: run ./prove pdregress"
     assert (done.returncode, done.stderr) == (2, f"pdsuite: {said}\n")
     assert not (tmp_path / "crates").exists()
 
@@ -233,7 +233,7 @@ def test_a_program_whose_crates_are_not_known_is_not_taken(stand_in: Path, tmp_p
         shutil.copy(stand_in / name, tmp_path / f"crates/{name}/out/{name}")
     write(tmp_path / "suite", a=PASSES)
     environment = without_programs()
-    said = "pdregress isn't built, or is older than its sources: run ./pdregress </dev/null"
+    said = "pdregress isn't proved and built, or has changed since: run ./prove pdregress"
     for lines in ("", "pdexplain:\n", "pdregress: gone\ngone:\n", None):
         if lines is None:
             (tmp_path / "crates.txt").unlink()

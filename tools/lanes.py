@@ -1,0 +1,129 @@
+"""Lanes in which crates are proved: trees, each with one proof at a time, that hand each other what they proved."""
+from __future__ import annotations
+
+import contextlib
+import os
+import re
+import shutil
+import signal
+import subprocess
+from dataclasses import dataclass, field
+from pathlib import Path
+from threading import Lock
+
+TOP = Path(__file__).resolve().parents[1]
+# What two lanes take at most, in octets, and how many jobs each of them gives a proof.
+ROOM = 16_000_000_000
+JOBS = 2
+
+
+class Unproved(Exception):
+    """A crate that isn't proved, by its name."""
+
+
+@dataclass
+class Lane:
+    """A tree of crates in which one crate at a time is proved, and the process that proves it."""
+
+    tree: Path
+    flags: list[str]
+    proving: subprocess.Popen[bytes] | None = None
+    is_stopped: bool = False
+    lock: Lock = field(default_factory=Lock)
+
+    def out(self, crate: str) -> Path:
+        return self.tree / "crates" / crate / "out"
+
+    def call(self, crate: str, *words: str) -> int:
+        """Calls rt on a crate, in a session of its own, and gives its status; what it says is the crate's log."""
+        out = self.out(crate)
+        out.mkdir(parents=True, exist_ok=True)
+        with (out / "build.log").open("wb") as log:
+            with self.lock:
+                if self.is_stopped:
+                    raise Unproved(crate)
+                self.proving = subprocess.Popen(
+                    ["rt", *words],
+                    cwd=out.parent,
+                    stdin=subprocess.DEVNULL,
+                    stdout=log,
+                    stderr=log,
+                    start_new_session=True,
+                )
+            return self.proving.wait()
+
+    def prove_library(self, library: str) -> None:
+        if self.call(library, "lib", *self.flags):
+            raise Unproved(library)
+
+    def prove_program(self, program: str) -> None:
+        built = self.out(program) / program
+        built.unlink(missing_ok=True)
+        # Its status is that of a run without input, too.
+        self.call(program, "run")
+        if not os.access(built, os.X_OK):
+            raise Unproved(program)
+
+    def stop(self) -> None:
+        """Ends what runs here, and lets nothing be begun any more."""
+        with self.lock:
+            self.is_stopped = True
+        if self.proving is not None and self.proving.poll() is None:
+            with contextlib.suppress(ProcessLookupError):
+                os.killpg(self.proving.pid, signal.SIGTERM)
+            self.proving.wait()
+
+
+def hand_over(folder: Path, to: Path, room: Path) -> None:
+    """Puts a folder in another place, by hard links where that can be, instead of what stands there.
+
+    ROOM is a folder of the same file system, where it is made first, so that a process that is killed leaves either.
+    """
+    if folder == to or not folder.is_dir():
+        return
+    fresh, before = room / "fresh", room / "before"
+    for left in (fresh, before):
+        shutil.rmtree(left, ignore_errors=True)
+    shutil.copytree(folder, fresh, copy_function=link, symlinks=True)
+    to.parent.mkdir(parents=True, exist_ok=True)
+    if to.is_dir():
+        to.rename(before)
+    fresh.rename(to)
+    shutil.rmtree(before, ignore_errors=True)
+
+
+def link(file: str, to: str) -> None:
+    try:
+        os.link(file, to, follow_symlinks=False)
+    except OSError:
+        shutil.copy2(file, to, follow_symlinks=False)
+
+
+def copy_crates(crates: list[str], tree: Path) -> None:
+    """Makes a tree of these crates alone, without what is kept of them."""
+    lines = (TOP / "crates.txt").read_text().splitlines(keepends=True)
+    (tree / "crates.txt").write_text("".join(it for it in lines if it.partition(":")[0].partition(" ")[0] in crates))
+    shutil.copy(TOP / "HANDLES", tree)
+    for crate in crates:
+        shutil.copytree(TOP / "crates" / crate, tree / "crates" / crate, ignore=shutil.ignore_patterns("out"))
+
+
+def number_in(file: str, pattern: str) -> int | None:
+    """The number of the line that fits a pattern, if there are the file and the line."""
+    with contextlib.suppress(OSError):
+        found = re.search(pattern, Path(file).read_text(), re.MULTILINE)
+        return int(found[1]) if found else None
+    return None
+
+
+def free_memory() -> int:
+    """The octets that may still be taken here, within the limit of the group of processes too."""
+    free = 1024 * (number_in("/proc/meminfo", r"^MemAvailable:\s+(\d+)") or 0)
+    limit = number_in("/sys/fs/cgroup/memory.max", r"^(\d+)$")
+    taken = number_in("/sys/fs/cgroup/memory.stat", r"^anon (\d+)$")
+    return free if limit is None else min(free, limit - (taken or 0))
+
+
+def has_room() -> bool:
+    """Whether there are the processors and the memory for two lanes."""
+    return len(os.sched_getaffinity(0)) >= 2 * JOBS and free_memory() >= ROOM

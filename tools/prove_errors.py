@@ -1,0 +1,35 @@
+"""The errors in what `rt` says of a crate that isn't proved, each with its file and line, without the advice between."""
+from __future__ import annotations
+
+import os
+import re
+from collections.abc import Iterator
+from pathlib import Path
+
+# What is said of a place, as `src/lib.rt:5:1`. That a goal is open is said in a note.
+PLACED = re.compile(r"(?:note: )?(?P<path>[^\s:]+\.(?:rt|antt)):(?P<place>\d+:\d+): (?P<said>error.*|it is not .*)")
+# What is said of no place.
+PLAIN = re.compile(r"error\b|fn \S+: no proof: ")
+DIFFERENCE = "differ "
+
+
+def errors(log: str, folder: Path) -> Iterator[str]:
+    """The lines of a log that say an error, with those that go on below one. Paths are from here.
+
+    >>> log = "note: a\\n./src/a.rt:1:2: error: b\\n  the two first differ where c\\nnote: d\\n"
+    >>> print(*errors(log, Path.cwd()), sep="\\n")
+    src/a.rt:1:2: error: b
+      the two first differ where c
+    """
+    is_within = False
+    for line in log.splitlines():
+        placed = PLACED.match(line)
+        if placed:
+            path = os.path.relpath(os.path.normpath(folder / placed["path"]))
+            yield f"{path}:{placed['place']}: {placed['said']}"
+        elif PLAIN.match(line) or is_within and line.startswith(" ") or DIFFERENCE in line:
+            yield line
+        else:
+            is_within = False
+            continue
+        is_within = True

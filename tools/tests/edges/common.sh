@@ -1,0 +1,27 @@
+# What the tests of the shell programs share: how one is told, and where. It is read by the others.
+# Each test hands its command in after the name and what is wanted: what the command writes, after `! ` what it says on
+# standard error, and its status.
+expect() { # NAME WANTED COMMAND..
+    name=$1
+    printf '%s\n' "$2" >"$work/want"
+    shift 2
+    status=0
+    "$@" >"$work/got" 2>"$work/said" || status=$?
+    sed 's/^/! /' "$work/said" >>"$work/got"
+    echo "status $status" >>"$work/got"
+    if diff "$work/want" "$work/got" >"$work/diff"; then
+        echo "ok edge $name"
+        passed=$((passed + 1))
+    else
+        echo "FAILED edge $name:"
+        cat "$work/diff"
+        failed=$((failed + 1))
+    fi
+}
+
+in_folder() ( # FOLDER COMMAND..
+    cd "$1"
+    shift
+    "$@"
+)
+

@@ -1,0 +1,157 @@
+# Tests of the four programs by their names in a tree: proved, unproved, half built, edited, and where nothing can be run; with
+# words, pipes, closed streams and signals.
+. "$top/tools/tests/edges/crates.sh"
+
+first="unproved: running without proofs, which takes about a minute; $build/prove"
+
+unproved() { # PROGRAM: what is said first
+    printf '! %s: %s %s proves it\n' "$1" "$first" "$1"
+}
+
+launch() { # PROGRAM WORD.. on an empty input
+    program=$1
+    shift
+    with_rt "$build/$program" "$@" </dev/null
+}
+
+given() { # what a shell program says whose words are PROGRAM WORD..
+    with_rt sh -c "$1" sh "$build/pdregress"
+}
+
+launched() { # what is wanted of an empty input: PROGRAM WORDS
+    printf '%s octets=0\n' "$1"
+    unproved "${1%% *}"
+    printf '! said\nstatus 0'
+}
+
+test_unproved() {
+    make_crates
+    for program in $programs; do
+        expect "$program-unproved" "$(launched "$program a  b")" launch "$program" a '' b
+        expect "$program-unproved-status" "$(unproved "$program"; echo status 7)" launch "$program" status 7
+        expect "$program-refuses-what-is-not-proved" "$(printf "! %s isn't proved and built, or has changed since: run ./prove %s\nstatus 2" "$program" "$program")" launch "$program" a --proved
+    done
+    expect words-of-the-tool "$(launched 'pdregress -- --cases x')" launch pdregress -- --cases x
+    expect a-word-with-a-newline "$(printf 'pdregress a\nb octets=0\n'; unproved pdregress; printf '! said\nstatus 0')" launch pdregress "$(printf 'a\nb')"
+    expect from-its-folder "$(launched pdregress | sed "s,$build/prove,./prove,; s/ss o/ss  o/")" in_folder "$build" launch pdregress
+    expect nothing-is-written "$(printf '0\nstatus 0')" written
+}
+
+written() { # how many files of a tree are made or changed by a run
+    touch "$work/before"
+    sleep 0.1
+    launch pdregress >/dev/null 2>&1
+    find "$build" -newer "$work/before" | wc -l
+}
+
+test_streams() {
+    expect slow-input "$(printf 'pdregress  octets=4\n'; unproved pdregress; printf '! said\nstatus 0')" given '{ printf a; sleep 2.5; printf bcd; } | "$1"'
+    expect closed-input "$(unproved pdregress; printf '! pdregress: 17 Read\nstatus 2')" given '"$1" <&-'
+    expect input-of-a-folder "$(unproved pdregress; printf '! pdregress: 17 Read\nstatus 2')" given '"$1" </'
+    expect help-reads-nothing "$(launched 'pdregress --help')" given '(sleep 30 & echo $! >"$NOTES/sleeps"; wait) | { "$1" --help; s=$?; kill "$(cat "$NOTES/sleeps")"; exit $s; }'
+    expect closed-output "$(unproved pdregress; printf '! said\n! pdregress: 18 Write\nstatus 2')" given '"$1" >&-'
+    expect full-output "$(unproved pdregress; printf '! said\n! pdregress: 18 Write\nstatus 2')" given '"$1" >/dev/full'
+    expect closed-errors "$(printf 'pdregress  octets=0\nstatus 0')" given '"$1" </dev/null 2>&-'
+    expect all-closed "status 2" given '"$1" <&- >&- 2>&-'
+    expect reader-that-leaves "$(printf 'line\n2\n'; unproved pdregress; printf '! pdregress: 18 Write\nstatus 0')" given '{ "$1" lines 50000 </dev/null; echo $? >"$NOTES/left"; } | head -n 1; cat "$NOTES/left"'
+    expect a-pipe "$(printf '3\n'; unproved pdregress; echo status 0)" given '"$1" lines 3 </dev/null | wc -l'
+}
+
+test_limits() {
+    expect too-much-input "$(unproved pdregress; printf '! pdregress: unproved: TooMuchInput: the input has 64 MiB or more\nstatus 2')" given 'head -c 67108864 /dev/zero | "$1"'
+    expect too-much-output "$(unproved pdregress; printf '! pdregress: unproved: TooMuchOutput: an output has more than 1 MiB\nstatus 2')" launch pdregress writes
+    expect too-slow "$(unproved pdregress; printf "! pdregress: unproved: TooSlow: the program didn't end within 600 seconds\nstatus 2")" launch pdregress lasts
+    expect a-fault "$(unproved pdregress; printf '! pdregress: unproved: Faulted: kind=panic at=a.rt:1:2: a failed unwrap\n! said\nstatus 2')" launch pdregress faults
+    expect tool-fails "$(unproved pdregress; printf '! pdregress: unproved: ToolFailed: `rt try` ended with status 2\n! no linker\nstatus 2')" launch pdregress fails
+    expect last-line-decides "$(unproved pdregress; printf '! checked: ended status=0\n! run=ended status=0 runners=1 proved=no\nstatus 1')" launch pdregress lies
+    echo wrong >>"$build/crates/low/src/lib.rt"
+    for program in $programs; do
+        expect "$program-does-not-compile" "$(unproved "$program"; printf "! %s: unproved: NotCompiled: the program doesn't compile\n! %s/src/lib.rt:1:2: error[mismatched-types]: wrong\nstatus 2" "$program" "$build/crates/$program")" launch "$program"
+    done
+    sed -i /wrong/d "$build/crates/low/src/lib.rt"
+    expect no-kit "$(printf "! pdregress: unproved: NoKit: the Rattle kit's command 'rt' has to be on the PATH\nstatus 2")" without_rt "$build/pdregress"
+    expect no-kit-to-prove "$(printf "! prove: the Rattle kit's command 'rt' has to be on the PATH\nstatus 2")" without_rt "$build/prove"
+}
+
+without_rt() { # COMMAND.. where none of the folders to search has the kit
+    mkdir -p "$work/bare"
+    for tool in awk cat dirname env find readlink sh; do
+        ln -sf "$(command -v "$tool")" "$work/bare/$tool"
+    done
+    ln -sf "$(python3 -c 'import sys; print(sys.executable)')" "$work/bare/python3"
+    env PATH="$work/bare" "$@" </dev/null
+}
+
+signalled() { # SIGNAL: the status of a launcher that it ends, and what goes on or is left of what it started
+    rm -rf "$NOTES/hangs" "$work/room"
+    mkdir "$work/room"
+    env --default-signal TMPDIR="$work/room" PATH="$top/tools/tests/edges/stand_in:$PATH" \
+        "$build/pdregress" hangs </dev/null 2>/dev/null &
+    until [ -s "$NOTES/hangs" ]; do sleep 0.1; done
+    kill -"$1" $!
+    { wait $! || echo "$?"; } 2>/dev/null
+    for process in $(cat "$NOTES/hangs"); do
+        tries=0
+        while kill -0 "$process" 2>/dev/null && [ "$tries" -lt 30 ]; do tries=$((tries + 1)) && sleep 0.1; done
+        [ "$tries" -lt 30 ] || echo 'goes on'
+    done
+    ls "$work/room"
+}
+
+reading() { # SIGNAL: the status of a launcher that it ends while it reads
+    rm -f "$work/pipe"
+    mkfifo "$work/pipe"
+    env --default-signal PATH="$top/tools/tests/edges/stand_in:$PATH" "$build/pdregress" <"$work/pipe" 2>"$work/begun" &
+    exec 3>"$work/pipe"
+    until [ -s "$work/begun" ]; do sleep 0.1; done
+    sleep 0.3
+    kill -"$1" $!
+    { wait $! || echo "$?"; } 2>/dev/null
+    exec 3>&-
+}
+
+test_signals() {
+    expect interrupted-unproved "$(printf '130\nstatus 0')" signalled INT
+    expect terminated-unproved "$(printf '143\nstatus 0')" signalled TERM
+    expect hung-up-unproved "$(printf '129\nstatus 0')" signalled HUP
+    expect interrupted-while-it-reads "$(printf '130\nstatus 0')" reading INT
+    expect hung-up-while-it-reads "$(printf '129\nstatus 0')" reading HUP
+}
+
+quietly_proved() {
+    prove "$@" 2>/dev/null
+}
+
+each_program() { # what each program says of its words and an input
+    for program in $programs; do
+        echo input | without_rt "$build/$program" "$@" || echo "$program: status $?"
+    done
+}
+
+test_proved() {
+    quietly_proved
+    expect proved "$(printf '%s a b\n' $programs; echo status 0)" each_program a b
+    expect proved-and-asked-for "$(printf '%s a b\n' $programs; echo status 0)" each_program --proved a b
+    for file in crates/low/src/lib.rt crates/high/proofs/Lib.antt crates.txt HANDLES; do
+        touch "$build/$file"
+        for program in $programs; do
+            expect "$program-after-an-edit-of-${file##*/}" "$(launched "$program a")" launch "$program" a
+            expect "$program-asked-for-after-an-edit-of-${file##*/}" "$(printf "! %s isn't proved and built, or has changed since: run ./prove %s\nstatus 2" "$program" "$program")" launch "$program" --proved
+        done
+        quietly_proved
+        expect "proved-again-after-an-edit-of-${file##*/}" "$(printf '%s \n' $programs; echo status 0)" each_program --proved
+    done
+    echo "$build/crates/low/src/lib.rt" >"$NOTES/edit"
+    touch "$build/crates/high/src/lib.rt"
+    quietly_proved pdregress
+    rm "$NOTES/edit"
+    expect edited-while-it-was-proved "$(launched "pdregress a")" launch pdregress a
+    chmod -x "$build/crates/pdsteps/out/pdsteps"
+    expect half-built "$(launched "pdsteps a")" launch pdsteps a
+}
+
+test_unproved
+test_streams
+test_limits
+test_signals
+test_proved
