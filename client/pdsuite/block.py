@@ -1,9 +1,11 @@
-"""What is told of a script that doesn't pass: its row in words, and what stands below that."""
+"""What is told of a script that doesn't pass: its row in words, and what stands below that; and what is warned of."""
 
 from pdsuite.octets import shown, shown_path
-from pdsuite.rows import Outcome
+from pdsuite.rows import Outcome, Verdict
 
 _MOST = 200
+_REASON = "reason: "
+_RULE = "rule: "
 
 
 def place(outcome: Outcome) -> str:
@@ -20,6 +22,34 @@ def meaning(outcome: Outcome) -> str:
 def heading(outcome: Outcome) -> str:
     """The line of an outcome: its place, its row and what that means."""
     return f"{place(outcome)}: {outcome.row}{meaning(outcome)}"
+
+
+def reason(outcome: Outcome) -> str:
+    """Why a row is so, where that is told: the reason, or what the row means, with the rule that stops the script."""
+    if outcome.row.verdict is Verdict.FAIL:
+        found = (it.removeprefix(_REASON) for it in outcome.told if it.startswith(_REASON))
+        return next(found, outcome.why)
+    if outcome.row.verdict is Verdict.SYNTAX:
+        return outcome.why
+    rule = next((it.removeprefix(_RULE) for it in outcome.told[:1] if it.startswith(_RULE)), "")
+    return f"{outcome.why}: {rule}" if rule else outcome.why
+
+
+def summary(outcome: Outcome) -> str:
+    """An outcome in one line: its place, its row and the reason."""
+    why = reason(outcome)
+    return f"{place(outcome)}: {outcome.row}" + (f": {why}" if why else "")
+
+
+def warnings(outcome: Outcome) -> list[str]:
+    """What is warned of."""
+    end = " (strict)" if outcome.is_strict else ""
+    return [f"passes, but {it}{end}" for it in outcome.warnings]
+
+
+def warned(outcome: Outcome) -> list[str]:
+    """A line for each warning: its place, and what it is."""
+    return [f"{place(outcome)}: {it}" for it in warnings(outcome)]
 
 
 def block(outcome: Outcome) -> list[str]:

@@ -1,7 +1,7 @@
 """The scripts in files and folders."""
 
 import os
-from collections.abc import Iterable, Iterator
+from collections.abc import Iterable, Iterator, Sequence
 from dataclasses import dataclass
 from fnmatch import fnmatchcase
 from pathlib import Path
@@ -32,18 +32,21 @@ class Finding:
     folders: set[str]
 
 
-def find(paths: Iterable[Path], only: str | None, stop: Stop) -> list[Found]:
-    """All scripts in the order of their paths, each file once, under the first of its paths."""
+def find(paths: Iterable[Path], only: Sequence[str], stop: Stop) -> list[Found]:
+    """All scripts in the order of their paths, each file once, under the first of its paths.
+
+    Where there are patterns, only those that fit one of them.
+    """
     return find_with_folders(paths, only, stop).scripts
 
 
-def find_with_folders(paths: Iterable[Path], only: str | None, stop: Stop) -> Finding:
+def find_with_folders(paths: Iterable[Path], only: Sequence[str], stop: Stop) -> Finding:
     """The same scripts, and the folders in which one that comes would be found."""
     folders: set[str] = set()
     found = sorted(_all(paths, folders, stop), key=lambda it: os.fsencode(it.path))
     first: dict[tuple[str, str], Found] = {}
     for it in found:
-        if it.fault or only is None or fits(it.path, only):
+        if it.fault or not only or any(fits(it.path, pattern) for pattern in only):
             first.setdefault((it.folder, it.name), it)
     return Finding(list(first.values()), folders)
 

@@ -24,7 +24,8 @@ class Choice:
     """Which scripts are meant."""
 
     paths: Sequence[Path]
-    only: str | None
+    only: Sequence[str]
+    is_strict: bool = False  # whether a warning makes each of them fail
 
 
 class Folders:
@@ -43,6 +44,7 @@ class Folders:
         self._places: Mapping[tuple[str, str], str] = {}
         self._watched: set[str] = set()
         self._limits: set[str] = set()
+        self._lost: set[str] = set()
         self._gone: Mapping[str, float] = {}
         self._again: dict[str, float] = {}
         self._walked = self._walk_at = 0.0
@@ -62,6 +64,10 @@ class Folders:
             else:
                 wanted[path] = Wanted(self._suite.settings(it.found), text)
         return wanted, unfit
+
+    def is_strict(self, path: str) -> bool:
+        """Whether a warning makes a script fail."""
+        return self._choice.is_strict or self._suite.is_strict(self.sight[path].found)
 
     def look(self, events: Sequence[Event], now: float) -> bool:
         """Takes in what is reported and what is due; whether anything is other than it was."""
@@ -113,7 +119,9 @@ class Folders:
         sight = see_all(scripts, self.sight, closed)
         if is_first:
             self.sight = sight
-        return self._take(sight, now) or has_changed or is_first
+        is_other = self._take(sight, now)
+        self._say_lost()
+        return is_other or has_changed or is_first
 
     def _find(self) -> list[Found]:
         """Finds all scripts, and has their folders watched before any of them is read."""
@@ -121,6 +129,7 @@ class Folders:
             finding = find_with_folders(self._choice.paths, self._choice.only, self._stop)
             folders = finding.folders | self._layers.folders()
             self._say_limit(self._watcher.watch(folders))
+            self._layers.read(finding.folders)
             is_known = folders <= self._watched
             self._watched = folders
             if is_known:
@@ -135,6 +144,15 @@ class Folders:
             self._walk_at = min(self._walk_at, now + GRACE)
         before, self.sight = self.sight, taken.sight
         return is_other(before, self.sight)
+
+    def _say_lost(self) -> None:
+        """Tells of tables whose scripts aren't there, each once while that is so."""
+        held = {(it.folder, it.name) for it in (self.sight[path].found for path in self._gone if path in self.sight)}
+        lost = self._layers.lost(held)
+        for line in lost:
+            if line not in self._lost:
+                self._note(f"{line}; all else in the file counts")
+        self._lost = set(lost)
 
     def _say_limit(self, limit: str | None) -> None:
         if limit is not None and limit not in self._limits:

@@ -1,11 +1,12 @@
 """The files pdsuite.toml while they change: one that is refused keeps the settings that were good last."""
 
-from collections.abc import Callable, Iterable
+from collections.abc import Callable, Iterable, Set
 from pathlib import Path
 
 from pdsuite.faults import Fault
+from pdsuite.lost import lost_tables
 from pdsuite.stamps import Stamped, is_as_read, stamped
-from pdsuite.suite import Claim, Layer, Suite
+from pdsuite.suite import FILE, Claim, Layer, Suite
 from pdsuite.suite import claims_of, layer_of, place_of, read_octets
 
 # The lines of the claims that the program refuses.
@@ -29,6 +30,20 @@ class Layers:
     def folders(self) -> set[str]:
         """The folders of the files that are there."""
         return {str(path.parent) for path, it in self._read.items() if it.value is not None}
+
+    def read(self, folders: Iterable[str]) -> None:
+        """Reads the files of these folders that weren't read before, whichever scripts they are about."""
+        for folder in folders:
+            self.layer(Path(folder, FILE))
+
+    def lost(self, held: Set[tuple[str, str]]) -> list[str]:
+        """The lines of tables whose scripts aren't there; those of `held`, by folder and name, are taken to be."""
+        return [
+            line
+            for path, it in sorted(self._good.items())
+            if it is not None and it.tables
+            for line in lost_tables(it, str(path.parent), {name for folder, name in held if folder == str(path.parent)})
+        ]
 
     def layer(self, path: Path) -> Layer | None:
         """The layer that counts for a file."""

@@ -66,7 +66,9 @@ def _choice(command: Command) -> Command:
     for option in (
         click.option("--no-color", is_flag=True, help="No colours on a terminal."),
         click.option("--settings", default="", metavar="TEXT", help="Settings before all others."),
-        click.option("--only", metavar="PATTERN", help="Only scripts whose path or name fits."),
+        click.option(
+            "--only", metavar="PATTERN", multiple=True, help="Only scripts whose path or name fits; again for more."
+        ),
         click.argument("paths", nargs=-1, required=True, type=_Place()),
     ):
         command = option(command)
@@ -78,6 +80,7 @@ _workers = click.option(
     type=click.IntRange(0, MOST_WORKERS),
     help="How many threads run scripts; one a processor if nothing is said.",
 )
+_strict = click.option("--strict", is_flag=True, help="A warning makes a script fail.")
 _html = click.option(
     "--html",
     metavar="FOLDER",
@@ -105,6 +108,7 @@ def _wanted(html: Path | None, plot: str | None, plots: int | None) -> Plots:
 
 @pdsuite.command(name="run")
 @_choice
+@_strict
 @_workers
 @_html
 @_plots
@@ -122,9 +126,10 @@ def _wanted(html: Path | None, plot: str | None, plots: int | None) -> Plots:
 @click.option("-v", "--verbose", is_flag=True, help="A line for each script.")
 def run_command(
     paths: tuple[Path, ...],
-    only: str | None,
+    only: tuple[str, ...],
     settings: str,
     no_color: bool,
+    strict: bool,
     workers: int | None,
     html: Path | None,
     plot: str | None,
@@ -140,22 +145,35 @@ def run_command(
         raise click.UsageError("--workers is of this machine, and --scheduler runs scripts elsewhere")
     if scheduler is not None and html is not None:
         raise click.UsageError("--html draws what ran on this machine, and --scheduler runs scripts elsewhere")
-    wish = Wish(paths, only, settings, _threads(workers), scheduler, fail_fast, junit, html, _wanted(html, plot, plots))
+    wish = Wish(
+        paths=paths,
+        only=only,
+        settings=settings,
+        is_strict=strict,
+        workers=_threads(workers),
+        scheduler=scheduler,
+        fail_fast=fail_fast,
+        junit=junit,
+        html=html,
+        plots=_wanted(html, plot, plots),
+    )
     with Screen(wants_color() and not no_color, progress=form is None) as screen:
         return run(wish, _form(form, verbose), screen)
 
 
 @pdsuite.command(name="watch")
 @_choice
+@_strict
 @_workers
 @_html
 @_plots
 @click.option("-v", "--verbose", is_flag=True, help="At first a line for each script.")
 def watch_command(
     paths: tuple[Path, ...],
-    only: str | None,
+    only: tuple[str, ...],
     settings: str,
     no_color: bool,
+    strict: bool,
     workers: int | None,
     html: Path | None,
     plot: str | None,
@@ -166,7 +184,7 @@ def watch_command(
     # Only who watches pays for what reports changes.
     from pdsuite.commands.watch import Wish, watch
 
-    wish = Wish(paths, only, settings, _threads(workers), verbose, html, _wanted(html, plot, plots))
+    wish = Wish(paths, only, settings, strict, _threads(workers), verbose, html, _wanted(html, plot, plots))
     gc.enable()  # this may go on for days
     with Screen(wants_color() and not no_color, progress=False) as screen:
         return watch(wish, screen)
@@ -174,7 +192,7 @@ def watch_command(
 
 @pdsuite.command(name="list")
 @_choice
-def list_command(paths: tuple[Path, ...], only: str | None, settings: str, no_color: bool) -> int:
+def list_command(paths: tuple[Path, ...], only: tuple[str, ...], settings: str, no_color: bool) -> int:
     """Lists the scripts with their settings, and runs nothing."""
     with Screen(wants_color() and not no_color, progress=False) as screen:
         return list_scripts(paths, only, settings, screen)

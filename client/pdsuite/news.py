@@ -23,7 +23,7 @@ def changed_rows(before: Outcomes, after: Outcomes) -> Styled:
     form = Plain(True)
     text = Styled()
     for outcome in sorted(changed, key=lambda it: it.row.verdict is Verdict.PASS):
-        text.append_text(form.row(outcome)).append("\n")
+        text.append_text(form.changed(outcome))
     for path in before:
         if path not in after:
             text.append(f"{shown_path(path)}: ").append("gone\n", "dim")
@@ -42,7 +42,7 @@ def foot(outcomes: Outcomes, seconds: float) -> Styled:
 
 def totals_of(outcomes: Outcomes) -> Totals:
     """The totals of a report."""
-    return Totals.of(it.row.verdict for it in outcomes.values())
+    return Totals.of(outcomes.values())
 
 
 def _entries(outcomes: Outcomes, every: bool) -> Styled:
@@ -55,8 +55,8 @@ def _entries(outcomes: Outcomes, every: bool) -> Styled:
 
 
 def _is_other(old: Outcome, new: Outcome) -> bool:
-    """Whether the row changed, or the line that it names."""
-    return old is not new and (old.row != new.row or old.text != new.text)
+    """Whether the row changed, the line that it names, or whether it makes the run fail."""
+    return old is not new and (old.row != new.row or old.text != new.text or old.passes != new.passes)
 
 
 def _is_told_anew(old: Outcome | None, new: Outcome) -> bool:

@@ -2,6 +2,7 @@
 
 import os
 from collections.abc import Callable, Iterator
+from dataclasses import replace
 from itertools import chain, islice
 from pathlib import Path
 
@@ -10,7 +11,7 @@ from pdsuite.faults import Fault, why
 from pdsuite.octets import shown_path
 from pdsuite.programs import EXPLAIN, FOLDER, REGRESS, digest
 from pdsuite.rows import Outcome, Row, Verdict
-from pdsuite.runs import Piece, Run, Script
+from pdsuite.runs import Piece, Run, Script, outcome_of
 from pdsuite.settings import Settings
 from pdsuite.settle import Settled, Step
 from pdsuite.settle import load, settle, start_with
@@ -105,7 +106,7 @@ def _plain_row(it: Outcome) -> PlainRow:
 
 def _outcome(script: Script, plain: PlainRow) -> Outcome:
     verdict, number, word, line, meaning, told = plain
-    return Outcome(script.path, script.settings, Row(Verdict(verdict), number, word), line, meaning, told)
+    return replace(outcome_of(script, Row(Verdict(verdict), number, word), line), why=meaning, told=told)
 
 
 def _find(programs: Programs) -> dict[str, Path]:

@@ -5,7 +5,7 @@ from collections.abc import Iterable, Iterator, Sequence
 
 from pdsuite.reports.form import Form
 from pdsuite.rows import Outcome, Row, Totals, Verdict
-from pdsuite.runs import Script
+from pdsuite.runs import Script, outcome_of
 from pdsuite.screen import Screen
 from pdsuite.styled import Styled
 
@@ -41,7 +41,7 @@ class Report:
         """Shows what is left, and the totals."""
         self._screen.clear()
         self._show(self.left())
-        totals = Totals.of(it.row.verdict for it in self.outcomes)
+        totals = Totals.of(self.outcomes)
         self._screen.show(self._form.foot(totals, seconds))
         return totals
 
@@ -62,4 +62,4 @@ class Report:
 
 
 def _not_run(script: Script) -> Outcome:
-    return Outcome(script.path, script.settings, Row(Verdict.NOT_RUN))
+    return outcome_of(script, Row(Verdict.NOT_RUN))

@@ -1,6 +1,5 @@
 """What came of scripts: verdicts, rows and their totals."""
 
-from collections import Counter
 from collections.abc import Iterable
 from dataclasses import dataclass
 from enum import StrEnum
@@ -49,11 +48,18 @@ class Row:
 _WITHOUT_LINE = (Verdict.PASS, Verdict.ERROR, Verdict.NOT_RUN)
 
 
+class Warned(StrEnum):
+    """Why a script that passes shows nothing, in the words that follow `passes, but`."""
+
+    NO_EVENT = "has no event"
+
+
 @dataclass(slots=True)
 class Outcome:
     """A script's path and settings, its row, the line of its text that the row names, and why it is so.
 
-    That is what the row means and the lines below it, as they are said by the program that explains.
+    That is what the row means and the lines below it, as they are said by the program that explains. Whether a warning
+    makes the script fail is said by whoever runs it.
     """
 
     path: str
@@ -62,17 +68,37 @@ class Outcome:
     text: bytes | None = None
     why: str = ""
     told: tuple[str, ...] = ()
+    is_strict: bool = False
+
+    @property
+    def warnings(self) -> tuple[Warned, ...]:
+        """What is to be warned of."""
+        return (Warned.NO_EVENT,) if self.row.verdict is Verdict.PASS and not self.row.number else ()
+
+    @property
+    def passes(self) -> bool:
+        """Whether the script passes, and no warning makes it fail."""
+        return self.row.verdict is Verdict.PASS and not (self.is_strict and self.warnings)
 
 
 @dataclass(frozen=True)
 class Totals:
-    """How many scripts came to which verdict."""
+    """How many scripts came to which verdict, how many warnings there are, and whether some of them make a run fail."""
 
     counts: dict[Verdict, int]
+    warnings: int = 0
+    is_strict: bool = False
 
     @classmethod
-    def of(cls, verdicts: Iterable[Verdict]) -> "Totals":
-        return cls({**dict.fromkeys(Verdict, 0), **Counter(verdicts)})
+    def of(cls, outcomes: Iterable[Outcome]) -> "Totals":
+        """The totals of outcomes."""
+        counts: dict[Verdict, int] = dict.fromkeys(Verdict, 0)
+        warned: list[Outcome] = []
+        for outcome in outcomes:
+            counts[outcome.row.verdict] += 1
+            if outcome.warnings:
+                warned.append(outcome)
+        return cls(counts, sum(len(it.warnings) for it in warned), any(it.is_strict for it in warned))
 
     @property
     def scripts(self) -> int:
@@ -80,10 +106,11 @@ class Totals:
 
     def __str__(self) -> str:
         counts = " ".join(f"{it.value} {self.counts[it]}" for it in Verdict)
-        return f"total {self.scripts} {counts}"
+        warnings = f" warnings {self.warnings}" if self.warnings else ""
+        return f"total {self.scripts} {counts}{warnings}"
 
     def status(self) -> int:
         """The exit status: 0 where each script passes, 2 where one couldn't be run, else 1."""
         if self.counts[Verdict.ERROR]:
             return 2
-        return 0 if self.counts[Verdict.PASS] == self.scripts else 1
+        return 0 if self.counts[Verdict.PASS] == self.scripts and not self.is_strict else 1

@@ -5,6 +5,7 @@ from dataclasses import dataclass
 from itertools import islice
 from typing import TypeVar
 
+from pdsuite.rows import Outcome, Row
 from pdsuite.settings import Settings
 
 RUN = 1_024
@@ -21,6 +22,12 @@ class Script:
     path: str
     settings: Settings
     fault: str = ""
+    is_strict: bool = False  # whether a warning makes it fail
+
+
+def outcome_of(script: Script, row: Row, line: bytes | None = None) -> Outcome:
+    """What came of a script, whose text has this line where the row names one."""
+    return Outcome(script.path, script.settings, row, line, is_strict=script.is_strict)
 
 
 Piece = tuple[Script, ...]

@@ -10,7 +10,7 @@ from pdsuite.programs import Ended, Program
 from pdsuite.protocol import LONGEST_LINE, SETTLE, Unexpected
 from pdsuite.protocol import add, before_total, name_of, rows_in
 from pdsuite.rows import Outcome, Row, Verdict
-from pdsuite.runs import Piece, Run, Script
+from pdsuite.runs import Piece, Run, Script, outcome_of
 from pdsuite.settings import Settings, settings_text
 from pdsuite.stop import Stop
 from pdsuite.text import Text, Unfit, read_text
@@ -119,7 +119,7 @@ def _outcome(script: Script, text: Text | str, rows: Iterator[Row]) -> tuple[Scr
         return _error(script, text)
     row = next(rows)
     line = None if row.line is None else text.line(row.line)
-    return script, Outcome(script.path, script.settings, row, line)
+    return script, outcome_of(script, row, line)
 
 
 def unrun(piece: Piece, reason: str) -> Settled:
@@ -128,5 +128,4 @@ def unrun(piece: Piece, reason: str) -> Settled:
 
 
 def _error(script: Script, reason: str) -> tuple[Script, Outcome]:
-    row = Row(Verdict.ERROR, word=reason)
-    return script, Outcome(script.path, script.settings, row)
+    return script, outcome_of(script, Row(Verdict.ERROR, word=reason))

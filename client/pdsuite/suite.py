@@ -6,6 +6,7 @@ from collections.abc import Callable, Iterable, Iterator, Mapping
 from dataclasses import dataclass
 from pathlib import Path
 
+from pdsuite.defaults import help_for
 from pdsuite.faults import Fault
 from pdsuite.find import SUFFIX, Found
 from pdsuite.octets import shown_path, shown_text
@@ -15,6 +16,10 @@ from pdsuite.text import Unfit, read_file
 FILE = "pdsuite.toml"
 OPTION = "--settings"
 _ROOT = "root"
+_STRICT = "strict"
+# The last part of a script's name in a table without quotes: [a.pkt] is the table pkt in the table a.
+_PART = SUFFIX.removeprefix(".")
+_DEEPEST = 16
 _LONGEST = 1 << 20
 
 Table = Mapping[str, Value]
@@ -28,6 +33,10 @@ class Layer:
     is_root: bool
     keys: Table
     tables: Mapping[str, Table]
+    strict: Mapping[str, bool]  # whether warnings make scripts fail, by their names; of all scripts below it by ""
+
+
+_EMPTY = Layer("", False, {}, {}, {})
 
 
 @dataclass(frozen=True)
@@ -42,28 +51,50 @@ class Claim:
     def refused(self, reason: str) -> str:
         """The line that says why it is refused."""
         beside = f' (["{_shown(self.table)}"])' if self.table else ""
-        return f"{self.place}: {_shown(self.key)}: {reason}{beside}"
+        own = () if self.place == OPTION else (_STRICT,) if self.table else (_ROOT, _STRICT)
+        helps = help_for(self.key, reason, own)
+        return f"{self.place}: {_shown(self.key)}: {reason}{beside}" + (f": {helps}" if helps else "")
+
+
+@dataclass(frozen=True)
+class Common:
+    """What all scripts of a folder have in common, and what the file beside them says of single ones."""
+
+    settings: Settings
+    is_strict: bool
+    tables: Mapping[str, Table]
+    strict: Mapping[str, bool]
 
 
 class Suite:
-    """The settings of scripts, from `--settings` and from the files above them, each asked for once."""
+    """What holds for scripts, from `--settings` and from the files above them, each asked for once."""
 
     def __init__(self, option: Layer, read: Callable[[Path], Layer | None] | None = None) -> None:
         self._option = option
         self._read = read or read_layer
         self._layers: dict[str, Layer | None] = {}
-        self._known: dict[str, tuple[Settings, Mapping[str, Table]]] = {}
+        self._known: dict[str, Common] = {}
 
     def settings(self, script: Found) -> Settings:
         """The settings of a script."""
-        known = self._known.get(script.folder)
-        if known is None:
-            layer = self._layer(script.folder)
-            known = self._merged(script.folder, {}), {} if layer is None else layer.tables
-            self._known[script.folder] = known
-        common, tables = known
-        own = tables.get(script.name)
-        return common if own is None else self._merged(script.folder, own)
+        common = self._common(script.folder)
+        own = common.tables.get(script.name)
+        return common.settings if own is None else self._merged(script.folder, own)
+
+    def is_strict(self, script: Found) -> bool:
+        """Whether a warning makes a script fail."""
+        common = self._common(script.folder)
+        return common.strict.get(script.name, common.is_strict)
+
+    def look(self, folders: Iterable[str]) -> None:
+        """Reads the files of these folders, whichever scripts they are about."""
+        for folder in folders:
+            self._layer(folder)
+
+    def files(self) -> list[tuple[str, Layer]]:
+        """The files that were read, by their folders, in the order of their places."""
+        files = [(folder, it) for folder, it in self._layers.items() if it is not None]
+        return sorted(files, key=lambda it: it[1].place)
 
     def is_told(self, script: Found) -> bool:
         """Whether some file is there for a script, whatever it says."""
@@ -71,8 +102,17 @@ class Suite:
 
     def claims(self) -> Iterator[Claim]:
         """What `--settings` and the files that were read say, whichever scripts it is about."""
-        files = [it for it in self._layers.values() if it is not None]
-        yield from claims_of([self._option, *sorted(files, key=lambda it: it.place)])
+        yield from claims_of([self._option, *(layer for _, layer in self.files())])
+
+    def _common(self, folder: str) -> Common:
+        known = self._known.get(folder)
+        if known is None:
+            chain = self._chain(folder)
+            is_strict = next((it.strict[""] for it in chain if "" in it.strict), False)
+            beside = self._layer(folder) or _EMPTY
+            known = Common(self._merged(folder, {}), is_strict, beside.tables, beside.strict)
+            self._known[folder] = known
+        return known
 
     def _merged(self, folder: str, own: Table) -> Settings:
         merged: dict[str, Value] = {}
@@ -99,20 +139,46 @@ class Suite:
 
 
 def layer_of(place: str, octets: bytes) -> Layer:
-    """The layer that a file holds, or a fault where it isn't TOML."""
+    """The layer that a file holds, or a fault where it isn't TOML, or one of its own keys isn't a truth value."""
     table = _table_of(place, octets)
-    root = table.pop(_ROOT, False)
-    if not isinstance(root, bool):
-        raise Fault(f"{place}: {_ROOT}: BadValue")
-    tables = {name: it for name, it in table.items() if name.endswith(SUFFIX) and isinstance(it, Mapping)}
+    _refuse_unquoted(place, table)
+    root = _truth_of(table, _ROOT, place)
+    tables = {name: dict(it) for name, it in table.items() if name.endswith(SUFFIX) and isinstance(it, Mapping)}
     keys = {name: it for name, it in table.items() if name not in tables}
-    return Layer(place, root, keys, tables)
+    told = {name: _truth_of(it, _STRICT, place, name) for name, it in {"": keys, **tables}.items()}
+    strict = {name: it for name, it in told.items() if it is not None}
+    return Layer(place, root or False, keys, tables, strict)
+
+
+def _truth_of(table: dict[str, Value], key: str, place: str, name: str = "") -> bool | None:
+    """A truth value that is the client's own, taken out of a table; a fault where it is something else."""
+    value = table.pop(key, None)
+    if value is None or isinstance(value, bool):
+        return value
+    beside = f' (["{_shown(name)}"])' if name else ""
+    raise Fault(f"{place}: {key}: BadValue{beside}: it takes true or false")
+
+
+def _refuse_unquoted(place: str, table: Table) -> None:
+    """Raises a fault where a script's name stands without quotes: its parts are then tables in tables."""
+    for name in _unquoted(table):
+        raise Fault(f'{place}: [{_shown(name)}]: a script\'s name stands in quotes: ["{_shown(name)}"]')
+
+
+def _unquoted(table: Table, before: str = "", deepest: int = _DEEPEST) -> Iterator[str]:
+    """The names that aren't quoted, of so many parts at most."""
+    for key, value in table.items():
+        if isinstance(value, Mapping):
+            if before and key == _PART:
+                yield f"{before}{key}"
+            elif deepest > 1 and not key.endswith(SUFFIX):
+                yield from _unquoted(value, f"{before}{key}.", deepest - 1)
 
 
 def option_of(text: str) -> Layer:
-    """The layer of `--settings`, which has neither tables nor a root."""
+    """The layer of `--settings`, which has neither tables nor keys of the client's own."""
     octets = text.encode("utf-8", "surrogateescape")
-    return Layer(OPTION, False, _table_of(OPTION, octets), {})
+    return Layer(OPTION, False, _table_of(OPTION, octets), {}, {})
 
 
 def _table_of(place: str, octets: bytes) -> dict[str, Value]:

@@ -4,7 +4,7 @@ from collections import Counter
 from collections.abc import Iterator, Mapping, Sequence
 from dataclasses import dataclass
 
-from pdsuite.defaults import changed_keys
+from pdsuite.defaults import can_be_set, changed_keys
 from pdsuite.edits import Edit, edit_between
 from pdsuite.runs import RUN
 from pdsuite.settings import Settings, set_words
@@ -109,7 +109,10 @@ def _place(scripts: Mapping[str, Wanted], runs: list[Held]) -> None:
 
 
 def _targets(runs: Sequence[Held], wanted: Mapping[str, Wanted]) -> list[Settings | None]:
-    """The settings that each run is to have: those of most of its scripts, if that takes no run too many."""
+    """The settings that each run is to have: those of most of its scripts, if that takes no run too many.
+
+    A run that can't be given them has none, and ends.
+    """
     choices = [_choices(run, wanted) for run in runs]
     need = {settings: -(-count // RUN) for settings, count in Counter(it.settings for it in wanted.values()).items()}
     having: Counter[Settings] = Counter()
@@ -117,7 +120,8 @@ def _targets(runs: Sequence[Held], wanted: Mapping[str, Wanted]) -> list[Setting
     # Those that stay as they are come first, so that no other is changed to what is there.
     for number in sorted(range(len(runs)), key=lambda it: choices[it][:1] != [runs[it].settings]):
         for settings in choices[number]:
-            if settings == runs[number].settings or having[settings] < need[settings]:
+            before = runs[number].settings
+            if settings == before or having[settings] < need[settings] and can_be_set(before, settings):
                 targets[number] = settings
                 having[settings] += 1
                 break

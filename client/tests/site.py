@@ -62,7 +62,7 @@ class Site:
 
     def __post_init__(self) -> None:
         self.layers = Layers(option_of(""), refused, self.paper.note)
-        self.folders = Folders(Choice([self.top], None), self.layers, self.watcher, self.stop, self.paper.note)
+        self.folders = Folders(Choice([self.top], ()), self.layers, self.watcher, self.stop, self.paper.note)
         self.fleet = Fleet(self._start, self.paper.note, lambda doing: None)
         self.view = View(cast(Screen, self.paper), cast(Explainer, Teller()), True)
 
@@ -89,7 +89,7 @@ class Site:
         """The rows that a run of the folder as it is would show."""
         rows = {}
         suite = Suite(option_of(""))
-        for found in find([self.top], None, self.stop):
+        for found in find([self.top], (), self.stop):
             text = load(Script(0, found.path, (), found.fault))
             place = shown_path(found.path)
             if isinstance(text, Text):

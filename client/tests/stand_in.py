@@ -11,6 +11,7 @@ import time
 KILL, SEGV = 9, 11
 
 texts: dict[str, list[bytes]] = {}
+settings: dict[str, str] = {}
 
 
 def say(line: str) -> None:
@@ -85,6 +86,8 @@ def row(name: str) -> list[str]:
             return [f"{name} pending"]
         case ["row", *words]:
             return [f"{name} {' '.join(words)}"]
+        case ["told", key]:
+            return [f"{name} pass {settings.get(key, '1')}"]
     return [f"{name} pass 1"]
 
 
@@ -106,6 +109,8 @@ def take(words: list[str]) -> None:
             texts[name][begin : begin + int(removed)] = lines(count)
         case ["remove", name]:
             del texts[name]
+        case ["set", key, word]:
+            settings[key] = word
         case ["settle"]:
             for name in texts:
                 act(wants(name))
@@ -123,6 +128,9 @@ def main() -> None:
     """Takes commands to the end of the input."""
     if os.path.exists(os.path.join(os.path.dirname(sys.argv[0]), "dead")):
         end("pdregress: 19 OutOfMemory")
+    if "--settings" in sys.argv:
+        text = sys.argv[sys.argv.index("--settings") + 1]
+        settings.update(dict(it.split(" = ") for it in text.splitlines()))
     while line := sys.stdin.buffer.readline():
         take(line.decode().split())
 

@@ -5,7 +5,7 @@ import re
 
 import pytest
 
-from pdsuite.defaults import DEFAULTS, changed_keys
+from pdsuite.defaults import DEFAULTS, KEYS, can_be_set, changed_keys
 from pdsuite.edits import Edit, edit_between
 from pdsuite.settings import Value
 from pdsuite.text import Text, text_of
@@ -61,6 +61,19 @@ def test_the_defaults_are_those_of_the_page_on_settings() -> None:
     assert all(isinstance(_value(word), bool) == isinstance(DEFAULTS[key], bool) for key, word in rows)
 
 
+def test_what_keys_take_is_what_the_page_on_settings_says() -> None:
+    pattern = r"^\| `([a-z_]+)` \| ([a-z]*) *\| ([^|]*) \|"
+    rows = re.findall(pattern, (TOP / "docs/SETTINGS.md").read_text(), re.M)
+    assert {key: _range(unit, words) for key, unit, words in rows} == {key: it.takes for key, it in KEYS.items()}
+
+
+def _range(unit: str, words: str) -> str:
+    """What a row of the page says, in the words of the client."""
+    if unit:
+        return f"{words} {unit}"
+    return " or ".join(it if it in ("true", "false") else f'"{it}"' for it in re.findall("`([a-z0-9]+)`", words))
+
+
 def _value(word: str) -> Value:
     if word in ("true", "false"):
         return word == "true"
@@ -71,3 +84,10 @@ def test_a_key_that_goes_has_its_default_and_one_that_stays_is_not_set() -> None
     old = (("mss", 1_000), ("nagle", False), ("sack", True))
     new = (("initial_window", "rfc5681"), ("min_rto_us", 5_000), ("nagle", False))
     assert list(changed_keys(old, new)) == [("min_rto_us", 5_000), ("mss", 1_460)]
+
+
+def test_a_key_without_a_known_default_can_be_set_but_not_taken_back() -> None:
+    later = (("later", 1),)
+    assert list(changed_keys((), later)) == [("later", 1)]
+    assert can_be_set((), later) and can_be_set(later, (("later", 2),)) and can_be_set((("mss", 9),), later)
+    assert not can_be_set(later, ())

@@ -9,14 +9,14 @@ from pdsuite.find import find
 from pdsuite.stop import Stop
 
 
-def found(top: Path, *paths: str, only: str | None = None) -> list[tuple[str, str]]:
+def found(top: Path, *paths: str, only: tuple[str, ...] = ()) -> list[tuple[str, str]]:
     """What is found, with its fault, by paths from a folder."""
     with pytest.MonkeyPatch.context() as patch, Stop() as stop:
         patch.chdir(top)
         return [(it.path, it.fault) for it in find(map(Path, paths), only, stop)]
 
 
-def names(top: Path, *paths: str, only: str | None = None) -> list[str]:
+def names(top: Path, *paths: str, only: tuple[str, ...] = ()) -> list[str]:
     """The paths of what is found, where nothing is at fault."""
     each = found(top, *paths, only=only)
     assert not any(fault for _, fault in each)
@@ -91,7 +91,15 @@ def test_a_pattern_fits_the_path_or_the_name(tmp_path: Path) -> None:
     for name in ("sack/a.pkt", "rto/sack.pkt", "rto/b.pkt"):
         (tmp_path / name).parent.mkdir(exist_ok=True)
         (tmp_path / name).touch()
-    assert names(tmp_path, ".", only="sack*") == ["rto/sack.pkt", "sack/a.pkt"]
-    assert names(tmp_path, ".", only="rto/*") == ["rto/b.pkt", "rto/sack.pkt"]
-    assert names(tmp_path, ".", only="b.pkt") == ["rto/b.pkt"]
-    assert names(tmp_path, ".", only="b") == []
+    assert names(tmp_path, ".", only=("sack*",)) == ["rto/sack.pkt", "sack/a.pkt"]
+    assert names(tmp_path, ".", only=("rto/*",)) == ["rto/b.pkt", "rto/sack.pkt"]
+    assert names(tmp_path, ".", only=("b.pkt",)) == ["rto/b.pkt"]
+    assert names(tmp_path, ".", only=("b",)) == []
+
+
+def test_of_several_patterns_each_counts(tmp_path: Path) -> None:
+    for name in ("rto/b.pkt", "rto/sack.pkt", "sack/a.pkt", "z.pkt"):
+        (tmp_path / name).parent.mkdir(exist_ok=True)
+        (tmp_path / name).touch()
+    assert names(tmp_path, ".", only=("b.pkt", "sack/*")) == ["rto/b.pkt", "sack/a.pkt"]
+    assert names(tmp_path, ".", only=("sack/*", "nothing", "b.pkt", "*/b*")) == ["rto/b.pkt", "sack/a.pkt"]

@@ -6,6 +6,12 @@ from pathlib import Path
 
 import pytest
 
+from pdsuite.asked import refused
+from pdsuite.defaults import KEYS, Number
+from pdsuite.programs import Program
+from pdsuite.settings import Value
+from pdsuite.stop import Stop
+from pdsuite.suite import Claim
 from tests.helpers import FAILS, PASSES, TOP, Call, write
 
 EXAMPLES = TOP / "examples/scripts"
@@ -120,23 +126,36 @@ def test_settings_change_verdicts_script_by_script(programs: Path, tmp_path: Pat
 def test_refused_settings_are_named_before_any_script_runs(programs: Path, tmp_path: Path, call: Call) -> None:
     write(tmp_path / "a", one=PASSES)
     text = 'mss = 10\nMSS = 10\n"a b" = 1\nnagle = "true"\nsack = 1\nwscale = [1]\nsndbuf = -1\nrcv_wnd = 1.5\n'
-    (tmp_path / "a/pdsuite.toml").write_text(text + '["gone.pkt"]\ninitial_window = "rfc1"\n[one.pkt]\nmss = 100\n')
+    (tmp_path / "a/pdsuite.toml").write_text(text + '["one.pkt"]\ninitial_window = "rfc1"\nmin_rto = 300\n[one]\n')
     called = call(programs, "run", "--settings", "tolerance_us = 1000001\nroot = true", "a")
     assert (called.status, called.out) == (2, "")
     assert called.err.splitlines() == [
-        "--settings: tolerance_us: BadValue",
+        "--settings: tolerance_us: BadValue: it takes 0 to 1,000,000 microseconds",
         "--settings: root: UnknownKey",
-        "a/pdsuite.toml: mss: BadValue",
-        "a/pdsuite.toml: MSS: UnknownKey",
+        "a/pdsuite.toml: mss: BadValue: it takes 64 to 65,495 octets",
+        "a/pdsuite.toml: MSS: UnknownKey: the nearest is mss",
         "a/pdsuite.toml: a b: UnknownKey",
-        "a/pdsuite.toml: nagle: BadValue",
-        "a/pdsuite.toml: sack: BadValue",
-        "a/pdsuite.toml: wscale: BadValue",
-        "a/pdsuite.toml: sndbuf: BadValue",
-        "a/pdsuite.toml: rcv_wnd: BadValue",
+        "a/pdsuite.toml: nagle: BadValue: it takes true or false",
+        "a/pdsuite.toml: sack: BadValue: it takes true or false",
+        "a/pdsuite.toml: wscale: BadValue: it takes 0 to 14 bits",
+        "a/pdsuite.toml: sndbuf: BadValue: it takes 1,024 to 1,048,576 octets",
+        "a/pdsuite.toml: rcv_wnd: BadValue: it takes 1 to 1,073,725,440 octets",
         "a/pdsuite.toml: one: UnknownKey",
-        'a/pdsuite.toml: initial_window: BadValue (["gone.pkt"])',
+        'a/pdsuite.toml: initial_window: BadValue (["one.pkt"]): it takes "rfc5681" or "rfc6928"',
+        'a/pdsuite.toml: min_rto: UnknownKey (["one.pkt"]): the nearest is min_rto_us',
     ]
+
+
+@pytest.mark.parametrize("key", KEYS)
+def test_the_program_takes_what_the_client_says_a_key_takes(key: str, programs: Path) -> None:
+    it = KEYS[key]
+    good: list[Value] = [it.default, it.least, it.most] if isinstance(it, Number) else [it.default, *it.words]
+    bad: list[Value] = [it.least - 1, it.most + 1, True, "true"] if isinstance(it, Number) else [0, 1, "other"]
+    bad += ["rfc5681", "rfc6928"] if isinstance(it.default, bool) else [True, False]
+    claims = [Claim("p", "", key, value) for value in (*good, *bad)]
+    with Stop() as stop:
+        lines = refused(claims, lambda: Program([programs / "pdregress"], stop))
+    assert lines == [f"p: {key}: BadValue: it takes {it.takes}"] * len(bad)
 
 
 def test_fail_fast_leaves_later_pieces_out(programs: Path, tmp_path: Path, call: Call) -> None:

@@ -4,7 +4,7 @@
 import pytest
 
 from pdsuite.protocol import Unexpected, add, before_total, name_of, refusal_in, rows_in, set_and_show
-from pdsuite.rows import Row, Totals, Verdict
+from pdsuite.rows import Outcome, Row, Totals, Verdict, Warned
 from pdsuite.runs import Script, cut, runs_of
 from pdsuite.settings import Settings
 from pdsuite.text import text_of
@@ -120,10 +120,27 @@ def test_refusals_are_named_by_their_word() -> None:
     ],
 )
 def test_the_status_tells_whether_all_passed(verdicts: list[Verdict], status: int) -> None:
-    assert Totals.of(verdicts).status() == status
+    assert Totals.of(outcome(it) for it in verdicts).status() == status
+
+
+def outcome(verdict: Verdict, number: int = 1, is_strict: bool = False) -> Outcome:
+    return Outcome("a.pkt", (), Row(verdict, number), is_strict=is_strict)
 
 
 def test_totals_are_printed_in_the_words_of_the_program() -> None:
-    assert str(Totals.of([Verdict.PASS, Verdict.FAIL, Verdict.PASS])) == (
+    assert str(Totals.of(outcome(it) for it in (Verdict.PASS, Verdict.FAIL, Verdict.PASS))) == (
         "total 3 pass 2 fail 1 syntax 0 unsupported 0 limit 0 error 0 not run 0"
     )
+
+
+def test_a_script_without_an_event_is_a_warning_that_counts_where_it_is_strict() -> None:
+    empty, strict = outcome(Verdict.PASS, 0), outcome(Verdict.PASS, 0, True)
+    assert (empty.warnings, outcome(Verdict.PASS).warnings, outcome(Verdict.FAIL, 0).warnings) == (
+        (Warned.NO_EVENT,),
+        (),
+        (),
+    )
+    assert (empty.passes, strict.passes, outcome(Verdict.PASS, 1, True).passes) == (True, False, True)
+    counted = Totals.of([empty, strict, outcome(Verdict.PASS)])
+    assert str(counted).endswith("total 3 pass 3 fail 0 syntax 0 unsupported 0 limit 0 error 0 not run 0 warnings 2")
+    assert [Totals.of(it).status() for it in ([empty], [strict], [strict, outcome(Verdict.ERROR)])] == [0, 1, 2]

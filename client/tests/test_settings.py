@@ -11,7 +11,7 @@ from pdsuite.faults import Fault
 from pdsuite.find import find
 from pdsuite.settings import Settings, Value, set_words, settings_text
 from pdsuite.stop import Stop
-from pdsuite.suite import Suite, layer_of, option_of
+from pdsuite.suite import Claim, Suite, layer_of, option_of
 
 VALUES: list[tuple[Value, str]] = [
     (1000, "1000"),
@@ -54,7 +54,7 @@ def suite_of(top: Path, paths: list[Path], option: str = "") -> dict[str, Settin
     """The settings of each script."""
     suite = Suite(option_of(option))
     with Stop() as stop:
-        found = find(paths, None, stop)
+        found = find(paths, (), stop)
     return {os.path.relpath(it.path, top): suite.settings(it) for it in found}
 
 
@@ -114,7 +114,12 @@ BROKEN = [
     (b"\xff = 1", "a/pdsuite.toml: no TOML: 'utf-8' codec"),
     (b"a = " + b"[" * 100_000, "a/pdsuite.toml: no TOML: "),
     (b"a = " + b"9" * 5_000, "a/pdsuite.toml: no TOML: "),
-    (b"root = 1", "a/pdsuite.toml: root: BadValue"),
+    (b"root = 1", "a/pdsuite.toml: root: BadValue: it takes true or false"),
+    (b'strict = "yes"', "a/pdsuite.toml: strict: BadValue: it takes true or false"),
+    (b'["a.pkt"]\nstrict = 1', 'a/pdsuite.toml: strict: BadValue (["a.pkt"]): it takes true or false'),
+    (b"[03_rto.pkt]", 'a/pdsuite.toml: [03_rto.pkt]: a script\'s name stands in quotes: ["03_rto.pkt"]'),
+    (b"v1.2-a.pkt.mss = 9", 'a/pdsuite.toml: [v1.2-a.pkt]: a script\'s name stands in quotes: ["v1.2-a.pkt"]'),
+    (b"a = {pkt = {}}", 'a/pdsuite.toml: [a.pkt]: a script\'s name stands in quotes: ["a.pkt"]'),
 ]
 
 
@@ -124,6 +129,59 @@ def test_a_file_that_is_no_toml_is_a_fault_with_its_path(octets: bytes, reason: 
         layer_of("a/pdsuite.toml", octets)
     assert str(fault.value).startswith(reason)
     assert str(fault.value).isprintable()
+
+
+def test_a_table_in_tables_of_any_depth_costs_nothing() -> None:
+    deep = layer_of("pdsuite.toml", b"[" + b".".join([b"a"] * 300) + b".pkt]")
+    assert list(deep.keys) == ["a"] and not deep.tables
+
+
+def test_what_is_no_name_of_a_script_stays_a_key() -> None:
+    layer = layer_of("pdsuite.toml", b'pkt = {}\n[a]\nb = 1\n[c."d.pkt"]\n["e.pkt".pkt]\n["f.pkt"]\nmss = 9\n')
+    assert list(layer.keys) == ["pkt", "a", "c"]
+    assert layer.tables == {"e.pkt": {"pkt": {}}, "f.pkt": {"mss": 9}}
+
+
+HELPS = [
+    ("mss", "BadValue", "mss: BadValue: it takes 64 to 65,495 octets"),
+    ("wscale", "BadValue", "wscale: BadValue: it takes 0 to 14 bits"),
+    ("max_rto_us", "BadValue", "max_rto_us: BadValue: it takes 60,000,000 to 3,600,000,000 microseconds"),
+    ("nagle", "BadValue", "nagle: BadValue: it takes true or false"),
+    ("initial_window", "BadValue", 'initial_window: BadValue: it takes "rfc5681" or "rfc6928"'),
+    ("min_rto", "UnknownKey", "min_rto: UnknownKey: the nearest is min_rto_us"),
+    ("MSS", "UnknownKey", "MSS: UnknownKey: the nearest is mss"),
+    ("sacks", "UnknownKey", "sacks: UnknownKey: the nearest is sack"),
+    ("Root", "UnknownKey", "Root: UnknownKey: the nearest is root"),
+    ("stirct", "UnknownKey", "stirct: UnknownKey: the nearest is strict"),
+    ("congestion", "UnknownKey", "congestion: UnknownKey"),
+    ("later", "BadValue", "later: BadValue"),
+]
+
+
+@pytest.mark.parametrize(("key", "reason", "line"), HELPS, ids=[it[0] for it in HELPS])
+def test_a_refused_key_tells_what_it_takes_or_which_key_is_near(key: str, reason: str, line: str) -> None:
+    assert Claim("a/pdsuite.toml", "", key, 1).refused(reason) == f"a/pdsuite.toml: {line}"
+
+
+def test_what_helps_stands_after_the_table_and_is_of_its_place() -> None:
+    named = Claim("p", "a.pkt", "mss", 1).refused("BadValue")
+    assert named == 'p: mss: BadValue (["a.pkt"]): it takes 64 to 65,495 octets'
+    assert Claim("p", "a.pkt", "roots", 1).refused("UnknownKey") == 'p: roots: UnknownKey (["a.pkt"])'
+    assert Claim("p", "a.pkt", "strick", 1).refused("UnknownKey").endswith(": the nearest is strict")
+    assert Claim("--settings", "", "root", 1).refused("UnknownKey") == "--settings: root: UnknownKey"
+
+
+def test_the_nearest_says_which_scripts_are_strict(tmp_path: Path) -> None:
+    make_suite(tmp_path)
+    (tmp_path / "pdsuite.toml").write_text('root = true\nstrict = true\n["top.pkt"]\nstrict = false\n')
+    (tmp_path / "a/b/pdsuite.toml").write_text("strict = false\nmss = 9\n")
+    suite = Suite(option_of(""))
+    with Stop() as stop:
+        found = find([tmp_path], (), stop)
+    strict = {os.path.relpath(it.path, tmp_path): suite.is_strict(it) for it in found}
+    assert strict == {"top.pkt": False, "a/one.pkt": True, "a/two.pkt": True, "a/b/one.pkt": False}
+    assert all("strict" not in dict(suite.settings(it)) for it in found)
+    assert all(it.key != "strict" for it in suite.claims())
 
 
 def test_a_file_that_cannot_be_read_is_a_fault(tmp_path: Path) -> None:

@@ -49,6 +49,15 @@ def test_settings_that_change_for_all_are_set_with_the_default_for_a_key_that_go
     assert turn.concerned == ["a", "b"]
 
 
+def test_a_run_whose_key_goes_and_has_no_known_default_ends() -> None:
+    later = (("later", 1),)
+    (grown,) = turns([held(NONE, a=ONE)], wanted(later, a=ONE))
+    assert grown.acts == (Set("later", "1"),)
+    ending, new = turns([held(later, a=ONE, b=ONE)], wanted(NONE, a=ONE, b=TWO))
+    assert (ending.acts, ending.after.texts) == ((Remove("a"), Remove("b")), {})
+    assert (new.run, new.acts, new.after) == (None, (Add("a", ONE), Add("b", TWO)), held(NONE, a=ONE, b=TWO))
+
+
 def test_a_default_that_is_written_down_changes_no_setting() -> None:
     (turn,) = turns([held(NONE, a=ONE)], wanted((("mss", 1_460), ("sack", False)), a=ONE))
     assert turn.acts == (Set("sack", "false"),)

@@ -101,6 +101,10 @@ def test_after_random_changes_the_last_report_is_that_of_a_run(seed: int, progra
             time.sleep(chance.choice((0, 0, 0.01, 0.06)))
         for toml in top.rglob("pdsuite.toml"):
             toml.write_text(toml.read_text().replace("mss = 7", "mss = 70").replace("mss = 9", "mss = 90"))
+            for name in re.findall(r'\["(.*)"\]', toml.read_text()):
+                if (toml.parent / name).is_symlink():
+                    (toml.parent / name).unlink()
+                (toml.parent / name).touch()
         (top / "pdsuite.toml").write_text("root = true\nwscale = 4\n")
         watching.await_truth("top")
 
@@ -250,7 +254,8 @@ def test_settings_change_for_folders_and_single_scripts(programs: Path, tmp_path
         watching.await_truth(".")
         assert len(watching.programs()) == 2
         toml.write_text("min_rto_us = 200000\nmss = 10\n")
-        watching.await_err("pdsuite.toml: mss: BadValue; its last good settings stay\n")
+        said = "pdsuite.toml: mss: BadValue: it takes 64 to 65,495 octets; its last good settings stay\n"
+        watching.await_err(said)
         toml.unlink()
         watching.await_truth(".")
         watching.await_out("one.pkt:10: fail missing\n")
@@ -366,4 +371,8 @@ def test_a_folder_without_scripts_is_watched_for_the_first(programs: Path, tmp_p
 def test_settings_on_the_line_that_are_refused_end_it(programs: Path, tmp_path: Path, call: Call) -> None:
     write(tmp_path, a=PASSES)
     called = call(programs, "watch", "--settings", "mss = 1", ".")
-    assert (called.status, called.out, called.err) == (2, "", "--settings: mss: BadValue\n")
+    assert (called.status, called.out, called.err) == (
+        2,
+        "",
+        "--settings: mss: BadValue: it takes 64 to 65,495 octets\n",
+    )

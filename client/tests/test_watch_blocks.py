@@ -131,3 +131,21 @@ def test_where_it_ends_the_script_s_line_stands_below_until_the_next_save(stand_
     assert lines[1:5] == [row, row, "  row fail 1 seq", "total"]
     assert lines[5:] == [f"{row}: so it is", "  why", "total"]
     assert watching.err == "pdsuite: pdexplain was ended by SIGSEGV; nothing is told of a.pkt\n"
+
+
+def test_a_setting_that_the_client_does_not_know_comes_changes_and_goes(stand_in: Path, tmp_path: Path) -> None:
+    write(tmp_path, a=b"told later\n", b=b"told later\n")
+    toml = tmp_path / "pdsuite.toml"
+    with Watching(tmp_path, stand_in, "-v", ".") as watching:
+        (first,) = watching.programs()
+        for value in (7, 8):
+            toml.write_text(f"later = {value}\n")
+            watching.await_out(f"a.pkt: pass {value}\nb.pkt: pass {value}\n")
+            assert watching.programs() == [first]
+        toml.write_text("mss = 100\n")
+        watching.await_out("a.pkt: pass 1\nb.pkt: pass 1\n", 2)
+        toml.write_text('later = 9\n["b.pkt"]\nlater = 10\n')
+        watching.await_out("a.pkt: pass 9\nb.pkt: pass 10\n")
+        toml.write_text("")
+        watching.await_out("a.pkt: pass 1\nb.pkt: pass 1\n", 3)
+        assert watching.err == ""

@@ -12,6 +12,7 @@ from pdsuite.imports.convert import Imported, Left, Source, convert
 from pdsuite.imports.findings import Reason
 from pdsuite.imports.listing import Listed, lines_of, status, summary
 from pdsuite.imports.tables import is_key, tables_of
+from pdsuite.lost import lost_in
 from pdsuite.octets import shown_path
 from pdsuite.screen import Screen
 from pdsuite.settings import set_words
@@ -32,7 +33,7 @@ def import_scripts(source: Path, target: Path, keep: bool, screen: Screen) -> in
         if place.is_relative_to(os.path.realpath(source)):
             raise Fault(f"{shown_path(target)}: lies in the folder that is imported")
         suite = Suite(option_of(""))
-        found = find([source], None, stop)
+        found = find([source], (), stop)
         if not found:
             raise Fault("no script found")
         scripts = list(_imported(found, suite, keep, stop))
@@ -79,7 +80,9 @@ def _text(octets: bytes) -> str:
 
 
 def _refuse(suite: Suite) -> None:
-    """Refuses settings of a pdsuite.toml that no run could be given."""
+    """Refuses settings of a pdsuite.toml that no run could be given, or no script has."""
+    for line in lost_in(suite):
+        raise Fault(line)
     for claim in suite.claims():
         if _NO_WORD in set_words(claim.key, claim.value):
             raise Fault(claim.refused("BadValue"))

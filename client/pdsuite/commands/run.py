@@ -14,12 +14,12 @@ from pdsuite.explain import Explainer
 from pdsuite.faults import Cut
 from pdsuite.files import write
 from pdsuite.here import here
+from pdsuite.lost import lost_in
 from pdsuite.packages import need
 from pdsuite.page.plots import Plots
 from pdsuite.programs import EXPLAIN, REGRESS, Program, digest, locate
 from pdsuite.report import Report
 from pdsuite.reports.form import Form
-from pdsuite.rows import Outcome, Verdict
 from pdsuite.runs import Script, runs_of
 from pdsuite.screen import Screen, say
 from pdsuite.settle import Again, Mapper, Settled, Step, start_with
@@ -36,8 +36,9 @@ class Wish:
     """What a call asks for: which scripts, and how they are run."""
 
     paths: Sequence[Path]
-    only: str | None
+    only: Sequence[str]
     settings: str
+    is_strict: bool
     workers: int
     scheduler: str | None
     fail_fast: bool
@@ -52,9 +53,10 @@ def run(wish: Wish, form: Form, screen: Screen) -> int:
     with Stop() as stop:
         suite = Suite(option_of(wish.settings))
         try:
-            scripts = scripts_of(wish.paths, wish.only, suite, stop)
+            scripts = scripts_of(wish.paths, wish.only, suite, stop, wish.is_strict)
             programs = {name: locate(name) for name in (REGRESS, EXPLAIN)}
-            if lines := refused(suite.claims(), lambda: Program([programs[REGRESS]], stop)):
+            asked = refused(suite.claims(), lambda: Program([programs[REGRESS]], stop))
+            if lines := [*lost_in(suite), *asked]:
                 for line in lines:
                     say(line)
                 return 2
@@ -113,8 +115,7 @@ def _run(
                 say(line)
     finally:
         # Also where nothing can be shown any more.
-        if wish.junit is not None:
-            _write_junit(wish.junit, report, time.monotonic() - begin)
+        _write_files(wish, report, time.monotonic() - begin)
         if drawing is not None and ended is None:
             ended = _draw(drawing, report, texts, screen, stop)
     if isinstance(ended, Stopped):
@@ -135,22 +136,20 @@ def _take(
                 continue
             report.take(step.outcomes)
             checking.take(step)
-            if fail_fast and not all(map(_passes, step.outcomes)):
+            if fail_fast and not all(outcome.passes for _, outcome in step.outcomes):
                 break
     except (Stopped, Cut) as ended:
         return ended
     return None
 
 
-def _passes(settled: tuple[Script, Outcome]) -> bool:
-    return settled[1].row.verdict is Verdict.PASS
+def _write_files(wish: Wish, report: Report, seconds: float) -> None:
+    """Writes the files that are asked for beside the report."""
+    if wish.junit is not None:
+        # Only who asks for this file pays for what writes it.
+        from pdsuite.reports.junit import junit
 
-
-def _write_junit(path: Path, report: Report, seconds: float) -> None:
-    # Only who asks for this file pays for what writes it.
-    from pdsuite.reports.junit import junit
-
-    write(path, junit([*report.outcomes, *report.left()], seconds))
+        write(wish.junit, junit([*report.outcomes, *report.left()], seconds))
 
 
 def _draw(drawing: "Drawing", report: Report, texts: dict[int, Text], screen: Screen, stop: Stop) -> Stopped | None:

@@ -40,8 +40,9 @@ class Wish:
     """What a call asks for: which scripts, and how they are run and shown."""
 
     paths: Sequence[Path]
-    only: str | None
+    only: Sequence[str]
     settings: str
+    is_strict: bool
     workers: int
     every: bool
     html: Path | None
@@ -91,7 +92,9 @@ class View:
         """Whether what was told of a script is told of this outcome."""
         path = outcome.path
         old = self.outcomes.get(path)
-        return old is not None and old.row == outcome.row and self._wanted.get(path) == wanted.get(path)
+        if old is None or old.row != outcome.row or old.passes != outcome.passes:
+            return False
+        return self._wanted.get(path) == wanted.get(path)
 
     def _explained(self, outcomes: Sequence[Outcome], wanted: Mapping[str, Wanted]) -> Iterator[Outcome]:
         """Outcomes with what is told of them, piece by piece."""
@@ -131,7 +134,7 @@ def watch(wish: Wish, screen: Screen) -> int:
                 Watcher() as watcher,
                 Fleet(start, screen.note, view.tell) as fleet,
             ):
-                folders = Folders(Choice(wish.paths, wish.only), layers, watcher, stop, screen.note)
+                folders = Folders(Choice(wish.paths, wish.only, wish.is_strict), layers, watcher, stop, screen.note)
                 _follow(folders, fleet, watcher, view, drawing, stop)
         except Stopped as stopped:
             return stopped.status if view.status is None else view.status
@@ -193,12 +196,15 @@ def _entries(outcomes: Outcomes, wanted: Mapping[str, Wanted]) -> "list[Entry]":
 def _outcomes(folders: Folders, fleet: Fleet, unfit: Mapping[str, str]) -> Outcomes:
     """What came of each script, in the order of paths."""
     rows = {**dict(fleet.rows()), **{path: Row(Verdict.ERROR, word=why) for path, why in unfit.items()}}
-    return {path: _outcome(path, it.file.value, rows[path]) for path, it in folders.sight.items()}
+    return {path: _outcome(path, it.file.value, rows[path], folders) for path, it in folders.sight.items()}
 
 
-def _outcome(path: str, text: Text | str, row: Row) -> Outcome:
+def _outcome(path: str, text: Text | str, row: Row, folders: Folders) -> Outcome:
     line = text.line(row.line) if isinstance(text, Text) and row.line is not None else None
-    return Outcome(path, (), row, line)
+    outcome = Outcome(path, (), row, line)
+    if outcome.warnings:
+        outcome.is_strict = folders.is_strict(path)
+    return outcome
 
 
 def _wait(until: float, files: Iterable[int]) -> None:

@@ -1,5 +1,6 @@
 """Pages as octets: templates filled with values, in which all is escaped that isn't a template's own."""
 
+from collections import Counter
 from collections.abc import Sequence
 from functools import cache
 from pathlib import Path
@@ -9,7 +10,7 @@ from jinja2 import Environment, FileSystemLoader, StrictUndefined
 from pdsuite.diagram.palette import rules
 from pdsuite.page.links import FOLDER, PLOTS
 from pdsuite.page.sheets import Row, Sheet
-from pdsuite.rows import Totals, Verdict
+from pdsuite.rows import Verdict
 
 _HERE = Path(__file__).parent
 # Stands in each page, and tells whose it is.
@@ -27,7 +28,7 @@ def static(name: str) -> bytes:
 
 def table_page(rows: Sequence[Row]) -> bytes:
     """The page with the table."""
-    counts = Totals.of(it.verdict for it in rows).counts
+    counts = Counter(it.verdict for it in rows)
     verdicts = [(it, counts[it]) for it in Verdict if counts[it]]
     return _filled("table.html", rows=rows, verdicts=verdicts, folder=FOLDER)
 

@@ -3,7 +3,7 @@
 from collections.abc import Iterator, Mapping
 from dataclasses import dataclass
 
-from pdsuite.block import block
+from pdsuite.block import block, reason, warnings
 from pdsuite.octets import shown, shown_path, shown_text
 from pdsuite.page.diagrams import Diagram
 from pdsuite.page.links import file_of
@@ -16,7 +16,6 @@ from pdsuite.text import Text
 
 _LONGEST_LINE = 160
 _MICROSECONDS = 1_000_000
-_RULE = "rule: "
 
 # What stands below the packets, in this order: a key of the program's, and its words.
 _FACTS = {
@@ -141,7 +140,7 @@ def row_of(outcome: Outcome) -> Row:
         "" if row.verdict is Verdict.ERROR else row.word,
         row.line,
         "" if outcome.text is None else shown(outcome.text.expandtabs().strip(), _LONGEST_LINE),
-        row.word if row.verdict is Verdict.ERROR else _meaning(outcome),
+        _why(outcome),
     )
 
 
@@ -165,10 +164,11 @@ def sheet_of(entry: Entry, cause: Cause | None, diagram: Diagram) -> Sheet:
     )
 
 
-def _meaning(outcome: Outcome) -> str:
-    """What a row means, with the rule where the script stops by one."""
-    rule = next((it.removeprefix(_RULE) for it in outcome.told[:1] if it.startswith(_RULE)), "")
-    return f"{outcome.why}: {rule}" if rule else outcome.why
+def _why(outcome: Outcome) -> str:
+    """Why a row is so, as far as that is told, or what is warned of."""
+    if outcome.row.verdict is Verdict.ERROR:
+        return outcome.row.word
+    return "; ".join(warnings(outcome)) or reason(outcome)
 
 
 def _lines(text: Text, named: int | None) -> Iterator[Line]:

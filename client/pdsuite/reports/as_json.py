@@ -21,6 +21,8 @@ class Json:
 
     def foot(self, totals: Totals, seconds: float) -> Styled:
         counts = {it.value: totals.counts[it] for it in Verdict}
+        if totals.warnings:
+            counts["warnings"] = totals.warnings
         total = json.dumps({"scripts": totals.scripts, **counts})
         return plainly(f'\n], "total": {total}, "seconds": {seconds:.2f}}}\n')
 
@@ -42,4 +44,6 @@ def _script(outcome: Outcome) -> dict[str, object]:
             script["line"] = row.number
     if outcome.why:
         script["what"] = outcome.why
+    if outcome.warnings:
+        script.update(warnings=list(outcome.warnings), strict=outcome.is_strict)
     return {**script, "below": block(outcome), "settings": dict(outcome.settings)}

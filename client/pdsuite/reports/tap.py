@@ -1,7 +1,7 @@
 """The report as TAP, version 13, as the kernel's tests print it: what is told of a test stands before its line."""
 
 
-from pdsuite.block import block, heading
+from pdsuite.block import block, heading, warned
 from pdsuite.octets import shown_path
 from pdsuite.rows import Outcome, Totals, Verdict
 from pdsuite.styled import Styled, plainly
@@ -19,9 +19,10 @@ class Tap:
     def entry(self, number: int, outcome: Outcome) -> Styled:
         name = shown_path(outcome.path, also=_DIRECTIVE)
         if outcome.row.verdict is Verdict.PASS:
-            return plainly(f"ok {number} {name}\n")
-        told = [heading(outcome), *(f"  {it}" for it in block(outcome))]
-        lines = [*(f"# {it}" for it in told), f"not ok {number} {name}"]
+            told = warned(outcome)
+        else:
+            told = [heading(outcome), *(f"  {it}" for it in block(outcome))]
+        lines = [*(f"# {it}" for it in told), f"{'ok' if outcome.passes else 'not ok'} {number} {name}"]
         return plainly("".join(f"{line}\n" for line in lines))
 
     def foot(self, totals: Totals, seconds: float) -> Styled:

@@ -1,0 +1,132 @@
+"""Tables of pdsuite.toml whose scripts aren't there: a fault of the file, told with the nearest name."""
+
+import os
+from pathlib import Path
+
+import pytest
+
+from tests.helpers import PASSES, Call, write
+from tests.site import Site
+from tests.watching import Watching
+
+LOST = "no script of this name is beside the file"
+
+
+def lines_of(names: list[str]) -> bytes:
+    return "".join(f'["{name}"]\nmss = 1000\n' for name in names).encode()
+
+
+@pytest.mark.parametrize("command", ["run", "list"])
+def test_a_table_without_its_script_is_a_fault_with_the_nearest_name(
+    command: str, stand_in: Path, tmp_path: Path, call: Call
+) -> None:
+    write(tmp_path / "t", **{"03_rto": PASSES, "04_backoff": PASSES})
+    (tmp_path / "t/05.pkt").mkdir()
+    write(tmp_path / "t/in", x=PASSES)
+    (tmp_path / "t/link.pkt").symlink_to("03_rto.pkt")
+    names = ["03_rto.pkt", "3_RTO.pkt", "in/x.pkt", "05.pkt", "link.pkt", "~~~.pkt"]
+    (tmp_path / "t/pdsuite.toml").write_bytes(lines_of(names))
+    called = call(stand_in, command, "t")
+    assert (called.status, called.out) == (2, "")
+    assert called.err.splitlines() == [
+        f't/pdsuite.toml: ["3_RTO.pkt"]: {LOST}; the nearest is 03_rto.pkt',
+        f't/pdsuite.toml: ["in/x.pkt"]: {LOST}',
+        f't/pdsuite.toml: ["05.pkt"]: {LOST}',
+        't/pdsuite.toml: ["link.pkt"]: this is a link, and settings go by the name of the file that it leads to',
+        f't/pdsuite.toml: ["~~~.pkt"]: {LOST}',
+    ]
+
+
+def test_a_table_counts_for_a_script_that_is_there_and_not_meant(stand_in: Path, tmp_path: Path, call: Call) -> None:
+    write(tmp_path, a=PASSES, b=PASSES, **{".hidden": PASSES})
+    (tmp_path / "pdsuite.toml").write_bytes(lines_of(["a.pkt", "b.pkt", ".hidden.pkt"]))
+    for words in (["b.pkt"], ["--only", "a*", "."]):
+        called = call(stand_in, "run", *words)
+        assert (called.status, called.err, called.totals) == (0, "", {"pass": 1})
+
+
+def test_files_of_folders_without_scripts_and_of_folders_above_are_looked_at(
+    stand_in: Path, tmp_path: Path, call: Call
+) -> None:
+    write(tmp_path / "t/in", a=PASSES)
+    (tmp_path / "t/out").mkdir()
+    (tmp_path / "t/out/pdsuite.toml").write_bytes(lines_of(["a.pkt"]))
+    (tmp_path / "t/pdsuite.toml").write_bytes(b"root = true\n" + lines_of(["b.pkt"]))
+    called = call(stand_in, "run", "t/in")
+    assert (called.status, called.err) == (2, f't/pdsuite.toml: ["b.pkt"]: {LOST}\n')
+    called = call(stand_in, "run", "t")
+    assert called.err.splitlines()[0] == f't/out/pdsuite.toml: ["a.pkt"]: {LOST}'
+    assert (called.status, len(called.err.splitlines())) == (2, 2)
+
+
+def test_it_is_told_beside_what_the_program_refuses(stand_in: Path, tmp_path: Path, call: Call) -> None:
+    (tmp_path / "pdexplain").symlink_to(stand_in / "pdexplain")
+    (tmp_path / "pdregress").write_text(
+        "#!/bin/sh\nwhile read -r word more; do case $word in\n"
+        "    set) echo refused 4 BadValue ;;\n"
+        "    show) echo total 0 pass 0 fail 0 syntax 0 unsupported 0 limit 0 pending 0 ;;\nesac; done\n"
+    )
+    (tmp_path / "pdregress").chmod(0o755)
+    write(tmp_path / "t", a=PASSES)
+    (tmp_path / "t/pdsuite.toml").write_text('["b.pkt"]\nmss = 1\n')
+    called = call(tmp_path, "run", "t")
+    assert called.err.splitlines() == [
+        f't/pdsuite.toml: ["b.pkt"]: {LOST}',
+        't/pdsuite.toml: mss: BadValue (["b.pkt"]): it takes 64 to 65,495 octets',
+    ]
+
+
+def test_of_many_tables_ten_are_told(stand_in: Path, tmp_path: Path, call: Call) -> None:
+    write(tmp_path / "t", **{f"s{number:04}": PASSES for number in range(1_500)})
+    (tmp_path / "t/pdsuite.toml").write_bytes(lines_of([f"s{number:04}x.pkt" for number in range(1_400)]))
+    said = call(stand_in, "list", "t").err.splitlines()
+    assert len(said) == 11
+    assert said[9] == f't/pdsuite.toml: ["s0009x.pkt"]: {LOST}; the nearest is s0009.pkt'
+    assert said[10] == "t/pdsuite.toml: and 1,390 more tables of scripts that aren't there"
+
+
+def test_names_that_no_file_can_have_are_told_too(stand_in: Path, tmp_path: Path, call: Call) -> None:
+    write(tmp_path / "t", a=PASSES)
+    (tmp_path / "t/pdsuite.toml").write_text('["a\\u0000.pkt"]\n["\\u001b[2J.pkt"]\n')
+    called = call(stand_in, "list", "t")
+    assert called.status == 2
+    assert called.err.splitlines()[0] == rf't/pdsuite.toml: ["a\x00.pkt"]: {LOST}; the nearest is a.pkt'
+    assert called.err.splitlines()[1].startswith(r't/pdsuite.toml: ["\x1b[2J.pkt"]: ')
+
+
+def test_an_import_refuses_such_a_table(tmp_path: Path, call: Call) -> None:
+    write(tmp_path / "from", a=PASSES)
+    (tmp_path / "from/pdsuite.toml").write_bytes(lines_of(["b.pkt"]))
+    called = call(None, "import", "from", "to")
+    assert (called.status, called.out) == (2, "")
+    assert called.err == f'pdsuite: from/pdsuite.toml: ["b.pkt"]: {LOST}\n'
+    assert not (tmp_path / "to").exists()
+
+
+def test_while_scripts_are_watched_it_is_told_once_and_all_else_counts(stand_in: Path, tmp_path: Path) -> None:
+    write(tmp_path, a=b"told mss\n", b=PASSES)
+    (tmp_path / "pdsuite.toml").write_bytes(b"root = true\nmss = 70\n" + lines_of(["c.pkt"]))
+    line = f'pdsuite.toml: ["c.pkt"]: {LOST}; all else in the file counts\n'
+    with Watching(tmp_path, stand_in, "-v", ".") as watching:
+        watching.await_out("a.pkt: pass 70\n")
+        assert watching.err == line
+        write(tmp_path, c=b"told mss\n")
+        watching.await_out("c.pkt: pass 1000\n")
+        (tmp_path / "c.pkt").unlink()
+        watching.await_err(line * 2)
+
+
+def test_a_script_that_is_saved_as_editors_do_is_not_missed(site: Site) -> None:
+    path = site.top / "a.pkt"
+    path.write_bytes(b"one\n")
+    (site.top / "pdsuite.toml").write_bytes(b"root = true\n" + lines_of(["a.pkt"]))
+    site.rest()
+    path.rename(site.top / "a.pkt~")
+    site.wait(3.0)  # the folders are looked through in this moment
+    path.write_bytes(b"two\n")
+    site.rest()
+    assert site.paper.notes == []
+    os.unlink(path)
+    site.rest()
+    line = f'{site.top}/pdsuite.toml: ["a.pkt"]: {LOST}; all else in the file counts'
+    assert site.paper.notes == [line, "pdsuite: no script found"]
