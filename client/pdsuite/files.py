@@ -22,6 +22,15 @@ def write(path: Path, octets: bytes) -> None:
         raise Fault(f"{shown_path(path)}: {why(error)}") from error
 
 
+def append(path: Path, octets: bytes) -> None:
+    """Writes at the end of a file, whatever others have written there."""
+    try:
+        with path.open("ab") as file:
+            file.write(octets)
+    except OSError as error:
+        raise Fault(f"{shown_path(path)}: {why(error)}") from error
+
+
 def _write_beside(target: Path, octets: bytes) -> None:
     beside = target.with_name(f".{target.name[:200]}.{os.getpid()}")
     descriptor = os.open(beside, os.O_WRONLY | os.O_CREAT | os.O_EXCL, 0o666)

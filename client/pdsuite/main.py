@@ -17,7 +17,7 @@ from pdsuite.octets import shown, shown_text
 from pdsuite.page.plots import MOST, Plots
 from pdsuite.reports.as_json import Json
 from pdsuite.reports.form import Form
-from pdsuite.reports.github import Github
+from pdsuite.reports.github import SUMMARY, Github
 from pdsuite.reports.plain import Plain
 from pdsuite.reports.tap import Tap
 from pdsuite.screen import Screen, Unwritten, say, wants_color
@@ -154,6 +154,7 @@ def run_command(
         scheduler=scheduler,
         fail_fast=fail_fast,
         junit=junit,
+        summary=_summary(form),
         html=html,
         plots=_wanted(html, plot, plots),
     )
@@ -210,6 +211,12 @@ def import_command(source: Path, target: Path, keep: bool, no_color: bool) -> in
 
     with Screen(wants_color() and not no_color, progress=False) as screen:
         return import_scripts(source, target, keep, screen)
+
+
+def _summary(form: str | None) -> Path | None:
+    """The file for a summary that GitHub names, where its annotations are asked for."""
+    name = os.environ.get(SUMMARY)
+    return Path(name) if form == "github" and name else None
 
 
 def _threads(workers: int | None) -> int:

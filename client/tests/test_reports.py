@@ -2,7 +2,9 @@
 
 import json
 import os
+import re
 import subprocess
+from datetime import UTC, datetime
 from pathlib import Path
 from xml.etree import ElementTree
 
@@ -108,7 +110,7 @@ def test_junit_tells_failures_from_errors_and_skips_nothing(stand_in: Path, tmp_
     assert kinds == {f"{it}.pkt": Failure if it == "b fail" else Error for it in list(ROWS)[1:]}
     assert not any(kind is Skipped for kind in kinds.values())
     failure = results["b fail.pkt"][0]
-    assert (failure.message, failure.type) == ("fail seq", "fail")
+    assert (failure.message, failure.type) == ("b fail.pkt:1: fail seq", "fail")
     assert failure.text == "b fail.pkt:1: fail seq\n  row fail 1 seq"
 
 
@@ -150,7 +152,7 @@ def test_github_has_an_annotation_for_each_that_does_not_pass(stand_in: Path, tm
     write(tmp_path, good=b"\n")
     called = call(stand_in, "run", "--github", ".")
     assert called.out.splitlines()[0] == (
-        "::error file=a%2Cb%3Ac/50%25.pkt,line=1::a,b:c/50%25.pkt:1: fail seq%0A  row fail 1 seq"
+        "::error file=a%2Cb%3Ac/50%25.pkt,line=1,title=fail seq::a,b:c/50%25.pkt:1: fail seq%0A  row fail 1 seq"
     )
     assert called.totals == {"pass": 1, "fail": 1}
 
@@ -169,3 +171,117 @@ def test_scripts_that_are_not_run_are_errors_of_junit(stand_in: Path, tmp_path: 
     call(stand_in, "run", "--fail-fast", "--junit", "out.xml", ".")
     (suite,) = JUnitXml.fromfile(str(tmp_path / "out.xml"))
     assert (suite.tests, suite.failures, suite.errors, suite.skipped) == (70, 1, 6, 0)
+
+
+MISSING = b"row fail 7 missing\nscript packet: x\nreason: all was sent\nstate: y\n"
+
+
+def test_junit_says_where_and_why_of_each_case(stand_in: Path, tmp_path: Path, call: Call) -> None:
+    write(tmp_path / "t", a=MISSING, b=b"row unsupported 3\nrule: a command\n", c=b"row fail 2 time\nearly by: 1\n")
+    write(tmp_path / "t/in", d=b"row syntax 4\nreason: x\n", e=b"row pass 5\n", f=b"crash\n")
+    write(tmp_path, g=b"row limit 1\n")
+    begin = datetime.now(UTC).replace(microsecond=0)
+    call(stand_in, "run", "--junit", "out.xml", "t", "g.pkt")
+    suites = list(JUnitXml.fromfile(str(tmp_path / "out.xml")))
+    assert [(it.name, it.tests) for it in suites] == [(".", 1), ("t", 3), ("t/in", 3)]
+    assert all(begin <= datetime.fromisoformat(f"{it.timestamp}+00:00") <= datetime.now(UTC) for it in suites)
+    assert all(re.fullmatch(r"\d{4}-\d\d-\d\dT\d\d:\d\d:\d\d", it.timestamp) for it in suites)
+    cases = {it.get("name"): it for it in ElementTree.parse(tmp_path / "out.xml").getroot().iter("testcase")}
+    assert {name: (it.get("file"), it.get("line")) for name, it in cases.items()} == {
+        "g.pkt": ("g.pkt", "1"),
+        "t/a.pkt": ("t/a.pkt", "7"),
+        "t/b.pkt": ("t/b.pkt", "3"),
+        "t/c.pkt": ("t/c.pkt", "2"),
+        "t/in/d.pkt": ("t/in/d.pkt", "4"),
+        "t/in/e.pkt": ("t/in/e.pkt", "1"),
+        "t/in/f.pkt": ("t/in/f.pkt", "1"),
+    }
+    assert [each[0].get("message") for each in cases.values() if len(each)] == [
+        "g.pkt:1: limit",
+        "t/a.pkt:7: fail missing: all was sent",
+        "t/b.pkt:3: unsupported: so it is: a command",
+        "t/c.pkt:2: fail time: so it is",
+        "t/in/d.pkt:4: syntax: so it is",
+        "t/in/f.pkt: error: pdregress was ended by SIGSEGV",
+    ]
+
+
+def test_the_suites_of_junit_share_the_time_of_the_run(stand_in: Path, tmp_path: Path, call: Call) -> None:
+    write(tmp_path / "a", **{f"s{number}": b"\n" for number in range(30)})
+    write(tmp_path / "b", a=b"\n")
+    call(stand_in, "run", "--junit", "out.xml", ".")
+    report = JUnitXml.fromfile(str(tmp_path / "out.xml"))
+    first, second = report
+    assert report.time > 0 and abs(first.time + second.time - report.time) < 0.002
+    assert first.time > second.time > 0
+
+
+def files_of(out: str) -> list[str]:
+    """The files that annotations are of."""
+    return [it[1] for it in re.finditer(r"^::[a-z]+ file=([^,]*),", out, re.M)]
+
+
+def test_github_gets_paths_from_the_root_of_the_repository(stand_in: Path, tmp_path: Path, call: Call) -> None:
+    write(tmp_path / "in/er", a=b"row fail 1 seq\n")
+    whole = str(tmp_path / "in/er")
+    assert files_of(call(stand_in, "run", "--github", whole, "in").out) == [f"{whole}/a.pkt"]
+    named = call(stand_in, "run", "--github", whole, GITHUB_WORKSPACE=str(tmp_path / "in"))
+    assert files_of(named.out) == ["er/a.pkt"]
+    elsewhere = call(stand_in, "run", "--github", "in", GITHUB_WORKSPACE=str(tmp_path / "elsewhere"))
+    assert files_of(elsewhere.out) == ["in/er/a.pkt"]
+    (tmp_path / "in/.git").touch()  # as in a worktree
+    for words in (["in"], [whole], ["in/er/../er"]):
+        assert files_of(call(stand_in, "run", "--github", *words, GITHUB_WORKSPACE="/nowhere").out) == ["er/a.pkt"]
+
+
+def test_github_gets_ten_annotations_of_a_level_and_the_rows_of_all(stand_in: Path, tmp_path: Path, call: Call) -> None:
+    write(tmp_path, **{f"s{number:02}": MISSING for number in range(13)})
+    write(tmp_path, **{f"w{number:02}": b"row pass 0\n" for number in range(11)})
+    write(tmp_path, **{"z##[error] a": MISSING})
+    *lines, totals = call(stand_in, "run", "--github", ".").out.splitlines()
+    assert sum(it.startswith("::error ") for it in lines) == sum(it.startswith("::warning ") for it in lines) == 10
+    assert [it for it in lines if not it.startswith("::")] == [
+        "- s10.pkt:7: fail missing: so it is",
+        "- s11.pkt:7: fail missing: so it is",
+        "- s12.pkt:7: fail missing: so it is",
+        "- w10.pkt: passes, but has no event",
+        r"- z\x23\x23[error] a.pkt:7: fail missing: so it is",
+        "and 4 more errors",
+        "and 1 more warning",
+    ]
+    assert totals.startswith("total 25 pass 11 fail 14 ")
+
+
+def test_github_gets_a_summary_after_those_of_others(stand_in: Path, tmp_path: Path, call: Call) -> None:
+    write(tmp_path, **{"a|b*c_`<d>": MISSING, "e": b"row pass 0\n", "f": b"crash\n", "g": b"row pass 3\n"})
+    summary = tmp_path / "summary.md"
+    summary.write_text("# Others\n")
+    call(stand_in, "run", ".", GITHUB_STEP_SUMMARY=str(summary))
+    assert summary.read_text() == "# Others\n"
+    assert call(stand_in, "run", "--github", ".", GITHUB_STEP_SUMMARY=str(summary)).status == 2
+    assert summary.read_text().splitlines() == [
+        "# Others",
+        "### pdsuite: 4 scripts: 2 pass, 1 fail, 1 error; warnings: 1",
+        "",
+        "| script | line | row | reason |",
+        "|---|---|---|---|",
+        r"| a\|b\*c\_\`\<d\>\.pkt | 7 | fail missing | all was sent |",
+        r"| e\.pkt |  | pass 0 | passes\, but has no event |",
+        r"| f\.pkt |  | error | pdregress was ended by SIGSEGV |",
+    ]
+
+
+def test_a_summary_is_cut_where_github_takes_no_more(stand_in: Path, tmp_path: Path, call: Call) -> None:
+    write(tmp_path, **{f"s{number:04}": b"row fail 1 seq\nreason: " + b"x" * 1_000 + b"\n" for number in range(1_000)})
+    summary = tmp_path / "summary.md"
+    call(stand_in, "run", "--github", ".", GITHUB_STEP_SUMMARY=str(summary))
+    text = summary.read_text()
+    assert 998_000 < len(text) < 1 << 20
+    rows = text.count("| fail seq |")
+    assert text.endswith(f"\n\nand {1_000 - rows} more\n")
+
+
+def test_a_summary_that_cannot_be_written_is_a_fault(stand_in: Path, tmp_path: Path, call: Call) -> None:
+    write(tmp_path, a=b"\n")
+    called = call(stand_in, "run", "--github", ".", GITHUB_STEP_SUMMARY=str(tmp_path / "no/such"))
+    assert (called.status, called.err) == (2, f"pdsuite: {tmp_path}/no/such: No such file or directory\n")

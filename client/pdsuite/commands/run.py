@@ -12,7 +12,7 @@ from pdsuite.checking import Checking
 from pdsuite.commands.choice import scripts_of
 from pdsuite.explain import Explainer
 from pdsuite.faults import Cut
-from pdsuite.files import write
+from pdsuite.files import append, write
 from pdsuite.here import here
 from pdsuite.lost import lost_in
 from pdsuite.packages import need
@@ -20,6 +20,8 @@ from pdsuite.page.plots import Plots
 from pdsuite.programs import EXPLAIN, REGRESS, Program, digest, locate
 from pdsuite.report import Report
 from pdsuite.reports.form import Form
+from pdsuite.reports.github import summary_of
+from pdsuite.rows import Totals
 from pdsuite.runs import Script, runs_of
 from pdsuite.screen import Screen, say
 from pdsuite.settle import Again, Mapper, Settled, Step, start_with
@@ -43,6 +45,7 @@ class Wish:
     scheduler: str | None
     fail_fast: bool
     junit: Path | None
+    summary: Path | None
     html: Path | None
     plots: Plots
 
@@ -150,6 +153,9 @@ def _write_files(wish: Wish, report: Report, seconds: float) -> None:
         from pdsuite.reports.junit import junit
 
         write(wish.junit, junit([*report.outcomes, *report.left()], seconds))
+    if wish.summary is not None:
+        outcomes = [*report.outcomes, *report.left()]
+        append(wish.summary, summary_of(outcomes, Totals.of(outcomes)).encode())
 
 
 def _draw(drawing: "Drawing", report: Report, texts: dict[int, Text], screen: Screen, stop: Stop) -> Stopped | None:

@@ -1,29 +1,119 @@
-"""The report as GitHub's workflow commands, which stand beside the lines of a change."""
+"""The report as GitHub's workflow commands, which stand beside the lines of a change, and its summary in Markdown."""
 
+import os
+import re
+from collections import Counter
+from collections.abc import Iterator, Sequence
+from pathlib import Path
 
-from pdsuite.block import block, heading
+from pdsuite.block import block, heading, reason, warned, warnings
 from pdsuite.octets import shown_path
 from pdsuite.rows import Outcome, Totals, Verdict
 from pdsuite.styled import Styled, plainly
 
+SUMMARY = "GITHUB_STEP_SUMMARY"
+_WORKSPACE = "GITHUB_WORKSPACE"
+_GIT = ".git"
+# GitHub shows so many annotations of a level for each step, and takes so many octets of a summary.
+_MOST = 10
+_LONGEST = 1_000_000
+_PUNCTUATION = re.compile(r"[!-/:-@\[-`{-~]")
+# Begins a command of GitHub's wherever it stands in a line that isn't one.
+_COMMAND = "##["
+_NO_COMMAND = r"\x23\x23["
+
 
 class Github:
-    """An annotation for each script that doesn't pass; then the totals."""
+    """Annotations of scripts that don't pass and of warnings, ten of a level; of all others their rows; the totals."""
+
+    def __init__(self) -> None:
+        self._counts: Counter[str] = Counter()
+        self._roots: dict[str, str] = {}
 
     def head(self, count: int) -> Styled:
         return Styled()
 
     def entry(self, number: int, outcome: Outcome) -> Styled | None:
-        if outcome.row.verdict in (Verdict.PASS, Verdict.NOT_RUN):
+        if outcome.row.verdict is Verdict.NOT_RUN:
             return None
-        where = f"file={_property(shown_path(outcome.path))}"
-        if outcome.row.line is not None:
-            where += f",line={outcome.row.line}"
-        told = [heading(outcome), *(f"  {it}" for it in block(outcome))]
-        return plainly(f"::error {where}::{'%0A'.join(map(_data, told))}\n")
+        if outcome.row.verdict is not Verdict.PASS:
+            told = [heading(outcome), *(f"  {it}" for it in block(outcome))]
+            return plainly(self._annotation("error", outcome, str(outcome.row), told))
+        level = "warning" if outcome.passes else "error"
+        each = zip(warnings(outcome), warned(outcome))
+        lines = [self._annotation(level, outcome, title, [line]) for title, line in each]
+        return plainly("".join(lines)) if lines else None
 
     def foot(self, totals: Totals, seconds: float) -> Styled:
-        return plainly(f"{totals} in {seconds:.2f} s\n")
+        left = {level: count - _MOST for level, count in self._counts.items() if count > _MOST}
+        more = [f"and {count:,} more {level}{'s' if count > 1 else ''}\n" for level, count in sorted(left.items())]
+        return plainly("".join(more) + f"{totals} in {seconds:.2f} s\n")
+
+    def _annotation(self, level: str, outcome: Outcome, title: str, told: Sequence[str]) -> str:
+        """The command that puts lines beside a script, while GitHub shows it; else the first of them alone."""
+        self._counts[level] += 1
+        if self._counts[level] > _MOST:
+            return f"- {told[0].replace(_COMMAND, _NO_COMMAND)}\n"
+        where = f"file={_property(shown_path(self._placed(outcome.path)))}"
+        if outcome.row.line is not None:
+            where += f",line={outcome.row.line}"
+        return f"::{level} {where},title={_property(title)}::{'%0A'.join(map(_data, told))}\n"
+
+    def _placed(self, path: str) -> str:
+        """A path from the root of the repository that it lies in, if it lies in one."""
+        whole = os.path.abspath(path)
+        folder = os.path.dirname(whole)
+        if folder not in self._roots:
+            self._roots[folder] = _root_of(folder)
+        root = self._roots[folder]
+        return os.path.relpath(whole, root) if root else path
+
+
+def summary_of(outcomes: Sequence[Outcome], totals: Totals) -> str:
+    """The summary of a step in Markdown: the totals, and a row for each script that doesn't pass or is warned of."""
+    verdicts = ", ".join(f"{count:,} {it.value}" for it, count in totals.counts.items() if count)
+    warnings = f"; warnings: {totals.warnings:,}" if totals.warnings else ""
+    parts = [f"### pdsuite: {totals.scripts:,} scripts: {verdicts}{warnings}\n\n"]
+    rows = [line for it in outcomes for line in _summary_rows(it)]
+    if rows:
+        parts.append("| script | line | row | reason |\n|---|---|---|---|\n")
+    room = _LONGEST - sum(len(it.encode()) for it in parts)
+    for number, line in enumerate(rows):
+        room -= len(line.encode())
+        if room < 0:
+            parts.append(f"\nand {len(rows) - number:,} more\n")
+            break
+        parts.append(line)
+    return "".join(parts)
+
+
+def _summary_rows(outcome: Outcome) -> Iterator[str]:
+    path, row = shown_path(outcome.path), outcome.row
+    if row.verdict is Verdict.ERROR:
+        yield _cells(path, "", row.verdict.value, row.word)
+    elif row.verdict not in (Verdict.PASS, Verdict.NOT_RUN):
+        yield _cells(path, str(row.line), str(row), reason(outcome))
+    for warning in warnings(outcome):
+        yield _cells(path, "", str(row), warning)
+
+
+def _cells(*texts: str) -> str:
+    """A row of a table, in which no character of a text means anything."""
+    return "".join(f"| {_escaped(it)} " for it in texts) + "|\n"
+
+
+def _escaped(text: str) -> str:
+    return _PUNCTUATION.sub(r"\\\g<0>", text)
+
+
+def _root_of(folder: str) -> str:
+    """The root of the repository that a folder lies in, else of what GitHub checked out; empty if it is in neither."""
+    here = Path(folder)
+    for above in (here, *here.parents):
+        if os.path.lexists(above / _GIT):
+            return str(above)
+    workspace = os.environ.get(_WORKSPACE)
+    return workspace if workspace and here.is_relative_to(workspace) else ""
 
 
 def _data(text: str) -> str:

@@ -1,38 +1,68 @@
 """The report as JUnit's XML, for build servers."""
 
 import os
-from collections.abc import Iterable
+from collections.abc import Sequence
+from datetime import UTC, datetime, timedelta
 from io import BytesIO
 
-from junitparser import Error, Failure, JUnitXml, TestCase, TestSuite
+from junitparser import Attr, Error, Failure, JUnitXml, TestCase, TestSuite
 
-from pdsuite.block import block, heading
+from pdsuite.block import block, heading, summary, warned
 from pdsuite.octets import shown_path
 from pdsuite.rows import Outcome, Verdict
 
+# The line of a script that none is named of.
+_FIRST = 1
 
-def junit(outcomes: Iterable[Outcome], seconds: float) -> bytes:
-    """A suite with a case for each script: a `fail` is a failure, all else that doesn't pass an error."""
-    suite = TestSuite("pdsuite")
+
+# Where a case's script is, as GitLab and CircleCI read it.
+TestCase.file, TestCase.line = Attr("file"), Attr("line")
+
+
+def junit(outcomes: Sequence[Outcome], seconds: float) -> bytes:
+    """A suite for each folder, with a case for each script: a `fail` is a failure, all else that doesn't pass an error.
+
+    The suites share the seconds of the run, by the numbers of their scripts.
+    """
+    begin = (datetime.now(UTC) - timedelta(seconds=seconds)).strftime("%Y-%m-%dT%H:%M:%S")
+    folders: dict[str, list[Outcome]] = {}
     for outcome in outcomes:
-        suite.append(_case(outcome))
+        folders.setdefault(shown_path(os.path.dirname(outcome.path)), []).append(outcome)
     report = JUnitXml("pdsuite")
-    report.append(suite)
+    for folder, scripts in folders.items():
+        report.append(_suite(folder, scripts, begin))
     report.update_statistics()
-    suite.time = report.time = round(seconds, 3)
+    for suite in report:
+        suite.time = round(seconds * suite.tests / len(outcomes), 3)
+    report.time = round(seconds, 3)
     octets = BytesIO()
     report.write(octets)
     return octets.getvalue()
 
 
-def _case(outcome: Outcome) -> TestCase:
-    folder = shown_path(os.path.dirname(outcome.path))
-    case = TestCase(shown_path(outcome.path), classname=folder, time=0)
+def _suite(folder: str, scripts: Sequence[Outcome], begin: str) -> TestSuite:
+    suite = TestSuite(folder or os.curdir)
+    suite.timestamp = begin
+    for outcome in scripts:
+        suite.append(_case(folder, outcome))
+    return suite
+
+
+def _case(folder: str, outcome: Outcome) -> TestCase:
+    path = shown_path(outcome.path)
+    case = TestCase(path, classname=folder, time=0)
+    case.file = path
+    case.line = outcome.row.line or _FIRST
     verdict = outcome.row.verdict
     if verdict is not Verdict.PASS:
         kind = Failure if verdict is Verdict.FAIL else Error
-        result = kind(str(outcome.row), verdict.value)
+        result = kind(summary(outcome), verdict.value)
         below = (f"  {it}" for it in block(outcome))
         result.text = "\n".join([heading(outcome), *below])
         case.result = [result]
+    elif lines := warned(outcome):
+        if outcome.passes:
+            case.system_err = "\n".join(lines)
+        else:
+            case.result = [Failure(line, "warning") for line in lines]
     return case

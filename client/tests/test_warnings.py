@@ -1,0 +1,146 @@
+"""Scripts that pass and show nothing: a warning in every form of a report, and a failure where that is asked for."""
+
+import json
+import signal
+from pathlib import Path
+
+import pytest
+from junitparser import Failure, JUnitXml
+
+from tests.helpers import PASSES, Call, write
+from tests.test_reports import parse_tap
+from tests.watching import Watching
+
+EMPTY = b"row pass 0\n"
+LINE = "a.pkt: passes, but has no event"
+STRICT = f"{LINE} (strict)"
+TOTALS = "fail 0 syntax 0 unsupported 0 limit 0 error 0 not run 0"
+
+
+def make(folder: Path, toml: str = "") -> None:
+    """A script without an event beside one with an event."""
+    write(folder, a=EMPTY, b=b"row pass 2\n")
+    (folder / "pdsuite.toml").write_text(f"root = true\n{toml}")
+
+
+def test_a_script_without_an_event_is_named_and_counted(stand_in: Path, tmp_path: Path, call: Call) -> None:
+    make(tmp_path)
+    called = call(stand_in, "run", ".")
+    assert called.status == 0
+    assert called.out.startswith(f"{LINE}\ntotal 2 pass 2 {TOTALS} warnings 1 in ")
+    called = call(stand_in, "run", "-v", ".")
+    assert called.out.startswith(f"a.pkt: pass 0\n{LINE}\nb.pkt: pass 2\ntotal 2 pass 2 {TOTALS} warnings 1 in ")
+
+
+def test_without_a_warning_nothing_is_counted(stand_in: Path, tmp_path: Path, call: Call) -> None:
+    write(tmp_path, b=b"row pass 2\n", c=b"row fail 1 seq\n")
+    out = call(stand_in, "run", "--strict", ".").out
+    assert "warning" not in out and "total 2 pass 1 fail 1 syntax 0" in out
+    assert "warning" not in call(stand_in, "run", "--json", ".").out
+
+
+STRICTNESS = [
+    (["--strict"], "", 1),
+    (["--strict"], "strict = false\n", 1),
+    ([], "strict = true\n", 1),
+    ([], '["a.pkt"]\nstrict = true\n', 1),
+    ([], 'strict = true\n["a.pkt"]\nstrict = false\n', 0),
+    ([], '["b.pkt"]\nstrict = true\n', 0),
+]
+
+
+@pytest.mark.parametrize(("words", "toml", "status"), STRICTNESS, ids=range(len(STRICTNESS)))
+def test_where_it_is_strict_a_warning_fails(
+    words: list[str], toml: str, status: int, stand_in: Path, tmp_path: Path, call: Call
+) -> None:
+    make(tmp_path, toml)
+    called = call(stand_in, "run", *words, ".")
+    assert (called.status, called.err) == (status, "")
+    assert called.out.startswith(f"{STRICT if status else LINE}\ntotal 2 pass 2 {TOTALS} warnings 1 in ")
+
+
+def test_it_ends_a_run_that_is_to_fail_fast(stand_in: Path, tmp_path: Path, call: Call) -> None:
+    write(tmp_path, **{f"s{number:03}": EMPTY if number == 70 else PASSES for number in range(200)})
+    assert call(stand_in, "run", "--fail-fast", ".").totals == {"pass": 200}
+    called = call(stand_in, "run", "--fail-fast", "--strict", ".")
+    assert (called.status, called.totals) == (1, {"pass": 128, "not run": 72})
+
+
+def test_tap_tells_it_before_its_test(stand_in: Path, tmp_path: Path, call: Call) -> None:
+    make(tmp_path)
+    called = call(stand_in, "run", "--tap", ".")
+    assert called.out.splitlines()[2:5] == [f"# {LINE}", "ok 1 a.pkt", "ok 2 b.pkt"]
+    tests, _ = parse_tap(tmp_path, call(stand_in, "run", "--tap", "--strict", ".").out)
+    assert [it[0] for it in tests] == ["0", "1"]
+
+
+def test_json_lists_it(stand_in: Path, tmp_path: Path, call: Call) -> None:
+    make(tmp_path)
+    for is_strict in (False, True):
+        words = ["--strict"] if is_strict else []
+        report = json.loads(call(stand_in, "run", "--json", *words, ".").out)
+        first, second = report["scripts"]
+        assert (first["verdict"], first["warnings"], first["strict"]) == ("pass", ["has no event"], is_strict)
+        assert "warnings" not in second and "strict" not in second
+        assert report["total"]["warnings"] == 1
+
+
+def test_junit_says_it_beside_its_case(stand_in: Path, tmp_path: Path, call: Call) -> None:
+    make(tmp_path)
+    call(stand_in, "run", "--junit", "out.xml", ".")
+    (suite,) = JUnitXml.fromfile(str(tmp_path / "out.xml"))
+    assert [(it.system_err, it.result) for it in suite] == [(LINE, []), (None, [])]
+    call(stand_in, "run", "--junit", "out.xml", "--strict", ".")
+    (suite,) = JUnitXml.fromfile(str(tmp_path / "out.xml"))
+    first, second = suite
+    (result,) = first.result
+    assert (type(result), result.message, result.type) == (Failure, STRICT, "warning")
+    assert (suite.failures, second.result) == (1, [])
+
+
+def test_github_has_an_annotation_of_it(stand_in: Path, tmp_path: Path, call: Call) -> None:
+    make(tmp_path)
+    first = call(stand_in, "run", "--github", ".").out.splitlines()[0]
+    assert first == f"::warning file=a.pkt,title=passes%2C but has no event::{LINE}"
+    first = call(stand_in, "run", "--github", "--strict", ".").out.splitlines()[0]
+    assert first == f"::error file=a.pkt,title=passes%2C but has no event (strict)::{STRICT}"
+
+
+def test_the_page_shows_it(stand_in: Path, tmp_path: Path, call: Call) -> None:
+    make(tmp_path)
+    call(stand_in, "run", "--html", "page", ".")
+    table = (tmp_path / "page/index.html").read_text()
+    assert table.count("passes, but has no event") == 1
+    (page,) = (tmp_path / "page/scripts").glob("a-*.html")
+    assert "0 events: it passes, but has no event" in page.read_text()
+
+
+def test_while_scripts_are_watched_it_comes_and_goes(stand_in: Path, tmp_path: Path) -> None:
+    make(tmp_path)
+    with Watching(tmp_path, stand_in, ".") as watching:
+        assert watching.out.startswith(f"{LINE}\ntotal 2 pass 2 {TOTALS} warnings 1 in ")
+        write(tmp_path, b=EMPTY)
+        watching.await_out(f"b.pkt: pass 0\n{LINE.replace('a.pkt', 'b.pkt')}\ntotal 2 pass 2 {TOTALS} warnings 2 in ")
+        write(tmp_path, a=b"row pass 3\n")
+        watching.await_out(f"a.pkt: pass 3\ntotal 2 pass 2 {TOTALS} warnings 1 in ")
+        (tmp_path / "pdsuite.toml").write_text("root = true\nstrict = true\n")
+        watching.await_out(f"b.pkt: pass 0\n{STRICT.replace('a.pkt', 'b.pkt')}\n")
+        (tmp_path / "pdsuite.toml").write_text("root = true\n")
+        watching.await_out("b.pkt: pass 0\n", 3)
+
+
+@pytest.mark.parametrize(("words", "status"), [([], 0), (["--strict"], 1)])
+def test_the_status_of_a_watch_is_that_of_a_run(words: list[str], status: int, stand_in: Path, tmp_path: Path) -> None:
+    make(tmp_path)
+    with Watching(tmp_path, stand_in, *words, ".") as watching:
+        assert watching.ends(signal.SIGINT).status == status
+
+
+def test_by_the_program_an_empty_script_and_one_of_comments_are_warned_of(
+    programs: Path, tmp_path: Path, call: Call
+) -> None:
+    write(tmp_path, a=b"", b=b"// x\n", c=PASSES, d=b"/* one\n */\n\n")
+    called = call(programs, "run", ".")
+    assert called.rows == [f"{name}.pkt: passes, but has no event" for name in "abd"]
+    assert called.status == 0
+    assert call(programs, "run", "--strict", ".").status == 1
