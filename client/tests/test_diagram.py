@@ -6,8 +6,11 @@ import pytest
 
 from pdsuite.diagram.failing import failing_of
 from pdsuite.diagram.labels import MOST_ROWS, Label, placed
+from pdsuite.diagram.canvas import WIDE
 from pdsuite.diagram.pictures import for_page, png_file, svg_file
-from pdsuite.diagram.strokes import Arrival, Block, Expected, Flag, Kind, Segment, Step, Strokes, strokes_of
+from pdsuite.diagram.plot import figure_of
+from pdsuite.diagram.strokes import strokes_of
+from pdsuite.diagram.values import Arrival, Block, Expected, Flag, Kind, Segment, Step, Strokes
 from pdsuite.page.plots import Plot, Plots, plots_of
 from pdsuite.rows import Outcome, Row, Verdict
 from pdsuite.trace import events_in
@@ -42,50 +45,50 @@ def notes(found: Strokes) -> list[tuple[int, str]]:
 def test_a_timeout() -> None:
     found = strokes("timeout")
     assert sent(found) == [
-        "0 0:1 new SYN",
-        *(f"100 {it}001:{it + 1}001 new".replace(" 0001", " 1") for it in range(4)),
-        *("200 4001:5001 new", "200 5001:6001 new", "1200 1001:2001 again", "3200 1001:2001 again"),
-        *("3300 2001:3001 again", "3300 3001:4001 again", "3400 4001:5001 again", "3400 5001:6001 again"),
-        *("3400 6001:7001 new", "3500 7001:8001 new", "3700 8001:8002 new FIN", "3800 8002:8002 empty"),
+        "100 0:1 new SYN",
+        *(f"200 {it}001:{it + 1}001 new".replace(" 0001", " 1") for it in range(4)),
+        *("300 4001:5001 new", "300 5001:6001 new", "1300 1001:2001 again", "3300 1001:2001 again"),
+        *("3400 2001:3001 again", "3400 3001:4001 again", "3500 4001:5001 again", "3500 5001:6001 again"),
+        *("3500 6001:7001 new", "3600 7001:8001 new", "3800 8001:8002 new FIN", "3900 8002:8002 empty"),
     ]
-    assert notes(found) == [(1200, "timeout, RTO 1 s"), (3200, "timeout, RTO 2 s")]
-    assert (1200, 1000) in stairs(found.cwnd)
-    assert stairs(found.ssthresh) == [(1200, 2500)]
-    assert stairs(found.acknowledged)[:4] == [(0, 0), (100, 1), (200, 1001), (3300, 2001)]
+    assert notes(found) == [(1300, "timeout, RTO 1 s"), (3300, "timeout, RTO 2 s")]
+    assert (1300, 1000) in stairs(found.cwnd)
+    assert stairs(found.ssthresh) == [(1300, 2500)]
+    assert stairs(found.acknowledged)[:4] == [(100, 0), (200, 1), (300, 1001), (3400, 2001)]
     assert (found.spans, found.blocks, found.failure, found.has_later) == ((), (), None, False)
 
 
 def test_a_recovery_with_sack() -> None:
     found = strokes("sack")
-    assert found.blocks == (Block(200_000, 1001, 2001), Block(210_000, 1001, 3001), Block(220_000, 1001, 4001))
-    assert [it for it in sent(found) if "again" in it] == ["220 1:1001 again"]
-    assert notes(found) == [(220, "loss: SACK recovery")]
-    assert [(it.begin, it.end) for it in found.spans] == [(220_000, 340_000)]
-    assert stairs(found.pipe) == [(220, 3000), (320, 2000), (340, None)]
-    assert stairs(found.flight_size) == [(100, 4000), (200, 5000), (210, 6000), (220, None), (340, 2000), (540, 0)]
-    assert [it.at for it in found.arrivals if it.is_duplicate] == [200_000, 210_000, 220_000]
-    assert stairs(found.edge)[:2] == [(100, 32_897), (320, 36_897)]
+    assert found.blocks == (Block(300_000, 1001, 2001), Block(310_000, 1001, 3001), Block(320_000, 1001, 4001))
+    assert [it for it in sent(found) if "again" in it] == ["320 1:1001 again"]
+    assert notes(found) == [(320, "loss: SACK recovery")]
+    assert [(it.begin, it.end) for it in found.spans] == [(320_000, 440_000)]
+    assert stairs(found.pipe) == [(320, 3000), (420, 2000), (440, None)]
+    assert stairs(found.flight_size) == [(200, 4000), (300, 5000), (310, 6000), (320, None), (440, 2000), (640, 0)]
+    assert [it.at for it in found.arrivals if it.is_duplicate] == [300_000, 310_000, 320_000]
+    assert stairs(found.edge)[:2] == [(200, 32_897), (420, 36_897)]
 
 
 def test_a_recovery_without_sack() -> None:
     found = strokes("without_sack")
     assert (found.blocks, found.pipe) == ((), ())
-    assert [it for it in sent(found) if "again" in it] == ["220 1:1001 again"]
-    assert notes(found) == [(220, "loss: fast recovery")]
-    assert [it.at for it in found.arrivals if it.is_duplicate] == [200_000, 210_000, 220_000]
+    assert [it for it in sent(found) if "again" in it] == ["320 1:1001 again"]
+    assert notes(found) == [(320, "loss: fast recovery")]
+    assert [it.at for it in found.arrivals if it.is_duplicate] == [300_000, 310_000, 320_000]
 
 
 def test_a_close_of_this_side_first() -> None:
     found = strokes("active_close")
-    assert sent(found)[-2:] == ["100 1001:1002 new FIN", "400 1002:1002 empty"]
-    assert found.arrivals[-1] == Arrival(400_000, 1002, Flag.FIN)
-    assert found.arrivals[0] == Arrival(0, 0, Flag.SYN)
+    assert sent(found)[-2:] == ["200 1001:1002 new FIN", "500 1002:1002 empty"]
+    assert found.arrivals[-1] == Arrival(500_000, 1002, Flag.FIN)
+    assert found.arrivals[0] == Arrival(100_000, 0, Flag.SYN)
 
 
 def test_a_close_of_the_peer_first() -> None:
     found = strokes("passive_close")
-    assert sent(found)[-2:] == ["200 1001:1001 empty", "300 1001:1002 new FIN"]
-    assert [it for it in found.arrivals if it.flag is Flag.FIN] == [Arrival(200_000, 1001, Flag.FIN)]
+    assert sent(found)[-2:] == ["300 1001:1001 empty", "400 1001:1002 new FIN"]
+    assert [it for it in found.arrivals if it.flag is Flag.FIN] == [Arrival(300_000, 1001, Flag.FIN)]
 
 
 RESET = """+0.5 < S 0:0(0) win 100 <mss 1000>
@@ -99,15 +102,73 @@ RESET = """+0.5 < S 0:0(0) win 100 <mss 1000>
 """
 
 
-def test_a_reset_ends_the_stairs_and_times_count_from_the_first_packet() -> None:
+def test_a_reset_ends_the_stairs_and_times_count_from_the_start_of_the_run() -> None:
     found = strokes_of(
         events_in("+0 socket(..., SOCK_STREAM, 6) = 3\n//= at 0.000000 CLOSED connection:none\n" + RESET)
     )
     assert found is not None
-    assert sent(found) == ["0 0:1 new SYN", "1000 0:1 again SYN"]
-    assert notes(found) == [(1000, "timeout, RTO 1 s"), (1100, "reset")]
-    assert stairs(found.acknowledged) == [(0, 0), (1100, None)]
-    assert found.arrivals[-1].flag is Flag.RST
+    assert (found.begin, found.end) == (500_000, 1_600_000)
+    assert sent(found) == ["500 0:1 new SYN", "1500 0:1 again SYN"]
+    assert notes(found) == [(1500, "timeout, RTO 1 s"), (1600, "reset")]
+    assert stairs(found.acknowledged) == [(500, 0), (1600, None)]
+    assert found.arrivals[-1] == Arrival(1_600_000, 0, Flag.RST)
+
+
+OPEN = "una:1 next:1001 top:1001 end:1001 cwnd:4000 ssthresh:2000 rwnd:256 FlightSize:1000 DupAcks:0 RTO:1 expiry:2"
+FINS = f"""+0.5 < S 0:0(0) win 100 <mss 1000>
+//= at 0.500000 SYN-RECEIVED una:0 next:1 top:1 end:1 FlightSize:1 RTO:1.000000 expiry:1.500000
++0 > P. 1:1001(1000) ack 1 win 511
+//= at 0.500000 ESTABLISHED {OPEN}
++0.1 < F. 1:1(0) ack 28800 win 256
+//= at 0.600000 ESTABLISHED {OPEN}
++0 < . 1:1(0) ack 30000 win 256
+//= at 0.600000 ESTABLISHED {OPEN}
++0.1 < R. 9:9(0) ack 40000 win 256
+//= at 0.700000 ESTABLISHED {OPEN}
++0.1 < F. 1:1(0) ack 1001 win 256
+//= at 0.800000 CLOSE-WAIT {OPEN.replace('una:1 ', 'una:1001 ')}
++0.1 < F. 1:1(0) ack 1001 win 256
+//= at 0.900000 CLOSE-WAIT {OPEN.replace('una:1 ', 'una:1001 ')}
++0.1 < R. 2:2(0) ack 50000 win 256
+//= at 1.000000 CLOSED connection:reset
+"""
+
+
+def test_a_fin_or_rst_that_is_dropped_is_marked_where_acknowledged_octets_end() -> None:
+    found = strokes_of(events_in(FINS))
+    assert found is not None
+    assert found.arrivals == (
+        Arrival(500_000, 0, Flag.SYN),
+        Arrival(600_000, 1, Flag.FIN, is_dropped=True),
+        Arrival(600_000, 1),
+        Arrival(700_000, 1, Flag.RST, is_dropped=True),
+        Arrival(800_000, 1001, Flag.FIN),
+        Arrival(900_000, 1001, Flag.FIN, is_dropped=True),
+        Arrival(1_000_000, 1001, Flag.RST),
+    )
+    assert notes(found) == [(600, "FIN dropped"), (700, "RST dropped"), (900, "FIN dropped"), (1000, "reset")]
+
+
+def test_what_is_dropped_is_drawn_just_above_the_stairs_and_raises_nothing() -> None:
+    found = strokes_of(events_in(FINS))
+    assert found is not None
+    picture = figure_of(found, WIDE)
+    axes = picture.axes[0]
+    low, high = axes.get_ylim()
+    assert high < 2_000
+    marks = [line for line in axes.get_lines() if line.get_marker() == "v"]
+    places = sorted((x, y) for line in marks for x, y in zip(*line.get_data()))
+    step = 10 * (high - low) / WIDE.octets
+    assert [round(x) for x, _ in places] == [600_000, 800_000, 900_000]
+    assert [round(y - octet) for (_, y), octet in zip(places, (1, 1001, 1001))] == [
+        round(step),
+        -round(step),
+        round(step),
+    ]
+    words = [it.get_text() for it in picture.legends[0].get_texts()]
+    assert "FIN arrives and is dropped" in words and "RST arrives and is dropped" in words
+    assert picture.axes[1].get_xlabel() == "seconds after the start of the run"
+    assert axes.get_xlim()[0] > 400_000
 
 
 @pytest.mark.parametrize(
@@ -137,12 +198,12 @@ def test_the_failing_packet_is_an_outline_and_what_was_sent_is_filled_and_what_c
     assert (failing.inputs, failing.packets, failing.moment) == (9, 6, 310_000)
     found = strokes_of(events_in((RECORDINGS / "fails.txt").read_text()), failing)
     assert found is not None and found.failure is not None and found.has_later
-    assert found.failure.expected == Expected(210_000, 210_000, 1, 1001)
-    assert found.failure.actual == Segment(210_000, 5001, 6001, Kind.NEW)
-    assert "210 5001:6001 new" not in sent(found)
-    assert {it.at for it in found.segments if it.is_later} == {220_000, 420_000}
-    assert {it.at for it in found.arrivals if not it.is_later} == {0, 100_000, 200_000, 210_000}
-    assert stairs(tuple(it for it in found.cwnd if it.is_later)) == [(220, 2000)]
+    assert found.failure.expected == Expected(310_000, 310_000, 1, 1001)
+    assert found.failure.actual == Segment(310_000, 5001, 6001, Kind.NEW)
+    assert "310 5001:6001 new" not in sent(found)
+    assert {it.at for it in found.segments if it.is_later} == {320_000, 520_000}
+    assert {it.at for it in found.arrivals if not it.is_later} == {100_000, 200_000, 300_000, 310_000}
+    assert stairs(tuple(it for it in found.cwnd if it.is_later)) == [(320, 2000)]
 
 
 def test_a_missing_packet_has_an_outline_alone_and_its_moments() -> None:

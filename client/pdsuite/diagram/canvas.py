@@ -12,7 +12,7 @@ from matplotlib.ticker import FuncFormatter, MaxNLocator
 
 from pdsuite.diagram.labels import Label, Placed
 from pdsuite.diagram.palette import LIGHT
-from pdsuite.diagram.strokes import Step
+from pdsuite.diagram.values import Step
 
 # What a picture is of besides its strokes: the same octets for the same strokes, and no text that is more than a text.
 SETTINGS = {
@@ -61,11 +61,11 @@ NARROW = Size(340, 62, 10, 300, 110, 11.0, 1, 4)
 class Canvas:
     """A figure that grows stroke by stroke: two axes over the same time, octets and windows, and a legend."""
 
-    def __init__(self, size: Size, end: int, high: float) -> None:
+    def __init__(self, size: Size, begin: int, end: int, high: float) -> None:
         self.size = size
         self.legend: list[tuple[Line2D | Patch, str]] = []
-        span = max(end, 1_000)
-        self.begin, self.end = -0.03 * span, 1.04 * span
+        span = max(end - begin, 1_000)
+        self.begin, self.end = begin - 0.03 * span, begin + 1.04 * span
         self.low, self.high = -0.07 * high, high
         # How much time and how many octets a pixel is.
         self.unit = (self.end - self.begin) / (size.width - size.left - size.right)
@@ -188,7 +188,7 @@ class Canvas:
         self.octets.set_ylabel("octets, as sequence numbers", color=LIGHT["ink"], fontsize=size.letters)
         self.windows.set_ylabel("octets", color=LIGHT["ink"], fontsize=size.letters)
         unit = "seconds" if in_seconds else "milliseconds"
-        self.windows.set_xlabel(f"{unit} after the first packet", color=LIGHT["ink"], fontsize=size.letters)
+        self.windows.set_xlabel(f"{unit} after the start of the run", color=LIGHT["ink"], fontsize=size.letters)
         scale = _SECOND if in_seconds else 1_000
         self.windows.xaxis.set_major_formatter(FuncFormatter(lambda it, _: f"{it / scale:,.10g}"))
 

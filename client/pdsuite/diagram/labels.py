@@ -3,7 +3,7 @@
 from collections.abc import Sequence
 from dataclasses import dataclass
 
-from pdsuite.diagram.strokes import Strokes
+from pdsuite.diagram.values import Strokes
 
 MOST_ROWS = 5
 _GAP = 8.0

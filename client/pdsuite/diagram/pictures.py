@@ -10,7 +10,7 @@ import matplotlib
 from pdsuite.diagram.canvas import NARROW, SETTINGS, WIDE, Size
 from pdsuite.diagram.palette import LIGHT, rules
 from pdsuite.diagram.plot import figure_of
-from pdsuite.diagram.strokes import Strokes
+from pdsuite.diagram.values import Strokes
 
 _DPI = 144
 _WORDS = "Time-sequence diagram: octets over time, and below it the windows over the same time"

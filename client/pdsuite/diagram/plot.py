@@ -10,7 +10,7 @@ from matplotlib.patches import Patch
 from pdsuite.diagram.canvas import Canvas, Size, alpha_of, at_least, box, color_of
 from pdsuite.diagram.labels import Placed, labels_of, placed
 from pdsuite.diagram.palette import LIGHT
-from pdsuite.diagram.strokes import Expected, Flag, Kind, Segment, Strokes
+from pdsuite.diagram.values import Expected, Flag, Kind, Segment, Strokes
 
 _MARKERS = {Flag.SYN: "D", Flag.FIN: "v", Flag.RST: "X"}
 _KINDS = {Kind.NEW: "new", Kind.AGAIN: "again", Kind.EMPTY: "empty"}
@@ -18,7 +18,7 @@ _KINDS = {Kind.NEW: "new", Kind.AGAIN: "again", Kind.EMPTY: "empty"}
 
 def figure_of(strokes: Strokes, size: Size, title: str = "") -> Figure:
     """The picture of a diagram, with a title above if there is one."""
-    canvas = Canvas(size, strokes.end, _height(strokes))
+    canvas = Canvas(size, strokes.begin, strokes.end, _height(strokes))
     labels = _placed(strokes, canvas)
     _draw_octets(strokes, canvas)
     _draw_windows(strokes, canvas)
@@ -86,10 +86,13 @@ def _draw_marks(strokes: Strokes, canvas: Canvas) -> None:
             sent = [it for it in strokes.segments if it.flag is flag and it.kind is kind]
             again = " again" if kind is Kind.AGAIN else ""
             canvas.points(role, _places(sent, 7 * canvas.octet), marker, 7, f"{flag.value} sent{again}")
-        came = [it for it in strokes.arrivals if it.flag is flag]
         # Just below what is acknowledged, since what leaves at the same moment lies there.
+        came = [it for it in strokes.arrivals if it.flag is flag and not it.is_dropped]
         below = [(it.at, it.octet - 10 * canvas.octet, it.is_later) for it in came]
         canvas.points("ack", below, marker, 6.5, f"{flag.value} arrives", is_hollow=True)
+        lost = [it for it in strokes.arrivals if it.flag is flag and it.is_dropped]
+        above = [(it.at, it.octet + 10 * canvas.octet, it.is_later) for it in lost]
+        canvas.points("again", above, marker, 6.5, f"{flag.value} arrives and is dropped", is_hollow=True)
 
 
 def _draw_failure(strokes: Strokes, canvas: Canvas) -> None:

@@ -1,146 +1,24 @@
-"""From a recording to the strokes of a time-sequence diagram, all as values: nothing is drawn here.
-
-Moments are in microseconds after the first packet, octets are sequence numbers as scripts have them.
-"""
+"""From a recording to the strokes of a time-sequence diagram: nothing is drawn here."""
 
 from collections.abc import Callable, Iterator, Sequence
 from dataclasses import dataclass
-from enum import Enum
 
 from pdsuite.diagram.failing import Failing
+from pdsuite.diagram.values import Arrival, Block, Expected, Failure, Flag, Kind
+from pdsuite.diagram.values import Note, Segment, Span, Step, Strokes
 from pdsuite.imports.items import Packet
 from pdsuite.trace import Event
 
-
-class Kind(Enum):
-    """What a segment that leaves has."""
-
-    NEW = "new"  # octets that weren't sent before
-    AGAIN = "again"  # octets that were
-    EMPTY = "empty"  # none: an acknowledgment or a reset
-
-
-class Flag(Enum):
-    """A flag that is marked."""
-
-    NONE = ""
-    SYN = "SYN"
-    FIN = "FIN"
-    RST = "RST"
-
-
-@dataclass(frozen=True, slots=True)
-class Segment:
-    """A segment that leaves, from its first octet to the number after its last; SYN and FIN count as one octet."""
-
-    at: int
-    start: int
-    end: int
-    kind: Kind
-    flag: Flag = Flag.NONE
-    is_later: bool = False  # after the failing line
-
-
-@dataclass(frozen=True, slots=True)
-class Arrival:
-    """A segment of the peer's that arrives, at the octet that it acknowledges."""
-
-    at: int
-    octet: int
-    flag: Flag = Flag.NONE
-    is_duplicate: bool = False
-    is_later: bool = False
-
-
-@dataclass(frozen=True, slots=True)
-class Block:
-    """A SACK block, at the moment at which it arrives."""
-
-    at: int
-    start: int
-    end: int
-    is_later: bool = False
-
-
-@dataclass(frozen=True, slots=True)
-class Step:
-    """A stair: a number from a moment on, or None where there is none from there on."""
-
-    at: int
-    value: int | None
-    is_later: bool = False
-
-
-@dataclass(frozen=True, slots=True)
-class Note:
-    """Words for what happens at a moment."""
-
-    at: int
-    words: str
-    is_later: bool = False
-
-
-@dataclass(frozen=True, slots=True)
-class Span:
-    """The time of a recovery from a loss."""
-
-    begin: int
-    end: int
-    is_later: bool = False
-
-
-@dataclass(frozen=True, slots=True)
-class Expected:
-    """The packet that a failing line expects: the moments between which it was awaited, and its octets."""
-
-    first: int
-    last: int
-    start: int
-    end: int
-
-
-@dataclass(frozen=True, slots=True)
-class Failure:
-    """A failing line: when it fails, the packet that it expects, and the one that was sent in its place."""
-
-    line: int
-    at: int
-    expected: Expected | None = None
-    actual: Segment | None = None
-
-
-@dataclass(frozen=True)
-class Strokes:
-    """All strokes of a diagram, each kind in the order of time."""
-
-    end: int
-    segments: tuple[Segment, ...]
-    arrivals: tuple[Arrival, ...]
-    blocks: tuple[Block, ...]
-    acknowledged: tuple[Step, ...]
-    edge: tuple[Step, ...]
-    cwnd: tuple[Step, ...]
-    ssthresh: tuple[Step, ...]
-    flight_size: tuple[Step, ...]
-    pipe: tuple[Step, ...]
-    spans: tuple[Span, ...]
-    notes: tuple[Note, ...]
-    failure: Failure | None = None
-
-    @property
-    def has_later(self) -> bool:
-        """Whether anything happens after the failing line."""
-        return any(it.is_later for it in self.segments) or any(it.is_later for it in self.arrivals)
-
-
 # The initial slow start threshold, as high as can be (RFC 5681, section 3.1); it says nothing.
 _NO_THRESHOLD = 1 << 30
+# The states in which the peer's FIN was taken (RFC 9293, section 3.3.2).
+_AFTER_FIN = ("CLOSE-WAIT", "CLOSING", "LAST-ACK", "TIME-WAIT")
 _RECOVERY = {"RFC6675": "loss: SACK recovery", "RFC5681": "loss: fast recovery"}
 
 
 @dataclass(frozen=True, slots=True)
 class _Moment:
-    """An event at its moment after the first packet, and whether it comes after the failing line."""
+    """An event at its moment, and whether it comes after the failing line."""
 
     at: int
     event: Event
@@ -153,15 +31,14 @@ def strokes_of(events: Sequence[Event], failing: Failing | None = None) -> Strok
     if first is None:
         return None
     moments = [
-        _Moment(it.moment - first, it, is_later)
-        for it, is_later in zip(events, _later(events, failing))
-        if it.moment >= first
+        _Moment(it.moment, it, is_later) for it, is_later in zip(events, _later(events, failing)) if it.moment >= first
     ]
     failure = None if failing is None else _failure(failing, moments, first)
     ends = [moments[-1].at]
     if failure is not None and failure.expected is not None:
         ends.append(failure.expected.last)
     return Strokes(
+        begin=first,
         end=max(ends),
         segments=tuple(_segments(moments, failing)),
         arrivals=tuple(_arrivals(moments)),
@@ -173,7 +50,7 @@ def strokes_of(events: Sequence[Event], failing: Failing | None = None) -> Strok
         flight_size=_stairs(moments, _flight_size),
         pipe=_stairs(moments, lambda it: it.number("pipe")),
         spans=tuple(_spans(moments)),
-        notes=tuple(sorted((*_timeouts(moments), *_losses(moments), *_ends(moments)), key=lambda it: it.at)),
+        notes=_notes(moments),
         failure=failure,
     )
 
@@ -231,9 +108,29 @@ def _arrivals(moments: Sequence[_Moment]) -> Iterator[Arrival]:
     for it in moments:
         packet = it.event.what
         if isinstance(packet, Packet) and packet.is_inbound:
-            octet = packet.ack if packet.ack is not None else it.event.number("una") or 0
-            yield Arrival(it.at, octet, _flag(packet), _is_duplicate(packet, before, it.event), it.is_later)
+            flag = _flag(packet)
+            is_duplicate = _is_duplicate(packet, before, it.event)
+            is_dropped = before is not None and _is_dropped(flag, before, it.event)
+            yield Arrival(it.at, _octet(packet, before, it.event), flag, is_duplicate, it.is_later, is_dropped)
         before = it.event
+
+
+def _octet(packet: Packet, before: Event | None, after: Event) -> int:
+    """What a segment acknowledges, where that was sent and wasn't acknowledged before."""
+    numbers = after if before is None or before.number("una") is None else before
+    una, top = numbers.number("una") or 0, numbers.number("top") or 0
+    return packet.ack if packet.ack is not None and una <= packet.ack <= top else una
+
+
+def _is_dropped(flag: Flag, before: Event, after: Event) -> bool:
+    """Whether a FIN or RST changes nothing: no state is entered that it leads to."""
+    if flag is Flag.FIN:
+        return before.state in _AFTER_FIN or after.state not in _AFTER_FIN
+    return flag is Flag.RST and (_is_reset(before) or not _is_reset(after))
+
+
+def _is_reset(event: Event) -> bool:
+    return event.facts.get("connection") == "reset"
 
 
 def _is_duplicate(packet: Packet, before: Event | None, after: Event) -> bool:
@@ -291,6 +188,18 @@ def _flight_size(event: Event) -> int | None:
 # ---- what has a name
 
 
+def _notes(moments: Sequence[_Moment]) -> tuple[Note, ...]:
+    found = (*_timeouts(moments), *_losses(moments), *_drops(moments), *_ends(moments))
+    return tuple(sorted(found, key=lambda it: it.at))
+
+
+def _drops(moments: Sequence[_Moment]) -> Iterator[Note]:
+    """What arrives with a flag and isn't taken."""
+    for it in _arrivals(moments):
+        if it.is_dropped:
+            yield Note(it.at, f"{it.flag.value} dropped", it.is_later)
+
+
 def _timeouts(moments: Sequence[_Moment]) -> Iterator[Note]:
     """The expiries of the retransmission timer: a packet leaves at a moment that neither an input nor another has."""
     last: _Moment | None = None
@@ -327,7 +236,7 @@ def _recoveries(moments: Sequence[_Moment]) -> Iterator[tuple[_Moment, _Moment]]
 
 def _ends(moments: Sequence[_Moment]) -> Iterator[Note]:
     """Where an RST has ended the connection."""
-    found = next((it for it in moments if it.event.facts.get("connection") == "reset"), None)
+    found = next((it for it in moments if _is_reset(it.event)), None)
     if found is not None:
         yield Note(found.at, "reset", found.is_later)
 
@@ -342,7 +251,7 @@ def _seconds(text: str) -> str:
 
 def _failure(failing: Failing, moments: Sequence[_Moment], first: int) -> Failure:
     done = [it.at for it in moments if not it.is_later]
-    at = max(done, default=0) if failing.moment is None else max(0, failing.moment - first)
+    at = max(done, default=first) if failing.moment is None else max(first, failing.moment)
     return Failure(failing.line, at, _expected(failing, at, first), _actual(failing, moments, at))
 
 
@@ -350,8 +259,8 @@ def _expected(failing: Failing, at: int, first: int) -> Expected | None:
     awaited = failing.expected
     if awaited is None:
         return None
-    begin = at if awaited.first is None else max(0, awaited.first - first)
-    end = begin if awaited.last is None else max(begin, awaited.last - first)
+    begin = at if awaited.first is None else max(first, awaited.first)
+    end = begin if awaited.last is None else max(begin, awaited.last)
     return Expected(begin, end, *_extent(awaited.packet))
 
 

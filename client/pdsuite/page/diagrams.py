@@ -5,7 +5,8 @@ from dataclasses import dataclass
 from pathlib import Path
 
 from pdsuite.diagram.failing import Failing, failing_of
-from pdsuite.diagram.strokes import Strokes, strokes_of
+from pdsuite.diagram.strokes import strokes_of
+from pdsuite.diagram.values import Strokes
 from pdsuite.files import write
 from pdsuite.octets import shown_path
 from pdsuite.packages import missing
