@@ -1,9 +1,7 @@
 #!/usr/bin/env python3
-"""Prints the sentences of documents that have more than 35 words; each cell of a table and each point of a list by itself.
+"""Prints sentences of documents that have too many words; each cell of a table and each point of a list by itself."""
 
-    tools/long_sentences.py FILE..
-"""
-
+import argparse
 import re
 import sys
 from collections.abc import Iterator
@@ -19,7 +17,8 @@ POINT = re.compile(r"^\s*(?:[-*]|\d+\.)\s+")
 def blocks(text: str) -> Iterator[tuple[int, str]]:
     """The paragraphs, points, headings and cells of a document, each with the line where it begins."""
     text = FENCE.sub(lambda fence: "\n" * fence.group().count("\n"), text)
-    start, lines = 1, []
+    start = 1
+    lines: list[str] = []
     for number, line in enumerate([*text.split("\n"), ""], 1):
         begins = not line.strip() or line.startswith(("|", "#", "    ")) or POINT.match(line)
         if begins and lines:
@@ -37,19 +36,30 @@ def sentences(block: str) -> Iterator[str]:
     return (sentence for sentence in END.split(CODE.sub("`code`", block)) if sentence)
 
 
-def main(paths: list[str]) -> int:
+def long_sentences(text: str, most: int) -> Iterator[tuple[int, int, str]]:
+    """The sentences with more words than that: the line where the block begins, the number of words, the sentence."""
+    for line, block in blocks(text):
+        for sentence in sentences(block):
+            words = len(sentence.split())
+            if words > most:
+                yield line, words, sentence
+
+
+def main(words: list[str]) -> int:
+    """Prints them, and says whether there are any."""
+    parser = argparse.ArgumentParser(description=__doc__)
+    parser.add_argument(
+        "--most", type=int, default=LIMIT, metavar="N", help=f"the most words of a sentence, else {LIMIT}"
+    )
+    parser.add_argument("files", type=Path, nargs="+", metavar="FILE")
+    chosen = parser.parse_args(words)
     found = 0
-    for path in paths:
-        for line, block in blocks(Path(path).read_text(encoding="utf-8")):
-            for sentence in sentences(block):
-                words = len(sentence.split())
-                if words > LIMIT:
-                    found += 1
-                    print(f"{path}:{line}: {words} words: {sentence}")
+    for path in chosen.files:
+        for line, count, sentence in long_sentences(path.read_text(encoding="utf-8"), chosen.most):
+            found += 1
+            print(f"{path}:{line}: {count} words: {sentence}")
     return 1 if found else 0
 
 
 if __name__ == "__main__":
-    if len(sys.argv) < 2:
-        sys.exit(__doc__)
     sys.exit(main(sys.argv[1:]))

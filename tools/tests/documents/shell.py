@@ -1,0 +1,92 @@
+"""A shell in a folder, and a `watch` that runs beside it."""
+
+import os
+import re
+import shlex
+import signal
+import subprocess
+import threading
+import time
+from pathlib import Path
+from typing import IO
+
+MINUTE = 60.0
+
+
+def _environment() -> dict[str, str]:
+    kept = {name: value for name, value in os.environ.items() if name != "PDSUITE_PROGRAMS"}
+    return {**kept, "LC_ALL": "C.UTF-8", "NO_COLOR": "1"}
+
+
+class Shell:
+    """Runs commands one after another; a `cd` leads to where the next ones run."""
+
+    def __init__(self, folder: Path) -> None:
+        self.folder = folder
+
+    def run(self, command: str, seconds: float) -> str:
+        """What a command prints on both outputs, in the order in which it does."""
+        words = shlex.split(command, comments=True) if "\n" not in command else []
+        if len(words) == 2 and words[0] == "cd":
+            self.folder = (self.folder / words[1]).resolve(strict=True)
+            return ""
+        try:
+            done = subprocess.run(
+                ["sh", "-c", command],
+                cwd=self.folder,
+                env=_environment(),
+                stdin=subprocess.DEVNULL,
+                stdout=subprocess.PIPE,
+                stderr=subprocess.STDOUT,
+                timeout=seconds,
+                check=False,
+            )
+        except subprocess.TimeoutExpired as late:
+            return (late.stdout or b"").decode(errors="replace") + f"(no end in {seconds:.0f} seconds)\n"
+        return done.stdout.decode(errors="replace")
+
+
+class Watching:
+    """A command that goes on beside the others, and what it has printed."""
+
+    def __init__(self, command: str, folder: Path) -> None:
+        self._process = subprocess.Popen(
+            shlex.split(command),
+            cwd=folder,
+            env=_environment(),
+            stdin=subprocess.DEVNULL,
+            stdout=subprocess.PIPE,
+            stderr=subprocess.STDOUT,
+        )
+        self._lines: list[bytes] = []
+        self._taken = 0
+        self._reader = threading.Thread(target=_gather, args=(self._process.stdout, self._lines))
+        self._reader.start()
+
+    def next(self, form: re.Pattern[str], seconds: float = MINUTE) -> str | None:
+        """Waits for what fits as the next that it prints; None if it comes, else what came in its place."""
+        until = time.monotonic() + seconds
+        while True:
+            news = b"".join(self._lines[:]).decode(errors="replace")[self._taken :]
+            if found := form.match(news):
+                self._taken += found.end()
+                return None
+            if time.monotonic() > until or self._process.poll() is not None and not self._reader.is_alive():
+                return news
+            time.sleep(0.02)
+
+    def end(self) -> None:
+        """Ends it as Ctrl-C does."""
+        self._process.send_signal(signal.SIGINT)
+        try:
+            self._process.wait(MINUTE)
+        except subprocess.TimeoutExpired:
+            self._process.kill()
+            self._process.wait()
+        self._reader.join()
+
+
+def _gather(pipe: IO[bytes] | None, lines: list[bytes]) -> None:
+    assert pipe is not None
+    for line in iter(pipe.readline, b""):
+        lines.append(line)

@@ -1,0 +1,80 @@
+"""The commands that a page shows, in blocks of `console`, and whether what they print is what is shown after them."""
+
+import re
+from collections.abc import Iterator
+from dataclasses import dataclass
+
+BLOCK = re.compile(r"^```console *(\w*)\n(.*?)^```$", re.MULTILINE | re.DOTALL)
+PROMPT = "$ "
+HERE = re.compile(r"<<-?'?(\w+)'?")
+# In the place of lines that are left out.
+LEFT_OUT = "..."
+SECONDS = re.compile(r"\bin\\? \d+\\?\.\d+\\? s\b")
+# What a program says first where it runs without its proofs.
+UNPROVED = re.compile(r"^pd[a-z]+: .*\bunproved\b")
+
+# Kinds of blocks: what the gate runs, what takes the prover or runs without proofs, what `watch` prints.
+PLAIN = ""
+SLOW = "slow"
+WATCH = "watch"
+KINDS = (PLAIN, SLOW, WATCH)
+
+
+@dataclass(frozen=True)
+class Shown:
+    """A command, the line where it stands, and the lines that it is to print."""
+
+    kind: str
+    line: int
+    command: str
+    wanted: tuple[str, ...]
+
+
+def shown_in(text: str) -> Iterator[Shown]:
+    """The commands of a page. Lines of a `watch` block before any command are what one that runs prints next."""
+    for block in BLOCK.finditer(text):
+        line = text.count("\n", 0, block.start()) + 2
+        yield from _commands(block[1], line, block[2].split("\n")[:-1])
+
+
+def _commands(kind: str, first: int, lines: list[str]) -> Iterator[Shown]:
+    number = 0
+    while number < len(lines):
+        begin = number
+        command: list[str] = []
+        if lines[number].startswith(PROMPT):
+            number += 1
+            command = _whole(lines[begin:])
+            number = begin + len(command)
+        wanted = number
+        while number < len(lines) and not lines[number].startswith(PROMPT):
+            number += 1
+        text = "\n".join(command).removeprefix(PROMPT)
+        yield Shown(kind, first + begin, text, tuple(lines[wanted:number]))
+
+
+def _whole(lines: list[str]) -> list[str]:
+    """The lines of a command: those of a text in it, up to its end, and those after a backslash or a bar."""
+    count = 1
+    while lines[count - 1].endswith(("\\", "|")) and count < len(lines):
+        count += 1
+    if found := HERE.search(lines[0]):
+        count = lines.index(found[1]) + 1
+    return lines[:count]
+
+
+def form_of(wanted: tuple[str, ...]) -> re.Pattern[str]:
+    """What fits what is wanted: `...` is any lines, and seconds are any seconds."""
+    lines = (r"(?:.*\n)*?" if it.strip() == LEFT_OUT else re.escape(it) + r"\n" for it in wanted)
+    return re.compile("".join(SECONDS.sub(r"in \\d+\\.\\d+ s", line) for line in lines))
+
+
+def fits(shown: Shown, said: str, is_proved: bool) -> bool:
+    """Whether a command printed what is shown. The line `unproved` counts where it is shown and nothing is proved."""
+    wanted = shown.wanted
+    if is_proved:
+        wanted = tuple(line for line in wanted if not UNPROVED.match(line))
+    lines = said.splitlines()
+    if not any(map(UNPROVED.match, wanted)):
+        lines = [line for line in lines if not UNPROVED.match(line)]
+    return form_of(wanted).fullmatch("".join(f"{line}\n" for line in lines)) is not None

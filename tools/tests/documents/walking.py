@@ -1,0 +1,39 @@
+"""Walks a page: runs the commands that it shows, one after another, in a tree."""
+
+import time
+from collections.abc import Iterator
+from contextlib import ExitStack
+from dataclasses import dataclass
+from pathlib import Path
+
+from documents.shell import Shell, Watching
+from documents.shown import SLOW, WATCH, Shown, fits, form_of
+
+
+@dataclass(frozen=True)
+class Step:
+    """A command of a page, whether it printed what is shown or else what it printed, and how long it took."""
+
+    shown: Shown
+    said: str | None
+    seconds: float
+
+
+def walk(steps: list[Shown], tree: Path, seconds: float, is_proved: bool) -> Iterator[Step]:
+    """Runs the commands in order. Where all is proved, those that take the prover are left to who walks without."""
+    shell = Shell(tree)
+    with ExitStack() as stack:
+        watching: Watching | None = None
+        for shown in steps:
+            if shown.kind == SLOW and is_proved:
+                continue
+            begin = time.monotonic()
+            if shown.kind == WATCH:
+                if shown.command:
+                    watching = Watching(shown.command, shell.folder)
+                    stack.callback(watching.end)
+                said = watching.next(form_of(shown.wanted)) if watching else "nothing is watched"
+            else:
+                printed = shell.run(shown.command, seconds)
+                said = None if fits(shown, printed, is_proved) else printed
+            yield Step(shown, said, time.monotonic() - begin)
