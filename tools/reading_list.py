@@ -1,0 +1,100 @@
+#!/usr/bin/env python3
+"""Prints what to read to believe the contracts of public functions: the files, and how many lines of each.
+
+    tools/reading_list.py FUNCTION..     as Book::show or pd_cli::run
+
+Each word of a contract is followed, by the imports of its file, to its definition in specs/ or its type in src/, and so
+on from there. A type with private fields counts by the value that contracts see. The kit's libraries aren't followed.
+"""
+
+import re
+import sys
+from collections.abc import Iterator
+from dataclasses import dataclass
+from pathlib import Path
+
+CRATES = Path(__file__).resolve().parent.parent / "crates"
+DEFINED = re.compile(r"^(?:abbrev pub|unfoldable pub|pub (?:record|data|struct|enum|trait)) ([^\s<({:;]+)", re.M)
+FUNCTION = re.compile(r"^ *pub fn (\w+).*?(?=\n *\{)", re.M | re.S)
+OWNER = re.compile(r"^impl\b.*?(\w+)(?:<[^<>]*>)? \{$", re.M)
+IMPORT = re.compile(r"(pd_\w+)\.specs\.(declared\.)?[a-z_.]*(\w+?)(?:\.TheVariants)?(?: as (\w+)|\.\{(.*?)\});?$", re.M)
+RUST_IMPORT = re.compile(r"^use (pd_\w+|crate|super)::(.*?);$", re.M | re.S)
+WORD = re.compile(r">>=|\w+(?:\.\w+)*")
+
+
+@dataclass(frozen=True, eq=False)
+class Place:
+    """Lines of a file that define or promise something."""
+
+    file: str
+    start: int
+    text: str
+
+
+Name = tuple[str, str]  # a file or a crate, and a word there
+Index = dict[Name, "Place | Name"]  # where that is defined, or the name that it stands for
+
+
+def read(index: Index, crate: str, path: Path) -> None:
+    file, text, owner, start = str(path.relative_to(CRATES)), path.read_text(encoding="utf-8"), "", 1
+    index.update(imports_of(file, crate, text))
+    for part in text.replace("pub(crate) ", "pub ").split("\n\n"):
+        owner = found[1] if (found := OWNER.search(part)) else owner
+        names = [name.strip("◌") for name in DEFINED.findall(part)] + [owner] * ("    ghost Value" in part)
+        scopes = {file, file if path.suffix == ".antt" else crate}
+        index.update({(scope, name): Place(file, start, part) for scope in scopes for name in names})
+        if found := FUNCTION.search(part):
+            index[crate, f"{owner}::{found[1]}".lstrip(":")] = Place(file, start, f"{part[: found.end()]} {owner}")
+        owner = "" if f"\n{part}".endswith("\n}") else owner
+        start += part.count("\n") + 2
+
+
+def imports_of(file: str, crate: str, text: str) -> Iterator[tuple[Name, Name]]:
+    """The words that a file imports, each with its origin; whatever is imported of a type stands for the type."""
+    for library, declared, head, alias, names in IMPORT.findall(text):
+        for old, _, new in (name.partition(" as ") for name in re.split(r",\s*", alias or names)):
+            defined = (f"{library}/specs/{head}.antt", "" if alias else old.strip("◌"))
+            yield (file, (new or old).strip("◌")), (library, head) if declared else defined
+    for library, names in RUST_IMPORT.findall(text):
+        scope = library if library.startswith("pd_") else crate
+        yield from (((file, name), (scope, name)) for name in re.findall(r"\b[A-Z]\w+", names))
+
+
+def meant(index: Index, file: str, word: str) -> list[Place]:
+    """What a word of a file stands for, also where that file has it from another one."""
+    head, _, rest = word.partition(".")
+    found = index.get((file, head))
+    while isinstance(found, tuple):
+        found = index.get((found[0], found[1] or rest))
+    return [found] if found else []
+
+
+def reached(index: Index, functions: list[str]) -> list[Place]:
+    """The contracts of functions and all that they rest on, what is nearer first."""
+    keys = [key for wanted in functions for key in index if f"::{'::'.join(key)}".endswith(f"::{wanted}")]
+    if len(keys) != len(functions):
+        sys.exit("reading_list: each word has to name one public function")
+    places = [place for scope, name in keys for place in meant(index, scope, name)]
+    for here in places:
+        words = WORD.findall(re.sub(r"(--|//).*", "", here.text))
+        beyond = dict.fromkeys(place for word in words for place in meant(index, here.file, word))
+        places.extend(place for place in beyond if place not in places)
+    return places
+
+
+def main(functions: list[str]) -> None:
+    crates = re.findall(r"^(\w+).*:", (CRATES.parent / "crates.txt").read_text(encoding="utf-8"), re.M)
+    index: Index = {}
+    lines: dict[str, set[int]] = {}
+    for path in sorted((*CRATES.glob("*/specs/*.antt"), *CRATES.glob("*/src/**/*.rt"))):
+        read(index, path.relative_to(CRATES).parts[0], path)
+    for place in reached(index, functions):
+        lines.setdefault(place.file, set()).update(range(place.start, place.start + place.text.count("\n") + 1))
+    for crate in reversed(crates):
+        files = [f"`{file.split('/', 1)[1]}` {len(lines[file])}" for file in lines if file.startswith(f"{crate}/")]
+        print(f"- `{crate}`: {', '.join(files)}\n" * bool(files), end="")
+    print(f"\nIn all {sum(map(len, lines.values())):,} lines of {len(lines)} files.")
+
+
+if __name__ == "__main__":
+    main(sys.argv[1:])
