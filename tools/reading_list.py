@@ -20,6 +20,8 @@ OWNER = re.compile(r"^impl\b.*?(\w+)(?:<[^<>]*>)? \{$", re.M)
 IMPORT = re.compile(r"(pd_\w+)\.specs\.(declared\.)?[a-z_.]*(\w+?)(?:\.TheVariants)?(?: as (\w+)|\.\{(.*?)\});?$", re.M)
 RUST_IMPORT = re.compile(r"^use (pd_\w+|crate|super)::(.*?);$", re.M | re.S)
 WORD = re.compile(r">>=|\w+(?:\.\w+)*")
+Name = tuple[str, str]  # a file or a crate, and a word there
+Index = dict[Name, "Place | Name"]  # where that is defined, or the name that it stands for
 
 
 @dataclass(frozen=True, eq=False)
@@ -31,20 +33,16 @@ class Place:
     text: str
 
 
-Name = tuple[str, str]  # a file or a crate, and a word there
-Index = dict[Name, "Place | Name"]  # where that is defined, or the name that it stands for
-
-
-def read(index: Index, crate: str, path: Path) -> None:
+def read(path: Path, crate: str) -> Iterator[tuple[Name, "Place | Name"]]:
     file, text, owner, start = str(path.relative_to(CRATES)), path.read_text(encoding="utf-8"), "", 1
-    index.update(imports_of(file, crate, text))
+    yield from imports_of(file, crate, text)
     for part in text.replace("pub(crate) ", "pub ").split("\n\n"):
         owner = found[1] if (found := OWNER.search(part)) else owner
-        names = [name.strip("◌") for name in DEFINED.findall(part)] + [owner] * ("    ghost Value" in part)
-        scopes = {file, file if path.suffix == ".antt" else crate}
-        index.update({(scope, name): Place(file, start, part) for scope in scopes for name in names})
+        here, scopes = Place(file, start, part), {file, crate if path.suffix == ".rt" else file}
+        for name in DEFINED.findall(part) + [owner] * ("    ghost Value" in part):
+            yield from (((scope, name.strip("◌")), here) for scope in scopes)
         if found := FUNCTION.search(part):
-            index[crate, f"{owner}::{found[1]}".lstrip(":")] = Place(file, start, f"{part[: found.end()]} {owner}")
+            yield (crate, f"{owner}::{found[1]}".lstrip(":")), Place(file, start, f"{part[: found.end()]} {owner}")
         owner = "" if f"\n{part}".endswith("\n}") else owner
         start += part.count("\n") + 2
 
@@ -58,6 +56,11 @@ def imports_of(file: str, crate: str, text: str) -> Iterator[tuple[Name, Name]]:
     for library, names in RUST_IMPORT.findall(text):
         scope = library if library.startswith("pd_") else crate
         yield from (((file, name), (scope, name)) for name in re.findall(r"\b[A-Z]\w+", names))
+
+
+def read_index() -> Index:
+    paths = sorted((*CRATES.glob("*/specs/*.antt"), *CRATES.glob("*/src/**/*.rt")))
+    return dict(item for path in paths for item in read(path, path.relative_to(CRATES).parts[0]))
 
 
 def meant(index: Index, file: str, word: str) -> list[Place]:
@@ -84,11 +87,8 @@ def reached(index: Index, functions: list[str]) -> list[Place]:
 
 def main(functions: list[str]) -> None:
     crates = re.findall(r"^(\w+).*:", (CRATES.parent / "crates.txt").read_text(encoding="utf-8"), re.M)
-    index: Index = {}
     lines: dict[str, set[int]] = {}
-    for path in sorted((*CRATES.glob("*/specs/*.antt"), *CRATES.glob("*/src/**/*.rt"))):
-        read(index, path.relative_to(CRATES).parts[0], path)
-    for place in reached(index, functions):
+    for place in reached(read_index(), functions):
         lines.setdefault(place.file, set()).update(range(place.start, place.start + place.text.count("\n") + 1))
     for crate in reversed(crates):
         files = [f"`{file.split('/', 1)[1]}` {len(lines[file])}" for file in lines if file.startswith(f"{crate}/")]

@@ -17,7 +17,18 @@ class Made:
     command: tuple[str, ...]
 
 
-MADE: tuple[Made, ...] = ()
+READING = ("tools/reading_list.py", "Book::show", "Book::history", "pd_book::headline")
+MADE = (
+    Made("docs/COVERAGE.md", None, None, ("tools/coverage.py",)),
+    Made("docs/ARCHITECTURE.md", f"<!-- made by {' '.join(READING)} -->", "<!-- end -->", READING),
+)
+
+
+def made_by_tool(page: Page, made: Made) -> str:
+    """What the tool prints."""
+    tool = str(page.top / made.command[0])
+    done = subprocess.run([tool, *made.command[1:]], cwd=page.top, capture_output=True, check=True, encoding="utf-8")
+    return done.stdout
 
 
 def part_of(page: Page, made: Made) -> str | None:
@@ -34,16 +45,21 @@ def unlike(pages: dict[str, Page]) -> Iterator[tuple[str, str | None]]:
     for made in MADE:
         name = f"{made.page} is what {' '.join(made.command)} makes"
         page = pages.get(made.page)
-        if page is None:
-            yield name, "there is no such page"
+        part = part_of(page, made) if page else None
+        if page is None or part is None:
+            yield name, f"there is no such page, or no line {made.begin!r} or {made.end!r} in it"
             continue
-        done = subprocess.run(
-            [page.top / made.command[0], *made.command[1:]], cwd=page.top, capture_output=True, check=False
-        )
-        part = part_of(page, made)
-        if done.returncode:
-            yield name, done.stderr.decode(errors="replace").strip()
-        elif part is None:
-            yield name, f"it has no line {made.begin!r} or {made.end!r}"
-        else:
-            yield name, None if part == done.stdout.decode() else "it isn't: make it anew"
+        try:
+            yield name, None if part == made_by_tool(page, made) else "it isn't: tools/tests/documents.py --write"
+        except subprocess.CalledProcessError as fault:
+            yield name, str(fault.stderr).strip()
+
+
+def write(pages: dict[str, Page]) -> None:
+    """Puts into the pages what the tools print."""
+    for made in MADE:
+        page = pages[made.page]
+        part, new = part_of(page, made), made_by_tool(page, made)
+        if part is not None:
+            text = page.text.replace(part, new, 1) if made.begin and part else new
+            (page.top / page.path).write_text(text, encoding="utf-8")

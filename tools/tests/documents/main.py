@@ -2,7 +2,8 @@
 
 Each link of a page leads to a file of the tree, and to a heading that is there. No page has more words than the
 table at the head of words.py says, none names a commit, and no sentence of README.md and the tutorial is long. What
-a tool makes of a page is what the tool makes. The commands in blocks `console` of README.md and the tutorial are run
+a tool makes of a page is what the tool makes. The functions and edits that PROMISES.md names are there, and each file
+of src/ and specs/ begins with what it is for. The commands in blocks `console` of README.md and the tutorial are run
 in a copy of the tree with the built programs, and print what is shown after them; blocks `console slow` are left to
 tools/walk_tutorial.py. Prints a line for each test, and `N passed, M failed` last.
 """
@@ -15,9 +16,11 @@ from collections.abc import Iterator
 from itertools import chain
 from pathlib import Path
 
-from documents.made import unlike
+from documents.made import unlike, write
 from documents.pages import Page, broken_links, broken_names, read_pages, tracked
+from documents.promises import unknown_functions, wrong_edits
 from documents.shown import KINDS, shown_in
+from documents.sources import without_head
 from documents.walking import walk
 from documents.words import SHORT, log_words, too_long, too_many
 
@@ -42,6 +45,10 @@ def test_pages(files: list[Path], pages: dict[str, Page]) -> Iterator[Test]:
         if name in pages:
             yield f"sentences of {name}", joined(too_long(pages[name]))
     yield from unlike(pages)
+    if promises := pages.get("docs/PROMISES.md"):
+        yield "functions of docs/PROMISES.md", joined(unknown_functions(promises))
+        yield "edits of docs/PROMISES.md", joined(wrong_edits(promises, files))
+    yield "first lines of sources", joined(without_head(TOP, files))
 
 
 def built_tree(files: list[Path], folder: Path) -> str | None:
@@ -79,9 +86,15 @@ def main(words: list[str]) -> int:
     """Makes the tests, and says which of them fail."""
     parser = argparse.ArgumentParser(description=__doc__, formatter_class=argparse.RawDescriptionHelpFormatter)
     parser.add_argument("--pages", action="store_true", help="run no command that a page shows: this needs no program")
+    parser.add_argument(
+        "--write", action="store_true", help="put into the pages what tools make of them, and test no more"
+    )
     chosen = parser.parse_args(words)
     files = tracked(TOP)
     pages = {page.name: page for page in read_pages(TOP, files)}
+    if chosen.write:
+        write(pages)
+        return 0
     shown = [] if chosen.pages else [test_commands(files, pages[name]) for name in SHORT if name in pages]
     passed = failed = 0
     for name, why in chain(test_pages(files, pages), *shown):

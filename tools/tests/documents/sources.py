@@ -1,0 +1,17 @@
+"""What the pages leave to the sources: the first line of each file, which says what the file is for."""
+
+from collections.abc import Iterator
+from pathlib import Path
+
+HEADS = {".rt": "//! ", ".antt": "-- "}
+FOLDERS = frozenset({"src", "specs"})
+
+
+def without_head(top: Path, files: list[Path]) -> Iterator[str]:
+    """A line for each file of src/ and specs/ whose first line isn't a comment."""
+    for path in files:
+        if path.suffix not in HEADS or not FOLDERS & set(path.parts):
+            continue
+        with open(top / path, encoding="utf-8") as lines:
+            if not lines.readline().startswith(HEADS[path.suffix]):
+                yield f"{path}: its first line doesn't say what it is for"
