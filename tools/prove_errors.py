@@ -1,4 +1,4 @@
-"""The errors in what `rt` says of a crate that isn't proved, each with its file and line, without the advice between."""
+"""The errors in what `rt` says of a crate that isn't proved: each with its place, and without the advice between."""
 from __future__ import annotations
 
 import os

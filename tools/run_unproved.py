@@ -54,6 +54,14 @@ def placed(program: str, said: bytes) -> bytes:
     return re.sub(rb"^(?=src/|specs/|proofs/)", lambda _: folder + b"/", said, flags=re.MULTILINE)
 
 
+def check_words(words: list[str]) -> None:
+    """Sees that the words are text: `rt try` takes no others, and no program does."""
+    try:
+        "".join(words).encode()
+    except UnicodeEncodeError:
+        raise trying.Untried(trying.NoAnswer("NotText", "a word isn't UTF-8")) from None
+
+
 def keep_input(file: Path) -> None:
     """Reads standard input into a file, up to more than `rt try` takes."""
     left = trying.MOST_INPUT
@@ -90,12 +98,12 @@ def run(program: str, words: list[str]) -> int:
 
 
 def open_streams() -> None:
-    """Lets no file that is opened take the place of a standard stream that is closed: nothing is read or written there."""
+    """Lets no file that is opened take the place of a standard stream that is closed."""
     for descriptor, flags in ((0, os.O_WRONLY), (1, os.O_RDONLY), (2, os.O_RDONLY)):
         try:
             os.fstat(descriptor)
         except OSError:
-            # It is opened the wrong way round, so that each use fails, as at a stream that is closed.
+            # The wrong way round, so that nothing can be read or written there.
             os.open(os.devnull, flags)
 
 
@@ -105,7 +113,9 @@ def main() -> int:
     stopping.heed()
     try:
         trying.find_kit()
-        say(program, f"unproved: running without proofs, which takes about a minute; {way_to_prove(program)} proves it")
+        check_words(words)
+        way = way_to_prove(program)
+        say(program, f"unproved: running without proofs, which takes about a minute; {way} proves it")
         return run(program, words)
     except Failed as fault:
         say(program, str(fault))

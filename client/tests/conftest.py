@@ -16,8 +16,31 @@ from pdsuite.watcher import Watcher
 from tests.helpers import HANGS, TOP, Call, Called
 from tests.site import Site
 
+UNPROVED = "--unproved"
+NEEDS_BUILT = "needs a built program"
 STAND_IN = Path(__file__).with_name("stand_in.py")
 STAND_IN_EXPLAIN = Path(__file__).with_name("stand_in_explain.py")
+
+
+def pytest_addoption(parser: pytest.Parser) -> None:
+    parser.addoption(UNPROVED, action="store_true", help="skip what needs a built program, and name it")
+
+
+def pytest_terminal_summary(terminalreporter: pytest.TerminalReporter) -> None:
+    """Names what was skipped for want of a built program, where that was asked for."""
+    if terminalreporter.config.getoption(UNPROVED):
+        skipped = terminalreporter.stats.get("skipped", [])
+        untold = [it.nodeid for it in skipped if NEEDS_BUILT in str(it.longrepr)]
+        for name in untold:
+            terminalreporter.write_line(f"not told, {NEEDS_BUILT}: {name}")
+        terminalreporter.write_line(f"{len(untold)} tests of the client need a built program")
+
+
+@pytest.fixture(scope="session")
+def proved(request: pytest.FixtureRequest) -> None:
+    """Skips what needs a built program, where that was asked for."""
+    if request.config.getoption(UNPROVED):
+        pytest.skip(NEEDS_BUILT)
 
 
 @pytest.fixture(autouse=True, scope="session")
@@ -39,7 +62,7 @@ def _program(name: str) -> Path:
 
 
 @pytest.fixture(scope="session")
-def programs(tmp_path_factory: pytest.TempPathFactory) -> Path:
+def programs(proved: None, tmp_path_factory: pytest.TempPathFactory) -> Path:
     """A folder with the built programs, or a failure that says which command builds one."""
     folder = tmp_path_factory.mktemp("programs")
     folder.chmod(0o755)  # Another user runs them too.

@@ -94,7 +94,7 @@ def test_a_page_has_the_words_of_help(words: tuple[str, ...], programs: Path) ->
 
 
 @pytest.fixture(scope="module")
-def package(tmp_path_factory: pytest.TempPathFactory) -> Path:
+def package(proved: None, tmp_path_factory: pytest.TempPathFactory) -> Path:
     """The package of the proved programs, where these are built."""
     for name in PROVED:
         if subprocess.run([TOP / "tools/built.sh", name], capture_output=True).returncode:

@@ -3,7 +3,9 @@
 # style (flake8), its types (mypy) and what it does (pytest). Where a package is missing it says which, and installs it
 # where apt-get is there and this is root. Prints a line for each but the tests of pytest, and `N passed, M failed` last.
 #
-#   tools/tests/client.sh [--no-install]
+#   tools/tests/client.sh [--unproved] [--no-install]
+#
+# With --unproved the tests that need a built program are left out, counted and named.
 set -eu
 top=$(CDPATH='' cd -P -- "$(dirname -- "$0")/../.." && pwd -P)
 python=/usr/bin/python3
@@ -53,8 +55,9 @@ count_of() { # a word of the last line of pytest
     tail -n 1 "$work/tests" | sed -n "s/\(.* \)\{0,1\}\([0-9][0-9]*\) $1.*/\2/p"
 }
 
-tests() {
-    (cd "$top/client" && "$python" -I -m pytest -q --tb=short --color=no --durations=3 2>&1 || true) | tee "$work/tests"
+tests() { # [--unproved]
+    (cd "$top/client" && "$python" -I -m pytest -q --tb=short --color=no --durations=3 "$@" tests 2>&1 || true) |
+        tee "$work/tests"
     good=$(count_of passed)
     bad=$(count_of failed)
     errors=$(count_of error)
@@ -63,6 +66,8 @@ tests() {
     failed=$((failed + ${bad:-0} + ${errors:-0}))
 }
 
+unproved=
+[ "${1:-}" != --unproved ] || { unproved=$1; shift; }
 lost=$(missing)
 [ -z "$lost" ] || install "$@"
 if [ -n "$lost" ]; then
@@ -73,5 +78,5 @@ fi
 check layout black -q --check --config pyproject.toml . ../pdsuite
 check style flake8 . ../pdsuite
 check types mypy --config-file pyproject.toml pdsuite tests ../pdsuite
-tests
+tests $unproved
 finish

@@ -1,22 +1,27 @@
-#!/usr/bin/env -S python3 -I
+#!/usr/bin/env -S python3 -B
 """Records scripts and tests what holds of every recording: it passes, and recording it again gives the same octets.
 
-The scripts are those of crates/pd_cases/data and random ones. Prints a line for each test that fails and `N passed, M failed`
-last.
+The scripts are those of crates/pd_cases/data and random ones. Prints a line for each test that fails and `N passed, M
+failed` last.
 """
 
 import argparse
 import random
 import re
-import subprocess
 import sys
-from collections.abc import Iterator
+from collections.abc import Iterator, Sequence
 from dataclasses import dataclass, replace
 from pathlib import Path
+
+from answering import ask_built
+from asking import Asking, Call, Outcome, Said, Sayings, run
 
 DATA = Path(__file__).resolve().parents[2] / "crates" / "pd_cases" / "data"
 TRACE = re.compile(rb"//= at (\d+\.\d{6}) [A-Z]")
 MAX_SCRIPTS = 500
+RECORDS = "pdrecord"
+RUNS = "pdregress"
+REGULAR = (0, 1)
 
 
 @dataclass(frozen=True)
@@ -162,45 +167,59 @@ def random_scripts(count: int) -> Iterator[Script]:
         yield Script(f"random:{seed}", settings, "".join(parts).encode())
 
 
-class Programs:
-    """The two programs."""
+def recording(script: Script, *words: bytes) -> Call:
+    """The call that records a script."""
+    return Call(RECORDS, (b"--settings", script.settings.encode(), *words), script.text)
 
-    def __init__(self, pdrecord: str, pdregress: str) -> None:
-        self.pdrecord = pdrecord
-        self.pdregress = pdregress
 
-    def record(self, script: Script, *words: str) -> tuple[int, bytes, bytes]:
-        """The status, the recording and what is said."""
-        chosen = [self.pdrecord, "--settings", script.settings, *words]
-        done = subprocess.run(chosen, input=script.text, capture_output=True, check=False)
-        return done.returncode, done.stdout, done.stderr
+@dataclass(frozen=True)
+class Batch:
+    """Scripts of the same settings that are run together, by their places."""
 
-    def verdicts(self, asked: list[tuple[str, bytes]]) -> list[bytes]:
-        """The verdict of each text under its settings, empty where there is none; as many as can be are run together."""
-        rows: dict[int, bytes] = {}
-        for settings in dict.fromkeys(it for it, _ in asked):
-            places = [place for place, it in enumerate(asked) if it[0] == settings]
-            for start in range(0, len(places), MAX_SCRIPTS):
-                part = places[start : start + MAX_SCRIPTS]
-                rows.update(zip(part, self._run(settings, [asked[place][1] for place in part]), strict=True))
-        # One that was refused may have kept others from being run.
-        return [rows[place] or self._run(it[0], [it[1]])[0] for place, it in enumerate(asked)]
+    settings: str
+    texts: dict[int, bytes]
 
-    def _run(self, settings: str, texts: list[bytes]) -> list[bytes]:
-        """The verdicts of texts in one run."""
-        commands = b""
-        for number, text in enumerate(texts):
+    @property
+    def call(self) -> Call:
+        """The call that runs them."""
+        commands = b"".join(b"set " + line.replace(" = ", " ").replace('"', "").encode() + b"\n" for line in self.lines)
+        for place, text in self.texts.items():
             lines = text.split(b"\n")[:-1] if text.endswith(b"\n") else text.split(b"\n")
-            commands += b"add s%d %d\n" % (number, len(lines)) + b"".join(line + b"\n" for line in lines)
-        done = subprocess.run(
-            [self.pdregress, "--settings", settings], input=commands, capture_output=True, check=False
-        )
-        rows = {b"s%d" % number: b"" for number in range(len(texts))}
-        for line in done.stdout.split(b"\n"):
-            name, _, row = line.partition(b" ")
-            if name in rows:
-                rows[name] = row
-        return list(rows.values())
+            commands += b"add s%d %d\n" % (place, len(lines)) + b"".join(line + b"\n" for line in lines)
+        return Call(RUNS, (), commands)
+
+    @property
+    def lines(self) -> list[str]:
+        """The settings, one a line."""
+        return self.settings.splitlines()
+
+    def rows(self, said: Said | None) -> dict[int, bytes]:
+        """The verdict of each script in a report, empty where there is none."""
+        parts = (line.partition(b" ") for line in (said.output if said else b"").split(b"\n"))
+        told = {name: row for name, _, row in parts}
+        return {place: told.get(b"s%d" % place, b"") for place in self.texts}
+
+
+def batches(scripts: Sequence[Script]) -> Iterator[Batch]:
+    """As many scripts together as can be."""
+    for settings in dict.fromkeys(it.settings for it in scripts):
+        texts = [(place, it.text) for place, it in enumerate(scripts) if it.settings == settings]
+        for start in range(0, len(texts), MAX_SCRIPTS):
+            yield Batch(settings, dict(texts[start : start + MAX_SCRIPTS]))
+
+
+def verdicts(told: Sequence[Batch], said: Sayings) -> Asking[dict[int, bytes]]:
+    """The verdicts of scripts that were told together, or alone where a run stopped at a fault."""
+    rows: dict[int, bytes] = {}
+    stopped: list[Batch] = []
+    for batch, answer in zip(told, said, strict=True):
+        rows.update(batch.rows(answer))
+        if answer is not None and answer.status not in REGULAR:
+            stopped += [Batch(batch.settings, {place: text}) for place, text in batch.texts.items()]
+    if stopped:
+        for batch, answer in zip(stopped, (yield [it.call for it in stopped]), strict=True):
+            rows.update(batch.rows(answer))
+    return rows
 
 
 def without_trace(text: bytes) -> bytes:
@@ -229,59 +248,75 @@ def row_faults(done: Recorded, row: bytes) -> Iterator[str]:
         yield f"{row.decode()}, with {done.events} events"
 
 
-def again_faults(programs: Programs, done: Recorded) -> Iterator[str]:
+def again_faults(done: Recorded, again: Said | None, traced: Said | None) -> Iterator[str]:
     """What is wrong about recording a recording."""
-    again = replace(done.script, text=done.text)
-    if programs.record(again) != (0, done.text, b""):
+    if again != Said(done.text, b"", 0):
         yield "another recording of the recording"
-    traced = replace(done.script, text=done.trace)
-    if programs.record(traced, "--trace") != (0, done.trace, b""):
+    if traced != Said(done.trace, b"", 0):
         yield "another trace of the trace"
     if without_trace(done.trace) != done.text:
         yield "a trace that isn't the recording"
 
 
-def recorded(programs: Programs, script: Script) -> Recorded | Refused:
-    """What recording a script comes to."""
-    status, text, said = programs.record(script)
-    if status != 0:
-        return Refused(script, status, said)
-    return Recorded(script, text, programs.record(script, "--trace")[1])
+def recorded(scripts: Sequence[Script], outcome: Outcome) -> Asking[list[Recorded | Refused]]:
+    """What recording scripts comes to."""
+    said = yield [recording(it, *words) for it in scripts for words in ((), (b"--trace",))]
+    each: list[Recorded | Refused] = []
+    for script, plain, traced in zip(scripts, said[::2], said[1::2], strict=True):
+        if plain is None or traced is None:
+            outcome.untold.append(f"recording of {script.name}, under more settings than one")
+        elif plain.status != 0:
+            each.append(Refused(script, plain.status, plain.errors))
+        else:
+            each.append(Recorded(script, plain.output, traced.output))
+    return each
 
 
-def check(programs: Programs, scripts: list[Script]) -> tuple[int, int]:
-    """Tests scripts and tells of each that fails; how many pass and fail."""
-    each = [recorded(programs, script) for script in scripts]
+def check(scripts: Sequence[Script]) -> Asking[Outcome]:
+    """Tests scripts, and tells of each that fails."""
+    outcome = Outcome()
+    each = yield from recorded(scripts, outcome)
     kept = [it for it in each if isinstance(it, Recorded)]
     refused = [it for it in each if isinstance(it, Refused)]
-    asked = [(it.script.settings, it.text) for it in kept] + [(it.script.settings, it.script.text) for it in refused]
-    rows = programs.verdicts(asked)
-    tests = [(it.script, again_faults(programs, it)) for it in kept]
-    tests += [(it.script, row_faults(it, row)) for it, row in zip(kept, rows)]
-    tests += [(it.script, refusal_faults(it, row)) for it, row in zip(refused, rows[len(kept) :], strict=True)]
-    failed = 0
+    again = [replace(it.script, text=it.text) for it in kept]
+    calls = [call for it, script in zip(kept, again) for call in calls_again(it, script)]
+    told = list(batches([*again, *(it.script for it in refused)]))
+    said = yield [*calls, *(it.call for it in told)]
+    rows = yield from verdicts(told, said[len(calls) :])
+    tests = [(it.script, again_faults(it, *said[2 * at : 2 * at + 2])) for at, it in enumerate(kept)]
+    tests += [(it.script, row_faults(it, rows[at])) for at, it in enumerate(kept)]
+    tests += [(it.script, refusal_faults(it, rows[at])) for at, it in enumerate(refused, len(kept))]
     for script, found in tests:
         faults = list(found)
-        failed += bool(faults)
-        for fault in faults:
-            print(f"FAILED {script.name}: {fault}")
-    print(f"{len(kept)} scripts recorded, {len(refused)} not")
-    return len(tests) - failed, failed
+        outcome.failed += bool(faults)
+        outcome.lines += [f"FAILED {script.name}: {fault}" for fault in faults]
+    outcome.lines.append(f"{len(kept)} scripts recorded, {len(refused)} not")
+    outcome.passed = len(tests) - outcome.failed
+    return outcome
+
+
+def calls_again(done: Recorded, again: Script) -> tuple[Call, Call]:
+    """The calls that record a recording, with its trace too."""
+    return recording(again), recording(replace(again, text=done.trace), b"--trace")
+
+
+def chosen_scripts(every: int, count: int) -> list[Script]:
+    """Each Nth of the scripts of the tables and of so many random ones."""
+    return [*cases(), *random_scripts(count)][::every]
 
 
 def main(words: list[str]) -> int:
     """Runs the tests."""
     parser = argparse.ArgumentParser(description=__doc__, formatter_class=argparse.RawDescriptionHelpFormatter)
     parser.add_argument("--every", type=int, default=1, metavar="N", help="take only each Nth script")
-    parser.add_argument("pdrecord", help="the path of the built pdrecord")
-    parser.add_argument("pdregress", help="the path of the built pdregress")
+    parser.add_argument("pdrecord", type=Path, help="the path of the built pdrecord")
+    parser.add_argument("pdregress", type=Path, help="the path of the built pdregress")
     parser.add_argument("count", type=int, nargs="?", default=200, help="how many random scripts, 200 if left out")
     chosen = parser.parse_args(words)
-    programs = Programs(chosen.pdrecord, chosen.pdregress)
-    scripts = [*cases(), *random_scripts(chosen.count)]
-    passed, failed = check(programs, scripts[:: chosen.every])
-    print(f"{passed} passed, {failed} failed")
-    return 1 if failed else 0
+    ask = ask_built({RECORDS: [chosen.pdrecord], RUNS: [chosen.pdregress]})
+    outcome = run(check(chosen_scripts(chosen.every, chosen.count)), ask)
+    print(*outcome.lines, f"{outcome.passed} passed, {outcome.failed} failed", sep="\n")
+    return 1 if outcome.failed else 0
 
 
 if __name__ == "__main__":

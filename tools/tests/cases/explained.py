@@ -1,22 +1,30 @@
 """Tables of what the program that explains says of scripts: by which rule they stop, and where they are refused."""
 
 import json
-from collections.abc import Iterator, Mapping
+from collections.abc import Mapping
 from dataclasses import replace
 
-from cases.programs import Programs, Script, Tally, batches, input_of, told
+from asking import Asking, Call
+from cases.programs import EXPLAINS, Script, Tally, batches, input_of
 from cases.tables import Table, Unread, octets, reading
 
 
-def explain(program: str, scripts: list[Script]) -> Iterator[tuple[Script, str, Mapping[str, object]]]:
+Explained = list[tuple[Script, str, Mapping[str, object]]]
+
+
+def explain(scripts: list[Script]) -> Asking[Explained]:
     """Each script with its verdict, and with its block or an empty one."""
-    for batch in batches(scripts):
-        said = told(program, (b"--json",), input_of(batch))
+    told = list(batches(scripts))
+    found: Explained = []
+    for batch, said in zip(told, (yield [Call(EXPLAINS, (b"--json",), input_of(batch)) for batch in told])):
+        assert said is not None
         rows = dict(row.split(" ", 1) for row in said.output.decode().splitlines()[:-1])
-        blocks = {block["name"]: block for block in map(json.loads, said.errors.decode().splitlines())}
+        objects = [json.loads(line) for line in said.errors.split(b"\n") if line.startswith(b"{")]
+        blocks = {block["name"]: block for block in objects}
         for number, script in enumerate(batch, 1):
             name = f"a{number}"
-            yield script, rows.get(name, "nothing"), blocks.get(name, {})
+            found.append((script, rows.get(name, "nothing"), blocks.get(name, {})))
+    return found
 
 
 def explained_of(verdict: str, block: Mapping[str, object]) -> str:
@@ -33,7 +41,7 @@ def explained_of(verdict: str, block: Mapping[str, object]) -> str:
     return f"{verdict} {block.get('rule')}{limit}: {block.get('rule_words')}"
 
 
-def explained(programs: Programs, table: Table, tally: Tally) -> None:
+def explained(table: Table, tally: Tally) -> Asking[None]:
     """A line `> WHAT` is what is to be said of the scripts of the lines `< SCRIPT` behind it."""
     tries = []
     wanted = ""
@@ -47,13 +55,13 @@ def explained(programs: Programs, table: Table, tally: Tally) -> None:
             else:
                 raise Unread("a line begins with > and then with <")
     tally.rows = tally.runs = len(tries)
-    for script, verdict, block in explain(programs.pdexplain, tries):
+    for script, verdict, block in (yield from explain(tries)):
         what = explained_of(verdict, block)
         if what != script.wanted:
             tally.faults.append(f"{script.row}\n  wanted {script.wanted}\n  said {what}")
 
 
-def beginnings(programs: Programs, table: Table, tally: Tally) -> None:
+def beginnings(table: Table, tally: Tally) -> Asking[None]:
     """Each beginning of a script, by itself and with a backslash behind it. Where one is refused, something could stand
     there, and what is marked is shown."""
     tries = []
@@ -64,7 +72,7 @@ def beginnings(programs: Programs, table: Table, tally: Tally) -> None:
             part = replace(row, part=f", at {count}")
             tries += [Script(part, "", text[:count] + more, "") for more in (b"", b"\\")]
     tally.rows, tally.runs = len(table.rows), len(tries)
-    for script, verdict, block in explain(programs.pdexplain, tries):
+    for script, verdict, block in (yield from explain(tries)):
         column, line = block.get("column"), block.get("text")
         is_shown = isinstance(line, str) and (column is None or isinstance(column, int) and column < len(line))
         is_told = verdict == f"syntax {block.get('line')}" and block.get("expected") and is_shown

@@ -9,8 +9,10 @@ import argparse
 from collections.abc import Callable
 from pathlib import Path
 
+from answering import ask_built
+from asking import Asking, Outcome, run
 from cases.explained import beginnings, explained
-from cases.programs import Programs, Tally
+from cases.programs import EXPLAINS, RUNS, Tally
 from cases.runs import bad_commands, bad_words, ends, settings, stories
 from cases.tables import Table, Unread, all_tables
 from cases.verdicts import cuts, places, scripts
@@ -18,7 +20,7 @@ from cases.verdicts import cuts, places, scripts
 DATA = Path(__file__).resolve().parents[3] / "crates" / "pd_cases" / "data"
 
 
-KINDS: dict[str, Callable[[Programs, Table, Tally], None]] = {
+KINDS: dict[str, Callable[[Table, Tally], Asking[None]]] = {
     "scripts": scripts,
     "cuts": cuts,
     "octets": places,
@@ -32,39 +34,38 @@ KINDS: dict[str, Callable[[Programs, Table, Tally], None]] = {
 }
 
 
-def check_table(programs: Programs, table: Table) -> Tally:
+def check_table(table: Table, tally: Tally) -> Asking[Outcome]:
     """Tells a table and compares."""
-    tally = Tally()
     try:
         if table.kind not in KINDS:
             raise Unread(f"{table.heading}: there is no such kind")
-        KINDS[table.kind](programs, table, tally)
+        yield from KINDS[table.kind](table, tally)
     except Unread as why:
         tally.faults.append(str(why))
-    return tally
+    word = "FAILED" if tally.faults else "ok"
+    title = f"{word} {table.heading.file} {table.name}: {tally.rows} rows, {tally.runs} runs"
+    return Outcome([title, *tally.faults], not tally.faults, bool(tally.faults), tally.untold)
 
 
 def main(words: list[str]) -> int:
     """Tells all tables, and says which of them fail."""
     parser = argparse.ArgumentParser(description=__doc__, formatter_class=argparse.RawDescriptionHelpFormatter)
     parser.add_argument("--data", type=Path, default=DATA, metavar="FOLDER", help="the folder of the files of cases")
-    parser.add_argument("pdregress", help="the path of the built pdregress")
-    parser.add_argument("pdexplain", help="the path of the built pdexplain")
+    parser.add_argument("pdregress", type=Path, help="the path of the built pdregress")
+    parser.add_argument("pdexplain", type=Path, help="the path of the built pdexplain")
     chosen = parser.parse_args(words)
-    programs = Programs(chosen.pdregress, chosen.pdexplain)
-    passed = failed = rows = runs = 0
+    ask = ask_built({RUNS: [chosen.pdregress], EXPLAINS: [chosen.pdexplain]})
+    passed = failed = 0
+    tallies: list[Tally] = []
     try:
         for table in all_tables(chosen.data):
-            tally = check_table(programs, table)
-            word = "FAILED" if tally.faults else "ok"
-            print(f"{word} {table.heading.file} {table.name}: {tally.rows} rows, {tally.runs} runs")
-            for line in tally.faults:
-                print(line)
-            passed, failed = passed + (not tally.faults), failed + bool(tally.faults)
-            rows, runs = rows + tally.rows, runs + tally.runs
+            tallies.append(Tally())
+            outcome = run(check_table(table, tallies[-1]), ask)
+            print(*outcome.lines, sep="\n")
+            passed, failed = passed + outcome.passed, failed + outcome.failed
     except Unread as why:
         print(f"FAILED {why}")
         failed += 1
-    print(f"{rows} rows, {runs} runs")
+    print(f"{sum(it.rows for it in tallies)} rows, {sum(it.runs for it in tallies)} runs")
     print(f"{passed} passed, {failed} failed")
     return 1 if failed else 0

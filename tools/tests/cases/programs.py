@@ -1,25 +1,16 @@
 """What the programs are told, what they are to say, and where they say something else."""
 
-import subprocess
 from collections.abc import Iterator, Mapping
 from dataclasses import dataclass, field, replace
 
+from asking import Asking, Call, Said
 from cases.tables import Row, Unread
 
 CLASSES = ("pass", "fail", "syntax", "unsupported", "limit", "pending")
 MAX_SCRIPTS = 500
 MAX_SHOWN = 300
-SECONDS = 60
-TOO_LONG = 124
-
-
-@dataclass(frozen=True)
-class Said:
-    """What a program writes, and its status."""
-
-    output: bytes
-    errors: bytes
-    status: int
+RUNS = "pdregress"
+EXPLAINS = "pdexplain"
 
 
 @dataclass(frozen=True)
@@ -42,21 +33,14 @@ class Script:
     wanted: str
 
 
-@dataclass(frozen=True)
-class Programs:
-    """The paths of the programs."""
-
-    pdregress: str
-    pdexplain: str
-
-
 @dataclass
 class Tally:
-    """Of a table: its rows, what was compared, and a line for each thing that is wrong."""
+    """Of a table: its rows, what was compared, lines that tell what is wrong, and what only a built program shows."""
 
     rows: int = 0
     runs: int = 0
     faults: list[str] = field(default_factory=list)
+    untold: list[str] = field(default_factory=list)
 
 
 def shown(text: bytes) -> str:
@@ -70,15 +54,6 @@ def fault(row: Row, wanted: Said, said: Said) -> str:
     for who, what in (("wanted", wanted), ("said", said)):
         lines.append(f"  {who} status {what.status}, output {shown(what.output)}, errors {shown(what.errors)}")
     return "\n".join(lines)
-
-
-def told(program: str, words: tuple[bytes, ...], text: bytes) -> Said:
-    """What a program says that is told this; one that takes too long is ended, and has said nothing."""
-    try:
-        done = subprocess.run([program.encode(), *words], input=text, capture_output=True, check=False, timeout=SECONDS)
-    except subprocess.TimeoutExpired:
-        return Said(b"", b"came to no end", TOO_LONG)
-    return Said(done.stdout, done.stderr, done.returncode)
 
 
 def add_command(name: str, text: bytes) -> bytes:
@@ -103,13 +78,6 @@ def report_of(verdicts: Mapping[str, str]) -> Said:
 NOTHING = report_of({})
 
 
-def check_run(program: str, run: Run) -> Iterator[str]:
-    """What is wrong about a run."""
-    said = told(program, run.words, run.told)
-    if said != run.wanted:
-        yield fault(run.row, run.wanted, said)
-
-
 def batches(scripts: list[Script]) -> Iterator[list[Script]]:
     """Scripts by the commands before them, so many at a time."""
     groups: dict[str, list[Script]] = {}
@@ -126,31 +94,39 @@ def input_of(batch: list[Script]) -> bytes:
     return batch[0].commands.encode() + b"".join(adds)
 
 
-def check_batch(program: str, batch: list[Script]) -> Iterator[str]:
-    """What is wrong about the report on scripts that are told together; where something is, each is told alone."""
-    wanted = report_of({f"a{number}": script.wanted for number, script in enumerate(batch, 1)})
-    said = told(program, (), input_of(batch))
-    if said == wanted:
-        return
-    if len(batch) == 1:
-        yield fault(batch[0].row, wanted, said)
-        return
-    faults = [line for script in batch for line in check_batch(program, [script])]
-    yield from faults or [fault(replace(batch[0].row, part=", told with those behind it"), wanted, said)]
+def wanted_of(batch: list[Script]) -> Said:
+    """The report on scripts that are told together."""
+    return report_of({f"a{number}": script.wanted for number, script in enumerate(batch, 1)})
 
 
-def check_scripts(programs: Programs, scripts: list[Script], tally: Tally) -> None:
-    """Compares the verdicts of scripts."""
+def differing(told: list[list[Script]]) -> Asking[list[tuple[list[Script], Said]]]:
+    """Those of several batches on which something else is said than is wanted, with that."""
+    answers = yield [Call(RUNS, (), input_of(batch)) for batch in told]
+    return [(batch, said) for batch, said in zip(told, answers) if said is not None and said != wanted_of(batch)]
+
+
+def check_scripts(scripts: list[Script], tally: Tally) -> Asking[None]:
+    """Compares the verdicts of scripts. Where those that are told together differ, each is told alone."""
     tally.runs += len(scripts)
-    for batch in batches(scripts):
-        tally.faults.extend(check_batch(programs.pdregress, batch))
+    wrong = yield from differing(list(batches(scripts)))
+    if not wrong:
+        return
+    alone = yield from differing([[script] for batch, _ in wrong for script in batch])
+    for batch, said in wrong:
+        own = [(one[0], said_alone) for one, said_alone in alone if one[0] in batch]
+        together = replace(batch[0], row=replace(batch[0].row, part=", told with those behind it"))
+        for script, found in own or [(together, said)]:
+            tally.faults.append(fault(script.row, wanted_of([script] if own else batch), found))
 
 
-def check_runs(programs: Programs, runs: list[Run], tally: Tally) -> None:
+def check_runs(runs: list[Run], tally: Tally) -> Asking[None]:
     """Compares what is said of runs."""
     tally.runs += len(runs)
-    for run in runs:
-        tally.faults.extend(check_run(programs.pdregress, run))
+    for run, said in zip(runs, (yield [Call(RUNS, run.words, run.told) for run in runs])):
+        if said is None:
+            tally.untold.append(str(run.row))
+        elif said != run.wanted:
+            tally.faults.append(fault(run.row, run.wanted, said))
 
 
 def verdict_of(text: str) -> str:

@@ -1,16 +1,14 @@
 """Tables of runs: stories, settings, words and lines that are refused, and inputs that end too soon."""
 
-import os
 import re
-import subprocess
-import tempfile
 from dataclasses import dataclass, field, replace
 
-from cases.programs import NOTHING, Programs, Run, Said, Tally, check_runs, fault, report_of, verdict_of
+from asking import Asking, Call, Said
+from cases.programs import NOTHING, RUNS, Run, Tally, check_runs, fault, report_of, verdict_of
 from cases.tables import Row, Table, Unread, octets, parted, reading
 
 
-def settings(programs: Programs, table: Table, tally: Tally) -> None:
+def settings(table: Table, tally: Tally) -> Asking[None]:
     """A row `REFUSAL: KEY VALUE`, with `ok` where it is taken: by a command, and by the word `--settings`."""
     runs = []
     for row in table.rows:
@@ -24,25 +22,24 @@ def settings(programs: Programs, table: Table, tally: Tally) -> None:
         runs.append(Run(row, (), f"set {setting}\n".encode(), by_command))
         runs.append(Run(row, (b"--settings", f"{key} = {value}".encode()), b"", by_word))
     tally.rows = len(table.rows)
-    check_runs(programs, runs, tally)
+    yield from check_runs(runs, tally)
 
 
-def bad_words(programs: Programs, table: Table, tally: Tally) -> None:
+def bad_words(table: Table, tally: Tally) -> Asking[None]:
     """Words that are refused with a text before anything is read: the file that is the input stands where it stood."""
     tally.rows = tally.runs = len(table.rows)
-    for row in table.rows:
-        with tempfile.TemporaryFile() as file:
-            file.write(b"add a 0\n")
-            file.seek(0)
-            words = [programs.pdregress, *row.text.split(" ")]
-            done = subprocess.run(words, stdin=file, capture_output=True, check=False)
-            read = os.lseek(file.fileno(), 0, os.SEEK_CUR)
-        said = Said(done.stdout, done.stderr, done.returncode)
-        if said != Said(b"", said.errors, 2) or not said.errors or read:
-            tally.faults.append(fault(row, Said(b"", b"any text", 2), said) + f", {read} octets read")
+    words = [tuple(word.encode() for word in row.text.split(" ")) for row in table.rows]
+    calls = [Call(RUNS, it, b"add a 0\n", asks_what_was_read=True) for it in words]
+    for row, said in zip(table.rows, (yield calls)):
+        if said is None or said.read is None:
+            tally.untold.append(f"{row}, whether anything is read")
+        if said is None:
+            continue
+        if replace(said, read=None) != Said(b"", said.errors, 2) or not said.errors or said.read:
+            tally.faults.append(fault(row, Said(b"", b"any text", 2), said) + f", {said.read or 0} octets read")
 
 
-def bad_commands(programs: Programs, table: Table, tally: Tally) -> None:
+def bad_commands(table: Table, tally: Tally) -> Asking[None]:
     """Lines that are no command, and stop the run."""
     wanted = replace(NOTHING, errors=b"pdregress: 15 BadCommand\n", status=2)
     runs = []
@@ -50,7 +47,7 @@ def bad_commands(programs: Programs, table: Table, tally: Tally) -> None:
         with reading(row):
             runs.append(Run(row, (), b"show\n" + octets(row.text) + b"\nshow\n", wanted))
     tally.rows = len(table.rows)
-    check_runs(programs, runs, tally)
+    yield from check_runs(runs, tally)
 
 
 @dataclass
@@ -101,7 +98,7 @@ def lines_of(mark: str, rest: str) -> bytes:
     return b"".join(octets(found[3].replace("#", str(number))) + b"\n" for number in numbers)
 
 
-def stories(programs: Programs, table: Table, tally: Tally) -> None:
+def stories(table: Table, tally: Tally) -> Asking[None]:
     """Runs of the program, written line by line; a comment is the title of the story behind it."""
     runs = []
     story, title = Story(), ""
@@ -117,10 +114,10 @@ def stories(programs: Programs, table: Table, tally: Tally) -> None:
     if story.is_begun:
         raise Unread(f"{table.heading}: the last story has no status")
     tally.rows = len(runs)
-    check_runs(programs, runs, tally)
+    yield from check_runs(runs, tally)
 
 
-def ends(programs: Programs, table: Table, tally: Tally) -> None:
+def ends(table: Table, tally: Tally) -> Asking[None]:
     """An input that ends too soon: `WHAT | OCTETS` is what is said where it ends at one of these octets, a fault or the
     verdict of its only script. The octets of the rows before stand before them."""
     grown, runs = b"", []
@@ -136,4 +133,4 @@ def ends(programs: Programs, table: Table, tally: Tally) -> None:
             grown += bytes([octet])
             runs.append(Run(replace(row, part=f", at {len(grown)}"), (), grown, wanted))
     tally.rows = len(table.rows)
-    check_runs(programs, runs, tally)
+    yield from check_runs(runs, tally)

@@ -2,7 +2,8 @@
 
 from dataclasses import dataclass, replace
 
-from cases.programs import Programs, Script, Tally, check_scripts, verdict_of
+from asking import Asking
+from cases.programs import Script, Tally, check_scripts, verdict_of
 from cases.tables import Row, Table, Unread, octets, parted, reading
 
 PLAIN = frozenset(b"\t\r") | frozenset(range(0x20, 0x7F))
@@ -23,13 +24,13 @@ def script_of(table: Table, row: Row) -> Script:
         return Script(row, commands, script, verdict_of(verdict))
 
 
-def scripts(programs: Programs, table: Table, tally: Tally) -> None:
+def scripts(table: Table, tally: Tally) -> Asking[None]:
     """A script a row."""
     tally.rows = len(table.rows)
-    check_scripts(programs, [script_of(table, row) for row in table.rows], tally)
+    yield from check_scripts([script_of(table, row) for row in table.rows], tally)
 
 
-def cuts(programs: Programs, table: Table, tally: Tally) -> None:
+def cuts(table: Table, tally: Tally) -> Asking[None]:
     """A script that grows octet by octet, a line a row: `VERDICT | LINE`. From a `$` to a `^` it isn't read."""
     grown, tries = b"", []
     for number, row in enumerate(table.rows, 1):
@@ -44,7 +45,7 @@ def cuts(programs: Programs, table: Table, tally: Tally) -> None:
                 tries.append(Script(replace(row, part=f", at {len(grown)}"), "", grown, wanted))
         grown += b"\n"
     tally.rows = len(table.rows)
-    check_scripts(programs, tries, tally)
+    yield from check_scripts(tries, tally)
 
 
 @dataclass(frozen=True)
@@ -76,7 +77,7 @@ def place_of(row: Row, rest: str) -> Place:
     return Place(row, octets(front), octets(back), verdict_of(verdict), verdict)
 
 
-def places(programs: Programs, table: Table, tally: Tally) -> None:
+def places(table: Table, tally: Tally) -> Asking[None]:
     """Each octet but the newline at a place. The verdict is another with the octets of `- VERDICT: OCTETS`, and with
     those that are neither blanks nor printable where there is a line `* VERDICT`."""
     found: list[Place] = []
@@ -94,4 +95,4 @@ def places(programs: Programs, table: Table, tally: Tally) -> None:
                 raise Unread("a line of a place begins with = and then - or *")
     tally.rows = len(found)
     tries = [place.script(octet) for place in found for octet in range(256) if octet != ord("\n")]
-    check_scripts(programs, tries, tally)
+    yield from check_scripts(tries, tally)

@@ -58,6 +58,7 @@ test_streams() {
 }
 
 test_limits() {
+    expect no-text "$(printf "! pdregress: unproved: NotText: a word isn't UTF-8\nstatus 2")" launch pdregress "$(printf '\377')"
     expect too-much-input "$(unproved pdregress; printf '! pdregress: unproved: TooMuchInput: the input has 64 MiB or more\nstatus 2')" given 'head -c 67108864 /dev/zero | "$1"'
     expect too-much-output "$(unproved pdregress; printf '! pdregress: unproved: TooMuchOutput: an output has more than 1 MiB\nstatus 2')" launch pdregress writes
     expect too-slow "$(unproved pdregress; printf "! pdregress: unproved: TooSlow: the program didn't end within 600 seconds\nstatus 2")" launch pdregress lasts
@@ -128,19 +129,28 @@ each_program() { # what each program says of its words and an input
     done
 }
 
+after_an_edit() { # WHICH COMMAND..
+    which=$1
+    shift
+    "$@"
+    for program in $programs; do
+        expect "$program-after-an-edit-$which" "$(launched "$program a")" launch "$program" a
+        expect "$program-refuses-after-an-edit-$which" "$(printf "! %s isn't proved and built, or has changed since: run ./prove %s\nstatus 2" "$program" "$program")" launch "$program" --proved
+    done
+    quietly_proved
+    expect "proved-again-after-an-edit-$which" "$(printf '%s \n' $programs; echo status 0)" each_program --proved
+}
+
 test_proved() {
     quietly_proved
     expect proved "$(printf '%s a b\n' $programs; echo status 0)" each_program a b
     expect proved-and-asked-for "$(printf '%s a b\n' $programs; echo status 0)" each_program --proved a b
     for file in crates/low/src/lib.rt crates/high/proofs/Lib.antt crates.txt HANDLES; do
-        touch "$build/$file"
-        for program in $programs; do
-            expect "$program-after-an-edit-of-${file##*/}" "$(launched "$program a")" launch "$program" a
-            expect "$program-asked-for-after-an-edit-of-${file##*/}" "$(printf "! %s isn't proved and built, or has changed since: run ./prove %s\nstatus 2" "$program" "$program")" launch "$program" --proved
-        done
-        quietly_proved
-        expect "proved-again-after-an-edit-of-${file##*/}" "$(printf '%s \n' $programs; echo status 0)" each_program --proved
+        after_an_edit "of-${file##*/}" touch "$build/$file"
     done
+    after_an_edit that-adds-a-file cp -p "$build/prove" "$build/crates/low/proofs/More.antt"
+    after_an_edit that-renames-a-file mv "$build/crates/low/proofs/More.antt" "$build/crates/low/proofs/Other.antt"
+    after_an_edit that-removes-a-file rm "$build/crates/low/proofs/Other.antt"
     echo "$build/crates/low/src/lib.rt" >"$NOTES/edit"
     touch "$build/crates/high/src/lib.rt"
     quietly_proved pdregress
@@ -150,8 +160,30 @@ test_proved() {
     expect half-built "$(launched "pdsteps a")" launch pdsteps a
 }
 
+many() { # what is answered to cases: `try_cases.py` WORD..
+    rm -rf "$work/cases" "$work/answers"
+    mkdir "$work/cases" "$work/answers"
+    for name in a b c d; do printf '%s\n' "$name" >"$work/cases/$name"; done
+    printf 'x y\n' >"$work/cases/a.args"
+    printf 'status\n3\n' >"$work/cases/b.args"
+    : >"$work/cases/c.args"
+    printf 'lasts\n' >"$work/cases/d.args"
+    with_rt python3 -B "$build/tools/try_cases.py" "$@" "$work/cases" "$work/answers" || return
+    for file in "$work"/answers/*; do echo "${file##*/}: $(cat "$file")"; done
+}
+
+test_cases() {
+    expect cases "$(printf '%s\n' 'a.errors: said' 'a.output: pdsteps x y octets=2' 'a.status: 0' 'b.errors: ' 'b.output: ' 'b.status: 3' \
+        'c.errors: said' 'c.output: pdsteps  octets=2' 'c.status: 0' 'd.errors: ' 'd.output: ' "d.status: TooSlow: the program didn't end within 7 seconds"; echo status 0)" many --seconds 7 pdsteps
+    echo wrong >>"$build/crates/low/src/lib.rt"
+    expect cases-of-what-does-not-compile "$(printf '! %s\n' "pdsteps: unproved: NotCompiled: the program doesn't compile" 'src/lib.rt:1:2: error[mismatched-types]: wrong'; echo status 2)" many pdsteps
+    sed -i /wrong/d "$build/crates/low/src/lib.rt"
+    expect cases-where-the-tool-stops "$(printf '! %s\n' 'pdsteps: unproved: ToolFailed: `rt try` ended with status 2'; echo status 2)" env STOPS=1 sh -c "PATH='$top/tools/tests/edges/stand_in:$PATH' python3 -B '$build/tools/try_cases.py' pdsteps '$work/cases' '$work/answers'"
+}
+
 test_unproved
 test_streams
 test_limits
+test_cases
 test_signals
 test_proved

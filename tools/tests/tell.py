@@ -1,0 +1,102 @@
+#!/usr/bin/env -S python3 -B
+"""Tells programs the runs of crates/*/runs*.txt and the stories of a desk, or unproved ones all that the gate tells.
+
+`tell.py runs` and `tell.py stories` tell the proved programs, where these are built and nothing has changed since; else
+the sources as they stand, without proofs, unless --proved is said. `tell.py tests` tells the sources the runs, the
+stories, the cases of crates/pd_cases/data and the recordings, those of a program and a step of the test after one build.
+Prints a line for each test, then each row that only a built program can be told, and `N passed, M failed` last.
+"""
+
+import argparse
+import subprocess
+import sys
+from collections.abc import Iterator, Sequence
+from pathlib import Path
+
+from answering import TOP, ask_built, ask_unproved
+from asking import Ask, Asking, Outcome, later, run, run_in_step
+from cases.main import DATA, check_table
+from cases.programs import Tally
+from cases.tables import Unread, all_tables
+from recordings import check, chosen_scripts
+from runs import TRIALS, runs, stories
+
+PROGRAMS = ("pdregress", "pdsteps", "pdexplain", "pdrecord")
+# As the gate takes them: each eighth of the scripts of the tables and of so many random ones.
+EVERY = 8
+RANDOM = 2_000
+
+
+class Unbuilt(Exception):
+    """What tools/built.sh says of a program."""
+
+
+def built(program: str) -> Path:
+    """The proved program of this name."""
+    said = subprocess.run([TOP / "tools" / "built.sh", program], capture_output=True, text=True)
+    if said.returncode:
+        raise Unbuilt(said.stderr.strip())
+    return Path(said.stdout.removesuffix("\n"))
+
+
+def answerer(program: str, is_proved: bool) -> Ask:
+    """Who answers for a program: it is started as a user starts it, if there is such a way."""
+    try:
+        path = built(program)
+        return ask_built({program: [TOP / program, "--proved"] if program in PROGRAMS else [path]})
+    except Unbuilt:
+        if is_proved:
+            raise
+        return ask_unproved
+
+
+def tables() -> Iterator[Asking[Outcome]]:
+    """A test for each table of cases."""
+    try:
+        yield from (check_table(table, Tally()) for table in all_tables(DATA))
+    except Unread as why:
+        yield unread(str(why))
+
+
+def unread(why: str) -> Asking[Outcome]:
+    """The test of a table that can't be read."""
+    yield []
+    return Outcome([f"FAILED {why}"], 0, 1)
+
+
+def told(chosen: argparse.Namespace) -> Iterator[Outcome]:
+    """What the tests come to."""
+    if chosen.what == "tests":
+        # Recordings are run, so what else pdregress is asked waits for these.
+        tests = [check(chosen_scripts(EVERY, RANDOM)), stories(), *(runs(it) for it in PROGRAMS[1:])]
+        waiting = [later(it) for it in (runs(PROGRAMS[0]), *tables())]
+        yield from run_in_step([*tests, *waiting], ask_unproved)
+        return
+    which = {TRIALS: stories()} if chosen.what == "stories" else {it: runs(it) for it in PROGRAMS}
+    for program, test in which.items():
+        try:
+            yield run(test, answerer(program, chosen.proved))
+        except Unbuilt as why:
+            yield Outcome([f"FAILED {chosen.what}: {why}"], 0, 1)
+
+
+def main(words: Sequence[str]) -> int:
+    parser = argparse.ArgumentParser(description=__doc__, formatter_class=argparse.RawDescriptionHelpFormatter)
+    parser.add_argument("--proved", action="store_true", help="tell the proved programs alone")
+    parser.add_argument("what", choices=("runs", "stories", "tests"))
+    outcomes = []
+    for outcome in told(parser.parse_args(words)):
+        print(*outcome.lines, sep="\n", flush=True)
+        outcomes.append(outcome)
+    untold = [row for outcome in outcomes for row in outcome.untold]
+    for row in untold:
+        print(f"not told, needs a built program: {row}")
+    if untold:
+        print(f"{len(untold)} rows need a built program")
+    passed, failed = sum(it.passed for it in outcomes), sum(it.failed for it in outcomes)
+    print(f"{passed} passed, {failed} failed")
+    return 1 if failed else 0
+
+
+if __name__ == "__main__":
+    sys.exit(main(sys.argv[1:]))

@@ -1,0 +1,72 @@
+"""Runs a program on many cases without proofs, after one build: try_cases.py [--seconds N] PROGRAM CASES ANSWERS
+
+The folder CASES has for each case a file NAME, its input, and a file NAME.args, its words, one a line. The folder
+ANSWERS gets NAME.output and NAME.errors, what the program wrote, and NAME.status: a number, or where there is none why,
+as `TooSlow: the program didn't end within 60 seconds`. Where nothing was run, a line on standard error says why, with
+what was said, and the status is 2; else it is 0.
+"""
+from __future__ import annotations
+
+import argparse
+import sys
+import tempfile
+from pathlib import Path
+
+import stopping
+import trying
+
+FAULT = 2
+
+
+def cases_in(folder: Path) -> dict[str, trying.Case]:
+    """The cases of a folder by their names."""
+    files = sorted(it for it in folder.iterdir() if it.suffix != ".args")
+    return {it.name: trying.Case(words_of(it.with_name(f"{it.name}.args")), it.read_bytes()) for it in files}
+
+
+def words_of(file: Path) -> tuple[bytes, ...]:
+    return tuple(file.read_bytes().split(b"\n")[:-1])
+
+
+def put(folder: Path, name: str, tried: trying.Tried) -> None:
+    """Writes what a program answered."""
+    if isinstance(tried, trying.Answer):
+        (folder / f"{name}.output").write_bytes(tried.output)
+        (folder / f"{name}.errors").write_bytes(tried.errors)
+        (folder / f"{name}.status").write_text(str(tried.status))
+    else:
+        (folder / f"{name}.output").write_bytes(b"")
+        (folder / f"{name}.errors").write_bytes(tried.said)
+        (folder / f"{name}.status").write_text(f"{tried.name}: {tried.why}")
+
+
+def run(asked: argparse.Namespace) -> None:
+    cases = cases_in(asked.cases)
+    with tempfile.TemporaryDirectory(prefix=f"{asked.program}-") as room:
+        answers = trying.run_cases(asked.program, list(cases.values()), Path(room), asked.seconds)
+    for name, tried in zip(cases, answers):
+        put(asked.answers, name, tried)
+
+
+def main() -> int:
+    parser = argparse.ArgumentParser(allow_abbrev=False, description=(__doc__ or "").partition("\n")[0])
+    parser.add_argument("--seconds", type=int, default=trying.SECONDS, help="what a case may take")
+    parser.add_argument("program", metavar="PROGRAM")
+    parser.add_argument("cases", metavar="CASES", type=Path)
+    parser.add_argument("answers", metavar="ANSWERS", type=Path)
+    asked = parser.parse_args()
+    stopping.heed()
+    try:
+        run(asked)
+    except trying.Untried as untried:
+        print(f"{asked.program}: unproved: {untried}", file=sys.stderr)
+        sys.stderr.flush()
+        sys.stderr.buffer.write(untried.reason.said)
+        return FAULT
+    except stopping.Stopped as signal:
+        stopping.end_by(signal.number)
+    return 0
+
+
+if __name__ == "__main__":
+    sys.exit(main())
