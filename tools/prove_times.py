@@ -8,11 +8,13 @@ from collections.abc import Iterator
 from dataclasses import dataclass, field
 from pathlib import Path
 
+from crate_graph import libraries_below
 from lanes import TOP
 
-# What a crate takes that wasn't measured here: these seconds, and as many for each octet of it.
-EACH = 40.0
-EACH_OCTET = 0.43e-3
+# What a crate takes that wasn't measured here: seconds, and more for each octet of it and of the crates below it.
+EACH = 17.0
+EACH_OCTET = 0.31e-3
+EACH_OCTET_BELOW = 0.056e-3
 # A proof over what an earlier one kept takes this part of that, where it wasn't measured.
 AGAIN = 0.25
 # What a crate takes in which nothing has changed, in seconds.
@@ -42,15 +44,19 @@ class Times:
     def expected(self, uses: dict[str, list[str]]) -> dict[str, float]:
         """The seconds that each crate takes as it is now, the crates being in the order of crates.txt."""
         changed: dict[str, float] = {}
+        octets: dict[str, int] = {}
         found: dict[str, float] = {}
         for crate, below in uses.items():
-            files = list(sources(crate))
-            changed[crate] = max([it.stat().st_mtime for it in files] + [changed.get(it, 0.0) for it in below])
+            files = [it.stat() for it in sources(crate)]
+            octets[crate] = sum(it.st_size for it in files)
+            changed[crate] = max([it.st_mtime for it in files] + [changed.get(it, 0.0) for it in below])
             if changed[crate] <= time_of_proof(TOP / "crates" / crate / "out"):
                 found[crate] = STANDING
             else:
-                octets = sum(it.stat().st_size for it in files)
-                found[crate] = self.seconds.get(key_of(crate), default(crate, octets))
+                whole = sum(octets.get(it, 0) for it in libraries_below(crate, uses))
+                guess = EACH + EACH_OCTET * octets[crate] + EACH_OCTET_BELOW * whole
+                key = key_of(crate)
+                found[crate] = self.seconds.get(key, guess if key == crate else AGAIN * guess)
         return found
 
     def keep(self, key: str, seconds: float) -> None:
@@ -83,12 +89,6 @@ def key_of(crate: str) -> str:
     """What the times call a proof of a crate: one over what is kept is another than one from nothing."""
     kept = TOP / "crates" / crate / "out" / "incremental"
     return f"{crate} again" if kept.is_dir() else crate
-
-
-def default(crate: str, octets: int) -> float:
-    """What a crate may take by its size."""
-    whole = EACH + EACH_OCTET * octets
-    return whole * AGAIN if key_of(crate) != crate else whole
 
 
 def amount(crates: int, seconds: float) -> str:

@@ -1,7 +1,8 @@
 #!/bin/sh
 # Tests of the client, by the Python of the system: that its Debian packages are there, its layout (black), its names and
-# style (flake8), its types (mypy) and what it does (pytest). Where a package is missing it says which, and installs it
-# where apt-get is there and this is root. Prints a line for each but the tests of pytest, and `N passed, M failed` last.
+# style (flake8), its types (mypy), those of ./prove and of what tests the programs too, and what it does (pytest). Where a
+# package is missing it says which, and installs it where apt-get is there and this is root. Prints a line for each but the
+# tests of pytest, and `N passed, M failed` last.
 #
 #   tools/tests/client.sh [--unproved] [--no-install]
 #
@@ -68,6 +69,9 @@ tests() { # [--unproved]
 
 unproved=
 [ "${1:-}" != --unproved ] || { unproved=$1; shift; }
+tools=$(cd "$top/client" && ls -d ../tools/*prove*.py ../tools/crate_graph.py ../tools/lanes.py ../tools/stopping.py \
+    ../tools/try*.py ../tools/tests/a*.py ../tools/tests/cases ../tools/tests/recordings.py ../tools/tests/runs.py \
+    ../tools/tests/tell.py)
 lost=$(missing)
 [ -z "$lost" ] || install "$@"
 if [ -n "$lost" ]; then
@@ -75,8 +79,14 @@ if [ -n "$lost" ]; then
     failed=1
     finish
 fi
-check layout black -q --check --config pyproject.toml . ../pdsuite
-check style flake8 . ../pdsuite
+# shellcheck disable=SC2086
+check layout black -q --check --config pyproject.toml . ../pdsuite $tools
+# shellcheck disable=SC2086
+check style flake8 . ../pdsuite $tools
 check types mypy --config-file pyproject.toml pdsuite tests ../pdsuite
+export MYPYPATH=../tools:../tools/tests
+# shellcheck disable=SC2086
+check types-of-tools mypy --config-file pyproject.toml $tools
+unset MYPYPATH
 tests $unproved
 finish

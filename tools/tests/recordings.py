@@ -228,13 +228,16 @@ def without_trace(text: bytes) -> bytes:
 
 
 def grown_too_large(row: bytes) -> bytes:
-    """What may be said in place of a row: where a run stops at a full outbox, its recording may grow over the limits."""
+    """What may be said in place of a row: of a run that stops at a full outbox the recording may be over the limits."""
     return b"2 TooLarge" if row.startswith(b"limit") else row
 
 
 def refusal_faults(refused: Refused, row: bytes) -> Iterator[str]:
-    """What is wrong about a refusal: it has to be the row, unless that is about what the script expects, or the recording is
-    too large, whose packets leave before they fill the outbox."""
+    """What is wrong about a refusal.
+
+    It has to be the row, unless that is about what the script expects, or the recording is too large, whose packets
+    leave before they fill the outbox.
+    """
     words = refused.said.removeprefix(b"pdrecord: ").rstrip(b"\n")
     if refused.status != 1:
         yield f"status {refused.status}: {refused.said!r}"

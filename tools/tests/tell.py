@@ -3,8 +3,8 @@
 
 `tell.py runs` and `tell.py stories` tell the proved programs, where these are built and nothing has changed since; else
 the sources as they stand, without proofs, unless --proved is said. `tell.py tests` tells the sources the runs, the
-stories, the cases of crates/pd_cases/data and the recordings, those of a program and a step of the test after one build.
-Prints a line for each test, then each row that only a built program can be told, and `N passed, M failed` last.
+stories, the cases of crates/pd_cases/data and the recordings, those of a program and a step of the test in one build.
+Prints a line for each test, each row that only a built program can be told, and `N passed, M failed` last.
 """
 
 import argparse

@@ -93,12 +93,12 @@ test_stops() {
     expect not-proved-without-a-place "$(printf '! %s\n' "prove: right isn't proved, or wasn't built:" 'a goal' "prove: the whole log: $log"; echo status 2)" without_progress --lanes 1 pdregress
     echo 'fn f() {}' >"$build/crates/right/src/lib.rt"
     anew
-    expect interrupted "$(printf '! prove: proving low; 5 crates and about 3 minutes are left\n! prove: interrupted at low; what was proved is kept: run it again to go on\nstatus 124')" with_rt timeout -k 5 1 env TAKES=30 "$build/prove" --lanes 2 pdregress
+    expect interrupted "$(printf '! prove: proving low; 5 crates and about a minute are left\n! prove: interrupted at low; what was proved is kept: run it again to go on\nstatus 124')" with_rt timeout -k 5 1 env TAKES=30 "$build/prove" --lanes 2 pdregress
     anew
     expect hung-up-under-nohup "$(printf '0\nstatus 0')" hung_up
     anew
     : >"$build/crates/low/out"
-    expect no-folder "$(printf '! prove: proving low; 5 crates and about 3 minutes are left\n! prove: can'"'"'t go on: [Errno 17] File exists: '"'%s'"'\nstatus 2' "$build/crates/low/out")" prove --lanes 1 pdregress
+    expect no-folder "$(printf '! prove: proving low; 5 crates and about a minute are left\n! prove: can'"'"'t go on: [Errno 17] File exists: '"'%s'"'\nstatus 2' "$build/crates/low/out")" prove --lanes 1 pdregress
     expect no-lane-is-left "$(printf '0\nstatus 0')" sh -c "ls -d '$build'/crates/pdregress/out/lane-* 2>/dev/null | wc -l"
     rm "$build/crates/low/out"
 }
@@ -136,6 +136,11 @@ test_times() {
     expect no-times-can-be-kept "$(printf 'prove: proved and built: pdregress\nstatus 0')" no_cache pdregress
 }
 
+test_words() {
+    expect words-of-times-and-errors "status 0" in_folder "$top/tools" python3 -B -m doctest crate_graph.py prove_times.py prove_errors.py
+}
+
 test_lanes
 test_stops
+test_words
 test_times
