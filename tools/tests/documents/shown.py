@@ -11,7 +11,7 @@ HERE = re.compile(r"<<-?'?(\w+)'?")
 LEFT_OUT = "..."
 SECONDS = re.compile(r"\bin\\? \d+\\?\.\d+\\? s\b")
 # What a program says first where it runs without its proofs.
-UNPROVED = re.compile(r"^pd[a-z]+: .*\bunproved\b")
+UNPROVED = re.compile(r"^pd[a-z]+: unproved: ")
 
 # Kinds of blocks: what the gate runs, what takes the prover or runs without proofs, what `watch` prints.
 PLAIN = ""
