@@ -2,11 +2,13 @@
 # Measures `pdsuite run` over a folder of generated scripts, on 1, 2 and 4 processors, with a worker each: its time, the
 # processor time of the client alone, and that of a loop that only reads these files. The status is 1 where the client takes
 # more than four times as much, or a script doesn't pass. Or measures `pdsuite watch` over 500 scripts of 60 events: the
-# time from the return of a save to its row on standard output, and to all of its report, 100 times.
+# time from the return of a save to its row on standard output, and to all of its report, 100 times. Or measures what
+# `pdsuite watch` over 50,000 scripts takes of a processor in 200 seconds in which nothing happens; 1 % is the most.
 #
 #   bench/suite.sh [SCRIPTS [EVENTS]]      100,000 scripts of 20 events if nothing is said. PDSUITE_PROGRAMS names the folder
 #                                          of another build, or PROGRAM that of pdregress and EXPLAIN that of pdexplain
 #   bench/suite.sh watch [SAVES]
+#   bench/suite.sh idle [SECONDS [SCRIPTS]]
 #   bench/suite.sh cluster [SCRIPTS [EVENTS]]   the time with 1, 2 and 4 workers of a Dask cluster on this machine, beside a
 #                                               run without a cluster that has as many threads
 #   bench/suite.sh all [SCRIPTS [EVENTS]]       the first, and then the cluster over the same scripts
@@ -21,6 +23,11 @@ case ${1:-} in
         mode=watch
         saves=${2:-100}
         set -- 500 60
+        ;;
+    idle)
+        mode=idle
+        seconds=${2:-200}
+        set -- "${3:-50000}" 20
         ;;
     cluster | all)
         mode=$1
@@ -48,7 +55,11 @@ generate "$scripts" "$events" | awk -v top="$work/suite" '
     { print > file }'
 
 if [ "$mode" = watch ]; then
-    /usr/bin/python3 -I "$top/bench/watch.py" "$top" "$work/suite" "$saves"
+    /usr/bin/python3 -I "$top/bench/watch.py" "$top" "$work/suite" saves "$saves"
+    exit
+fi
+if [ "$mode" = idle ]; then
+    /usr/bin/python3 -I "$top/bench/watch.py" "$top" "$work/suite" idle "$seconds"
     exit
 fi
 measure_cluster() {

@@ -1,4 +1,5 @@
-"""Measures `pdsuite watch` over a folder: how long after a save its row comes, and how long after it the whole report.
+"""Measures `pdsuite watch` over a folder: how long after a save its row comes, and how long after it the whole report; or
+what it takes of a processor while nothing happens.
 
 It is called by bench/suite.sh. Every second save is in place, every other one beside and renamed.
 """
@@ -11,6 +12,9 @@ import time
 from pathlib import Path
 
 BAD = b"+0 bind(3, ..., ...) = 1\n"
+# The most that it may take of a processor while nothing happens, and how long it is left alone before that is measured.
+MOST = 0.01
+SETTLING = 15
 
 
 def save(path: Path, text: bytes, is_beside: bool) -> float:
@@ -34,17 +38,10 @@ def report(watching: "subprocess.Popen[bytes]") -> tuple[float, float]:
     raise SystemExit("pdsuite watch ended")
 
 
-def main() -> None:
+def measure_saves(watching: "subprocess.Popen[bytes]", paths: list[Path], saves: int) -> None:
     """Saves scripts, each in the middle of its events and one after another."""
-    top, suite, saves = sys.argv[1:]
-    paths = sorted(Path(suite).glob("*/*.pkt"))
-    environment = {**os.environ, "PYTHONUNBUFFERED": "1"}
-    watching = subprocess.Popen([f"{top}/pdsuite", "watch", suite], stdout=subprocess.PIPE, env=environment)
-    begin = time.monotonic()
-    report(watching)
-    print(f"{len(paths)} scripts: the first report came {time.monotonic() - begin:.2f} s after the start")
     rows, reports = [], []
-    for number in range(int(saves)):
+    for number in range(saves):
         time.sleep(0.03 + 0.01 * (number % 7))
         path = paths[number * 7 % len(paths)]
         lines = path.read_bytes().splitlines(keepends=True)
@@ -54,11 +51,44 @@ def main() -> None:
         first, last = report(watching)
         rows.append(first - saved)
         reports.append(last - saved)
-    watching.terminate()
-    watching.wait()
     for what, times in (("a row", rows), ("its report", reports)):
         middle_time, worst = statistics.median(times) * 1_000, max(times) * 1_000
         print(f"{saves} saves: {what} comes {middle_time:.1f} ms after the save, the median; {worst:.1f} ms at worst")
+
+
+def measure_idle(watching: "subprocess.Popen[bytes]", seconds: float) -> bool:
+    """Lets it be; whether it takes more than it may."""
+    time.sleep(SETTLING)
+    begin, before = time.monotonic(), taken(watching.pid)
+    time.sleep(seconds)
+    share = (taken(watching.pid) - before) / (time.monotonic() - begin)
+    print(f"{seconds:.0f} s without a change: it takes {share:.2%} of a processor")
+    return share > MOST
+
+
+def taken(process: int) -> float:
+    """The seconds of a processor that a process has taken."""
+    fields = Path(f"/proc/{process}/stat").read_text().rsplit(") ", 1)[1].split()
+    return (int(fields[11]) + int(fields[12])) / os.sysconf("SC_CLK_TCK")
+
+
+def main() -> None:
+    """Watches, and measures what the last words ask for."""
+    top, suite, what, count = sys.argv[1:]
+    paths = sorted(Path(suite).glob("*/*.pkt"))
+    environment = {**os.environ, "PYTHONUNBUFFERED": "1"}
+    watching = subprocess.Popen([f"{top}/pdsuite", "watch", suite], stdout=subprocess.PIPE, env=environment)
+    begin = time.monotonic()
+    report(watching)
+    print(f"{len(paths)} scripts: the first report came {time.monotonic() - begin:.2f} s after the start")
+    is_over = False
+    if what == "idle":
+        is_over = measure_idle(watching, float(count))
+    else:
+        measure_saves(watching, paths, int(count))
+    watching.terminate()
+    watching.wait()
+    sys.exit(is_over)
 
 
 main()

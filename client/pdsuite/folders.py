@@ -2,7 +2,9 @@
 
 from collections.abc import Callable, Mapping, Sequence, Set
 from dataclasses import dataclass
+from math import inf
 from pathlib import Path
+from time import process_time
 
 from pdsuite.find import SUFFIX, Found, find_with_folders
 from pdsuite.layers import Layers
@@ -12,9 +14,11 @@ from pdsuite.suite import FILE
 from pdsuite.turns import Wanted
 from pdsuite.watcher import Event, Kind, Watcher
 
-# The folders are walked so often, and so soon after the last event.
+# The folders are walked so often, and so soon after the last event, at the latest a period after the first one.
 _PERIOD = 2.0
 _QUIET = 0.5
+# Where nothing changes, so many times what a walk takes of a processor pass until the next one.
+_TIMES = 110
 # Folders that come while others are found are found again, so many times.
 _TRIES = 3
 
@@ -47,11 +51,15 @@ class Folders:
         self._lost: set[str] = set()
         self._gone: Mapping[str, float] = {}
         self._again: dict[str, float] = {}
-        self._walked = self._walk_at = 0.0
+        self._walk_at: float = 0.0
+        self._period = _PERIOD
+        self._busy_since: float | None = None
+        self._quiet_at = inf
+        self._is_first = True
 
     def due(self) -> float:
         """The moment at which something has to be looked at, whatever is reported."""
-        return min([self._walk_at, *self._again.values()])
+        return min([self._walk_at, self._quiet_at, *self._again.values()])
 
     def wanted(self) -> tuple[dict[str, Wanted], dict[str, str]]:
         """The scripts that are to be run, and for all others why they can't."""
@@ -75,11 +83,12 @@ class Folders:
         for path in paths:
             del self._again[path]
         closed = {(it.folder, it.name) for it in events if it.kind is Kind.CLOSED}
-        is_walk = now >= self._walk_at
+        is_walk = now >= min(self._walk_at, self._quiet_at)
         for event in events:
             is_walk |= self._heed(event, paths, now)
         if events:
-            self._walk_at = min(self._walked + _PERIOD, now + _QUIET)
+            self._busy_since = now if self._busy_since is None else self._busy_since
+            self._quiet_at = min(self._busy_since + _PERIOD, now + _QUIET)
         seen = {path: self._see(path, closed) for path in paths if path in self.sight}
         # What is gone, or new, is only known when all has been looked at.
         if is_walk or len(seen) < len(paths) or any(it.is_gone for it in seen.values()):
@@ -106,9 +115,18 @@ class Folders:
         return see(known.found, known, (known.found.folder, known.found.name) in closed)
 
     def _walk(self, closed: Set[tuple[str, str]], now: float) -> bool:
-        """Looks at all there is, with what was closed just now."""
-        is_first = not self._walked
-        self._walked, self._walk_at = now, now + _PERIOD
+        """Looks at all there is, with what was closed just now, and says when it is to be done again."""
+        self._walk_at = self._quiet_at = inf
+        self._busy_since = None
+        begin = process_time()
+        is_other = self._walk_through(closed, now)
+        if not is_other:
+            # What is read anew takes longer, and is no measure of the next walk.
+            self._period = max(_PERIOD, _TIMES * (process_time() - begin))
+        self._walk_at = min(self._walk_at, now + self._period)
+        return is_other
+
+    def _walk_through(self, closed: Set[tuple[str, str]], now: float) -> bool:
         scripts = self._find()
         has_changed, is_torn = self._layers.look()
         if has_changed:
@@ -117,6 +135,7 @@ class Folders:
             self._walk_at = now + GRACE
         self._places = {(it.folder, it.name): it.path for it in scripts}
         sight = see_all(scripts, self.sight, closed)
+        is_first, self._is_first = self._is_first, False
         if is_first:
             self.sight = sight
         is_other = self._take(sight, now)
@@ -157,4 +176,5 @@ class Folders:
     def _say_limit(self, limit: str | None) -> None:
         if limit is not None and limit not in self._limits:
             self._limits.add(limit)
-            self._note(f"pdsuite: {limit} is reached: what isn't watched is looked at every {_PERIOD:.0f} seconds")
+            often = f"every {_PERIOD:.0f} seconds, in large folders more rarely"
+            self._note(f"pdsuite: {limit} is reached: what isn't watched is looked at {often}")

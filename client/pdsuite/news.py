@@ -1,43 +1,49 @@
 """What is shown while scripts are watched: at first as `pdsuite run` does, and then what changed."""
 
-from collections.abc import Mapping
+from collections.abc import Iterable, Iterator, Mapping, Sequence
 
-
+from pdsuite.moves import Move, Outcomes
 from pdsuite.octets import shown_path
 from pdsuite.reports.plain import Plain
 from pdsuite.rows import Outcome, Totals, Verdict
 from pdsuite.styled import Styled
-
-# By their paths, in the order of these.
-Outcomes = Mapping[str, Outcome]
+from pdsuite.turns import Wanted
 
 
-def first_report(outcomes: Outcomes, every: bool, seconds: float) -> Styled:
-    """Each script that doesn't pass, or every script; then the totals."""
-    return _entries(outcomes, every).append_text(foot(outcomes, seconds))
+class News:
+    """All of what changed, as programs that read it need it."""
 
+    def first(self, outcomes: Outcomes, every: bool, seconds: float) -> Styled:
+        """Each script that doesn't pass, or every script; then the totals."""
+        return entries(outcomes.values(), every).append_text(self.foot(outcomes, seconds))
 
-def changed_rows(before: Outcomes, after: Outcomes) -> Styled:
-    """The rows that changed, without what is told of them: first of those that don't pass, last what went."""
-    changed = [it for path, it in after.items() if path not in before or _is_other(before[path], it)]
-    form = Plain(True)
-    text = Styled()
-    for outcome in sorted(changed, key=lambda it: it.row.verdict is Verdict.PASS):
-        text.append_text(form.changed(outcome))
-    for path in before:
-        if path not in after:
-            text.append(f"{shown_path(path)}: ").append("gone\n", "dim")
-    return text
+    def moves(
+        self, before: Outcomes, after: Outcomes, had: Mapping[str, Wanted], has: Mapping[str, Wanted]
+    ) -> Sequence[Move]:
+        """The folders that are told to have moved."""
+        return ()
 
+    def head(self) -> Styled:
+        """What stands before a report that isn't the first."""
+        return Styled()
 
-def changed_blocks(before: Outcomes, after: Outcomes) -> Styled:
-    """What is told of the rows that changed, and where something else is told of others."""
-    return _entries({path: it for path, it in after.items() if _is_told_anew(before.get(path), it)}, False)
+    def rows(self, before: Outcomes, after: Outcomes, moves: Sequence[Move]) -> Styled:
+        """The rows that changed, without what is told of them: first of those that don't pass, last what went."""
+        form = Plain(True)
+        text = Styled()
+        for outcome in changed(before, after):
+            text.append_text(form.changed(outcome))
+        for path in gone(before, after):
+            text.append_text(gone_row(path))
+        return text
 
+    def blocks(self, before: Outcomes, after: Outcomes, moves: Sequence[Move]) -> Styled:
+        """What is told of the rows that changed, and where something else is told of others."""
+        return entries(told_anew(before, after), False)
 
-def foot(outcomes: Outcomes, seconds: float) -> Styled:
-    """The totals."""
-    return Plain(True).foot(totals_of(outcomes), seconds)
+    def foot(self, outcomes: Outcomes, seconds: float) -> Styled:
+        """The totals."""
+        return Plain(True).foot(totals_of(outcomes), seconds)
 
 
 def totals_of(outcomes: Outcomes) -> Totals:
@@ -45,10 +51,31 @@ def totals_of(outcomes: Outcomes) -> Totals:
     return Totals.of(outcomes.values())
 
 
-def _entries(outcomes: Outcomes, every: bool) -> Styled:
+def changed(before: Outcomes, after: Outcomes) -> list[Outcome]:
+    """The outcomes whose rows changed, first those that don't pass."""
+    found = [it for path, it in after.items() if path not in before or _is_other(before[path], it)]
+    return sorted(found, key=lambda it: it.row.verdict is Verdict.PASS)
+
+
+def gone(before: Outcomes, after: Outcomes) -> Iterator[str]:
+    """The scripts that went."""
+    return (path for path in before if path not in after)
+
+
+def gone_row(path: str) -> Styled:
+    """The row of a script that went."""
+    return Styled([(f"{shown_path(path)}: ", "")]).append("gone\n", "dim")
+
+
+def told_anew(before: Outcomes, after: Outcomes) -> list[Outcome]:
+    """The outcomes of which something is to be told: their rows changed, or what is told of them did."""
+    return [it for path, it in after.items() if _is_told_anew(before.get(path), it)]
+
+
+def entries(outcomes: Iterable[Outcome], every: bool) -> Styled:
     form = Plain(every)
     text = Styled()
-    for number, outcome in enumerate(outcomes.values(), 1):
+    for number, outcome in enumerate(outcomes, 1):
         if (entry := form.entry(number, outcome)) is not None:
             text.append_text(entry)
     return text

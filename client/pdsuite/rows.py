@@ -109,6 +109,12 @@ class Totals:
         warnings = f" warnings {self.warnings}" if self.warnings else ""
         return f"total {self.scripts} {counts}{warnings}"
 
+    def brief(self) -> str:
+        """The counts that aren't 0."""
+        counts = [f"{it.value} {count}" for it, count in self.counts.items() if count]
+        warnings = [f"warnings {self.warnings}"] if self.warnings else []
+        return " ".join([f"total {self.scripts}", *counts, *warnings])
+
     def status(self) -> int:
         """The exit status: 0 where each script passes, 2 where one couldn't be run, else 1."""
         if self.counts[Verdict.ERROR]:

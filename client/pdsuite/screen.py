@@ -39,6 +39,11 @@ class Screen:
     ) -> None:
         self.clear()
 
+    @property
+    def width(self) -> int | None:
+        """How many columns a terminal has; None where there is none."""
+        return None if self._terminal is None else self._terminal.width
+
     def show(self, text: Styled) -> None:
         """Writes a part of a report."""
         plain = text.plain

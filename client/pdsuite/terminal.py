@@ -20,6 +20,11 @@ class Terminal:
         self._task = None if self._progress is None else self._progress.add_task("scripts")
         self._live = self._bottom_line()
 
+    @property
+    def width(self) -> int:
+        """How many columns it has now."""
+        return self._console.width
+
     def show(self, text: Styled) -> None:
         """Writes a text."""
         self._console.print(Text.assemble(*text.pieces), end="", soft_wrap=True)

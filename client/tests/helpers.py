@@ -27,9 +27,14 @@ class Called:
 
     @property
     def rows(self) -> list[str]:
-        """What it printed, without the totals, the lines below rows, and what these mean."""
+        """What it printed, without the totals, the lines below rows, what these mean, and warnings."""
         lines = [line for line in self.out.splitlines() if line[:2] != "  " and not line.startswith("total ")]
-        return [_MEANT.sub(r"\1", line) for line in lines]
+        return [_MEANT.sub(r"\1", line) for line in lines if _WARNED not in line]
+
+    @property
+    def warnings(self) -> list[str]:
+        """What it printed of scripts that pass and show nothing."""
+        return [line for line in self.out.splitlines() if _WARNED in line]
 
     @property
     def totals(self) -> dict[str, int]:
@@ -41,6 +46,7 @@ class Called:
 
 
 _MEANT = re.compile(r"^(.*:\d+: (?:fail [a-z]+|syntax|unsupported|limit)): .*$")
+_WARNED = ": passes, but "
 Call = Callable[..., Called]
 _ROW = re.compile(r"(.*?)(?::\d+)?: (?:pass|fail|syntax|unsupported|limit|error|gone)\b.*")
 

@@ -11,6 +11,7 @@ from pdsuite.find import find
 from pdsuite.fleet import Fleet
 from pdsuite.folders import Choice, Folders
 from pdsuite.layers import Layers
+from pdsuite.news import News
 from pdsuite.octets import shown_path
 from pdsuite.programs import Program
 from pdsuite.runs import Script
@@ -64,7 +65,7 @@ class Site:
         self.layers = Layers(option_of(""), refused, self.paper.note)
         self.folders = Folders(Choice([self.top], ()), self.layers, self.watcher, self.stop, self.paper.note)
         self.fleet = Fleet(self._start, self.paper.note, lambda doing: None)
-        self.view = View(cast(Screen, self.paper), cast(Explainer, Teller()), True)
+        self.view = View(cast(Screen, self.paper), cast(Explainer, Teller()), True, News())
 
     def _start(self, settings: Settings) -> Program:
         self.models.append(Model(settings, self.most_acts))

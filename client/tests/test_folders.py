@@ -5,6 +5,7 @@ from pathlib import Path
 
 import pytest
 
+from pdsuite.watcher import Event, Kind
 from tests.site import Site
 
 
@@ -218,3 +219,42 @@ def test_a_full_history_begins_a_new_run_with_all_files(site: Site) -> None:
         assert site.rows == site.truth()
     assert site.paper.notes == ["pdsuite: pdregress: refused 11 HistoryFull; a new run begins with 3 scripts"] * 2
     assert [it.is_closed for it in site.models] == [True, True, False]
+
+
+def test_the_more_a_look_takes_the_more_rarely_it_is_done(site: Site, monkeypatch: pytest.MonkeyPatch) -> None:
+    processor, costs = [0.0], iter([8.0, 0.5, 0.001, 3.0, 0.6])
+    monkeypatch.setattr("pdsuite.folders.process_time", lambda: processor[0])
+    walk = site.folders._walk_through
+
+    def costly(closed: set[tuple[str, str]], now: float) -> bool:
+        processor[0] += next(costs)
+        return walk(closed, now)
+
+    monkeypatch.setattr(site.folders, "_walk_through", costly)
+    (site.top / "a.pkt").write_bytes(b"one\n")
+    periods = []
+    for _ in range(3):
+        site.wait(1_000.0, [])
+        periods.append(site.folders.due() - site.now)
+    assert periods == [2.0, pytest.approx(55.0), 2.0]
+    (site.top / "b.pkt").write_bytes(b"one\n")
+    site.wait(1_000.0, [])  # what it takes to read what is new counts for nothing
+    assert site.folders.due() - site.now == 2.0
+    site.wait(3.0, [])
+    assert site.folders.due() - site.now == pytest.approx(66.0)
+
+
+def test_after_a_report_all_is_looked_at_soon_however_rarely_it_is_else(site: Site) -> None:
+    (site.top / "a.pkt").write_bytes(b"one\n")
+    site.rest()
+    site.folders._period = 60.0
+    site.folders._walk_at = site.now + 60.0
+    (site.top / "far.pkt").write_bytes(b"two\n")  # of which no report comes
+    saved = [Event(Kind.CLOSED, str(site.top), "a.pkt")]
+    site.wait(30.0, saved)
+    assert site.folders.due() == site.now + 0.5
+    for _ in range(4):
+        site.wait(0.4, saved)
+    assert len(site.rows) == 1 and site.folders.due() == pytest.approx(site.now + 0.4)
+    site.wait(0.4, saved)  # two seconds after the first report, though they go on
+    assert len(site.rows) == 2

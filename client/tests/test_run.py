@@ -35,13 +35,14 @@ def test_the_examples_have_their_rows(programs: Path, call: Call) -> None:
     called = call(programs, "run", "-v", EXAMPLES)
     rows = [it.removeprefix(f"{EXAMPLES}/") for it in called.rows]
     assert rows == expected_rows()
+    assert called.warnings == [f"{EXAMPLES}/16_empty.pkt: passes, but has no event"]
     assert (called.status, called.err) == (1, "")
 
 
 @pytest.mark.parametrize("name", ["suite", "linux"])
 def test_each_script_of_these_examples_passes(programs: Path, call: Call, name: str) -> None:
     called = call(programs, "run", TOP / "examples" / name)
-    assert (called.rows, called.status) == ([], 0)
+    assert (called.rows, called.warnings, called.status) == ([], [], 0)
 
 
 def test_only_what_does_not_pass_is_shown_with_its_block(programs: Path, tmp_path: Path, call: Call) -> None:

@@ -141,6 +141,6 @@ def test_by_the_program_an_empty_script_and_one_of_comments_are_warned_of(
 ) -> None:
     write(tmp_path, a=b"", b=b"// x\n", c=PASSES, d=b"/* one\n */\n\n")
     called = call(programs, "run", ".")
-    assert called.rows == [f"{name}.pkt: passes, but has no event" for name in "abd"]
+    assert called.warnings == [f"{name}.pkt: passes, but has no event" for name in "abd"]
     assert called.status == 0
     assert call(programs, "run", "--strict", ".").status == 1

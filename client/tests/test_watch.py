@@ -272,8 +272,8 @@ def test_folders_that_cannot_be_watched_cost_seconds_and_no_truth(programs: Path
             write(tmp_path / name, a=FAILS)
         watching.await_truth(".")
         time.sleep(2.5)
-        limit = "pdsuite: fs.inotify.max_user_watches is reached: what isn't watched is looked at every 2 seconds\n"
-        assert watching.err == limit
+        limit = "pdsuite: fs.inotify.max_user_watches is reached: what isn't watched is looked at every 2 seconds"
+        assert watching.err == f"{limit}, in large folders more rarely\n"
 
 
 def test_links_are_watched_and_only_what_fits_is_meant(programs: Path, tmp_path: Path) -> None:

@@ -1,6 +1,7 @@
 """`pdsuite watch`: keeps runs of the program up, and shows what each change of the files does."""
 
 import select
+import shlex
 import time
 from collections.abc import Iterable, Iterator, Mapping, Sequence
 from contextlib import AbstractContextManager, nullcontext
@@ -14,7 +15,9 @@ from pdsuite.explain import Explainer
 from pdsuite.fleet import Fleet
 from pdsuite.folders import Choice, Folders
 from pdsuite.layers import Layers
-from pdsuite.news import Outcomes, changed_blocks, changed_rows, first_report, foot, totals_of
+from pdsuite.moves import Move, Outcomes
+from pdsuite.news import News, totals_of
+from pdsuite.octets import shown_text
 from pdsuite.page.plots import Plots
 from pdsuite.programs import EXPLAIN, REGRESS, Program, locate
 from pdsuite.rows import Outcome, Row, Verdict
@@ -33,6 +36,7 @@ if TYPE_CHECKING:
     from pdsuite.page.sheets import Entry
 
 _NO_SCRIPT = 2
+_WIDTH = 80
 
 
 @dataclass(frozen=True)
@@ -52,18 +56,22 @@ class Wish:
 class View:
     """What was shown last."""
 
-    def __init__(self, screen: Screen, explainer: Explainer, every: bool) -> None:
+    def __init__(self, screen: Screen, explainer: Explainer, every: bool, news: News) -> None:
         self.status: int | None = None
         self.outcomes: Outcomes = {}
         self._screen = screen
         self._explainer = explainer
         self._every = every
+        self._news = news
         self._wanted: Mapping[str, Wanted] = {}
 
     def show(self, outcomes: Outcomes, wanted: Mapping[str, Wanted], begin: float) -> None:
         """Shows what changed: the rows at once, what is told of them once it is; at first all in one."""
-        rows = Styled() if self.status is None else changed_rows(self.outcomes, outcomes)
-        self._screen.show(rows)
+        rows, moves = Styled(), self._news.moves(self.outcomes, outcomes, self._wanted, wanted)
+        if self.status is not None:
+            rows = self._news.rows(self.outcomes, outcomes, moves)
+        if rows.plain:
+            self._screen.show(self._news.head().append_text(rows))
         after = {path: self.outcomes[path] if self._is_told(it, wanted) else it for path, it in outcomes.items()}
         asked = [it for path, it in after.items() if it.row.line is not None and it is outcomes[path]]
         try:
@@ -71,17 +79,19 @@ class View:
                 after[outcome.path] = outcome
         finally:
             # Also where a signal comes while that is asked for.
-            self._close(after, bool(rows.plain), begin)
+            self._close(after, bool(rows.plain), moves, begin)
             self._wanted = wanted
 
-    def _close(self, after: Outcomes, has_changed: bool, begin: float) -> None:
+    def _close(self, after: Outcomes, has_changed: bool, moves: Sequence[Move], begin: float) -> None:
         """Shows what stands after the rows, and notes what was shown."""
         if self.status is None:
-            self._screen.show(first_report(after, self._every, time.monotonic() - begin))
+            self._screen.show(self._news.first(after, self._every, time.monotonic() - begin))
         else:
-            blocks = changed_blocks(self.outcomes, after)
+            blocks = self._news.blocks(self.outcomes, after, moves)
+            head = Styled() if has_changed else self._news.head()
             if has_changed or blocks.plain:
-                self._screen.show(blocks.append_text(foot(after, time.monotonic() - begin)))
+                foot = self._news.foot(after, time.monotonic() - begin)
+                self._screen.show(head.append_text(blocks).append_text(foot))
         if not after and (self.outcomes or self.status is None):
             self._screen.note("pdsuite: no script found")
         self.outcomes = after
@@ -116,7 +126,7 @@ def watch(wish: Wish, screen: Screen) -> int:
     """Watches until a signal comes, and answers the exit status of the last report."""
     with Stop() as stop:
         program = locate(REGRESS)
-        view = View(screen, Explainer(locate(EXPLAIN), stop, screen.note), wish.every)
+        view = View(screen, Explainer(locate(EXPLAIN), stop, screen.note), wish.every, _news(wish, screen))
 
         def ask(claims: Iterable[Claim]) -> list[str]:
             return refused(claims, lambda: Program([program], stop))
@@ -138,6 +148,21 @@ def watch(wish: Wish, screen: Screen) -> int:
                 _follow(folders, fleet, watcher, view, drawing, stop)
         except Stopped as stopped:
             return stopped.status if view.status is None else view.status
+
+
+def _news(wish: Wish, screen: Screen) -> News:
+    """How changes are told: on a terminal a few of them."""
+    if screen.width is None:
+        return News()
+    # Only who watches on a terminal pays for what breaks lines.
+    from pdsuite.live import Live
+
+    words = ["pdsuite", "run", *(["--strict"] if wish.is_strict else [])]
+    words += [word for it in wish.only for word in ("--only", it)]
+    words += ["--settings", wish.settings] if wish.settings else []
+    paths = list(map(str, wish.paths))
+    end = ["--"] if any(it.startswith("-") for it in paths) else []
+    return Live(lambda: screen.width or _WIDTH, shown_text(shlex.join([*words, *end, *paths])))
 
 
 def _drawing(wish: Wish, screen: Screen) -> "AbstractContextManager[Drawing | None]":

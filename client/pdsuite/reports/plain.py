@@ -53,5 +53,9 @@ class Plain:
         return self.row(outcome).append("\n").append_text(self.warnings(outcome))
 
     def foot(self, totals: Totals, seconds: float) -> Styled:
-        style = "green" if totals.status() == 0 else "bold red"
-        return Styled().append(str(totals), style).append(f" in {seconds:.2f} s\n")
+        return Styled().append(str(totals), style_of(totals)).append(f" in {seconds:.2f} s\n")
+
+
+def style_of(totals: Totals) -> str:
+    """The style of the totals."""
+    return "green" if totals.status() == 0 else "bold red"

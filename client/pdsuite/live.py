@@ -1,0 +1,107 @@
+"""What a terminal shows while scripts are watched: no more than one looks through, in lines that fit."""
+
+import textwrap
+import time
+from collections.abc import Callable, Mapping, Sequence
+from dataclasses import replace
+
+from pdsuite.moves import Move, Outcomes, moves_of
+from pdsuite.news import News, changed, entries, gone, gone_row, told_anew, totals_of
+from pdsuite.octets import shown_path
+from pdsuite.reports.plain import Plain, style_of
+from pdsuite.styled import Styled
+from pdsuite.turns import Wanted
+
+# So many rows of a kind are shown, and so many blocks.
+_MOST = 10
+_STATE = "  state: "
+_INDENT = "    "
+
+
+class Live(News):
+    """A few of what changed, and the command that shows all; `width` is that of the terminal."""
+
+    def __init__(self, width: Callable[[], int], command: str) -> None:
+        self._width = width
+        self._command = command
+
+    def first(self, outcomes: Outcomes, every: bool, seconds: float) -> Styled:
+        """Each script that doesn't pass, or every script; then the totals."""
+        return self._fitting(entries(outcomes.values(), every)).append_text(self.foot(outcomes, seconds))
+
+    def moves(
+        self, before: Outcomes, after: Outcomes, had: Mapping[str, Wanted], has: Mapping[str, Wanted]
+    ) -> Sequence[Move]:
+        """The folders that moved."""
+        return moves_of(before, after, had, has)
+
+    def head(self) -> Styled:
+        """A line with the time of day, across the terminal."""
+        return Styled([(f"\u2500\u2500 {time.strftime('%H:%M:%S')} ".ljust(self._width() - 1, "\u2500") + "\n", "dim")])
+
+    def rows(self, before: Outcomes, after: Outcomes, moves: Sequence[Move]) -> Styled:
+        """The folders that moved, and a few of the other rows of each kind."""
+        known = _known(before, moves)
+        text = Styled()
+        for move in moves:
+            text.append_text(_moved(move, before, after))
+        rows = changed(known, after)
+        form = Plain(True)
+        text.append_text(_few([form.changed(it) for it in rows if not it.passes]))
+        text.append_text(_few([form.changed(it) for it in rows if it.passes]))
+        return text.append_text(_few(list(map(gone_row, gone(known, after)))))
+
+    def blocks(self, before: Outcomes, after: Outcomes, moves: Sequence[Move]) -> Styled:
+        """What is told of a few scripts, and how many more there are."""
+        told = told_anew(_known(before, moves), after)
+        text = self._fitting(entries(told[:_MOST], False))
+        left = len(told) - _MOST
+        return text.append(f"{left:,} more: {self._command}\n", "bold") if left > 0 else text
+
+    def foot(self, outcomes: Outcomes, seconds: float) -> Styled:
+        """The totals that aren't 0."""
+        totals = totals_of(outcomes)
+        line = f"{totals.brief()} in {seconds:.2f} s"
+        return Styled([("\n".join(textwrap.wrap(line, self._width() - 1)) + "\n", style_of(totals))])
+
+    def _fitting(self, text: Styled) -> Styled:
+        """The text, whose lines of states are broken at blanks where they don't fit."""
+        return Styled([("".join(map(self._broken, it.splitlines(keepends=True))), style) for it, style in text.pieces])
+
+    def _broken(self, line: str) -> str:
+        if not line.startswith(_STATE):
+            return line
+        lines = textwrap.wrap(
+            line,
+            self._width() - 1,
+            subsequent_indent=_INDENT,
+            break_long_words=False,
+            break_on_hyphens=False,
+        )
+        return "\n".join(lines) + "\n"
+
+
+def _known(before: Outcomes, moves: Sequence[Move]) -> Outcomes:
+    """What was shown, as if the scripts that moved had been where they are."""
+    if not moves:
+        return before
+    new = {old: new for move in moves for old, new in move.scripts.items()}
+    return {new.get(path, path): replace(it, path=new.get(path, path)) for path, it in before.items()}
+
+
+def _moved(move: Move, before: Outcomes, after: Outcomes) -> Styled:
+    """The line of a folder that moved."""
+    count = len(move.scripts)
+    others = sum(before[old].row != after[new].row for old, new in move.scripts.items())
+    verdicts = f"{others:,} with another row" if others else "same verdicts" if count > 1 else "same verdict"
+    scripts = f"{count:,} {'scripts' if count > 1 else 'script'}"
+    return Styled([(f"{shown_path(move.old)}/ moved to {shown_path(move.new)}/: {scripts}, {verdicts}\n", "")])
+
+
+def _few(rows: Sequence[Styled]) -> Styled:
+    """A few rows, and how many more there are."""
+    text = Styled()
+    for row in rows[:_MOST]:
+        text.append_text(row)
+    left = len(rows) - _MOST
+    return text.append(f"and {left:,} more\n", "dim") if left > 0 else text
