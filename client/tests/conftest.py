@@ -8,6 +8,7 @@ from collections.abc import Iterator
 from pathlib import Path
 
 import pytest
+from _pytest.terminal import TerminalReporter
 
 from pdsuite.faults import Fault
 from pdsuite.programs import RECORD, locate
@@ -16,6 +17,7 @@ from pdsuite.watcher import Watcher
 from tests.helpers import HANGS, TOP, Call, Called
 from tests.site import Site
 
+pytest_plugins = ["tests.browsing"]
 UNPROVED = "--unproved"
 NEEDS_BUILT = "needs a built program"
 STAND_IN = Path(__file__).with_name("stand_in.py")
@@ -26,7 +28,7 @@ def pytest_addoption(parser: pytest.Parser) -> None:
     parser.addoption(UNPROVED, action="store_true", help="skip what needs a built program, and name it")
 
 
-def pytest_terminal_summary(terminalreporter: pytest.TerminalReporter) -> None:
+def pytest_terminal_summary(terminalreporter: TerminalReporter) -> None:
     """Names what was skipped for want of a built program, where that was asked for."""
     if terminalreporter.config.getoption(UNPROVED):
         skipped = terminalreporter.stats.get("skipped", [])

@@ -2,113 +2,16 @@
 
 import os
 import shutil
-import subprocess
-from collections.abc import Iterator
-from dataclasses import dataclass
 from pathlib import Path
-from typing import Any
 
 import pytest
 from selenium import webdriver
-from selenium.webdriver.chrome.service import Service
 from selenium.webdriver.common.by import By
 from selenium.webdriver.common.keys import Keys
-from selenium.webdriver.remote.webelement import WebElement
 
 from pdsuite.page.links import file_of
-from tests.helpers import FAILS, HANGS, PASSES, TOP, write
-
-WORDS = ("--headless=new", "--no-sandbox", "--disable-gpu", "--disable-dev-shm-usage", "--hide-scrollbars")
-OPENING = (TOP / "examples/send.txt").read_bytes().split(b"\n", 1)[1].rsplit(b"\n", 2)[0] + b"\n"
-EVIL = b'<img src=x onerror="document.title=1"><b>&amp;'
-HTML = b"<script>document.title='x'</script>\n"
-SCRIPTS = {
-    b"pass": PASSES,
-    b"fail": FAILS,
-    b"seq": OPENING + b"+0    > P. 1:501(500) ack 1\n",
-    b"missing": OPENING + b"+0    > P. 1:1001(1000) ack 1\n+0 > . 1001:2001(1000) ack 1\n",
-    b"syntax": b"+0 > X. 0:0(0)\n",
-    EVIL: b"// " + HTML + b"0 <b>bold</b>\n",
-    b"$\\frac{$": b"// $\\frac{$\n" + FAILS,
-    b"\xff\x1b": b"// \xff\x1b[2J\n" + FAILS,
-    "grün".encode(): PASSES,
-}
-
-VISIBLE = """
-return [...document.querySelectorAll(arguments[0])].filter((it) => it.checkVisibility()).map((it) => it.innerText);
-"""
-
-
-@dataclass
-class Browser:
-    """A browser, and the page that is looked at."""
-
-    driver: webdriver.Chrome
-    folder: Path
-
-    def look(self, file: str = "index.html", width: int = 1_200, scheme: str = "light") -> None:
-        """Shows a file of the page."""
-        size = {"width": width, "height": 900, "deviceScaleFactor": 1, "mobile": False}
-        self.driver.execute_cdp_cmd("Emulation.setDeviceMetricsOverride", size)
-        media = {"features": [{"name": "prefers-color-scheme", "value": scheme}]}
-        self.driver.execute_cdp_cmd("Emulation.setEmulatedMedia", media)
-        self.driver.get("about:blank")
-        self.driver.get((self.folder / file.split("#")[0]).as_uri() + "".join(file.partition("#")[1:]))
-
-    def look_at(self, path: str) -> None:
-        """Shows the page of a script."""
-        self.look(f"scripts/{file_of(path)}")
-
-    def all(self, selector: str) -> list[WebElement]:
-        """The elements that a selector finds."""
-        return self.driver.find_elements(By.CSS_SELECTOR, selector)
-
-    def texts(self, selector: str) -> list[str]:
-        """The texts of the elements that a selector finds and that can be seen."""
-        texts = self.run(VISIBLE, selector)
-        assert isinstance(texts, list)
-        return texts
-
-    def run(self, script: str, *words: str) -> object:
-        """What a script in the page answers."""
-        execute: Any = self.driver.execute_script
-        return execute(script, *words)
-
-    def press(self, *keys: str) -> None:
-        """Presses keys, whatever has the focus."""
-        for key in keys:
-            self.driver.switch_to.active_element.send_keys(key)
-
-
-def make(top: Path, programs: Path) -> Path:
-    """Makes the page of the scripts in a folder, which stands beside them."""
-    environment = {**os.environ, "PDSUITE_PROGRAMS": str(programs)}
-    words: list[str | Path] = [TOP / "pdsuite", "run", "--html", "out", "in"]
-    done = subprocess.run(words, cwd=top, env=environment, capture_output=True, timeout=HANGS)
-    assert (done.returncode, done.stderr) == (1, b"")
-    return top / "out"
-
-
-@pytest.fixture(scope="module")
-def driver(tmp_path_factory: pytest.TempPathFactory) -> Iterator[webdriver.Chrome]:
-    """A browser without a window."""
-    options: Any = webdriver.ChromeOptions()
-    for word in (*WORDS, f"--user-data-dir={tmp_path_factory.mktemp('profile')}"):
-        options.add_argument(word)
-    options.binary_location = "/usr/bin/chromium"
-    begin: Any = webdriver.Chrome
-    with begin(service=Service("/usr/bin/chromedriver"), options=options) as chrome:
-        yield chrome
-
-
-@pytest.fixture(scope="module")
-def few(driver: webdriver.Chrome, programs: Path, tmp_path_factory: pytest.TempPathFactory) -> Browser:
-    """The page of a few scripts of all kinds."""
-    top = tmp_path_factory.mktemp("few")
-    (top / "in").mkdir()
-    for name, text in SCRIPTS.items():
-        (top / "in" / os.fsdecode(name + b".pkt")).write_bytes(text)
-    return Browser(driver, make(top, programs))
+from tests.browsing import EVIL, HTML, SCRIPTS, Browser, make, path
+from tests.helpers import PASSES, TOP, write
 
 
 @pytest.fixture(scope="module")
@@ -119,20 +22,16 @@ def many(driver: webdriver.Chrome, stand_in: Path, tmp_path_factory: pytest.Temp
     return Browser(driver, make(top, stand_in))
 
 
-def path(name: bytes) -> bytes:
-    """The path of one of the few scripts."""
-    return b"in/" + name + b".pkt"
-
-
 def test_the_table_has_each_script_with_its_verdict_and_its_first_failing_line(few: Browser) -> None:
     few.look()
     rows = {row.find_element(By.TAG_NAME, "th").text: row for row in few.all("#scripts tbody tr")}
     assert list(rows) == [
-        "in/$\\\\frac{$.pkt",
-        f"in/{EVIL.decode()}.pkt",
-        *("in/fail.pkt", "in/grün.pkt", "in/missing.pkt", "in/pass.pkt", "in/seq.pkt", "in/syntax.pkt"),
-        r"in/\xff\x1b.pkt",
+        *("in/$\\\\frac{$.pkt", "in/fail.pkt", "in/missing.pkt", "in/seq.pkt", r"in/\xff\x1b.pkt"),
+        *(f"in/{EVIL.decode()}.pkt", "in/syntax.pkt"),
+        *("in/grün.pkt", "in/pass.pkt"),
     ]
+    cells = [it.text for it in rows["in/missing.pkt"].find_elements(By.TAG_NAME, "td")]
+    assert cells[2].startswith("all that is queued was sent, up to 1001,")
     cells = [it.text for it in rows["in/seq.pkt"].find_elements(By.TAG_NAME, "td")]
     assert cells == ["fail seq", "9 +0 > P. 1:501(500) ack 1", "the packet has other octets"]
 
@@ -183,6 +82,25 @@ def test_a_missing_packet_has_its_reason(few: Browser) -> None:
     assert reason.startswith("all that is queued was sent, up to 1001,")
 
 
+# How far down the parts of a page begin.
+TOPS = """
+return [".text", ".cause section", ".diagram"].map((it) => document.querySelector(it).getBoundingClientRect().top);
+"""
+
+
+@pytest.mark.parametrize("width", [360, 700, 1_000, 1_100, 1_920])
+@pytest.mark.parametrize("name", ["seq", "missing", "syntax"])
+def test_the_text_comes_before_the_boxes_at_every_width(name: str, width: int, few: Browser) -> None:
+    few.look(f"scripts/{file_of(f'in/{name}.pkt')}", width=width)
+    tops = few.run(TOPS)
+    assert isinstance(tops, list)
+    text, cause, diagram = tops
+    assert text <= cause < diagram
+    assert (text == cause) == (width >= 1_000)
+    parts = few.run("return [...document.querySelectorAll('main > *')].map((it) => it.className)")
+    assert isinstance(parts, list) and parts[:2] == ["text", "cause"]
+
+
 def test_the_line_of_a_row_leads_to_the_line_of_the_text(few: Browser) -> None:
     few.look()
     few.all('#scripts a[aria-label="line 9"]')[0].click()
@@ -193,9 +111,9 @@ def test_the_line_of_a_row_leads_to_the_line_of_the_text(few: Browser) -> None:
 def test_the_table_is_filtered_by_name_and_verdict_and_the_address_has_it(few: Browser) -> None:
     few.look()
     few.press("/", "S")
-    assert few.texts("#scripts tbody th") == [f"in/{EVIL.decode()}.pkt", "in/missing.pkt", "in/pass.pkt"] + [
-        "in/seq.pkt",
+    assert few.texts("#scripts tbody th") == ["in/missing.pkt", "in/seq.pkt", f"in/{EVIL.decode()}.pkt"] + [
         "in/syntax.pkt",
+        "in/pass.pkt",
     ]
     few.all("input[value=fail]")[0].click()
     assert few.texts("#scripts tbody th") == ["in/missing.pkt", "in/seq.pkt"]
@@ -212,11 +130,13 @@ def test_all_can_be_reached_by_keyboard(few: Browser) -> None:
     few.press(Keys.TAB)
     assert few.driver.switch_to.active_element.text == "To the table"
     few.press(Keys.ENTER, Keys.TAB)
+    assert few.driver.switch_to.active_element.text == "Script"
+    few.press(*[Keys.TAB] * 4)
     assert few.driver.switch_to.active_element.text == "in/$\\\\frac{$.pkt"
     few.look()
     few.press("/", Keys.TAB, " ")
     assert few.texts("#scripts tbody td.verdict") == ["pass", "pass"]
-    few.press("/", "ss", *[Keys.TAB] * 4)
+    few.press("/", "ss", *[Keys.TAB] * 8)
     assert few.driver.switch_to.active_element.text == "in/pass.pkt"
     few.press(Keys.ENTER)
     assert few.texts("h1") == ["in/pass.pkt"]
@@ -226,7 +146,7 @@ def test_all_can_be_reached_by_keyboard(few: Browser) -> None:
         few.press(Keys.TAB)
         element = few.driver.switch_to.active_element
         labels.append(element.get_attribute("aria-label") or element.text)
-    assert labels[:4] == ["All scripts", "line 9", "The two packets", "The text of the script"]
+    assert labels[:4] == ["All scripts", "line 9", "The text of the script", "The two packets"]
 
 
 def test_without_scripts_of_its_own_the_table_is_whole(few: Browser) -> None:

@@ -18,6 +18,15 @@ GENERATOR = "pdsuite"
 # What all pages use, beside the table.
 _STYLE = "page.css"
 STATIC = (_STYLE, "page.js")
+_RANKS = (
+    Verdict.FAIL,
+    Verdict.ERROR,
+    Verdict.SYNTAX,
+    Verdict.LIMIT,
+    Verdict.UNSUPPORTED,
+    Verdict.NOT_RUN,
+    Verdict.PASS,
+)
 
 
 def static(name: str) -> bytes:
@@ -27,10 +36,15 @@ def static(name: str) -> bytes:
 
 
 def table_page(rows: Sequence[Row]) -> bytes:
-    """The page with the table."""
+    """The page with the table: what fails stands first, and equal verdicts in the order of paths."""
     counts = Counter(it.verdict for it in rows)
     verdicts = [(it, counts[it]) for it in Verdict if counts[it]]
-    return _filled("table.html", rows=rows, verdicts=verdicts, folder=FOLDER)
+    return _filled("table.html", rows=sorted(rows, key=_rank), verdicts=verdicts, folder=FOLDER)
+
+
+def _rank(row: Row) -> tuple[int, bool]:
+    """Which verdicts come first; of those that pass the ones that are warned of."""
+    return _RANKS.index(row.verdict), not row.why
 
 
 def script_page(sheet: Sheet) -> bytes:
