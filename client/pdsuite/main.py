@@ -21,6 +21,7 @@ from pdsuite.reports.github import SUMMARY, Github
 from pdsuite.reports.plain import Plain
 from pdsuite.reports.tap import Tap
 from pdsuite.screen import Screen, Unwritten, say, wants_color
+from pdsuite.shards import Shard, shard_of
 from pdsuite.stop import Stopped
 from pdsuite.styled import plainly
 from pdsuite.version import version
@@ -38,6 +39,18 @@ class _Place(click.Path):
         if not os.fspath(value):
             self.fail("it is empty, and so names no file.", param, ctx)
         return Path(value)
+
+
+class _Part(click.ParamType):
+    """A shard, as K/N."""
+
+    name = "shard"
+
+    def convert(self, value: str | Shard, param: click.Parameter | None, ctx: click.Context | None) -> Shard:
+        shard = value if isinstance(value, Shard) else shard_of(value)
+        if shard is None:
+            self.fail(f"{shown_text(str(value))} is no K/N, with K from 1 to N.", param, ctx)
+        return shard
 
 
 def _print_version(context: click.Context, option: click.Parameter, on: bool) -> None:
@@ -75,6 +88,7 @@ def _choice(command: Command) -> Command:
     return command
 
 
+_shard = click.option("--shard", metavar="K/N", type=_Part(), help="Only the K-th of N parts of about as many octets.")
 _workers = click.option(
     "--workers",
     type=click.IntRange(0, MOST_WORKERS),
@@ -108,6 +122,7 @@ def _wanted(html: Path | None, plot: str | None, plots: int | None) -> Plots:
 
 @pdsuite.command(name="run")
 @_choice
+@_shard
 @_strict
 @_workers
 @_html
@@ -129,6 +144,7 @@ def run_command(
     only: tuple[str, ...],
     settings: str,
     no_color: bool,
+    shard: Shard | None,
     strict: bool,
     workers: int | None,
     html: Path | None,
@@ -148,6 +164,7 @@ def run_command(
     wish = Wish(
         paths=paths,
         only=only,
+        shard=shard,
         settings=settings,
         is_strict=strict,
         workers=_threads(workers),
@@ -159,7 +176,7 @@ def run_command(
         plots=_wanted(html, plot, plots),
     )
     with Screen(wants_color() and not no_color, progress=form is None) as screen:
-        return run(wish, _form(form, verbose), screen)
+        return run(wish, _form(form, verbose, shard), screen)
 
 
 @pdsuite.command(name="watch")
@@ -193,10 +210,17 @@ def watch_command(
 
 @pdsuite.command(name="list")
 @_choice
-def list_command(paths: tuple[Path, ...], only: tuple[str, ...], settings: str, no_color: bool) -> int:
+@_shard
+def list_command(
+    paths: tuple[Path, ...],
+    only: tuple[str, ...],
+    settings: str,
+    no_color: bool,
+    shard: Shard | None,
+) -> int:
     """Lists the scripts with their settings, and runs nothing."""
     with Screen(wants_color() and not no_color, progress=False) as screen:
-        return list_scripts(paths, only, settings, screen)
+        return list_scripts(paths, only, shard, settings, screen)
 
 
 @pdsuite.command(name="import")
@@ -224,12 +248,12 @@ def _threads(workers: int | None) -> int:
     return min(len(os.sched_getaffinity(0)), MOST_WORKERS) if workers is None else workers
 
 
-def _form(name: str | None, every: bool) -> Form:
+def _form(name: str | None, every: bool, shard: Shard | None) -> Form:
     match name:
         case "tap":
             return Tap()
         case "json":
-            return Json()
+            return Json(shard)
         case "github":
             return Github()
     return Plain(every)

@@ -6,19 +6,26 @@ from pathlib import Path
 from pdsuite.faults import Fault
 from pdsuite.find import Found, find_with_folders
 from pdsuite.runs import Script
+from pdsuite.shards import Shard, members
 from pdsuite.stop import Stop
 from pdsuite.suite import Suite
 
 
 def scripts_of(
-    paths: Sequence[Path], only: Sequence[str], suite: Suite, stop: Stop, is_strict: bool = False
+    paths: Sequence[Path],
+    only: Sequence[str],
+    suite: Suite,
+    stop: Stop,
+    is_strict: bool = False,
+    shard: Shard | None = None,
 ) -> list[Script]:
     """The scripts that are meant, in the order of their paths; all of them are strict, or those that the files name."""
     finding = find_with_folders(paths, only, stop)
     if not finding.scripts:
         raise Fault("no script found")
     suite.look(finding.folders)
-    return [_script(index, it, suite, is_strict) for index, it in enumerate(finding.scripts)]
+    found = finding.scripts if shard is None else members(finding.scripts, shard)
+    return [_script(index, it, suite, is_strict) for index, it in enumerate(found)]
 
 
 def _script(index: int, it: Found, suite: Suite, is_strict: bool) -> Script:

@@ -10,20 +10,29 @@ from pdsuite.octets import shown_path, shown_text
 from pdsuite.runs import Script
 from pdsuite.screen import Screen, say
 from pdsuite.settings import Settings, shown_value
+from pdsuite.shards import Shard
 from pdsuite.stop import Stop
 from pdsuite.styled import plainly
 from pdsuite.suite import Suite, option_of
 
 
-def list_scripts(paths: Sequence[Path], only: Sequence[str], settings: str, screen: Screen) -> int:
+def list_scripts(
+    paths: Sequence[Path],
+    only: Sequence[str],
+    shard: Shard | None,
+    settings: str,
+    screen: Screen,
+) -> int:
     """Lists the scripts, and answers the exit status."""
     with Stop() as stop:
         suite = Suite(option_of(settings))
-        scripts = scripts_of(paths, only, suite, stop)
+        scripts = scripts_of(paths, only, suite, stop, shard=shard)
         if lines := lost_in(suite):
             for line in lines:
                 say(line)
             return 2
+        if not scripts:
+            screen.note(f"pdsuite: shard {shard} has no script")
         screen.show(plainly("".join(f"{_line(script)}\n" for script in scripts)))
     return 2 if any(script.fault for script in scripts) else 0
 

@@ -25,6 +25,7 @@ from pdsuite.rows import Totals
 from pdsuite.runs import Script, runs_of
 from pdsuite.screen import Screen, say
 from pdsuite.settle import Again, Mapper, Settled, Step, start_with
+from pdsuite.shards import Shard
 from pdsuite.stop import Stop, Stopped
 from pdsuite.suite import Suite, option_of
 from pdsuite.text import Text
@@ -39,6 +40,7 @@ class Wish:
 
     paths: Sequence[Path]
     only: Sequence[str]
+    shard: Shard | None
     settings: str
     is_strict: bool
     workers: int
@@ -56,7 +58,9 @@ def run(wish: Wish, form: Form, screen: Screen) -> int:
     with Stop() as stop:
         suite = Suite(option_of(wish.settings))
         try:
-            scripts = scripts_of(wish.paths, wish.only, suite, stop, wish.is_strict)
+            scripts = scripts_of(wish.paths, wish.only, suite, stop, wish.is_strict, wish.shard)
+            if not scripts:
+                screen.note(f"pdsuite: shard {wish.shard} has no script")
             programs = {name: locate(name) for name in (REGRESS, EXPLAIN)}
             asked = refused(suite.claims(), lambda: Program([programs[REGRESS]], stop))
             if lines := [*lost_in(suite), *asked]:

@@ -1,16 +1,20 @@
 """The report as one JSON object."""
 
 import json
-
+from dataclasses import dataclass
 
 from pdsuite.block import block
 from pdsuite.octets import shown_path
 from pdsuite.rows import Outcome, Totals, Verdict
+from pdsuite.shards import Shard
 from pdsuite.styled import Styled, plainly
 
 
+@dataclass(frozen=True)
 class Json:
-    """An object with a list of scripts, a line for each, and their totals."""
+    """An object with a list of scripts, a line for each, and their totals; and the shard, where they are one."""
+
+    shard: Shard | None = None
 
     def head(self, count: int) -> Styled:
         return plainly('{"scripts": [')
@@ -24,7 +28,8 @@ class Json:
         if totals.warnings:
             counts["warnings"] = totals.warnings
         total = json.dumps({"scripts": totals.scripts, **counts})
-        return plainly(f'\n], "total": {total}, "seconds": {seconds:.2f}}}\n')
+        shard = "" if self.shard is None else f', "shard": "{self.shard}"'
+        return plainly(f'\n], "total": {total}, "seconds": {seconds:.2f}{shard}}}\n')
 
 
 def _script(outcome: Outcome) -> dict[str, object]:
