@@ -88,7 +88,16 @@ def _choice(command: Command) -> Command:
     return command
 
 
-_shard = click.option("--shard", metavar="K/N", type=_Part(), help="Only the K-th of N parts of about as many octets.")
+def _part(command: Command) -> Command:
+    """The words that choose among the scripts that are found."""
+    for option in (
+        click.option("--last-failed", is_flag=True, help="Only what didn't pass in the last run of these paths."),
+        click.option("--shard", metavar="K/N", type=_Part(), help="Only the K-th of N parts of about as many octets."),
+    ):
+        command = option(command)
+    return command
+
+
 _workers = click.option(
     "--workers",
     type=click.IntRange(0, MOST_WORKERS),
@@ -122,7 +131,8 @@ def _wanted(html: Path | None, plot: str | None, plots: int | None) -> Plots:
 
 @pdsuite.command(name="run")
 @_choice
-@_shard
+@_part
+@click.option("--new", is_flag=True, help="Show only rows that the last run of these paths didn't have.")
 @_strict
 @_workers
 @_html
@@ -145,6 +155,8 @@ def run_command(
     settings: str,
     no_color: bool,
     shard: Shard | None,
+    last_failed: bool,
+    new: bool,
     strict: bool,
     workers: int | None,
     html: Path | None,
@@ -161,10 +173,14 @@ def run_command(
         raise click.UsageError("--workers is of this machine, and --scheduler runs scripts elsewhere")
     if scheduler is not None and html is not None:
         raise click.UsageError("--html draws what ran on this machine, and --scheduler runs scripts elsewhere")
+    if new and form in ("tap", "json"):
+        raise click.UsageError("--new leaves rows out, and --tap and --json have all")
     wish = Wish(
         paths=paths,
         only=only,
         shard=shard,
+        last_failed=last_failed,
+        new=new,
         settings=settings,
         is_strict=strict,
         workers=_threads(workers),
@@ -210,17 +226,18 @@ def watch_command(
 
 @pdsuite.command(name="list")
 @_choice
-@_shard
+@_part
 def list_command(
     paths: tuple[Path, ...],
     only: tuple[str, ...],
     settings: str,
     no_color: bool,
     shard: Shard | None,
+    last_failed: bool,
 ) -> int:
     """Lists the scripts with their settings, and runs nothing."""
     with Screen(wants_color() and not no_color, progress=False) as screen:
-        return list_scripts(paths, only, shard, settings, screen)
+        return list_scripts(paths, only, shard, last_failed, settings, screen)
 
 
 @pdsuite.command(name="import")

@@ -53,6 +53,14 @@ def _heeded_signals() -> None:
             signal.signal(number, signal.SIG_DFL)
 
 
+@pytest.fixture(autouse=True, scope="session")
+def _own_cache(tmp_path_factory: pytest.TempPathFactory) -> None:
+    """Has runs leave their reports in a folder of the tests."""
+    folder = tmp_path_factory.mktemp("cache")
+    folder.chmod(0o777)  # Another user runs some.
+    os.environ["XDG_CACHE_HOME"] = str(folder)
+
+
 def _program(name: str) -> Path:
     """The built program of this name."""
     if folder := os.environ.get("PDSUITE_PROGRAMS"):

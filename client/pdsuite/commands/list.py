@@ -4,7 +4,8 @@ from collections.abc import Sequence
 from pathlib import Path
 
 
-from pdsuite.commands.choice import scripts_of
+from pdsuite.commands.choice import Part, scripts_of
+from pdsuite.commands.last import failed_last
 from pdsuite.lost import lost_in
 from pdsuite.octets import shown_path, shown_text
 from pdsuite.runs import Script
@@ -20,19 +21,21 @@ def list_scripts(
     paths: Sequence[Path],
     only: Sequence[str],
     shard: Shard | None,
+    last_failed: bool,
     settings: str,
     screen: Screen,
 ) -> int:
     """Lists the scripts, and answers the exit status."""
     with Stop() as stop:
+        part = Part(shard, failed_last(paths) if last_failed else None)
         suite = Suite(option_of(settings))
-        scripts = scripts_of(paths, only, suite, stop, shard=shard)
+        scripts = scripts_of(paths, only, suite, stop, part=part)
         if lines := lost_in(suite):
             for line in lines:
                 say(line)
             return 2
         if not scripts:
-            screen.note(f"pdsuite: shard {shard} has no script")
+            screen.note(f"pdsuite: {part.nothing()}")
         screen.show(plainly("".join(f"{_line(script)}\n" for script in scripts)))
     return 2 if any(script.fault for script in scripts) else 0
 

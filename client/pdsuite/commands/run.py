@@ -9,7 +9,8 @@ from typing import TYPE_CHECKING
 
 from pdsuite.asked import refused
 from pdsuite.checking import Checking
-from pdsuite.commands.choice import scripts_of
+from pdsuite.commands.choice import Part, scripts_of
+from pdsuite.commands.last import failed_last, leave, only_new
 from pdsuite.explain import Explainer
 from pdsuite.faults import Cut
 from pdsuite.files import append, write
@@ -21,6 +22,7 @@ from pdsuite.programs import EXPLAIN, REGRESS, Program, digest, locate
 from pdsuite.report import Report
 from pdsuite.reports.form import Form
 from pdsuite.reports.github import summary_of
+from pdsuite.reports.plain import Plain
 from pdsuite.rows import Totals
 from pdsuite.runs import Script, runs_of
 from pdsuite.screen import Screen, say
@@ -41,6 +43,8 @@ class Wish:
     paths: Sequence[Path]
     only: Sequence[str]
     shard: Shard | None
+    last_failed: bool
+    new: bool
     settings: str
     is_strict: bool
     workers: int
@@ -51,16 +55,24 @@ class Wish:
     html: Path | None
     plots: Plots
 
+    @property
+    def is_part(self) -> bool:
+        """Whether scripts of the paths may be left out."""
+        return bool(self.only) or self.shard is not None or self.last_failed
+
 
 def run(wish: Wish, form: Form, screen: Screen) -> int:
     """Runs the scripts, and answers the exit status."""
     begin = time.monotonic()
     with Stop() as stop:
         suite = Suite(option_of(wish.settings))
+        part = Part(wish.shard, failed_last(wish.paths) if wish.last_failed else None)
         try:
-            scripts = scripts_of(wish.paths, wish.only, suite, stop, wish.is_strict, wish.shard)
+            scripts = scripts_of(wish.paths, wish.only, suite, stop, wish.is_strict, part)
             if not scripts:
-                screen.note(f"pdsuite: shard {wish.shard} has no script")
+                screen.note(f"pdsuite: {part.nothing()}")
+            if wish.new:
+                form = only_new(form, Plain(True) if isinstance(form, Plain) else form, wish.paths, screen.note)
             programs = {name: locate(name) for name in (REGRESS, EXPLAIN)}
             asked = refused(suite.claims(), lambda: Program([programs[REGRESS]], stop))
             if lines := [*lost_in(suite), *asked]:
@@ -122,6 +134,7 @@ def _run(
                 say(line)
     finally:
         # Also where nothing can be shown any more.
+        leave(wish.paths, [*report.outcomes, *report.left()], wish.is_part, screen.note)
         _write_files(wish, report, time.monotonic() - begin)
         if drawing is not None and ended is None:
             ended = _draw(drawing, report, texts, screen, stop)
