@@ -7,7 +7,7 @@ import re
 import time
 import zlib
 from collections.abc import Callable, Iterable, Iterator, Mapping, Sequence
-from contextlib import contextmanager
+from contextlib import contextmanager, suppress
 from pathlib import Path
 
 from pdsuite.faults import Fault, why
@@ -116,6 +116,18 @@ class LastReport:
                 before = ",\n"
             file.write("\n]}\n")
         beside.replace(self._file)
+
+
+def newest(paths: Iterable[str]) -> SavedReport | None:
+    """The report that was left last of runs whose paths hold all of these scripts."""
+    each = list(paths)
+    for file in sorted(cache_folder().glob(_REPORTS), key=_age):
+        with suppress(FileNotFoundError), file.open("rb") as opened:
+            of = _of(opened.readline())
+            if of and all(any(it == top or it.startswith(f"{top.rstrip('/')}/") for top in of) for it in each):
+                opened.seek(0)
+                return _report(file, opened.read())
+    return None
 
 
 def _report(file: Path, octets: bytes) -> SavedReport:

@@ -240,6 +240,24 @@ def list_command(
         return list_scripts(paths, only, shard, last_failed, settings, screen)
 
 
+@pdsuite.command(name="diff")
+@click.option("--no-color", is_flag=True, help="No colours on a terminal.")
+@click.argument("old", metavar="OLD", type=_Place())
+@click.argument("new", metavar="[NEW]...", nargs=-1, type=_Place())
+def diff_command(old: Path, new: tuple[Path, ...], no_color: bool) -> int:
+    """Shows what turned between two reports, and runs nothing.
+
+    They are those that `pdsuite run --json` prints. A file holds one or several, and of a folder all files *.json are
+    taken; those of several shards count as one. Without NEW, OLD is compared with what the last run of its scripts
+    left.
+    """
+    # Only who compares pays for what reads reports.
+    from pdsuite.commands.diff import diff
+
+    with Screen(wants_color() and not no_color, progress=False) as screen:
+        return diff(old, new, screen)
+
+
 @pdsuite.command(name="import")
 @click.option("--keep", is_flag=True, help="Change nothing of packets.")
 @click.option("--no-color", is_flag=True, help="No colours on a terminal.")

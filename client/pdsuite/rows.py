@@ -44,6 +44,13 @@ class Row:
             return f"{verdict}: {self.word}"
         return f"{verdict} {self.word}" if self.word else verdict
 
+    @property
+    def whole(self) -> str:
+        """The row as the program says it, without the script's name."""
+        if self.line is None:
+            return str(self)
+        return " ".join(it for it in (self.verdict.value, str(self.line), self.word) if it)
+
 
 _WITHOUT_LINE = (Verdict.PASS, Verdict.ERROR, Verdict.NOT_RUN)
 

@@ -1,0 +1,77 @@
+"""`pdsuite diff`: what turned between two reports. It runs nothing."""
+
+import os
+from collections import Counter
+from collections.abc import Iterable, Sequence
+from pathlib import Path
+
+from pdsuite.cache import newest
+from pdsuite.differences import Difference, Kind, differences
+from pdsuite.faults import Fault
+from pdsuite.octets import shown_path
+from pdsuite.saved import SavedReport, read_report
+from pdsuite.screen import Screen
+from pdsuite.styled import Styled, plainly
+
+_STYLES = {Kind.AGAIN: "green", Kind.NEW: "", Kind.GONE: "dim", Kind.NOT_RUN: "dim"}
+_WORSE = "bold red"
+
+
+def diff(old: Path, new: Sequence[Path], screen: Screen) -> int:
+    """Shows what turned, and answers the exit status: 1 where something got worse."""
+    before = read_report([old])
+    if new:
+        now = read_report(new)
+    else:
+        before, now = _beside_the_last(before)
+    _refuse(before, now)
+    turned = differences(before.rows, now.rows)
+    same = len({**before.rows, **now.rows}) - len(turned)
+    screen.show(_text(turned, same))
+    return 1 if any(it.is_worse for it in turned) else 0
+
+
+def _beside_the_last(before: SavedReport) -> tuple[SavedReport, SavedReport]:
+    """A report, and the last one that was kept of its scripts, with paths from the working folder in both."""
+    here = shown_path(os.getcwd()).rstrip("/") + "/"
+    whole = {os.path.normpath(os.path.join(here, path)): it for path, it in before.rows.items()}
+    now = newest(whole)
+    if now is None:
+        raise Fault(f"{before.place}: no run has left a report of all these scripts: run them, or name a second report")
+    return (
+        SavedReport(before.place, {it.removeprefix(here): row for it, row in whole.items()}, before.shards),
+        SavedReport(now.place, {it.removeprefix(here): row for it, row in now.rows.items()}, now.shards),
+    )
+
+
+def _refuse(before: SavedReport, now: SavedReport) -> None:
+    """Raises a fault where two reports can't be compared."""
+    if before.shards != now.shards:
+        for report in (before, now):
+            if (shard := report.missing_shard()) is not None:
+                raise Fault(f"{report.place}: the report of shard {shard} is missing")
+    if (before.rows or now.rows) and before.rows.keys().isdisjoint(now.rows):
+        raise Fault(f"{before.place} and {now.place} have no script in common: paths count as they stand there")
+
+
+def _text(turned: Iterable[Difference], same: int) -> Styled:
+    text = Styled()
+    counts: Counter[Kind] = Counter()
+    for it in turned:
+        counts[it.kind] += 1
+        text.append_text(_line(it))
+    each = " ".join(f"{kind} {counts[kind]}" for kind in Kind)
+    return text.append(f"total {counts.total() + same} {each} as before {same}\n")
+
+
+def _line(it: Difference) -> Styled:
+    """The line of a script: how it turned, its row, and the one that it had before."""
+    row = None if it.now is None else it.now.row
+    place = it.path if row is None or row.line is None else f"{it.path}:{row.line}"
+    style = _WORSE if it.is_worse else _STYLES.get(it.kind, "")
+    line = plainly(f"{place}: ").append(it.kind, style)
+    if row is not None and it.kind is not Kind.NOT_RUN:
+        line.append(f": {row}")
+    if it.before is not None and it.kind is not Kind.NEW:
+        line.append(f", was {it.before.row.whole}")
+    return line.append("\n")
