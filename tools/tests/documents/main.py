@@ -62,7 +62,7 @@ def built_tree(files: list[Path], folder: Path) -> str | None:
             return said.stderr.strip()
         out = folder / "crates" / name / "out"
         out.mkdir()
-        shutil.copy2(said.stdout.strip(), out / name)
+        shutil.copy(said.stdout.strip(), out / name)
     return None
 
 

@@ -7,7 +7,7 @@ from dataclasses import dataclass
 BLOCK = re.compile(r"^```console *(\w*)\n(.*?)^```$", re.MULTILINE | re.DOTALL)
 PROMPT = "$ "
 HERE = re.compile(r"<<-?'?(\w+)'?")
-# In the place of lines that are left out.
+# In the place of lines that are left out, and after a blank of the rest of a line.
 LEFT_OUT = "..."
 SECONDS = re.compile(r"\bin\\? \d+\\?\.\d+\\? s\b")
 # What a program says first where it runs without its proofs.
@@ -64,9 +64,16 @@ def _whole(lines: list[str]) -> list[str]:
 
 
 def form_of(wanted: tuple[str, ...]) -> re.Pattern[str]:
-    """What fits what is wanted: `...` is any lines, and seconds are any seconds."""
-    lines = (r"(?:.*\n)*?" if it.strip() == LEFT_OUT else re.escape(it) + r"\n" for it in wanted)
-    return re.compile("".join(SECONDS.sub(r"in \\d+\\.\\d+ s", line) for line in lines))
+    """What fits what is wanted."""
+    return re.compile("".join(map(_form_of_line, wanted)))
+
+
+def _form_of_line(line: str) -> str:
+    if line.strip() == LEFT_OUT:
+        return r"(?:.*\n)*?"
+    if line.endswith(f" {LEFT_OUT}"):
+        return re.escape(line.removesuffix(LEFT_OUT)) + r".*\n"
+    return SECONDS.sub(r"in \\d+\\.\\d+ s", re.escape(line)) + r"\n"
 
 
 def fits(shown: Shown, said: str, is_proved: bool) -> bool:
