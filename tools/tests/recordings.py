@@ -1,5 +1,6 @@
 #!/usr/bin/env -S python3 -B
-"""Records scripts and tests what holds of every recording: it passes, and recording it again gives the same octets.
+"""Records scripts and tests what holds of every recording: it passes, it has each comment and each blank line of its script
+once, and recording it again gives the same octets.
 
 The scripts are those of crates/pd_cases/data and random ones. Prints a line for each test that fails and `N passed, M
 failed` last.
@@ -9,6 +10,7 @@ import argparse
 import random
 import re
 import sys
+from collections import Counter
 from collections.abc import Iterator, Sequence
 from dataclasses import dataclass, replace
 from pathlib import Path
@@ -22,6 +24,11 @@ MAX_SCRIPTS = 500
 RECORDS = "pdrecord"
 RUNS = "pdregress"
 REGULAR = (0, 1)
+
+# What a comment may stand behind or seem to stand in: strings, commands, code and options; and comments.
+PIECE = re.compile(
+    rb'"(?:\\.|[^"\\])*"|`[^`]*`|%\{.*?\}%|--\w+(?:=[^ \t\r\n]*)?|(?P<comment>//[^\n]*|/\*.*?\*/)', re.DOTALL
+)
 
 
 @dataclass(frozen=True)
@@ -126,8 +133,17 @@ SETUP = b"""0 socket(..., SOCK_STREAM, IPPROTO_TCP) = 3
 """
 
 
+# What may stand before the first event of a random script: mostly nothing.
+STARTS = [""] * 4 + ["\n", " \n\n", "/*/ = 3 */ ", "// (\n"]
+
 # What may stand after a random event: mostly the end of its line.
-ENDS = ["\n"] * 8 + [" ", " // a\n", " /* b */\n", "\n\n", "\n// c\n", "/* d\n e */", "\n  \n//= f\n"]
+ENDS = ["\n"] * 8 + [" ", " // a\n", " /* b */\n", "\n\n", "\n// c\n", "/* d\n e */", "\n  \n//= f\n", " /*/ g */ // h\n"]
+
+# What may stand for the octets that are written: mostly dots.
+TEXTS = ["..."] * 5 + ['"a)=b"', '"= 1 (" /* "i" */', "%{ ) = 1 // }% // j\n", "--k=(/*= "]
+
+# What may stand after a result: mostly nothing.
+NOTES = [""] * 5 + [" (l)", " (one /* two */ three)", "  (/*/ m */ (n)) /* o */", ' (")" // p\n)', " (q\n\n)"]
 
 
 def random_event(dice: random.Random, top: list[int]) -> str:
@@ -137,7 +153,8 @@ def random_event(dice: random.Random, top: list[int]) -> str:
     if kind < 3:
         count = dice.choice([0, 1, 10, 500, 1000, 2500, 10000])
         top[0] += count
-        return f"{time} write(4, ..., {count}) = {dice.choice([count, 1])}"
+        result = dice.choice([count, 1])
+        return f"{time} write(4, {dice.choice(TEXTS)}, {count}) = {result}{dice.choice(NOTES)}"
     if kind < 6:
         ack = dice.randrange(1, top[0] + 2)
         blocks = ""
@@ -155,11 +172,12 @@ def random_event(dice: random.Random, top: list[int]) -> str:
 
 
 def random_scripts(count: int) -> Iterator[Script]:
-    """Scripts with random events after a handshake, some with comments, several events on a line and blank lines."""
+    """Scripts with random events after a handshake, some with comments, texts, notes, several events on a line and blank
+    lines."""
     for seed in range(count):
         dice = random.Random(seed)
         top = [1]
-        parts = [SETUP.decode()]
+        parts = [dice.choice(STARTS), SETUP.decode()]
         for _ in range(dice.randrange(1, 25)):
             parts.append(random_event(dice, top))
             parts.append(dice.choice(ENDS))
@@ -227,6 +245,21 @@ def without_trace(text: bytes) -> bytes:
     return b"".join(line for line in text.splitlines(keepends=True) if not TRACE.match(line))
 
 
+def comments_and_blanks(text: bytes) -> Counter[bytes]:
+    """The comments of a text, and its blank lines, each with how often it stands there."""
+    comments = Counter(found["comment"] for found in PIECE.finditer(text) if found["comment"])
+    blanks = Counter(b"" for line in text.removesuffix(b"\n").split(b"\n") if not line.strip(b" \t\r"))
+    return comments + blanks
+
+
+def kept_faults(done: Recorded) -> Iterator[str]:
+    """What is wrong about the comments and blank lines of a recording: each stays, once."""
+    script = comments_and_blanks(without_trace(done.script.text))
+    recording = comments_and_blanks(done.text)
+    if script != recording:
+        yield f"without {dict(script - recording)}, and with {dict(recording - script)} besides"
+
+
 def grown_too_large(row: bytes) -> bytes:
     """What may be said in place of a row: of a run that stops at a full outbox the recording may be over the limits."""
     return b"2 TooLarge" if row.startswith(b"limit") else row
@@ -287,6 +320,7 @@ def check(scripts: Sequence[Script]) -> Asking[Outcome]:
     said = yield [*calls, *(it.call for it in told)]
     rows = yield from verdicts(told, said[len(calls) :])
     tests = [(it.script, again_faults(it, *said[2 * at : 2 * at + 2])) for at, it in enumerate(kept)]
+    tests += [(it.script, kept_faults(it)) for it in kept]
     tests += [(it.script, row_faults(it, rows[at])) for at, it in enumerate(kept)]
     tests += [(it.script, refusal_faults(it, rows[at])) for at, it in enumerate(refused, len(kept))]
     for script, found in tests:

@@ -2,3 +2,4 @@
 pub mod Images
 pub mod NextLines
 pub mod CommentEnds
+pub mod Tokens

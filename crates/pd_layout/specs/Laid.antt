@@ -1,10 +1,17 @@
 -- When a text is laid out as recordings are.
-use Rattle.std.specs.Prelude.{codes, ℕ, ◌+◌, ◌-◌, ◌==◌, Bool, true, false, not, ◌&&◌, ◌||◌, List, [], ◌∷◌, length, take, drop, Option, Some, None, unwrap_or, bytes_eq, if◌then◌else◌, IsTrue}
+use Rattle.std.specs.Prelude.{codes, ℕ, ◌+◌, ◌-◌, ◌==◌, Bool, true, false, not, ◌&&◌, ◌||◌, List, [], ◌∷◌, length, take, drop, Option, Some, None, unwrap_or, is_some, bytes_eq, if◌then◌else◌, IsTrue}
 use Rattle.std.specs.Char.{is_ascii_alphanumeric}
 use Rattle.std.specs.List.{position}
 use Rattle.std.specs.Option.{option_map, option_map_or}
+use Rattle.pd_lex.specs.Lexing.{items}
 use Rattle.pd_lex.specs.Octets.{is_blank}
+use Rattle.pd_lex.specs.Tokens.{Item}
+use Rattle.pd_lex.specs.declared.token.Place.{Place}
+use Rattle.pd_script.specs.Brackets.{opened_by, is_closing}
+use Rattle.pd_script.specs.Items.{is_symbol}
+use Rattle.pd_script.specs.Next.{place_of}
 use Rattle.pd_script.specs.Script.{script_of}
+use Rattle.pd_script.specs.Values.{sign}
 use Rattle.pd_script.specs.declared.calls.Call.{Call}
 use Rattle.pd_script.specs.declared.calls.ErrorName.{ErrorName}
 use Rattle.pd_script.specs.declared.calls.ErrorName.TheVariants as named
@@ -76,36 +83,55 @@ gap lines rest = option_map_or (λ inside. lead inside lines) (trail false rest)
 
 -- ---- calls
 
--- a place of a line, and the lines behind it, pass a test
-abbrev pub in_line : (List (List ℕ) → List ℕ → Bool) → List (List ℕ) → List ℕ → Bool
-in_line test lines [] = false
-in_line test lines (b ∷ s) = test lines (b ∷ s) || in_line test lines s
+-- how many brackets are open behind an item, where so many are before it
+abbrev pub depth_behind : ℕ → Item → ℕ
+depth_behind depth t = if is_some (opened_by t) then depth + 1 else (if is_closing t then depth - 1 else depth)
 
--- so does a place of one of the lines
-abbrev pub in_lines : (List (List ℕ) → List ℕ → Bool) → List (List ℕ) → Bool
-in_lines test [] = false
-in_lines test (line ∷ lines) = in_line test lines line || in_lines test lines
+-- where the first of some items stands that passes a test and leaves no bracket open, where so many are open before them; None
+-- where there is none
+abbrev pub outside : (Item → Bool) → ℕ → List Item → Option Place
+outside test depth [] = None
+outside test depth (t ∷ ts) =
+    let now = depth_behind depth t in if test t && now == 0 then Some (place_of t) else outside test now ts
 
--- the end of a note
+-- the first of some lines passes a test
+abbrev pub first_line : (List (List ℕ) → List ℕ → Bool) → List (List ℕ) → Bool
+first_line test [] = false
+first_line test (line ∷ lines) = test lines line
+
+-- the lines of a text from one up to another, counted from 0
+abbrev pub block : List (List ℕ) → ℕ → ℕ → List (List ℕ)
+block text from to = take (to - from) (drop from text)
+
+-- what is left of a line at a place, and the lines behind it up to another, pass a test
+abbrev pub stands_at : (List (List ℕ) → List ℕ → Bool) → List (List ℕ) → ℕ → Place → Bool
+stands_at test text until place = first_line (λ lines line. test lines (drop place.at line)) (block text (place.line - 1) until)
+
+-- the end of a note, and a gap
 abbrev pub note_end : List (List ℕ) → List ℕ → Bool
 note_end lines = behind (codes ")") (gap lines)
 
--- what stands behind an answer: a gap, or a note of any octets and a gap
-abbrev pub noted : List (List ℕ) → List ℕ → Bool
-noted lines rest = gap lines rest || behind (codes " (") (λ note. in_lines note_end (note ∷ lines)) rest
+-- what stands behind an answer: a gap; or a note up to the bracket that closes it, and a gap
+abbrev pub noted : List (List ℕ) → ℕ → Option Place → List (List ℕ) → List ℕ → Bool
+noted text until closing lines rest =
+    gap lines rest || behind (codes " (") (λ note. option_map_or (stands_at note_end text until) closing false) rest
 
--- an equals sign, an answer and what stands behind it
-abbrev pub answered_with : List ℕ → List (List ℕ) → List ℕ → Bool
-answered_with answer lines = behind (codes "= ") (behind answer (noted lines))
+-- an equals sign at a place, an answer, and what stands behind it
+abbrev pub answered_at : List ℕ → List (List ℕ) → ℕ → Place → Bool
+answered_at answer text until place =
+    let closing = outside (is_symbol (sign ")")) 0 (items text place) in
+    stands_at (λ lines. behind (codes "= ") (behind answer (noted text until closing lines))) text until place
 
 -- what begins with a letter, a digit or `_`
 abbrev pub begins_word : List ℕ → Bool
 begins_word [] = false
 begins_word (b ∷ s) = is_ascii_alphanumeric b || b == 95
 
--- the octets of a call: any that begin a word, up to an equals sign and the answer
-abbrev pub call_octets : List ℕ → List (List ℕ) → List ℕ → Bool
-call_octets answer lines rest = begins_word rest && in_lines (answered_with answer) (rest ∷ lines)
+-- a call in some lines of a text: what begins a word, and its answer at the first equals sign that stands outside of brackets
+abbrev pub call_octets : List ℕ → List (List ℕ) → ℕ → ℕ → List ℕ → Bool
+call_octets answer text from until rest =
+    begins_word rest
+    && option_map_or (answered_at answer text until) (outside (is_symbol (sign "=")) 0 (items text (record { line = from; at = 0 }))) false
 
 -- the error of a name
 abbrev pub error_of : ErrorName → Option Errno
@@ -122,20 +148,21 @@ answer_of (Hex n) = None
 answer_of (Negative n None) = None
 answer_of (Negative n (Some name)) = if n == 1 then option_map (λ error. Error error) (error_of name) else None
 
--- a call at a time: its time, its octets with the answer that the script expects, and a gap
-abbrev pub call_line : Time → Outcome → List (List ℕ) → List ℕ → Bool
-call_line time result lines line =
-    option_map_or (λ answer. behind (time_text time) (behind (codes " ") (call_octets (answer_text answer) lines)) line) (answer_of result) false
+-- a line of this number begins a call at a time, which goes on up to another line: its time, its octets with the answer that
+-- the script expects, and a gap
+abbrev pub call_line : List (List ℕ) → ℕ → ℕ → Time → Outcome → List ℕ → Bool
+call_line text from until time result line =
+    option_map_or (λ answer. behind (time_text time) (behind (codes " ") (call_octets (answer_text answer) text from until)) line) (answer_of result) false
 
 -- ---- events and header items
 
--- an event: a packet in its one form, or a call, and a gap
-abbrev pub action_line : Time → Action → List (List ℕ) → List ℕ → Bool
-action_line time (actions.Inbound packet) lines line = behind (event_text time Inbound packet) (gap lines) line
-action_line time (actions.Outbound packet) lines line = behind (event_text time Outbound packet) (gap lines) line
-action_line time (actions.Call call) lines line = call_line time call.result lines line
-action_line time actions.Command lines line = false
-action_line time actions.Code lines line = false
+-- an event, which goes on up to a line: a packet in its one form, or a call, and a gap
+abbrev pub action_line : List (List ℕ) → ℕ → ℕ → Time → Action → List (List ℕ) → List ℕ → Bool
+action_line text from until time (actions.Inbound packet) lines line = behind (event_text time Inbound packet) (gap lines) line
+action_line text from until time (actions.Outbound packet) lines line = behind (event_text time Outbound packet) (gap lines) line
+action_line text from until time (actions.Call call) lines line = call_line text from until time call.result line
+action_line text from until time actions.Command lines line = false
+action_line text from until time actions.Code lines line = false
 
 -- where a header item ends: at the first blank
 abbrev pub item_end : List ℕ → ℕ
@@ -144,15 +171,6 @@ item_end line = unwrap_or (position is_blank line) (length line)
 -- a header item, and a gap
 abbrev pub item_line : List (List ℕ) → List ℕ → Bool
 item_line lines line = gap lines (drop (item_end line) line)
-
--- the first of some lines passes a test
-abbrev pub first_line : (List (List ℕ) → List ℕ → Bool) → List (List ℕ) → Bool
-first_line test [] = false
-first_line test (line ∷ lines) = test lines line
-
--- the lines of a text from one up to another, counted from 0
-abbrev pub block : List (List ℕ) → ℕ → ℕ → List (List ℕ)
-block text from to = take (to - from) (drop from text)
 
 -- where the first of some events begins; without one the text's end
 abbrev pub events_at : List (List ℕ) → List Event → ℕ
@@ -163,7 +181,8 @@ events_at text (event ∷ others) = event.line - 1
 abbrev pub events_laid : List (List ℕ) → List Event → Bool
 events_laid text [] = true
 events_laid text (event ∷ others) =
-    first_line (action_line event.time event.action) (block text (event.line - 1) (events_at text others)) && events_laid text others
+    let until = events_at text others in
+    first_line (action_line text event.line until event.time event.action) (block text (event.line - 1) until) && events_laid text others
 
 -- where the first of some header items begins, with these events behind them
 abbrev pub items_at : List (List ℕ) → List Event → List HeaderItem → ℕ

@@ -45,7 +45,7 @@ struct Draft {
 }
 
 /// The parts of the event that begins at a place, where the next one begins at the start of the next line, and nothing in the
-/// line could be a comment, a text in quotes or code. Without an answer the tokens have to be read.
+/// line could be a comment, a text in quotes, code or an option. Without an answer the tokens have to be read.
 pub fn parts_alone(lines: &Lines, from: Place, until: Place) -> Option<Parts> {
     if until.at != 0 || from.line.saturating_add(1) != until.line {
         return None;
@@ -63,6 +63,7 @@ pub fn parts_alone(lines: &Lines, from: Place, until: Place) -> Option<Parts> {
     for at in from.at..line.len() {
         match line[at] {
             b'/' | b'"' | b'`' | b'%' => return None,
+            b'-' if line[at..].starts_with(b"--") => return None,
             b' ' | b'\t' | b'\r' => draft.is_apart = true,
             octet => {
                 if !draft.read(octet, at) {

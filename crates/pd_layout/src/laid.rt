@@ -1,7 +1,7 @@
 //! Whether texts are laid out as recordings are.
-ghost use Rattle.std.specs.Prelude.{◌≡◌, ◌≤◌, ◌<◌, IfOk, IfSome, length};
+ghost use Rattle.std.specs.Prelude.{◌≡◌, ◌-◌, ◌≤◌, ◌<◌, IfOk, IfSome, length};
 ghost use Rattle.std.specs.List.{position};
-ghost use Rattle.pd_layout.specs.Laid.{action_line, behind, events_at, events_laid, first_line, gap, is_laid, item_end, item_line, items_at, items_laid};
+ghost use Rattle.pd_layout.specs.Laid.{action_line, behind, block, events_at, events_laid, first_line, gap, is_laid, item_end, item_line, items_at, items_laid};
 ghost use Rattle.pd_lex.specs.Octets.{is_blank};
 ghost use Rattle.pd_print.specs.Packets.{event_text};
 ghost use Rattle.pd_layout.specs.Inner.{lines_of};
@@ -112,8 +112,7 @@ fn are_events_laid(alloc: Global, lines: &Lines, events: &[Event]) -> Result<boo
     let mut left = events;
     while let [event, others @ ..] = left {
         let until = events_at(lines, others);
-        let block = Block::new(lines, event.line.saturating_sub(1), until);
-        if !is_event_laid(&mut text, event, block)? {
+        if !is_event_laid(&mut text, event, lines, until)? {
             return Ok(false);
         }
         left = others;
@@ -121,11 +120,17 @@ fn are_events_laid(alloc: Global, lines: &Lines, events: &[Event]) -> Result<boo
     Ok(true)
 }
 
-/// Whether lines are an event and a gap; its octets are written into a buffer.
-fn is_event_laid(text: &mut Vec<u8>, event: &Event, lines: Block<'_>) -> Result<bool, AllocError>
-    ensures { IfOk result (λ laid. laid ≡ first_line (action_line event.now.time event.now.action) (lines_of lines.entry)) }
+/// Whether the lines of an event up to another line are an event and a gap; its octets are written into a buffer.
+fn is_event_laid(
+    text: &mut Vec<u8>,
+    event: &Event,
+    lines: &Lines,
+    until: usize,
+) -> Result<bool, AllocError>
+    ensures { IfOk result (λ laid. laid ≡ first_line (action_line lines.now event.now.line until event.now.time event.now.action) (block lines.now (event.now.line - 1) until)) }
 {
-    let Some((line, behind)) = lines.split_first() else {
+    let block = Block::new(lines, event.line.saturating_sub(1), until);
+    let Some((line, behind)) = block.split_first() else {
         return Ok(false);
     };
     match &event.action {
@@ -145,7 +150,7 @@ fn is_event_laid(text: &mut Vec<u8>, event: &Event, lines: Block<'_>) -> Result<
             line,
             behind,
         ),
-        Action::Call(call) => is_call_line(text, event.time, call.result, line, behind),
+        Action::Call(call) => is_call_line(text, lines, until, event, call.result, line),
         Action::Command | Action::Code => Ok(false),
     }
 }

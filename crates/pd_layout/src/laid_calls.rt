@@ -1,57 +1,17 @@
 //! Calls as they stand in recordings.
-ghost use Rattle.std.specs.Prelude.{◌≡◌, ◌∷◌, IfOk, List, ℕ, Bool};
-ghost use Rattle.pd_layout.specs.Laid.{gap, behind, in_line, in_lines, note_end, noted, answered_with, begins_word, call_octets, call_line, error_of, answer_of};
-ghost use Rattle.pd_layout.specs.Inner.{lines_of};
+ghost use Rattle.std.specs.Prelude.{◌≡◌, IfOk, drop};
+ghost use Rattle.pd_layout.specs.Laid.{gap, behind, stands_at, note_end, noted, answered_at, begins_word, call_octets, call_line, error_of, answer_of};
+ghost use Rattle.pd_layout.specs.Inner.{lines_of, closing_of};
 
 use crate::blocks::Block;
 use crate::comments::is_gap;
+use crate::outside::find_outside;
+use pd_lex::Place;
 use pd_print::{put_answer, put_time};
-use pd_script::{ErrorName, Outcome, Time};
+use pd_script::{ErrorName, Event, Outcome};
 use pd_seg::{Answer, Errno};
+use pd_text::Lines;
 use std::alloc::AllocError;
-
-/// What may stand at a place of a call.
-trait Ending {
-    /// At the front of what is left of a line, with these lines behind it.
-    ghost stands: { Self → List (List ℕ) → List ℕ → Bool };
-
-    /// Whether it stands at the front of what is left of a line, with these lines behind it.
-    fn stands(&self, rest: &[u8], lines: Block<'_>) -> bool
-        ensures { result ≡ stands self.now (lines_of lines.entry) rest.now };
-}
-
-/// The end of a note, and a gap.
-#[derive(Clone, Copy)]
-struct NoteEnd;
-
-impl Ending for NoteEnd {
-    ghost stands = { λ _. note_end };
-
-    fn stands(&self, rest: &[u8], lines: Block<'_>) -> bool {
-        has_gap_behind(b")", rest, lines)
-    }
-}
-
-/// The equals sign, an answer, a note or none, and a gap.
-#[derive(Clone, Copy)]
-struct Answered<'a> {
-    /// The octets of the answer.
-    answer: &'a [u8],
-}
-
-impl Ending for Answered<'_> {
-    ghost stands = { λ a. answered_with a.answer.now };
-
-    fn stands(&self, rest: &[u8], lines: Block<'_>) -> bool {
-        let Some(rest) = rest.strip_prefix(b"= ") else {
-            return false;
-        };
-        match rest.strip_prefix(self.answer) {
-            Some(rest) => is_noted(rest, lines),
-            None => false,
-        }
-    }
-}
 
 /// Whether octets stand at the front of a line, and a gap behind them.
 pub fn has_gap_behind(octets: &[u8], line: &[u8], lines: Block<'_>) -> bool
@@ -63,55 +23,68 @@ pub fn has_gap_behind(octets: &[u8], line: &[u8], lines: Block<'_>) -> bool
     }
 }
 
-/// Whether a gap stands behind an answer, or a note and a gap.
-fn is_noted(rest: &[u8], lines: Block<'_>) -> bool
-    ensures { result ≡ noted (lines_of lines.entry) rest.now }
+/// What is left of a line behind so many octets.
+fn left_behind(line: &[u8], at: usize) -> &[u8]
+    ensures { result.now ≡ drop at line.now }
 {
-    if is_gap(rest, lines) {
-        return true;
-    }
-    match rest.strip_prefix(b" (") {
-        Some(note) => is_somewhere(&NoteEnd, note, lines),
+    if at < line.len() { &line[at..] } else { &[] }
+}
+
+/// Whether the end of a note stands at a place, and a gap up to a line.
+fn is_note_end(lines: &Lines, until: usize, place: Place) -> bool
+    ensures { result ≡ stands_at note_end lines.now until place }
+{
+    match Block::new(lines, place.line.saturating_sub(1), until).split_first() {
+        Some((line, behind)) => has_gap_behind(b")", left_behind(line, place.at), behind),
         None => false,
     }
 }
 
-/// Whether it stands somewhere in what is left of a line, or in the lines behind it.
-fn is_somewhere<E: Ending>(ending: &E, rest: &[u8], lines: Block<'_>) -> bool
-    ensures { result ≡ in_lines (E.stands ending.now) (rest.now ∷ lines_of lines.entry) }
+/// Whether a gap stands behind the answer to an equals sign at a place, or a note and a gap up to a line.
+fn is_noted(lines: &Lines, until: usize, equals: Place, rest: &[u8], behind: Block<'_>) -> bool
+    ensures { result ≡ noted lines.now until (closing_of lines.now equals) (lines_of behind.entry) rest.now }
 {
-    if is_in_line(ending, rest, lines) {
+    if is_gap(rest, behind) {
         return true;
     }
-    let mut left = lines;
-    while let Some((line, behind)) = left.split_first() {
-        if is_in_line(ending, line, behind) {
-            return true;
-        }
-        left = behind;
+    if !rest.starts_with(b" (") {
+        return false;
     }
-    false
+    match find_outside(lines, equals, b')') {
+        Some(closing) => is_note_end(lines, until, closing),
+        None => false,
+    }
 }
 
-/// Whether it stands somewhere in what is left of a line.
-fn is_in_line<E: Ending>(ending: &E, rest: &[u8], lines: Block<'_>) -> bool
-    ensures { result ≡ in_line (E.stands ending.now) (lines_of lines.entry) rest.now }
+/// Whether an equals sign stands at a place, an answer, a note or none, and a gap up to a line.
+fn is_answered(answer: &[u8], lines: &Lines, until: usize, equals: Place) -> bool
+    ensures { result ≡ answered_at answer.now lines.now until equals }
 {
-    let mut left = rest;
-    while let [_, behind @ ..] = left {
-        if ending.stands(left, lines) {
-            return true;
-        }
-        left = behind;
+    let block = Block::new(lines, equals.line.saturating_sub(1), until);
+    let Some((line, behind)) = block.split_first() else {
+        return false;
+    };
+    let Some(rest) = left_behind(line, equals.at).strip_prefix(b"= ") else {
+        return false;
+    };
+    match rest.strip_prefix(answer) {
+        Some(rest) => is_noted(lines, until, equals, rest, behind),
+        None => false,
     }
-    false
 }
 
-/// Whether the octets of a call with an answer stand in what is left of a line and in the lines behind it.
-fn is_call(answer: &[u8], rest: &[u8], lines: Block<'_>) -> bool
-    ensures { result ≡ call_octets answer.now (lines_of lines.entry) rest.now }
+/// Whether what is left of a line begins a call, whose equals sign is followed by an answer, a note or none, and a gap up to a
+/// line.
+fn is_call(answer: &[u8], lines: &Lines, from: usize, until: usize, rest: &[u8]) -> bool
+    ensures { result ≡ call_octets answer.now lines.now from until rest.now }
 {
-    begins_word(rest) && is_somewhere(&Answered { answer }, rest, lines)
+    if !begins_word(rest) {
+        return false;
+    }
+    match find_outside(lines, Place::line_start(from), b'=') {
+        Some(equals) => is_answered(answer, lines, until, equals),
+        None => false,
+    }
 }
 
 fn begins_word(rest: &[u8]) -> bool
@@ -123,25 +96,26 @@ fn begins_word(rest: &[u8]) -> bool
     }
 }
 
-/// Whether a line is, with lines behind it, a call at a time with the answer that the script expects, and a gap; its time and
-/// its answer are written into a buffer.
+/// Whether the line of an event is a call with the answer that the script expects, and a gap up to a line; its time and its
+/// answer are written into a buffer.
 ///
 /// # Errors
 /// `AllocError` where a growth is refused.
 pub fn is_call_line(
     text: &mut Vec<u8>,
-    time: Time,
+    lines: &Lines,
+    until: usize,
+    event: &Event,
     outcome: Outcome,
     line: &[u8],
-    lines: Block<'_>,
 ) -> Result<bool, AllocError>
-    ensures { IfOk result (λ laid. laid ≡ call_line time outcome (lines_of lines.entry) line.now) }
+    ensures { IfOk result (λ laid. laid ≡ call_line lines.now event.now.line until event.now.time outcome line.now) }
 {
     let Some(answer) = answer_of(outcome) else {
         return Ok(false);
     };
     text.clear();
-    put_time(text, time)?;
+    put_time(text, event.time)?;
     let Some(rest) = line.strip_prefix(text.as_slice()) else {
         return Ok(false);
     };
@@ -150,7 +124,7 @@ pub fn is_call_line(
     };
     text.clear();
     put_answer(text, answer)?;
-    Ok(is_call(text.as_slice(), rest, lines))
+    Ok(is_call(text.as_slice(), lines, event.line, until, rest))
 }
 
 /// The answer that a result is.

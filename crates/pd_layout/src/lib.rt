@@ -10,6 +10,7 @@ mod gaps;
 mod laid;
 mod laid_calls;
 mod layouts;
+mod outside;
 mod same_calls;
 mod same_events;
 mod same_packets;
