@@ -149,9 +149,9 @@ class Program:
         return self._said
 
     def record(self, text: bytes, longest: int) -> tuple[bytes, str]:
-        """What the program writes of this text, which is all of its input, and the last line that it says."""
+        """What the program writes of this text, which is all of its input, and the first line that it says."""
         self._finish(text, longest)
-        return bytes(self._got[1:]), self._last_line()
+        return bytes(self._got[1:]), shown(self._said.partition(b"\n")[0], _SHOWN)
 
     def _finish(self, commands: bytes, longest: int) -> None:
         """Writes the last of the input, and reads what the program writes until it has ended."""

@@ -77,6 +77,7 @@ def test_what_is_asked_for_is_drawn_also_as_files_and_the_same_run_gives_the_sam
     ("command", "status", "words"),
     [
         ("echo 'pdrecord: backwards 3' >&2", 1, "There is no recording: pdrecord: backwards 3"),
+        ("printf 'pdrecord: limit 3\\n  limit: 16\\n' >&2", 1, "There is no recording: pdrecord: limit 3"),
         ("echo 'pdrecord: 19 OutOfMemory' >&2", 2, "There is no recording: pdrecord: 19 OutOfMemory"),
         ("echo '0 close(3) = 0'; echo '//= at 0.000000 CLOSED connection:none'", 0, "There is nothing to draw"),
         ("echo nothing", 0, "There is nothing to draw"),

@@ -271,9 +271,12 @@ def refusal_faults(refused: Refused, row: bytes) -> Iterator[str]:
     It has to be the row, unless that is about what the script expects, or the recording is too large, whose packets
     leave before they fill the outbox.
     """
-    words = refused.said.removeprefix(b"pdrecord: ").rstrip(b"\n")
+    line, _, below = refused.said.partition(b"\n")
+    words = line.removeprefix(b"pdrecord: ")
     if refused.status != 1:
         yield f"status {refused.status}: {refused.said!r}"
+    elif bool(below) == words.startswith(b"2") or not re.fullmatch(rb"(  [ -~]*\n)*", below):
+        yield f"refused by {words!r}, with {below!r} below it"
     elif row and not row.startswith((b"pass", b"fail")) and words not in (row, grown_too_large(row)):
         yield f"refused by {words!r}, where the row is {row!r}"
 

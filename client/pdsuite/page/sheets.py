@@ -29,7 +29,6 @@ _FACTS = {
     "awaited_until_us": "awaited until",
     "tolerance_us": "tolerance",
     "early_us": "early by",
-    "late_us": "late by",
     "timer_us": "timer expires",
     "rule_words": "rule",
     "limit": "limit",

@@ -1,4 +1,7 @@
 //! The facts of an explanation, each with its name in text and in JSON.
+ghost use Rattle.std.specs.Prelude.{◌≡◌};
+ghost use Rattle.pd_blocks.specs.States.{state_word};
+
 use pd_causes::{Awaited, Cause, Comparison, Failed, Reply, Rule, Setback, Standing, Wait};
 use pd_host::{ConnState, Figures, Recovery, Windows};
 use std::alloc::{AllocError, Global};
@@ -90,19 +93,12 @@ fn put_packets<'a>(facts: &mut Facts<'a>, packets: &'a Comparison) -> Result<(),
     }
 }
 
-/// Adds when a packet was awaited, and how far from that it was sent.
+/// Adds when a packet was awaited, and how long before that it was sent. None is sent too late: the clock is never further past
+/// the base than the tolerance, and no expiry is performed that comes later than the event's last moment and the tolerance.
 fn put_distance<'a>(facts: &mut Facts<'a>, awaited: Awaited, at: u64) -> Result<(), AllocError> {
     put_awaited(facts, awaited)?;
-    let distance = if at < awaited.first {
-        named("early by", "early_us", Moment(awaited.first - at))
-    } else {
-        named(
-            "late by",
-            "late_us",
-            Moment(at.saturating_sub(awaited.last)),
-        )
-    };
-    facts.extend_from_slice(&[distance])
+    let early = awaited.first.saturating_sub(at);
+    facts.extend_from_slice(&[named("early by", "early_us", Moment(early))])
 }
 
 fn put_awaited<'a>(facts: &mut Facts<'a>, awaited: Awaited) -> Result<(), AllocError> {
@@ -238,7 +234,9 @@ fn recovery_name(recovery: Recovery) -> &'static str {
 }
 
 /// The name of a state (RFC 9293, section 3.3.2).
-pub fn state_name(state: ConnState) -> &'static str {
+pub fn state_name(state: ConnState) -> &'static str
+    ensures { result.now ≡ state_word state }
+{
     match state {
         ConnState::Closed => "CLOSED",
         ConnState::Listen => "LISTEN",

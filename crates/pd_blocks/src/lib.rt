@@ -7,4 +7,4 @@ mod json_blocks;
 mod text_blocks;
 
 pub use json_blocks::block_json;
-pub use text_blocks::{block_text, write_standing};
+pub use text_blocks::{block_text, cause_text, write_standing};

@@ -1,7 +1,14 @@
 //! The block of an explanation as lines.
+ghost use Rattle.std.specs.Prelude.{◌≡◌, true, IfOk, OnOk};
+ghost use Rattle.pd_causes.specs.Shown.{are_printable};
+ghost use Rattle.pd_blocks.specs.Lines.{AreIndented, IsBlock};
+ghost use Rattle.pd_blocks.specs.Inner.{AddsLines};
+
 use crate::facts::{Fact, Told, facts_of, facts_of_sender, state_name};
 use crate::headings::{kind_name, verdict_name, verdict_words};
-use pd_causes::{Cause, Refusal, Standing, Untaken, cut_around, cut_line, put_shown};
+use pd_causes::{
+    Cause, Failure, Refusal, Standing, Untaken, as_shown, cut_around, cut_line, shown_is_printable,
+};
 use pd_explain::Explanation;
 use pd_print::write_moment;
 use pd_run::Verdict;
@@ -12,48 +19,66 @@ use std::alloc::{AllocError, Global};
 ///
 /// # Errors
 /// `AllocError` where a growth is refused.
+#[tactic(auto, using(crate::proofs::Lines::is_block))]
 pub fn block_text(
     alloc: Global,
     name: &Name,
     explanation: &Explanation,
-) -> Result<Vec<u8>, AllocError> {
+) -> Result<Vec<u8>, AllocError>
+    ensures { IfOk result (λ block. IsBlock block.items) }
+{
+    let mut block = heading(alloc, name, explanation)?;
+    block.extend_from_slice(b"\n")?;
+    block.extend_from_slice(&cause_text(alloc, &explanation.cause)?)?;
+    Ok(block)
+}
+
+/// The lines of a block below its first one, which tell the cause.
+///
+/// # Errors
+/// `AllocError` where a growth is refused.
+#[tactic(auto, using(crate::proofs::Lines::all_added))]
+pub fn cause_text(alloc: Global, cause: &Cause) -> Result<Vec<u8>, AllocError>
+    ensures { IfOk result (λ lines. AreIndented lines.items) }
+{
     let mut out = Vec::new(alloc);
-    put_heading(alloc, &mut out, name, explanation)?;
-    put_cause(alloc, &mut out, &explanation.cause)?;
+    put_cause(alloc, &mut out, cause)?;
     Ok(out)
 }
 
-/// Adds the first line.
-fn put_heading(
+/// The first line.
+fn heading(
     alloc: Global,
-    out: &mut Vec<u8>,
     name: &Name,
     explanation: &Explanation,
-) -> Result<(), AllocError> {
-    put_shown(out, name.as_slice())?;
-    out.extend_from_slice(b":")?;
-    put_number(alloc, out, explanation.line as u64)?;
-    out.extend_from_slice(b": ")?;
-    put_words(out, verdict_name(explanation.verdict))?;
+) -> Result<Vec<u8>, AllocError>
+    ensures { IfOk result (λ line. are_printable line.items ≡ true) }
+{
+    shown_is_printable();
+    let mut line = Vec::from_slice(alloc, name.as_slice())?;
+    put_words(&mut line, ":")?;
+    put_number(alloc, &mut line, explanation.line as u64)?;
+    put_words(&mut line, ": ")?;
+    put_words(&mut line, verdict_name(explanation.verdict))?;
     if let Verdict::Fail(_, kind) = explanation.verdict {
-        out.extend_from_slice(b" ")?;
-        put_words(out, kind_name(kind))?;
+        put_words(&mut line, " ")?;
+        put_words(&mut line, kind_name(kind))?;
     }
-    out.extend_from_slice(b": ")?;
-    put_words(out, verdict_words(explanation.verdict))?;
-    out.extend_from_slice(b"\n")
+    put_words(&mut line, ": ")?;
+    put_words(&mut line, verdict_words(explanation.verdict))?;
+    as_shown(alloc, &line)
 }
 
 /// Adds what is told of a cause.
-fn put_cause(alloc: Global, out: &mut Vec<u8>, cause: &Cause) -> Result<(), AllocError> {
+#[tactic(auto, using(crate::proofs::Lines::then_lines))]
+fn put_cause(alloc: Global, out: &mut Vec<u8>, cause: &Cause) -> Result<(), AllocError>
+    ensures { OnOk result (AddsLines out.old.items out.new.items) }
+{
     put_facts(alloc, out, &facts_of(alloc, cause)?)?;
     match cause {
         Cause::Syntax(refusal) => put_refusal(alloc, out, refusal),
         Cause::Rule(_) => Ok(()),
-        Cause::Failed(failure) => {
-            put_untaken(alloc, out, &failure.untaken)?;
-            put_standing(alloc, out, &failure.standing)
-        }
+        Cause::Failed(failure) => put_failure(alloc, out, failure),
     }
 }
 
@@ -65,15 +90,31 @@ fn put_number(alloc: Global, out: &mut Vec<u8>, number: u64) -> Result<(), Alloc
     out.extend_from_slice(number.to_string(alloc)?.as_bytes())
 }
 
-/// Adds a line that is shown already, indented and cut.
-fn put_line(alloc: Global, out: &mut Vec<u8>, line: &[u8]) -> Result<(), AllocError> {
-    let line = cut_line(alloc, line)?;
+/// Adds a line as it is shown, indented and cut.
+fn put_line(alloc: Global, out: &mut Vec<u8>, line: &[u8]) -> Result<(), AllocError>
+    ensures { OnOk result (AddsLines out.old.items out.new.items) }
+{
+    shown_is_printable();
+    let line = cut_line(alloc, &as_shown(alloc, line)?)?;
+    add_line(out, &line)
+}
+
+/// Adds a line that is shown and cut already, indented.
+#[tactic(auto, using(crate::proofs::Lines::one_line))]
+fn add_line(out: &mut Vec<u8>, line: &[u8]) -> Result<(), AllocError>
+    requires { are_printable line.now ≡ true }
+    ensures { OnOk result (AddsLines out.old.items out.new.items) }
+{
     out.extend_from_slice(b"  ")?;
-    out.extend_from_slice(&line)?;
+    out.extend_from_slice(line)?;
     out.extend_from_slice(b"\n")
 }
 
-fn put_facts(alloc: Global, out: &mut Vec<u8>, facts: &[Fact<'_>]) -> Result<(), AllocError> {
+/// Adds the lines of facts; one without a name in text has none.
+#[tactic(auto, using(crate::proofs::Lines::no_lines, crate::proofs::Lines::then_lines))]
+fn put_facts(alloc: Global, out: &mut Vec<u8>, facts: &[Fact<'_>]) -> Result<(), AllocError>
+    ensures { OnOk result (AddsLines out.old.items out.new.items) }
+{
     for fact in facts {
         if !fact.label.is_empty() {
             put_fact(alloc, out, fact.label, fact.value)?;
@@ -88,7 +129,9 @@ fn put_fact(
     out: &mut Vec<u8>,
     label: &str,
     told: Told<'_>,
-) -> Result<(), AllocError> {
+) -> Result<(), AllocError>
+    ensures { OnOk result (AddsLines out.old.items out.new.items) }
+{
     let mut line = Vec::new(alloc);
     put_words(&mut line, label)?;
     put_words(&mut line, ": ")?;
@@ -96,18 +139,30 @@ fn put_fact(
     put_line(alloc, out, &line)
 }
 
-/// Adds what is told, as shown.
+/// Adds what is told; octets as they are.
 fn put_told(alloc: Global, out: &mut Vec<u8>, told: Told<'_>) -> Result<(), AllocError> {
     match told {
-        Told::Octets(octets) => put_shown(out, octets),
+        Told::Octets(octets) => out.extend_from_slice(octets),
         Told::Words(words) | Told::Nothing(words) => put_words(out, words),
         Told::Moment(moment) => out.extend_from_slice(&write_moment(alloc, moment)?),
         Told::Number(number) => put_number(alloc, out, number),
     }
 }
 
+/// Adds the packets that were put out and not taken, and how the sender stands.
+#[tactic(auto, using(crate::proofs::Lines::then_lines))]
+fn put_failure(alloc: Global, out: &mut Vec<u8>, failure: &Failure) -> Result<(), AllocError>
+    ensures { OnOk result (AddsLines out.old.items out.new.items) }
+{
+    put_untaken(alloc, out, &failure.untaken)?;
+    put_standing(alloc, out, &failure.standing)
+}
+
 /// Adds the packets that were put out and not taken.
-fn put_untaken(alloc: Global, out: &mut Vec<u8>, untaken: &Untaken) -> Result<(), AllocError> {
+#[tactic(auto, using(crate::proofs::Lines::no_lines, crate::proofs::Lines::then_lines))]
+fn put_untaken(alloc: Global, out: &mut Vec<u8>, untaken: &Untaken) -> Result<(), AllocError>
+    ensures { OnOk result (AddsLines out.old.items out.new.items) }
+{
     for packet in &untaken.packets {
         put_fact(alloc, out, "untaken packet", Told::Octets(packet))?;
     }
@@ -119,7 +174,9 @@ fn put_untaken(alloc: Global, out: &mut Vec<u8>, untaken: &Untaken) -> Result<()
 }
 
 /// Adds how the sender stands, in one line.
-fn put_standing(alloc: Global, out: &mut Vec<u8>, standing: &Standing) -> Result<(), AllocError> {
+fn put_standing(alloc: Global, out: &mut Vec<u8>, standing: &Standing) -> Result<(), AllocError>
+    ensures { OnOk result (AddsLines out.old.items out.new.items) }
+{
     let mut line = Vec::new(alloc);
     put_words(&mut line, "state: ")?;
     put_state(alloc, &mut line, standing)?;
@@ -152,48 +209,75 @@ fn put_figure(alloc: Global, out: &mut Vec<u8>, fact: &Fact<'_>) -> Result<(), A
 }
 
 /// Adds the line at which no script goes on, its token marked, and what could stand there.
-fn put_refusal(alloc: Global, out: &mut Vec<u8>, refusal: &Refusal) -> Result<(), AllocError> {
+#[tactic(auto, using(crate::proofs::Lines::then_lines))]
+fn put_refusal(alloc: Global, out: &mut Vec<u8>, refusal: &Refusal) -> Result<(), AllocError>
+    ensures { OnOk result (AddsLines out.old.items out.new.items) }
+{
     match refusal.mark {
         Some(mark) => put_marked(alloc, out, &refusal.text, mark)?,
-        None => {
-            put_line(alloc, out, &refusal.text)?;
-            put_line(alloc, out, b"at the end of the text")?;
-        }
+        None => put_end(alloc, out, &refusal.text)?,
     }
     put_expected(alloc, out, &refusal.expected)
 }
 
+/// Adds a line, and that it is the end of the text that is refused.
+#[tactic(auto, using(crate::proofs::Lines::then_lines))]
+fn put_end(alloc: Global, out: &mut Vec<u8>, text: &[u8]) -> Result<(), AllocError>
+    ensures { OnOk result (AddsLines out.old.items out.new.items) }
+{
+    put_line(alloc, out, text)?;
+    put_line(alloc, out, b"at the end of the text")
+}
+
 /// Adds a line, and one that marks a column of it.
+#[tactic(auto, using(crate::proofs::Lines::then_lines))]
 fn put_marked(
     alloc: Global,
     out: &mut Vec<u8>,
     text: &[u8],
     column: usize,
-) -> Result<(), AllocError> {
+) -> Result<(), AllocError>
+    ensures { OnOk result (AddsLines out.old.items out.new.items) }
+{
     let (line, column) = cut_around(alloc, text, column)?;
     put_line(alloc, out, &line)?;
     put_mark(alloc, out, column)
 }
 
 /// Adds a line that marks a column.
-fn put_mark(alloc: Global, out: &mut Vec<u8>, column: usize) -> Result<(), AllocError> {
+fn put_mark(alloc: Global, out: &mut Vec<u8>, column: usize) -> Result<(), AllocError>
+    ensures { OnOk result (AddsLines out.old.items out.new.items) }
+{
     let mut line = Vec::new(alloc);
     line.resize(column, b' ')?;
     line.push(b'^')?;
     put_line(alloc, out, &line)
 }
 
-/// Adds what could stand there.
+/// Adds what could stand there, as a list in a sentence.
 fn put_expected(
     alloc: Global,
     out: &mut Vec<u8>,
     expected: &[&'static str],
-) -> Result<(), AllocError> {
+) -> Result<(), AllocError>
+    ensures { OnOk result (AddsLines out.old.items out.new.items) }
+{
     let mut line = Vec::new(alloc);
     put_words(&mut line, "expected:")?;
-    for words in expected {
-        put_words(&mut line, " ")?;
+    for (place, words) in expected.iter().enumerate() {
+        put_words(&mut line, before_item(place, expected.len()))?;
         put_words(&mut line, words)?;
     }
     put_line(alloc, out, &line)
+}
+
+/// What stands before an item of a list of so many.
+fn before_item(place: usize, count: usize) -> &'static str {
+    if place == 0 {
+        " "
+    } else if place.saturating_add(1) == count {
+        " or "
+    } else {
+        ", "
+    }
 }

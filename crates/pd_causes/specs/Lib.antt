@@ -1,6 +1,7 @@
 -- The definitions that the contracts cite.
 pub mod Columns
 pub mod Senders
+pub mod Reasons
 pub mod Failures
 pub mod Causes
 pub mod Pasted

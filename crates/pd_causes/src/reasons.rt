@@ -1,5 +1,6 @@
 //! Why no packet was sent.
 ghost use Rattle.std.specs.Prelude.{◌≡◌};
+ghost use Rattle.pd_causes.specs.Reasons.{hold_key, reason_key};
 ghost use Rattle.pd_causes.specs.Senders.{is_answer, reason_of};
 
 use itoa::Buffer;
@@ -61,7 +62,9 @@ impl Reason {
     }
 
     /// Its name in JSON.
-    pub fn key(self) -> &'static str {
+    pub fn key(self) -> &'static str
+        ensures { result.now ≡ reason_key self }
+    {
         match self {
             Reason::NoOctets => "no_octets",
             Reason::Held(hold) => key_of(hold),
@@ -107,7 +110,9 @@ fn is_answer(expected: &Action) -> bool
     }
 }
 
-fn key_of(hold: Hold) -> &'static str {
+fn key_of(hold: Hold) -> &'static str
+    ensures { result.now ≡ hold_key hold }
+{
     match hold {
         Hold::Reset => "reset",
         Hold::NotEstablished => "not_established",

@@ -2,6 +2,7 @@
 pub mod Scripts
 pub mod Standings
 pub mod Tape
+pub mod Stops
 pub mod Recording
 pub mod Following
 pub mod Answered

@@ -103,6 +103,23 @@ impl Recorder {
         self.run.clock()
     }
 
+    /// The moment from which the script's relative times are counted, in microseconds since the start of the run.
+    pub fn base(&self) -> u64
+        ensures { result ≡ self.now.base }
+    {
+        self.base
+    }
+
+    /// The run of what was recorded so far, once more.
+    ///
+    /// # Errors
+    /// `AllocError` where a growth is refused.
+    pub fn copy_run(&self) -> Result<RunState, AllocError>
+        ensures { IfOk result (λ run. run ≡ self.now.run) }
+    {
+        self.run.copy()
+    }
+
     /// Records an event of the script.
     ///
     /// # Errors

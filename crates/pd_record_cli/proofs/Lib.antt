@@ -1,4 +1,5 @@
 -- The lemmas of the proofs.
+pub mod Below
 mod Gathering
 mod Joining
 mod Memory

@@ -8,6 +8,7 @@ use Rattle.pd_record.specs.Recording.{recording_of}
 use Rattle.pd_record.specs.Answered.{IsRecording, Refuses}
 use Rattle.pd_record.specs.declared.refusals.NotRecorded.{NotRecorded}
 use Rattle.pd_record.specs.declared.refusals.NotRecorded.TheVariants as unrecorded
+use Rattle.pd_blocks.specs.Lines.{AreIndented}
 use Rattle.pd_words.specs.SettingsText.{settings_in}
 use Rattle.pd_words.specs.Said.{Says}
 use Rattle.pd_words.specs.ProgramFaults.{fault_line}
@@ -43,19 +44,25 @@ Tells unrecorded.TooLongGap why = why ≡ codes "22 TooLongGap"
 Tells unrecorded.Differs why = ⊥
 Tells unrecorded.OutOfMemory why = ⊥
 
--- this comes of a refusal: the line that tells it
+-- these octets explain a refusal: the lines of a block below its first one where the script is why, else none
+abbrev pub Explains : NotRecorded → List ℕ → Type 0
+Explains (unrecorded.Stopped verdict) below = AreIndented below
+Explains refusal below = below ≡ []
+
+-- this comes of a refusal: the line that tells it, and what explains it below that
 abbrev pub IsRefused : NotRecorded → Outcome → Type 0
 IsRefused refusal (Recorded octets) = ⊥
-IsRefused refusal (Refused line) = (why : List ℕ) × Tells refusal why × (line.items ≡ refusal_line why)
+IsRefused refusal (Refused said) =
+    (why : List ℕ) × (below : List ℕ) × Tells refusal why × Explains refusal below × (said.items ≡ refusal_line why ++ below)
 
--- this comes of a script under settings: the octets of its recording, or the line that tells why there is none; it is too large
+-- this comes of a script under settings: the octets of its recording, or the lines that tell why there is none; it is too large
 -- where its lines are over the limits of a text
 abbrev pub IsOutcome : Settings → Bool → Option (List (List ℕ)) → Outcome → Type 0
 IsOutcome settings trace None outcome = IsRefused unrecorded.TooLarge outcome
 IsOutcome settings trace (Some text) (Recorded octets) =
     (recording : List (List ℕ)) × (count : ℕ) × IsRecording text settings recording count × IsWritten trace recording octets.items
-IsOutcome settings trace (Some text) (Refused line) =
-    (refusal : NotRecorded) × Refuses (recording_of text settings) refusal × IsRefused refusal (Refused line)
+IsOutcome settings trace (Some text) (Refused said) =
+    (refusal : NotRecorded) × Refuses (recording_of text settings) refusal × IsRefused refusal (Refused said)
 
 -- recording stops for a read, for memory, or since a recording isn't what was recorded
 abbrev pub IsStop : ServeFault → Type 0
@@ -72,13 +79,13 @@ Comes (Ok settings) trace (Err fault) input = ⊥
 Comes (Err fault) trace end input = (end ≡ Err fault) ⊎ (end ≡ Err (Serving OutOfMemory))
 
 -- a recording is written whole with status 0, or some of its first octets with that of a failed write; without one nothing is
--- written, and the line that tells why is said, with status 1 for a refusal and 2 for a fault
+-- written, and the lines that tell why are said, with status 1 for a refusal and 2 for a fault
 abbrev pub Ends : Result Outcome ProgramFault → Exit → Option (List ℕ) → Option (List ℕ) → Option (List ℕ) → Option (List ℕ) → Type 0
 Ends (Ok (Recorded whole)) exit out_before out_after err_before err_after =
     ((exit.status ≡ 0) × (exit.told ≡ true) × Appends out_before out_after whole.items × Appends err_before err_after [])
     ⊎ ((exit.status ≡ 2) × Says exit.told err_before err_after (fault_line (Serving Write)) × ((n : ℕ) × Appends out_before out_after (take n whole.items)))
-Ends (Ok (Refused line)) exit out_before out_after err_before err_after =
-    (exit.status ≡ 1) × Says exit.told err_before err_after line.items × Appends out_before out_after []
+Ends (Ok (Refused said)) exit out_before out_after err_before err_after =
+    (exit.status ≡ 1) × Says exit.told err_before err_after said.items × Appends out_before out_after []
 Ends (Err fault) exit out_before out_after err_before err_after =
     (exit.status ≡ 2) × Says exit.told err_before err_after (fault_line fault) × Appends out_before out_after []
 

@@ -1,6 +1,7 @@
 //! The program that records scripts, over any reader and writers.
 #![tactic(auto)]
 
+mod causes;
 mod outcomes;
 mod record_program;
 mod record_words;

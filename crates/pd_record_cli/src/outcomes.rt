@@ -1,11 +1,16 @@
 //! What comes of a script.
 ghost use Rattle.std.specs.Prelude.{◌≡◌, ℕ, List, IfOk, IfErr, codes};
+ghost use Rattle.pd_blocks.specs.Lines.{AreIndented};
 ghost use Rattle.pd_words.specs.Verdicts.{verdict_text};
-ghost use Rattle.pd_record_cli.specs.RecordProgram.{Tells, IsRefused, IsStop, at_line, refusal_line};
+ghost use Rattle.pd_record_cli.specs.RecordProgram.{Explains, Tells, IsRefused, IsStop, at_line, refusal_line};
 
+use crate::causes::cause_of;
 use crate::script_input::ScriptInput;
+use pd_blocks::cause_text;
 use pd_record::NotRecorded;
 use pd_run::Verdict;
+use pd_settings::Settings;
+use pd_text::Lines;
 use pd_words::{ServeFault, put_verdict};
 use std::alloc::{AllocError, Global};
 
@@ -14,7 +19,7 @@ use std::alloc::{AllocError, Global};
 pub enum Outcome {
     /// The octets of its recording.
     Recorded(Vec<u8>),
-    /// The line that says why it isn't recorded.
+    /// The line that says why it isn't recorded, and those that explain it.
     Refused(Vec<u8>),
 }
 
@@ -22,17 +27,55 @@ pub enum Outcome {
 ///
 /// # Errors
 /// `Differs` where its recording wasn't what was recorded; `OutOfMemory`.
+#[tactic(auto, using(crate::proofs::Below::is_refused))]
 pub fn refusal_of(
     alloc: Global,
     refusal: NotRecorded,
     input: &ScriptInput,
+    settings: &Settings,
 ) -> Result<Outcome, ServeFault>
     ensures refused { IfOk result (λ outcome. IsRefused refusal outcome) }
     ensures only { IfErr result IsStop }
 {
     let why = why_of(alloc, refusal, input)?;
-    let line = refusal_line(alloc, why.as_slice())?;
-    Ok(Outcome::Refused(line))
+    let mut said = refusal_line(alloc, why.as_slice())?;
+    let below = lines_below(alloc, refusal, input, settings)?;
+    said.extend_from_slice(below.as_slice())?;
+    Ok(Outcome::Refused(said))
+}
+
+/// The lines below the one that says why a script isn't recorded: those of a block where the script is why, else none.
+#[tactic(auto, using(crate::proofs::Below::explains_none))]
+fn lines_below(
+    alloc: Global,
+    refusal: NotRecorded,
+    input: &ScriptInput,
+    settings: &Settings,
+) -> Result<Vec<u8>, AllocError>
+    ensures { IfOk result (λ below. Explains refusal below.items) }
+{
+    match (refusal, &input.lines) {
+        (NotRecorded::Stopped(verdict), Some(lines)) => {
+            block_below(alloc, lines, settings, verdict)
+        }
+        _ => Ok(Vec::new(alloc)),
+    }
+}
+
+/// The lines of the block of a verdict with which recording a text stops, below its first one.
+#[tactic(auto, using(crate::proofs::Below::no_lines))]
+fn block_below(
+    alloc: Global,
+    lines: &Lines,
+    settings: &Settings,
+    verdict: Verdict,
+) -> Result<Vec<u8>, AllocError>
+    ensures { IfOk result (λ below. AreIndented below.items) }
+{
+    match cause_of(alloc, lines, settings, verdict)? {
+        Some(cause) => cause_text(alloc, &cause),
+        None => Ok(Vec::new(alloc)),
+    }
 }
 
 /// Why a script isn't recorded, in words.

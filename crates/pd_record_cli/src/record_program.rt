@@ -102,10 +102,10 @@ fn outcome_of(
     ensures only { IfErr result IsStop }
 {
     let Some(lines) = &input.lines else {
-        return refusal_of(alloc, NotRecorded::TooLarge, input);
+        return refusal_of(alloc, NotRecorded::TooLarge, input, settings);
     };
     match record(alloc, lines, settings, with_trace) {
         Ok(recording) => Ok(Outcome::Recorded(octets_of(alloc, &recording, with_trace)?)),
-        Err(refusal) => refusal_of(alloc, refusal, input),
+        Err(refusal) => refusal_of(alloc, refusal, input, settings),
     }
 }

@@ -1,5 +1,8 @@
 //! The words with which a program is called.
-ghost use Rattle.std.specs.Prelude.{◌≡◌};
+ghost use Rattle.std.specs.Prelude.{◌≡◌, ◌≢◌, codes};
+ghost use Rattle.std_io.specs.IoError.{error_kind};
+ghost use Rattle.pd_words.specs.ProgramFaults.{fault_line, line_of};
+ghost use Rattle.pd_words.specs.Said.{Says};
 
 use crate::endings::{FAULT, fail};
 use crate::exits::Exit;
@@ -7,7 +10,7 @@ use crate::faults::ServeFault;
 use crate::program_faults::ProgramFault;
 use crate::writing::say;
 use std::env::Env;
-use std::io::Write;
+use std::io::{ErrorKind, Write};
 use std::{env, io};
 
 /// The words of a call, of which the first is the program's own name.
@@ -21,9 +24,13 @@ pub fn arguments<H: Env + AllocGlobal>(rt: &H) -> io::Result<Vec<String>> {
 
 /// Says why the words of a call could not be read.
 pub fn refuse_arguments<E: Write>(error: &io::Error, err: &mut E) -> Exit
-    ensures { result.status ≡ 2 }
+    ensures status { result.status ≡ 2 }
+    ensures memory { let line = fault_line (ProgramFault.Serving ServeFault.OutOfMemory) in
+        error_kind error.now ≡ ErrorKind.OutOfMemory → Says result.told (E.contents err.old) (E.contents err.new) line }
+    ensures unread { let line = line_of (codes "the arguments can't be read as text") in
+        error_kind error.now ≢ ErrorKind.OutOfMemory → Says result.told (E.contents err.old) (E.contents err.new) line }
 {
-    if error.kind() == io::ErrorKind::OutOfMemory {
+    if error.kind() == ErrorKind::OutOfMemory {
         return fail(err, ProgramFault::Serving(ServeFault::OutOfMemory));
     }
     let told = say(err, b"pdregress: the arguments can't be read as text\n");

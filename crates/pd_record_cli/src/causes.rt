@@ -1,0 +1,74 @@
+//! Why recording a script stops, as the cause that a block tells.
+use pd_causes::{Cause, Failed, cause_at};
+use pd_explain::explain;
+use pd_host::Halt;
+use pd_record::{RecordingStop, find_recording_stop};
+use pd_run::{Stopped, Verdict, Why, run_all};
+use pd_script::{Parsed, parse};
+use pd_settings::Settings;
+use pd_text::Lines;
+use std::alloc::{AllocError, Global};
+
+/// The cause of a verdict with which recording a text stops; nothing for a verdict that recording it doesn't come to.
+///
+/// # Errors
+/// `AllocError` where a growth is refused.
+pub fn cause_of(
+    alloc: Global,
+    lines: &Lines,
+    settings: &Settings,
+    verdict: Verdict,
+) -> Result<Option<Cause>, AllocError> {
+    let (line, why) = match verdict {
+        Verdict::Pass(_) | Verdict::Syntax(_) => return cause_of_run(alloc, lines, settings),
+        Verdict::Unsupported(line) => (line, Why::Halted(Halt::Unsupported)),
+        Verdict::Limit(line) => (line, Why::Halted(Halt::Limit)),
+        Verdict::Fail(line, _) => (line, Why::Backwards),
+    };
+    let parsed = parse(alloc, lines)?;
+    let events = parsed.events.as_slice();
+    match find_recording_stop(alloc, &parsed.header, events, settings, line)? {
+        Some(stop) => cause_of_stop(alloc, lines, &parsed, stop, why),
+        None => cause_of_run(alloc, lines, settings),
+    }
+}
+
+/// The cause where a text is no script, or its header isn't run: recording stops then as a run does.
+fn cause_of_run(
+    alloc: Global,
+    lines: &Lines,
+    settings: &Settings,
+) -> Result<Option<Cause>, AllocError> {
+    let verdict = run_all(alloc, lines, settings)?;
+    match explain(alloc, lines, settings, verdict)? {
+        Some(explanation) => Ok(Some(explanation.cause)),
+        None => Ok(None),
+    }
+}
+
+/// The cause where recording stops at an event. Its time counts from the base of the script's times, which may lie past what was
+/// recorded last.
+fn cause_of_stop(
+    alloc: Global,
+    lines: &Lines,
+    parsed: &Parsed,
+    stop: RecordingStop,
+    why: Why,
+) -> Result<Option<Cause>, AllocError> {
+    let RecordingStop { passed, run, base } = stop;
+    let Some(event) = parsed.events.as_slice().get(passed) else {
+        return Ok(None);
+    };
+    let stopped = Stopped {
+        passed,
+        before: run,
+        why,
+    };
+    let mut cause = cause_at(alloc, lines, parsed.header.end(), event, &stopped)?;
+    if let Cause::Failed(failure) = &mut cause {
+        if let Failed::Backwards(setback) = &mut failure.failed {
+            setback.base = base;
+        }
+    }
+    Ok(Some(cause))
+}
