@@ -1,8 +1,9 @@
 #!/bin/sh
-# Tests of the shell programs and of ./prove: those of the files in edges/, one after another, or of those that are named.
-# Prints a line for each, and `N passed, M failed` last.
+# Tests of the shell programs and of ./prove, and of the built programs where something is refused to them: those of the files
+# in edges/, one after another, or of those that are named. Prints a line for each, and `N passed, M failed` last.
 #
 #   tools/tests/edges.sh [NAME..]
+#   tools/tests/edges.sh --unproved     those that need no built program; the others are named
 set -eu
 top=$(cd "$(dirname "$0")/../.." && pwd)
 work=$(mktemp -d)
@@ -10,7 +11,13 @@ trap 'rm -rf "$work"' EXIT
 passed=0
 failed=0
 . "$top/tools/tests/edges/common.sh"
-[ $# -gt 0 ] || set -- adding links launching proving recording rows
+case ${1:-} in
+    '') set -- adding links launching proving recording rows faults ;;
+    --unproved)
+        set -- adding links launching proving recording rows
+        echo 'not told, needs a built program: tools/tests/edges/faults.sh'
+        ;;
+esac
 for name in "$@"; do
     . "$top/tools/tests/edges/$name.sh"
 done

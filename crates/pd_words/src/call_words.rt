@@ -1,6 +1,6 @@
 //! The words with which a program is called.
 ghost use Rattle.std.specs.Prelude.{◌≡◌, ◌≢◌, codes};
-ghost use Rattle.std_io.specs.IoError.{error_kind};
+ghost use Rattle.std.specs.IoError.{error_kind};
 ghost use Rattle.pd_words.specs.ProgramFaults.{fault_line, line_of};
 ghost use Rattle.pd_words.specs.Said.{Says};
 
