@@ -3,3 +3,4 @@ pub mod Images
 pub mod NextLines
 pub mod CommentEnds
 pub mod Tokens
+pub mod Pairs

@@ -19,10 +19,10 @@ use Rattle.pd_layout.specs.Laid.{depth_behind, outside}
 
 -- ---- one item
 
-goes_past : (test : Item → Bool) (depth : ℕ) (t : Item) (ts : List Item) → (test t && depth_behind depth t == 0) ≡ false → outside test depth (t ∷ ts) ≡ outside test (depth_behind depth t) ts
+pub goes_past : (test : Item → Bool) (depth : ℕ) (t : Item) (ts : List Item) → (test t && depth_behind depth t == 0) ≡ false → outside test depth (t ∷ ts) ≡ outside test (depth_behind depth t) ts
 goes_past test depth t ts none = rw none refl
 
-stops_at : (test : Item → Bool) (depth : ℕ) (t : Item) (ts : List Item) → (test t && depth_behind depth t == 0) ≡ true → outside test depth (t ∷ ts) ≡ Some (place_of t)
+pub stops_at : (test : Item → Bool) (depth : ℕ) (t : Item) (ts : List Item) → (test t && depth_behind depth t == 0) ≡ true → outside test depth (t ∷ ts) ≡ Some (place_of t)
 stops_at test depth t ts found = rw found refl
 
 pub no_symbol : (found : Bool) (now : ℕ) → found ≡ false → (found && now == 0) ≡ false

@@ -2,4 +2,5 @@
 pub mod Sameness
 pub mod Traces
 pub mod Laid
+pub mod Grammatical
 pub mod Inner
