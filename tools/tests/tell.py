@@ -8,6 +8,7 @@ Prints a line for each test, each row that only a built program can be told, and
 """
 
 import argparse
+import signal
 import subprocess
 import sys
 from collections.abc import Iterator, Sequence
@@ -84,6 +85,8 @@ def main(words: Sequence[str]) -> int:
     parser = argparse.ArgumentParser(description=__doc__, formatter_class=argparse.RawDescriptionHelpFormatter)
     parser.add_argument("--proved", action="store_true", help="tell the proved programs alone")
     parser.add_argument("what", choices=("runs", "stories", "tests"))
+    # So that what was started is ended, too.
+    signal.signal(signal.SIGTERM, lambda number, _: sys.exit(128 + number))
     outcomes = []
     for outcome in told(parser.parse_args(words)):
         print(*outcome.lines, sep="\n", flush=True)
