@@ -47,11 +47,7 @@ pub fn cause_text(alloc: Global, cause: &Cause) -> Result<Vec<u8>, AllocError>
 }
 
 /// The first line.
-fn heading(
-    alloc: Global,
-    name: &Name,
-    explanation: &Explanation,
-) -> Result<Vec<u8>, AllocError>
+fn heading(alloc: Global, name: &Name, explanation: &Explanation) -> Result<Vec<u8>, AllocError>
     ensures { IfOk result (λ line. are_printable line.items ≡ true) }
 {
     shown_is_printable();
@@ -124,12 +120,7 @@ fn put_facts(alloc: Global, out: &mut Vec<u8>, facts: &[Fact<'_>]) -> Result<(),
 }
 
 /// Adds the line of a fact.
-fn put_fact(
-    alloc: Global,
-    out: &mut Vec<u8>,
-    label: &str,
-    told: Told<'_>,
-) -> Result<(), AllocError>
+fn put_fact(alloc: Global, out: &mut Vec<u8>, label: &str, told: Told<'_>) -> Result<(), AllocError>
     ensures { OnOk result (AddsLines out.old.items out.new.items) }
 {
     let mut line = Vec::new(alloc);

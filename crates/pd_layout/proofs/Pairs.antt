@@ -133,9 +133,12 @@ equals_outside name opening equals list ts rest word bracket arguments sign_is =
 -- ---- the end of a note
 
 pub notes_outside : NotesEndOutside
-notes_outside ts rest h =
-    (h.closing, h.opening ∷ h.inside, h.spelled,
-     ap (λ (l : List Item). outside (is_symbol 41) 0 l) h.spelled
-     ∙ over 41 0 1 h.opening (h.inside ++ h.closing ∷ rest) (symbol_apart 40 41 refl h.opening h.opens) (opening_depth h.opening h.opens)
-     ∙ passes (is_symbol 41) _ 15 [] h.inside (h.closing ∷ rest) h.balanced
-     ∙ at_last 41 1 h.closing rest h.ends (closing_depth h.closing h.ends))
+notes_outside ts rest h = (
+  h.closing,
+  h.opening ∷ h.inside,
+  h.spelled,
+  ap (λ (l : List Item). outside (is_symbol 41) 0 l) h.spelled
+      ∙ over 41 0 1 h.opening (h.inside ++ h.closing ∷ rest) (symbol_apart 40 41 refl h.opening h.opens) (opening_depth h.opening h.opens)
+      ∙ passes (is_symbol 41) _ 15 [] h.inside (h.closing ∷ rest) h.balanced
+      ∙ at_last 41 1 h.closing rest h.ends (closing_depth h.closing h.ends),
+)

@@ -20,16 +20,16 @@ returns-then-depth-eq0 c =
 pub tokens-preserved : goal.tokens-preserved
 tokens-preserved c =
     let none : (is_symbol c.args.octet (shown c.in-Token.token) && c.depth_behind-depth.result == 0) ≡ false =
-        elim c.else-is_symbol.branch [
-          else-is_symbol-via-then-is_symbol+else-depth-eq0 w ↦ in_brackets _ c.depth_behind-depth.result w.if-depth-eq0.false
-          | else-is_symbol-via-else-is_symbol w ↦ no_symbol _ c.depth_behind-depth.result (sym c.is_symbol.ensures ∙ w.if-is_symbol.false)
-        ] in
+    elim c.else-is_symbol.branch [
+      | else-is_symbol-via-then-is_symbol+else-depth-eq0 w ↦ in_brackets _ c.depth_behind-depth.result w.if-depth-eq0.false
+      | else-is_symbol-via-else-is_symbol w ↦ no_symbol _ c.depth_behind-depth.result (sym c.is_symbol.ensures ∙ w.if-is_symbol.false)
+    ] in
     record {
       same =
-        sym (goes_on c.args.lines.now c.in-Token.token c.in-Token.ensures.text c.tokens.place c.in-Token.ensures.next c.args.octet c.tokens.depth c.depth_behind-depth.result c.depth_behind-depth.ensures none)
-        ∙ c.tokens.invariant.same;
+          sym (goes_on c.args.lines.now c.in-Token.token c.in-Token.ensures.text c.tokens.place c.in-Token.ensures.next c.args.octet c.tokens.depth c.depth_behind-depth.result c.depth_behind-depth.ensures none)
+          ∙ c.tokens.invariant.same;
       few =
-        let less : c.depth_behind-depth.result + length (items c.args.lines.now c.in-Token.token.to) ≤ c.tokens.depth + length (items c.args.lines.now c.tokens.place) =
-            fewer c.args.lines.now c.in-Token.token c.in-Token.ensures.text c.tokens.place c.in-Token.ensures.next c.args.octet c.tokens.depth c.depth_behind-depth.result c.depth_behind-depth.ensures in
-        omega (arith, less, c.tokens.invariant.few);
+          let less : c.depth_behind-depth.result + length (items c.args.lines.now c.in-Token.token.to) ≤ c.tokens.depth + length (items c.args.lines.now c.tokens.place) =
+          fewer c.args.lines.now c.in-Token.token c.in-Token.ensures.text c.tokens.place c.in-Token.ensures.next c.args.octet c.tokens.depth c.depth_behind-depth.result c.depth_behind-depth.ensures in
+          omega (arith, less, c.tokens.invariant.few);
     }
