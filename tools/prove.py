@@ -13,6 +13,7 @@ from __future__ import annotations
 import argparse
 import contextlib
 import fcntl
+import hashlib
 import os
 import shutil
 import subprocess
@@ -122,15 +123,18 @@ class Work:
         if time_of_proof(it.lane.out(it.crate)) >= it.begun:
             self.times.keep(it.key, time.time() - it.begun)
 
-    def prove_programs(self, lane: Lane, begun: int) -> None:
+    def prove_programs(self, lane: Lane, begun: int, sums: dict[str, str]) -> None:
         """Proves the programs, each of which is then as old as this call, so that an edit since is newer."""
         try:
             for program in self.programs:
                 self.say_begun(program, 1)
                 it = Running(program, lane, key_of(program), time.time())
                 lane.prove_program(program)
-                os.utime(lane.out(program) / program, ns=(begun, begun))
                 self.keep_time(it)
+                built = lane.out(program) / program
+                own = f"{hashlib.sha256(built.read_bytes()).hexdigest()}  {built.relative_to(TOP)}\n"
+                built.with_suffix(".sums").write_text(own + sums[program])
+                os.utime(built, ns=(begun, begun))
                 self.proved.add(program)
         finally:
             lane.stop()
@@ -142,6 +146,7 @@ def say(text: str) -> None:
 
 def prove(programs: list[str], is_one_lane: bool) -> None:
     begun = time.time_ns()
+    sums = {program: sums_of(program) for program in programs}
     uses = dependencies((TOP / "crates.txt").read_text())
     times = Times.read()
     libraries = dict.fromkeys(it for program in programs for it in libraries_below(program, uses))
@@ -151,7 +156,7 @@ def prove(programs: list[str], is_one_lane: bool) -> None:
             work.prove_libraries(Lane(TOP, []))
         else:
             prove_in_two_lanes(work)
-        work.prove_programs(Lane(TOP, []), begun)
+        work.prove_programs(Lane(TOP, []), begun, sums)
     except KeyboardInterrupt:
         at = [it.crate for it in work.running.values()] or [it for it in programs if it not in work.proved][:1]
         raise Interrupted(" and ".join(at)) from None
@@ -178,6 +183,11 @@ def alone() -> Iterator[None]:
             say("waiting for another call that proves here")
             fcntl.flock(table, fcntl.LOCK_EX)
         yield
+
+
+def sums_of(program: str) -> str:
+    """The checksums of what the proof of a program reads."""
+    return subprocess.check_output([TOP / "tools" / "built.sh", "--sums", program], text=True)
 
 
 def is_built(program: str) -> bool:

@@ -76,7 +76,7 @@ test_limits() {
 
 without_rt() { # COMMAND.. where none of the folders to search has the kit
     mkdir -p "$work/bare"
-    for tool in awk cat dirname env find readlink sh; do
+    for tool in awk cat cmp dirname env find readlink sh sha256sum sort xargs; do
         ln -sf "$(command -v "$tool")" "$work/bare/$tool"
     done
     ln -sf "$(python3 -c 'import sys; print(sys.executable)')" "$work/bare/python3"
@@ -129,6 +129,10 @@ each_program() { # what each program says of its words and an input
     done
 }
 
+edit() { # FILE
+    echo '# an edit' >>"$1"
+}
+
 after_an_edit() { # WHICH COMMAND..
     which=$1
     shift
@@ -146,13 +150,20 @@ test_proved() {
     expect proved "$(printf '%s a b\n' $programs; echo status 0)" each_program a b
     expect proved-and-asked-for "$(printf '%s a b\n' $programs; echo status 0)" each_program --proved a b
     for file in crates/low/src/lib.rt crates/high/proofs/Lib.antt crates.txt HANDLES; do
-        after_an_edit "of-${file##*/}" touch "$build/$file"
+        touch "$build/$file"
+        expect "proved-where-${file##*/}-is-touched" "$(printf '%s \n' $programs; echo status 0)" each_program --proved
+        after_an_edit "of-${file##*/}" edit "$build/$file"
     done
+    : >"$build/crates/low/src/.lib.rt.swp"
+    expect proved-beside-the-file-of-an-editor "$(printf '%s \n' $programs; echo status 0)" each_program --proved
+    edit "$build/crates/low/src/lib.rt"
+    sed -i '$d' "$build/crates/low/src/lib.rt"
+    expect proved-after-an-edit-that-is-undone "$(printf '%s \n' $programs; echo status 0)" each_program --proved
     after_an_edit that-adds-a-file cp -p "$build/prove" "$build/crates/low/proofs/More.antt"
     after_an_edit that-renames-a-file mv "$build/crates/low/proofs/More.antt" "$build/crates/low/proofs/Other.antt"
     after_an_edit that-removes-a-file rm "$build/crates/low/proofs/Other.antt"
     echo "$build/crates/low/src/lib.rt" >"$NOTES/edit"
-    touch "$build/crates/high/src/lib.rt"
+    edit "$build/crates/high/src/lib.rt"
     quietly_proved pdregress
     rm "$NOTES/edit"
     expect edited-while-it-was-proved "$(launched "pdregress a")" launch pdregress a

@@ -63,7 +63,7 @@ test_lanes() {
     expect one-lane "$(printf '! prove: proving %s crate%s and less than a minute are left\n' 'low; 5' s 'left; 4' s 'right; 3' s 'high; 2' s 'pdregress; 1' ''; printf '! prove: proved and built: pdregress\nstatus 0')" quick prove --lanes 1 pdregress
     anew
     expect two-lanes "$(printf 'prove: %s\n' 'proved and built: pdregress'; printf 'prove: proving %s\n' high left low pdregress right; echo status 0)" begun --lanes 2 pdregress
-    expect both-lanes-are-used "$(kept high left low; echo pdregress/out/build.log; printf 'pdregress/out/%s\n' incremental pdregress rlib; kept right; printf '2\nstatus 0')" proved
+    expect both-lanes-are-used "$(kept high left low; echo pdregress/out/build.log; printf 'pdregress/out/%s\n' incremental pdregress pdregress.sums rlib; kept right; printf '2\nstatus 0')" proved
     expect nothing-is-left "$(printf '! prove: proved and built: pdregress\nstatus 0')" prove pdregress
     expect all-programs "$(printf 'prove: %s\n' 'proved and built: pdregress, pdsteps, pdexplain, pdrecord'; printf 'prove: proving %s\n' high left low pdexplain pdrecord pdsteps right; echo status 0)" begun
     expect no-such-program "$(printf 'prove: error: there is no program low\nstatus 2')" refused_words low
@@ -93,7 +93,7 @@ test_stops() {
     expect not-proved-without-a-place "$(printf '! %s\n' "prove: right isn't proved, or wasn't built:" 'a goal' "prove: the whole log: $log"; echo status 2)" without_progress --lanes 1 pdregress
     echo 'fn f() {}' >"$build/crates/right/src/lib.rt"
     anew
-    expect interrupted "$(printf '! prove: proving low; 5 crates and about a minute are left\n! prove: interrupted at low; what was proved is kept: run it again to go on\nstatus 124')" with_rt timeout -k 5 1 env TAKES=30 "$build/prove" --lanes 2 pdregress
+    expect interrupted "$(printf '! prove: proving low; 5 crates and about a minute are left\n! prove: interrupted at low; what was proved is kept: run it again to go on\nstatus 124')" with_rt timeout -k 5 4 env TAKES=30 "$build/prove" --lanes 2 pdregress
     anew
     expect hung-up-under-nohup "$(printf '0\nstatus 0')" hung_up
     anew
@@ -128,9 +128,9 @@ no_cache() { # the same where no times can be kept
 test_times() {
     anew
     expect times-are-kept "$(printf '%s\n' high left low pdregress right; echo status 0)" kept_times
-    touch "$build/crates/right/proofs/Lib.antt"
+    echo '-- an edit' >>"$build/crates/right/proofs/Lib.antt"
     expect times-over-what-is-kept "$(printf '%s again\n' high left low pdregress right; echo status 0)" kept_times ' again'
-    touch "$build/crates/high/src/lib.rt"
+    echo '// an edit' >>"$build/crates/high/src/lib.rt"
     expect times-are-told "$(printf 'prove: proving %s\n' 'low; 5 crates and about 120 minutes are left' 'left; 4 crates and about 120 minutes are left' 'right; 3 crates and about 120 minutes are left' 'high; 2 crates and about 120 minutes are left' 'pdregress; 1 crate and about 60 minutes are left'; echo status 0)" in_an_hour --lanes 1 pdregress
     anew
     expect no-times-can-be-kept "$(printf 'prove: proved and built: pdregress\nstatus 0')" no_cache pdregress
