@@ -90,6 +90,8 @@ def run_once(program: str, words: Sequence[bytes], given: Path, room: Path, seco
 
 def run_cases(program: str, cases: Sequence[Case], room: Path, seconds: int = SECONDS) -> list[Tried]:
     """What a program answers to each case, in whose words is no newline. Outputs get one at their end if need be."""
+    if not cases:
+        return []
     # By chance no program writes such a name.
     token = secrets.token_hex(8)
     names = [f"{token}-{number:06}".encode() for number in range(len(cases))]
@@ -137,7 +139,7 @@ def answer_of(called: Called, output: bytes, said: bytes, seconds: int) -> Tried
         raise Untried(why_untried(called))
     if last[1] == b"ended":
         return Answer(output, said[: last.start()], int(last[2]))
-    found = CHECKED.search(said)
+    found = CHECKED.search(last[0])
     why = found[1] if found else last[1]
     if why.startswith(TOO_MUCH_OUTPUT):
         return NoAnswer("TooMuchOutput", "an output has more than 1 MiB")

@@ -15,7 +15,7 @@ from collections.abc import Iterator, Sequence
 from pathlib import Path
 
 from answering import TOP, ask_built, ask_unproved
-from asking import Ask, Asking, Outcome, later, run, run_in_step
+from asking import Asking, Outcome, later, run, run_in_step
 from cases.main import DATA, check_table
 from cases.programs import Tally
 from cases.tables import Unread, all_tables
@@ -28,27 +28,12 @@ EVERY = 8
 RANDOM = 2_000
 
 
-class Unbuilt(Exception):
-    """What tools/built.sh says of a program."""
-
-
-def built(program: str) -> Path:
-    """The proved program of this name."""
+def command(program: str) -> list[str | Path]:
+    """The command that starts a proved program, as a user starts it if there is such a way; none if it isn't built."""
     said = subprocess.run([TOP / "tools" / "built.sh", program], capture_output=True, text=True)
     if said.returncode:
-        raise Unbuilt(said.stderr.strip())
-    return Path(said.stdout.removesuffix("\n"))
-
-
-def answerer(program: str, is_proved: bool) -> Ask:
-    """Who answers for a program: it is started as a user starts it, if there is such a way."""
-    try:
-        path = built(program)
-        return ask_built({program: [TOP / program, "--proved"] if program in PROGRAMS else [path]})
-    except Unbuilt:
-        if is_proved:
-            raise
-        return ask_unproved
+        return []
+    return [TOP / program, "--proved"] if program in PROGRAMS else [said.stdout.removesuffix("\n")]
 
 
 def tables() -> Iterator[Asking[Outcome]]:
@@ -74,11 +59,14 @@ def told(chosen: argparse.Namespace) -> Iterator[Outcome]:
         yield from run_in_step([*tests, *waiting], ask_unproved)
         return
     which = {TRIALS: stories()} if chosen.what == "stories" else {it: runs(it) for it in PROGRAMS}
-    for program, test in which.items():
-        try:
-            yield run(test, answerer(program, chosen.proved))
-        except Unbuilt as why:
-            yield Outcome([f"FAILED {chosen.what}: {why}"], 0, 1)
+    commands = {program: command(program) for program in which}
+    unbuilt = [program for program in which if not commands[program]]
+    for program in (it for it in which if commands[it]):
+        yield run(which[program], ask_built(commands))
+    if chosen.proved:
+        yield Outcome([f"FAILED {chosen.what}: {it} isn't proved and built" for it in unbuilt], 0, len(unbuilt))
+    else:
+        yield from run_in_step([which[it] for it in unbuilt], ask_unproved)
 
 
 def main(words: Sequence[str]) -> int:
@@ -89,7 +77,8 @@ def main(words: Sequence[str]) -> int:
     signal.signal(signal.SIGTERM, lambda number, _: sys.exit(128 + number))
     outcomes = []
     for outcome in told(parser.parse_args(words)):
-        print(*outcome.lines, sep="\n", flush=True)
+        for line in outcome.lines:
+            print(line, flush=True)
         outcomes.append(outcome)
     untold = [row for outcome in outcomes for row in outcome.untold]
     for row in untold:
