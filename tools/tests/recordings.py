@@ -1,7 +1,7 @@
 #!/usr/bin/env -S python3 -B
-"""Records scripts and tests what holds of every recording: it passes, it has each comment and each blank line of its script
-once, and recording it again gives the same octets.
+"""Records scripts and tests what holds of every recording.
 
+It passes, it has each comment and each blank line of its script once, and recording it again gives the same octets.
 The scripts are those of crates/pd_cases/data and random ones. Prints a line for each test that fails and `N passed, M
 failed` last.
 """
@@ -25,7 +25,7 @@ RECORDS = "pdrecord"
 RUNS = "pdregress"
 REGULAR = (0, 1)
 
-# What a comment may stand behind or seem to stand in: strings, commands, code and options; and comments.
+# A comment, or what may hold what looks like one: a string, a command, code or an option.
 PIECE = re.compile(
     rb'"(?:\\.|[^"\\])*"|`[^`]*`|%\{.*?\}%|--\w+(?:=[^ \t\r\n]*)?|(?P<comment>//[^\n]*|/\*.*?\*/)', re.DOTALL
 )
@@ -172,8 +172,10 @@ def random_event(dice: random.Random, top: list[int]) -> str:
 
 
 def random_scripts(count: int) -> Iterator[Script]:
-    """Scripts with random events after a handshake, some with comments, texts, notes, several events on a line and blank
-    lines."""
+    """Scripts with random events after a handshake.
+
+    Some have comments, texts, notes, several events on a line and blank lines.
+    """
     for seed in range(count):
         dice = random.Random(seed)
         top = [1]
@@ -255,9 +257,9 @@ def comments_and_blanks(text: bytes) -> Counter[bytes]:
 def kept_faults(done: Recorded) -> Iterator[str]:
     """What is wrong about the comments and blank lines of a recording: each stays, once."""
     script = comments_and_blanks(without_trace(done.script.text))
-    recording = comments_and_blanks(done.text)
-    if script != recording:
-        yield f"without {dict(script - recording)}, and with {dict(recording - script)} besides"
+    kept = comments_and_blanks(done.text)
+    if script != kept:
+        yield f"without {dict(script - kept)}, and with {dict(kept - script)} besides"
 
 
 def grown_too_large(row: bytes) -> bytes:
