@@ -9,6 +9,7 @@ tools/walk_tutorial.py. Prints a line for each test, and `N passed, M failed` la
 """
 
 import argparse
+import os
 import shutil
 import subprocess
 import tempfile
@@ -19,7 +20,7 @@ from pathlib import Path
 from documents.made import unlike, write
 from documents.pages import Page, broken_links, broken_names, read_pages, tracked
 from documents.promises import unknown_functions, wrong_edits
-from documents.shown import KINDS, shown_in
+from documents.shown import KINDS, UNPROVED, shown_in
 from documents.sources import without_head
 from documents.walking import walk
 from documents.words import SHORT, log_words, too_long, too_many
@@ -44,11 +45,37 @@ def test_pages(files: list[Path], pages: dict[str, Page]) -> Iterator[Test]:
     for name in SHORT:
         if name in pages:
             yield f"sentences of {name}", joined(too_long(pages[name]))
+            yield from test_unproved_lines(pages[name])
     yield from unlike(pages)
     if promises := pages.get("docs/PROMISES.md"):
         yield "functions of docs/PROMISES.md", joined(unknown_functions(promises))
         yield "edits of docs/PROMISES.md", joined(wrong_edits(promises, files))
     yield "first lines of sources", joined(without_head(TOP, files))
+
+
+def unproved_line(program: str) -> str:
+    """What a program says first that runs without its proofs: here with a kit that does nothing."""
+    with tempfile.TemporaryDirectory() as kit:
+        (Path(kit) / "rt").symlink_to("/bin/false")
+        path = f"{kit}:{os.environ.get('PATH', os.defpath)}"
+        done = subprocess.run(
+            ["python3", "-B", TOP / "tools/run_unproved.py", program],
+            cwd=TOP,
+            env={**os.environ, "PATH": path},
+            stdin=subprocess.DEVNULL,
+            capture_output=True,
+            text=True,
+            check=False,
+        )
+    return done.stderr.partition("\n")[0]
+
+
+def test_unproved_lines(page: Page) -> Iterator[Test]:
+    """The lines that a page shows of programs that run without their proofs."""
+    for shown in shown_in(page.text):
+        for line in filter(UNPROVED.match, shown.wanted):
+            said = unproved_line(line.partition(":")[0])
+            yield f"{page.name}:{shown.line}: the line `unproved`", None if line == said else f"it is now\n{said}"
 
 
 def built_tree(files: list[Path], folder: Path) -> str | None:
