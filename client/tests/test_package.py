@@ -63,8 +63,8 @@ def test_what_is_not_proved_is_not_packed(tmp_path: Path) -> None:
     (tmp_path / "packaging/programs.txt").write_text("pdregress\n")
     for name in ("tools/built.sh", "tools/crates_below.sh", "crates.txt", "prove"):
         shutil.copy(TOP / name, tmp_path / name)
-    for tool in TOP.glob("tools/*.py"):
-        shutil.copy(tool, tmp_path / "tools")
+    for module in TOP.glob("tools/*.py"):
+        shutil.copy(module, tmp_path / "tools")
     said = output(tool, tmp_path, PATH="/usr/bin:/bin:/usr/sbin:/sbin")  # without rt nothing is proved
     assert said.endswith("package: pdregress isn't proved and built\n")
     assert not list(tmp_path.glob("*.deb"))
