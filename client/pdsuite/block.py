@@ -19,9 +19,19 @@ def meaning(outcome: Outcome) -> str:
     return f": {outcome.why}" if outcome.why else ""
 
 
+def said(outcome: Outcome) -> str:
+    """The row of an outcome, with the one that is expected of it, where one is."""
+    if outcome.expected is None or not (outcome.is_known or outcome.is_unexpected):
+        return str(outcome.row)
+    if outcome.is_known:
+        return f"known: {outcome.row} ({outcome.expected.reason})"
+    row = "passes" if outcome.row.verdict is Verdict.PASS else str(outcome.row)
+    return f'{row}, though "{outcome.expected.row}" is expected ({outcome.expected.reason})'
+
+
 def heading(outcome: Outcome) -> str:
     """The line of an outcome: its place, its row and what that means."""
-    return f"{place(outcome)}: {outcome.row}{meaning(outcome)}"
+    return f"{place(outcome)}: {said(outcome)}{meaning(outcome)}"
 
 
 def reason(outcome: Outcome) -> str:
@@ -38,7 +48,7 @@ def reason(outcome: Outcome) -> str:
 def summary(outcome: Outcome) -> str:
     """An outcome in one line: its place, its row and the reason."""
     why = reason(outcome)
-    return f"{place(outcome)}: {outcome.row}" + (f": {why}" if why else "")
+    return f"{place(outcome)}: {said(outcome)}" + (f": {why}" if why else "")
 
 
 def warnings(outcome: Outcome) -> list[str]:

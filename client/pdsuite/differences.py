@@ -33,14 +33,17 @@ class Difference:
 
     @property
     def is_worse(self) -> bool:
-        """Whether something got worse: of a script that wasn't run, what passed before may fail now."""
+        """Whether something got worse: of a script that wasn't run, what passed before may fail now.
+
+        A row that is expected is no worse than any other.
+        """
         match self.kind:
             case Kind.NO_MORE | Kind.OTHERWISE:
-                return True
+                return not _is_known(self.now)
             case Kind.NOT_RUN:
                 return _passes(self.before)
             case Kind.NEW:
-                return not _passes(self.now)
+                return not _passes(self.now) and not _is_known(self.now)
         return False
 
 
@@ -77,3 +80,7 @@ def _row(saved: Saved | None) -> Row | None:
 
 def _passes(saved: Saved | None) -> bool:
     return saved is not None and saved.row.verdict is Verdict.PASS
+
+
+def _is_known(saved: Saved | None) -> bool:
+    return saved is not None and saved.is_known is True

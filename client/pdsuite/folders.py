@@ -6,6 +6,7 @@ from math import inf
 from pathlib import Path
 from time import process_time
 
+from pdsuite.expected import Expected
 from pdsuite.find import SUFFIX, Found, find_with_folders
 from pdsuite.layers import Layers
 from pdsuite.seen import GRACE, Seen, Sight, is_other, see, see_all, take
@@ -76,6 +77,10 @@ class Folders:
     def is_strict(self, path: str) -> bool:
         """Whether a warning makes a script fail."""
         return self._choice.is_strict or self._suite.is_strict(self.sight[path].found)
+
+    def expected(self, path: str) -> Expected | None:
+        """The row that a script is known to have, if one is said."""
+        return self._suite.expected(self.sight[path].found)
 
     def look(self, events: Sequence[Event], now: float) -> bool:
         """Takes in what is reported and what is due; whether anything is other than it was."""

@@ -5,7 +5,7 @@ from collections.abc import Iterable, Iterator, Mapping, Sequence
 from pdsuite.moves import Move, Outcomes
 from pdsuite.octets import shown_path
 from pdsuite.reports.plain import Plain
-from pdsuite.rows import Outcome, Totals, Verdict
+from pdsuite.rows import Outcome, Tally, Totals, Verdict
 from pdsuite.styled import Styled
 from pdsuite.turns import Wanted
 
@@ -52,9 +52,9 @@ def totals_of(outcomes: Outcomes) -> Totals:
 
 
 def changed(before: Outcomes, after: Outcomes) -> list[Outcome]:
-    """The outcomes whose rows changed, first those that don't pass."""
+    """The outcomes whose rows changed, last those that pass or are known not to."""
     found = [it for path, it in after.items() if path not in before or _is_other(before[path], it)]
-    return sorted(found, key=lambda it: it.row.verdict is Verdict.PASS)
+    return sorted(found, key=lambda it: it.tally in (Verdict.PASS, Tally.KNOWN))
 
 
 def gone(before: Outcomes, after: Outcomes) -> Iterator[str]:
@@ -83,7 +83,9 @@ def entries(outcomes: Iterable[Outcome], every: bool) -> Styled:
 
 def _is_other(old: Outcome, new: Outcome) -> bool:
     """Whether the row changed, the line that it names, or whether it makes the run fail."""
-    return old is not new and (old.row != new.row or old.text != new.text or old.passes != new.passes)
+    if old is new:
+        return False
+    return old.row != new.row or old.text != new.text or old.passes != new.passes or old.expected != new.expected
 
 
 def _is_told_anew(old: Outcome | None, new: Outcome) -> bool:

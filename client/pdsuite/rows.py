@@ -4,6 +4,7 @@ from collections.abc import Iterable
 from dataclasses import dataclass
 from enum import StrEnum
 
+from pdsuite.expected import Expected
 from pdsuite.settings import Settings
 
 
@@ -55,6 +56,13 @@ class Row:
 _WITHOUT_LINE = (Verdict.PASS, Verdict.ERROR, Verdict.NOT_RUN)
 
 
+class Tally(StrEnum):
+    """How a script is counted of which a row is expected: by whether it has it."""
+
+    KNOWN = "known"
+    UNEXPECTED = "unexpected"
+
+
 class Warned(StrEnum):
     """Why a script that passes shows nothing, in the words that follow `passes, but`."""
 
@@ -66,7 +74,7 @@ class Outcome:
     """A script's path and settings, its row, the line of its text that the row names, and why it is so.
 
     That is what the row means and the lines below it, as they are said by the program that explains. Whether a warning
-    makes the script fail is said by whoever runs it.
+    makes the script fail, and which row is expected of it, is said by whoever runs it.
     """
 
     path: str
@@ -76,6 +84,24 @@ class Outcome:
     why: str = ""
     told: tuple[str, ...] = ()
     is_strict: bool = False
+    expected: Expected | None = None
+
+    @property
+    def is_known(self) -> bool:
+        """Whether the script doesn't pass, as is expected of it."""
+        return self.expected is not None and self.expected.fits(self.row.whole)
+
+    @property
+    def is_unexpected(self) -> bool:
+        """Whether the script was run, and another row is expected of it."""
+        return self.expected is not None and self.row.verdict is not Verdict.NOT_RUN and not self.is_known
+
+    @property
+    def tally(self) -> Verdict | Tally:
+        """How the script is counted. One that couldn't be run is an error, whatever else is expected of it."""
+        if self.is_known:
+            return Tally.KNOWN
+        return Tally.UNEXPECTED if self.is_unexpected and self.row.verdict is not Verdict.ERROR else self.row.verdict
 
     @property
     def warnings(self) -> tuple[Warned, ...]:
@@ -84,25 +110,28 @@ class Outcome:
 
     @property
     def passes(self) -> bool:
-        """Whether the script passes, and no warning makes it fail."""
+        """Whether the script makes no run fail: it passes, and no warning makes it fail, or its row is expected."""
+        if self.expected is not None:
+            return self.is_known
         return self.row.verdict is Verdict.PASS and not (self.is_strict and self.warnings)
 
 
 @dataclass(frozen=True)
 class Totals:
-    """How many scripts came to which verdict, how many warnings there are, and whether some of them make a run fail."""
+    """How many scripts are counted how, how many warnings there are, and whether some of these make a run fail."""
 
-    counts: dict[Verdict, int]
+    counts: dict[Verdict | Tally, int]
     warnings: int = 0
     is_strict: bool = False
 
     @classmethod
     def of(cls, outcomes: Iterable[Outcome]) -> "Totals":
         """The totals of outcomes."""
-        counts: dict[Verdict, int] = dict.fromkeys(Verdict, 0)
+        counts: dict[Verdict | Tally, int] = dict.fromkeys((*Verdict, *Tally), 0)
         warned: list[Outcome] = []
         for outcome in outcomes:
-            counts[outcome.row.verdict] += 1
+            tally = outcome.row.verdict if outcome.expected is None else outcome.tally
+            counts[tally] += 1
             if outcome.warnings:
                 warned.append(outcome)
         return cls(counts, sum(len(it.warnings) for it in warned), any(it.is_strict for it in warned))
@@ -112,9 +141,9 @@ class Totals:
         return sum(self.counts.values())
 
     def __str__(self) -> str:
-        counts = " ".join(f"{it.value} {self.counts[it]}" for it in Verdict)
-        warnings = f" warnings {self.warnings}" if self.warnings else ""
-        return f"total {self.scripts} {counts}{warnings}"
+        counts = [f"{it.value} {count}" for it, count in self.counts.items() if count or isinstance(it, Verdict)]
+        warnings = [f"warnings {self.warnings}"] if self.warnings else []
+        return " ".join([f"total {self.scripts}", *counts, *warnings])
 
     def brief(self) -> str:
         """The counts that aren't 0."""
@@ -123,7 +152,7 @@ class Totals:
         return " ".join([f"total {self.scripts}", *counts, *warnings])
 
     def status(self) -> int:
-        """The exit status: 0 where each script passes, 2 where one couldn't be run, else 1."""
+        """The exit status: 0 where each script passes or is known not to, 2 where one couldn't be run, else 1."""
         if self.counts[Verdict.ERROR]:
             return 2
-        return 0 if self.counts[Verdict.PASS] == self.scripts and not self.is_strict else 1
+        return 0 if self.counts[Verdict.PASS] + self.counts[Tally.KNOWN] == self.scripts and not self.is_strict else 1

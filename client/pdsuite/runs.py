@@ -5,6 +5,7 @@ from dataclasses import dataclass
 from itertools import islice
 from typing import TypeVar
 
+from pdsuite.expected import Expected
 from pdsuite.rows import Outcome, Row
 from pdsuite.settings import Settings
 
@@ -23,11 +24,12 @@ class Script:
     settings: Settings
     fault: str = ""
     is_strict: bool = False  # whether a warning makes it fail
+    expected: Expected | None = None  # the row that it is known to have
 
 
 def outcome_of(script: Script, row: Row, line: bytes | None = None) -> Outcome:
     """What came of a script, whose text has this line where the row names one."""
-    return Outcome(script.path, script.settings, row, line, is_strict=script.is_strict)
+    return Outcome(script.path, script.settings, row, line, is_strict=script.is_strict, expected=script.expected)
 
 
 Piece = tuple[Script, ...]

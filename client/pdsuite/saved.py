@@ -21,11 +21,16 @@ class Saved:
 
     row: Row
     is_strict: bool = False  # a warning makes the script fail
+    is_known: bool | None = None  # whether the row is the one that is expected, where one is
 
     @property
     def is_failing(self) -> bool:
         """Whether the script was run and made the run fail."""
-        return self.row.verdict not in (Verdict.PASS, Verdict.NOT_RUN) or self.is_strict
+        if self.row.verdict is Verdict.NOT_RUN:
+            return False
+        if self.is_known is not None:
+            return not self.is_known
+        return self.row.verdict is not Verdict.PASS or self.is_strict
 
 
 # By their paths, as people see them.
@@ -157,7 +162,7 @@ def _rows(place: str, scripts: Iterable[object]) -> dict[str, Saved]:
             )
         if path in rows:
             raise Fault(f"{path}: stands twice in {place}")
-        rows[path] = Saved(row, _is_strict(script))
+        rows[path] = Saved(row, _is_strict(script), _is_known(script))
     return rows
 
 
@@ -166,6 +171,13 @@ def _is_strict(script: object) -> bool:
         case {"warnings": [_, *_], "strict": True}:
             return True
     return False
+
+
+def _is_known(script: object) -> bool | None:
+    match script:
+        case {"expected": {"known": bool(is_known)}}:
+            return is_known
+    return None
 
 
 def _path_in(script: object) -> str | None:

@@ -7,6 +7,7 @@ from dataclasses import dataclass
 from pathlib import Path
 
 from pdsuite.defaults import help_for
+from pdsuite.expected import Expected, is_row
 from pdsuite.faults import Fault
 from pdsuite.find import SUFFIX, Found
 from pdsuite.octets import shown_path, shown_text
@@ -17,10 +18,12 @@ FILE = "pdsuite.toml"
 OPTION = "--settings"
 _ROOT = "root"
 _STRICT = "strict"
+EXPECT = "expect"
+REASON = "reason"
 # The last part of a script's name in a table without quotes: [a.pkt] is the table pkt in the table a.
 _PART = SUFFIX.removeprefix(".")
 _DEEPEST = 16
-_LONGEST = 1 << 20
+LONGEST = 1 << 20
 
 Table = Mapping[str, Value]
 
@@ -34,9 +37,10 @@ class Layer:
     keys: Table
     tables: Mapping[str, Table]
     strict: Mapping[str, bool]  # whether warnings make scripts fail, by their names; of all scripts below it by ""
+    expected: Mapping[str, Expected]  # the rows of scripts that are known not to pass, by their names
 
 
-_EMPTY = Layer("", False, {}, {}, {})
+_EMPTY = Layer("", False, {}, {}, {}, {})
 
 
 @dataclass(frozen=True)
@@ -51,7 +55,7 @@ class Claim:
     def refused(self, reason: str) -> str:
         """The line that says why it is refused."""
         beside = f' (["{_shown(self.table)}"])' if self.table else ""
-        own = () if self.place == OPTION else (_STRICT,) if self.table else (_ROOT, _STRICT)
+        own = () if self.place == OPTION else (_STRICT, EXPECT, REASON) if self.table else (_ROOT, _STRICT)
         helps = help_for(self.key, reason, own)
         return f"{self.place}: {_shown(self.key)}: {reason}{beside}" + (f": {helps}" if helps else "")
 
@@ -64,6 +68,7 @@ class Common:
     is_strict: bool
     tables: Mapping[str, Table]
     strict: Mapping[str, bool]
+    expected: Mapping[str, Expected]
 
 
 class Suite:
@@ -79,12 +84,16 @@ class Suite:
         """The settings of a script."""
         common = self._common(script.folder)
         own = common.tables.get(script.name)
-        return common.settings if own is None else self._merged(script.folder, own)
+        return self._merged(script.folder, own) if own else common.settings
 
     def is_strict(self, script: Found) -> bool:
         """Whether a warning makes a script fail."""
         common = self._common(script.folder)
         return common.strict.get(script.name, common.is_strict)
+
+    def expected(self, script: Found) -> Expected | None:
+        """The row that a script is known to have, if one is said."""
+        return self._common(script.folder).expected.get(script.name)
 
     def look(self, folders: Iterable[str]) -> None:
         """Reads the files of these folders, whichever scripts they are about."""
@@ -110,7 +119,7 @@ class Suite:
             chain = self._chain(folder)
             is_strict = next((it.strict[""] for it in chain if "" in it.strict), False)
             beside = self._layer(folder) or _EMPTY
-            known = Common(self._merged(folder, {}), is_strict, beside.tables, beside.strict)
+            known = Common(self._merged(folder, {}), is_strict, beside.tables, beside.strict, beside.expected)
             self._known[folder] = known
         return known
 
@@ -139,7 +148,7 @@ class Suite:
 
 
 def layer_of(place: str, octets: bytes) -> Layer:
-    """The layer that a file holds, or a fault where it isn't TOML, or one of its own keys isn't a truth value."""
+    """The layer that a file holds, or a fault where it isn't TOML, or a key of the client's own has another value."""
     table = _table_of(place, octets)
     _refuse_unquoted(place, table)
     root = _truth_of(table, _ROOT, place)
@@ -147,7 +156,9 @@ def layer_of(place: str, octets: bytes) -> Layer:
     keys = {name: it for name, it in table.items() if name not in tables}
     told = {name: _truth_of(it, _STRICT, place, name) for name, it in {"": keys, **tables}.items()}
     strict = {name: it for name, it in told.items() if it is not None}
-    return Layer(place, root or False, keys, tables, strict)
+    _refuse_expected(place, keys)
+    rows = {name: it for name, table in tables.items() if (it := _expected_of(place, name, table)) is not None}
+    return Layer(place, root or False, keys, tables, strict, rows)
 
 
 def _truth_of(table: dict[str, Value], key: str, place: str, name: str = "") -> bool | None:
@@ -157,6 +168,31 @@ def _truth_of(table: dict[str, Value], key: str, place: str, name: str = "") -> 
         return value
     beside = f' (["{_shown(name)}"])' if name else ""
     raise Fault(f"{place}: {key}: BadValue{beside}: it takes true or false")
+
+
+def _expected_of(place: str, name: str, table: dict[str, Value]) -> Expected | None:
+    """The row that is expected of a script, with its reason, taken out of its table; neither stands alone."""
+    row, reason = table.pop(EXPECT, None), table.pop(REASON, None)
+    beside = f'(["{_shown(name)}"])'
+    if row is None and reason is None:
+        return None
+    if reason is None:
+        raise Fault(f"{place}: {EXPECT}: needs a {REASON} beside it {beside}")
+    if row is None:
+        raise Fault(f"{place}: {REASON}: needs {EXPECT} beside it {beside}")
+    if not isinstance(row, str) or not is_row(row):
+        takes = 'it takes a row that doesn\'t pass, as "fail 12 seq", or its first words'
+        raise Fault(f"{place}: {EXPECT}: BadValue {beside}: {takes}")
+    if not isinstance(reason, str) or not reason.strip():
+        raise Fault(f"{place}: {REASON}: BadValue {beside}: it takes a text that isn't empty")
+    return Expected(row, _shown(reason))
+
+
+def _refuse_expected(place: str, keys: Table) -> None:
+    """Raises a fault where a row is expected of no script."""
+    for key in (EXPECT, REASON):
+        if key in keys:
+            raise Fault(f'{place}: {key}: stands in no script\'s table, as ["NAME{SUFFIX}"] is')
 
 
 def _refuse_unquoted(place: str, table: Table) -> None:
@@ -178,7 +214,7 @@ def _unquoted(table: Table, before: str = "", deepest: int = _DEEPEST) -> Iterat
 def option_of(text: str) -> Layer:
     """The layer of `--settings`, which has neither tables nor keys of the client's own."""
     octets = text.encode("utf-8", "surrogateescape")
-    return Layer(OPTION, False, _table_of(OPTION, octets), {}, {})
+    return Layer(OPTION, False, _table_of(OPTION, octets), {}, {}, {})
 
 
 def _table_of(place: str, octets: bytes) -> dict[str, Value]:
@@ -209,11 +245,11 @@ def read_octets(path: Path) -> bytes | None:
     if not os.path.lexists(path):
         return None
     try:
-        octets = read_file(path, _LONGEST + 1)
+        octets = read_file(path, LONGEST + 1)
     except Unfit as unfit:
         raise Fault(f"{place_of(path)}: {unfit}") from unfit
-    if len(octets) > _LONGEST:
-        raise Fault(f"{place_of(path)}: more than {_LONGEST:,} octets")
+    if len(octets) > LONGEST:
+        raise Fault(f"{place_of(path)}: more than {LONGEST:,} octets")
     return octets
 
 

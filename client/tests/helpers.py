@@ -15,6 +15,8 @@ FAILS = b"0 socket(..., SOCK_STREAM, IPPROTO_TCP) = 4\n"
 # The seconds after which a test gives up what hangs: long, so that a busy machine fails none.
 HANGS = 300.0
 TOTALS = ("pass", "fail", "syntax", "unsupported", "limit", "error", "not run")
+# What is counted apart, where there is any.
+APART = ("known", "unexpected")
 
 
 @dataclass(frozen=True)
@@ -40,7 +42,8 @@ class Called:
     def totals(self) -> dict[str, int]:
         """The counts that aren't 0."""
         last = self.out.splitlines()[-1]
-        counts = {it: int(last.split(f" {it} ")[1].split()[0]) for it in TOTALS}
+        apart = [it for it in APART if f" {it} " in last]
+        counts = {it: int(last.split(f" {it} ")[1].split()[0]) for it in [*TOTALS, *apart]}
         assert last.startswith(f"total {sum(counts.values())} "), last
         return {it: count for it, count in counts.items() if count}
 

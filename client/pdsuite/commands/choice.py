@@ -1,6 +1,6 @@
 """What the commands have in common: which scripts are meant, and with which settings."""
 
-from collections.abc import Sequence, Set
+from collections.abc import Iterable, Sequence, Set
 from dataclasses import dataclass
 from pathlib import Path
 
@@ -28,20 +28,18 @@ class Part:
 _WHOLE = Part()
 
 
-def scripts_of(
-    paths: Sequence[Path],
-    only: Sequence[str],
-    suite: Suite,
-    stop: Stop,
-    is_strict: bool = False,
-    part: Part = _WHOLE,
-) -> list[Script]:
-    """The scripts that are meant, in the order of their paths; all of them are strict, or those that the files name."""
+def found_of(paths: Sequence[Path], only: Sequence[str], suite: Suite, stop: Stop, part: Part = _WHOLE) -> list[Found]:
+    """The scripts that are meant, in the order of their paths; all files with their settings are read."""
     finding = find_with_folders(paths, only, stop)
     if not finding.scripts:
         raise Fault("no script found")
     suite.look(finding.folders)
-    return [_script(index, it, suite, is_strict) for index, it in enumerate(_chosen(finding.scripts, part))]
+    return _chosen(finding.scripts, part)
+
+
+def scripts_of(found: Iterable[Found], suite: Suite, is_strict: bool = False) -> list[Script]:
+    """The scripts with what holds for them; all of them are strict, or those that the files name."""
+    return [_script(index, it, suite, is_strict) for index, it in enumerate(found)]
 
 
 def _chosen(found: list[Found], part: Part) -> list[Found]:
@@ -57,4 +55,5 @@ def _chosen(found: list[Found], part: Part) -> list[Found]:
 def _script(index: int, it: Found, suite: Suite, is_strict: bool) -> Script:
     if it.fault:
         return Script(index, it.path, (), it.fault)
-    return Script(index, it.path, suite.settings(it), is_strict=is_strict or suite.is_strict(it))
+    is_strict = is_strict or suite.is_strict(it)
+    return Script(index, it.path, suite.settings(it), is_strict=is_strict, expected=suite.expected(it))

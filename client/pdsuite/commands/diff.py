@@ -71,7 +71,7 @@ def _line(it: Difference) -> Styled:
     style = _WORSE if it.is_worse else _STYLES.get(it.kind, "")
     line = plainly(f"{place}: ").append(it.kind, style)
     if row is not None and it.kind is not Kind.NOT_RUN:
-        line.append(f": {row}")
+        line.append(f": {'known: ' if it.now is not None and it.now.is_known else ''}{row}")
     if it.before is not None and it.kind is not Kind.NEW:
         line.append(f", was {it.before.row.whole}")
     return line.append("\n")

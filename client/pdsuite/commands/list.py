@@ -4,7 +4,7 @@ from collections.abc import Sequence
 from pathlib import Path
 
 
-from pdsuite.commands.choice import Part, scripts_of
+from pdsuite.commands.choice import Part, found_of, scripts_of
 from pdsuite.commands.last import failed_last
 from pdsuite.lost import lost_in
 from pdsuite.octets import shown_path, shown_text
@@ -29,7 +29,7 @@ def list_scripts(
     with Stop() as stop:
         part = Part(shard, failed_last(paths) if last_failed else None)
         suite = Suite(option_of(settings))
-        scripts = scripts_of(paths, only, suite, stop, part=part)
+        scripts = scripts_of(found_of(paths, only, suite, stop, part), suite)
         if lines := lost_in(suite):
             for line in lines:
                 say(line)

@@ -9,7 +9,7 @@ from typing import TYPE_CHECKING
 
 from pdsuite.asked import refused
 from pdsuite.checking import Checking
-from pdsuite.commands.choice import Part, scripts_of
+from pdsuite.commands.choice import Part, found_of, scripts_of
 from pdsuite.commands.last import failed_last, leave, only_new
 from pdsuite.explain import Explainer
 from pdsuite.faults import Cut
@@ -68,7 +68,7 @@ def run(wish: Wish, form: Form, screen: Screen) -> int:
         suite = Suite(option_of(wish.settings))
         part = Part(wish.shard, failed_last(wish.paths) if wish.last_failed else None)
         try:
-            scripts = scripts_of(wish.paths, wish.only, suite, stop, wish.is_strict, part)
+            scripts = scripts_of(found_of(wish.paths, wish.only, suite, stop, part), suite, wish.is_strict)
             if not scripts:
                 screen.note(f"pdsuite: {part.nothing()}")
             if wish.new:

@@ -102,7 +102,7 @@ class View:
         """Whether what was told of a script is told of this outcome."""
         path = outcome.path
         old = self.outcomes.get(path)
-        if old is None or old.row != outcome.row or old.passes != outcome.passes:
+        if old is None or (old.row, old.passes, old.expected) != (outcome.row, outcome.passes, outcome.expected):
             return False
         return self._wanted.get(path) == wanted.get(path)
 
@@ -226,7 +226,7 @@ def _outcomes(folders: Folders, fleet: Fleet, unfit: Mapping[str, str]) -> Outco
 
 def _outcome(path: str, text: Text | str, row: Row, folders: Folders) -> Outcome:
     line = text.line(row.line) if isinstance(text, Text) and row.line is not None else None
-    outcome = Outcome(path, (), row, line)
+    outcome = Outcome(path, (), row, line, expected=folders.expected(path))
     if outcome.warnings:
         outcome.is_strict = folders.is_strict(path)
     return outcome

@@ -10,7 +10,7 @@ from jinja2 import Environment, FileSystemLoader, StrictUndefined
 from pdsuite.diagram.palette import rules
 from pdsuite.page.links import FOLDER, PLOTS
 from pdsuite.page.sheets import Row, Sheet
-from pdsuite.rows import Verdict
+from pdsuite.rows import Tally, Verdict
 
 _HERE = Path(__file__).parent
 # Stands in each page, and tells whose it is.
@@ -18,13 +18,15 @@ GENERATOR = "pdsuite"
 # What all pages use, beside the table.
 _STYLE = "page.css"
 STATIC = (_STYLE, "page.js")
-_RANKS = (
+_RANKS: tuple[Verdict | Tally, ...] = (
+    Tally.UNEXPECTED,
     Verdict.FAIL,
     Verdict.ERROR,
     Verdict.SYNTAX,
     Verdict.LIMIT,
     Verdict.UNSUPPORTED,
     Verdict.NOT_RUN,
+    Tally.KNOWN,
     Verdict.PASS,
 )
 
@@ -36,15 +38,15 @@ def static(name: str) -> bytes:
 
 
 def table_page(rows: Sequence[Row]) -> bytes:
-    """The page with the table: what fails stands first, and equal verdicts in the order of paths."""
-    counts = Counter(it.verdict for it in rows)
-    verdicts = [(it, counts[it]) for it in Verdict if counts[it]]
-    return _filled("table.html", rows=sorted(rows, key=_rank), verdicts=verdicts, folder=FOLDER)
+    """The page with the table: what fails stands first, and what is counted alike in the order of paths."""
+    counts = Counter(it.tally for it in rows)
+    tallies = [(it, counts[it]) for it in (*Verdict, *Tally) if counts[it]]
+    return _filled("table.html", rows=sorted(rows, key=_rank), tallies=tallies, folder=FOLDER)
 
 
 def _rank(row: Row) -> tuple[int, bool]:
     """Which verdicts come first; of those that pass the ones that are warned of."""
-    return _RANKS.index(row.verdict), not row.why
+    return _RANKS.index(row.tally), row.tally is Verdict.PASS and not row.why
 
 
 def script_page(sheet: Sheet) -> bytes:

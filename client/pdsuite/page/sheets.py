@@ -10,7 +10,7 @@ from pdsuite.page.links import file_of
 from pdsuite.page.packets import Mark, Packet, Part, columns
 from pdsuite.page.plots import Plot
 from pdsuite.protocol import Cause
-from pdsuite.rows import Outcome, Verdict
+from pdsuite.rows import Outcome, Tally, Verdict
 from pdsuite.settings import shown_value
 from pdsuite.text import Text
 
@@ -66,15 +66,17 @@ class Entry:
 
 @dataclass(frozen=True, slots=True)
 class Row:
-    """A script in the table."""
+    """A script in the table; `tally` is how it is counted, and `expected` what is said of the row that is expected."""
 
     path: str
     file: str
     verdict: Verdict
+    tally: Verdict | Tally
     kind: str
     line: int | None
     text: str
     why: str
+    expected: str
 
 
 @dataclass(frozen=True, slots=True)
@@ -136,10 +138,12 @@ def row_of(outcome: Outcome) -> Row:
         shown_path(outcome.path),
         file_of(outcome.path),
         row.verdict,
+        outcome.tally,
         "" if row.verdict is Verdict.ERROR else row.word,
         row.line,
         "" if outcome.text is None else shown(outcome.text.expandtabs().strip(), _LONGEST_LINE),
         _why(outcome),
+        _expected(outcome),
     )
 
 
@@ -161,6 +165,14 @@ def sheet_of(entry: Entry, cause: Cause | None, diagram: Diagram) -> Sheet:
         below=() if told else tuple(block(outcome)),
         diagram=diagram,
     )
+
+
+def _expected(outcome: Outcome) -> str:
+    """Which row is expected, and why, where one is."""
+    expected = outcome.expected
+    if expected is None or outcome.row.verdict is Verdict.NOT_RUN:
+        return ""
+    return expected.reason if outcome.is_known else f'"{expected.row}" is expected ({expected.reason})'
 
 
 def _why(outcome: Outcome) -> str:

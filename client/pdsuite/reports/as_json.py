@@ -6,7 +6,7 @@ from functools import cache
 
 from pdsuite.block import block
 from pdsuite.octets import shown_path
-from pdsuite.rows import Outcome, Totals, Verdict
+from pdsuite.rows import Outcome, Tally, Totals, Verdict
 from pdsuite.settings import Settings
 from pdsuite.shards import Shard
 from pdsuite.styled import Styled, plainly
@@ -29,6 +29,7 @@ class Json:
 
     def foot(self, totals: Totals, seconds: float) -> Styled:
         counts = {it.value: totals.counts[it] for it in Verdict}
+        counts |= {it.value: totals.counts[it] for it in Tally if totals.counts[it]}
         if totals.warnings:
             counts["warnings"] = totals.warnings
         total = json.dumps({"scripts": totals.scripts, **counts})
@@ -38,7 +39,7 @@ class Json:
 
 def script_text(outcome: Outcome, path: str) -> str:
     """A script under this path, on one line."""
-    if outcome.row.verdict is not Verdict.PASS or outcome.warnings:
+    if outcome.row.verdict is not Verdict.PASS or outcome.warnings or outcome.expected is not None:
         return _encoded(_script(outcome, path))
     # Most scripts pass, and so their line is put together by hand: that takes a fifth of the time.
     begin = f'{{"path": {_encoded(path)}, "verdict": "pass", "events": {outcome.row.number}'
@@ -64,6 +65,9 @@ def _script(outcome: Outcome, path: str) -> dict[str, object]:
             script["line"] = row.number
     if outcome.why:
         script["what"] = outcome.why
+    if outcome.expected is not None:
+        expected = outcome.expected
+        script["expected"] = {"row": expected.row, "reason": expected.reason, "known": outcome.is_known}
     if outcome.warnings:
         script.update(warnings=list(outcome.warnings), strict=outcome.is_strict)
     return {**script, "below": block(outcome), "settings": dict(outcome.settings)}

@@ -6,9 +6,9 @@ from collections import Counter
 from collections.abc import Iterator, Sequence
 from pathlib import Path
 
-from pdsuite.block import block, heading, reason, warned, warnings
+from pdsuite.block import block, heading, reason, said, warned, warnings
 from pdsuite.octets import shown_path
-from pdsuite.rows import Outcome, Totals, Verdict
+from pdsuite.rows import Outcome, Tally, Totals, Verdict
 from pdsuite.styled import Styled, plainly
 
 SUMMARY = "GITHUB_STEP_SUMMARY"
@@ -24,7 +24,10 @@ _NO_COMMAND = r"\x23\x23["
 
 
 class Github:
-    """Annotations of scripts that don't pass and of warnings, ten of a level; of all others their rows; the totals."""
+    """Annotations of scripts that don't pass and of warnings, ten of a level; of all others their rows; the totals.
+
+    A script that is known not to pass has a notice.
+    """
 
     def __init__(self) -> None:
         self._counts: Counter[str] = Counter()
@@ -36,12 +39,13 @@ class Github:
     def entry(self, number: int, outcome: Outcome) -> Styled | None:
         if outcome.row.verdict is Verdict.NOT_RUN:
             return None
-        if outcome.row.verdict is not Verdict.PASS:
+        lines: list[str] = []
+        if outcome.tally is not Verdict.PASS:
             told = [heading(outcome), *(f"  {it}" for it in block(outcome))]
-            return plainly(self._annotation("error", outcome, str(outcome.row), told))
-        level = "warning" if outcome.passes else "error"
+            lines.append(self._annotation("notice" if outcome.is_known else "error", outcome, _title(outcome), told))
+        level = "error" if outcome.is_strict else "warning"
         each = zip(warnings(outcome), warned(outcome))
-        lines = [self._annotation(level, outcome, title, [line]) for title, line in each]
+        lines += [self._annotation(level, outcome, title, [line]) for title, line in each]
         return plainly("".join(lines)) if lines else None
 
     def foot(self, totals: Totals, seconds: float) -> Styled:
@@ -70,7 +74,7 @@ class Github:
 
 
 def summary_of(outcomes: Sequence[Outcome], totals: Totals) -> str:
-    """The summary of a step in Markdown: the totals, and a row for each script that doesn't pass or is warned of."""
+    """The summary of a step in Markdown: the totals, and a row for each script that fails the run or is warned of."""
     verdicts = ", ".join(f"{count:,} {it.value}" for it, count in totals.counts.items() if count)
     warnings = f"; warnings: {totals.warnings:,}" if totals.warnings else ""
     parts = [f"### pdsuite: {totals.scripts:,} scripts: {verdicts}{warnings}\n\n"]
@@ -87,12 +91,19 @@ def summary_of(outcomes: Sequence[Outcome], totals: Totals) -> str:
     return "".join(parts)
 
 
+def _title(outcome: Outcome) -> str:
+    """What an annotation is called by: the row, in the fewest words."""
+    if outcome.is_known:
+        return f"known: {outcome.row}"
+    return "passes, though it is expected not to" if outcome.row.verdict is Verdict.PASS else str(outcome.row)
+
+
 def _summary_rows(outcome: Outcome) -> Iterator[str]:
     path, row = shown_path(outcome.path), outcome.row
-    if row.verdict is Verdict.ERROR:
+    if outcome.tally is Verdict.ERROR:
         yield _cells(path, "", row.verdict.value, row.word)
-    elif row.verdict not in (Verdict.PASS, Verdict.NOT_RUN):
-        yield _cells(path, str(row.line), str(row), reason(outcome))
+    elif outcome.tally not in (Verdict.PASS, Verdict.NOT_RUN, Tally.KNOWN):
+        yield _cells(path, "" if row.line is None else str(row.line), said(outcome), reason(outcome))
     for warning in warnings(outcome):
         yield _cells(path, "", str(row), warning)
 

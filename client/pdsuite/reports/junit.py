@@ -5,7 +5,7 @@ from collections.abc import Sequence
 from datetime import UTC, datetime, timedelta
 from io import BytesIO
 
-from junitparser import Attr, Error, Failure, JUnitXml, TestCase, TestSuite
+from junitparser import Attr, Error, Failure, JUnitXml, Skipped, TestCase, TestSuite
 
 from pdsuite.block import block, heading, summary, warned
 from pdsuite.octets import shown_path
@@ -22,6 +22,7 @@ TestCase.file, TestCase.line = Attr("file"), Attr("line")
 def junit(outcomes: Sequence[Outcome], seconds: float) -> bytes:
     """A suite for each folder, with a case for each script: a `fail` is a failure, all else that doesn't pass an error.
 
+    One that is known not to pass is skipped, and one that passes though another row is expected is a failure.
     The suites share the seconds of the run, by the numbers of their scripts.
     """
     begin = (datetime.now(UTC) - timedelta(seconds=seconds)).strftime("%Y-%m-%dT%H:%M:%S")
@@ -53,12 +54,10 @@ def _case(folder: str, outcome: Outcome) -> TestCase:
     case = TestCase(path, classname=folder, time=0)
     case.file = path
     case.line = outcome.row.line or _FIRST
-    verdict = outcome.row.verdict
-    if verdict is not Verdict.PASS:
-        kind = Failure if verdict is Verdict.FAIL else Error
-        result = kind(summary(outcome), verdict.value)
+    if outcome.tally is not Verdict.PASS:
+        result = _result(outcome)
         below = (f"  {it}" for it in block(outcome))
-        result.text = "\n".join([heading(outcome), *below])
+        result.text = "\n".join([heading(outcome), *below, *warned(outcome)])
         case.result = [result]
     elif lines := warned(outcome):
         if outcome.passes:
@@ -66,3 +65,10 @@ def _case(folder: str, outcome: Outcome) -> TestCase:
         else:
             case.result = [Failure(line, "warning") for line in lines]
     return case
+
+
+def _result(outcome: Outcome) -> Skipped | Failure | Error:
+    if outcome.is_known and outcome.expected is not None:
+        return Skipped(outcome.expected.reason, outcome.tally.value)
+    kind = Failure if outcome.row.verdict in (Verdict.FAIL, Verdict.PASS) else Error
+    return kind(summary(outcome), outcome.tally.value)

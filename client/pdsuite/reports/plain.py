@@ -3,11 +3,11 @@
 from dataclasses import dataclass
 
 
-from pdsuite.block import block, meaning, place, warned
-from pdsuite.rows import Outcome, Totals, Verdict
+from pdsuite.block import block, meaning, place, said, warned
+from pdsuite.rows import Outcome, Tally, Totals, Verdict
 from pdsuite.styled import Styled, plainly
 
-_STYLES = {
+_STYLES: dict[Verdict | Tally, str] = {
     Verdict.PASS: "green",
     Verdict.FAIL: "bold red",
     Verdict.SYNTAX: "bold magenta",
@@ -15,6 +15,8 @@ _STYLES = {
     Verdict.LIMIT: "yellow",
     Verdict.ERROR: "bold red",
     Verdict.NOT_RUN: "dim",
+    Tally.KNOWN: "dim",
+    Tally.UNEXPECTED: "bold red",
 }
 _WARNED = "yellow"
 _STRICT = "bold red"
@@ -30,10 +32,10 @@ class Plain:
         return Styled()
 
     def entry(self, number: int, outcome: Outcome) -> Styled | None:
-        verdict = outcome.row.verdict
-        if not self.every and (verdict is Verdict.PASS or verdict is Verdict.NOT_RUN):
+        tally = outcome.tally
+        if not self.every and tally in (Verdict.PASS, Verdict.NOT_RUN, Tally.KNOWN):
             return self.warnings(outcome) if outcome.warnings else None
-        if outcome.warnings:
+        if outcome.warnings or outcome.is_known:
             return self.changed(outcome)
         line = self.row(outcome).append(meaning(outcome))
         below = "".join(f"  {it}\n" for it in block(outcome))
@@ -41,7 +43,7 @@ class Plain:
 
     def row(self, outcome: Outcome) -> Styled:
         """A script's row alone."""
-        return plainly(f"{place(outcome)}: ").append(str(outcome.row), _STYLES[outcome.row.verdict])
+        return plainly(f"{place(outcome)}: ").append(said(outcome), _STYLES[outcome.tally])
 
     def warnings(self, outcome: Outcome) -> Styled:
         """What is warned of, a line each."""

@@ -11,18 +11,20 @@ _DIRECTIVE = "#"
 
 
 class Tap:
-    """`ok` for each script that passes, and `not ok` for every other."""
+    """`ok` for each script that passes, and `not ok` for every other; one that is known not to is still to be done."""
 
     def head(self, count: int) -> Styled:
         return plainly(f"TAP version 13\n1..{count}\n")
 
     def entry(self, number: int, outcome: Outcome) -> Styled:
         name = shown_path(outcome.path, also=_DIRECTIVE)
-        if outcome.row.verdict is Verdict.PASS:
+        if outcome.tally is Verdict.PASS:
             told = warned(outcome)
         else:
-            told = [heading(outcome), *(f"  {it}" for it in block(outcome))]
-        lines = [*(f"# {it}" for it in told), f"{'ok' if outcome.passes else 'not ok'} {number} {name}"]
+            told = [heading(outcome), *(f"  {it}" for it in block(outcome)), *warned(outcome)]
+        is_ok = outcome.passes and not outcome.is_known
+        todo = f" # TODO {outcome.expected.reason}" if outcome.is_known and outcome.expected is not None else ""
+        lines = [*(f"# {it}" for it in told), f"{'ok' if is_ok else 'not ok'} {number} {name}{todo}"]
         return plainly("".join(f"{line}\n" for line in lines))
 
     def foot(self, totals: Totals, seconds: float) -> Styled:
