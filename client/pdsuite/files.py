@@ -10,14 +10,17 @@ from pdsuite.faults import Fault, why
 from pdsuite.octets import shown_path
 
 
-def write(path: Path, octets: bytes) -> None:
-    """Writes a file beside its place and renames it; a device or a pipe is written itself."""
+def write(path: Path, octets: bytes, keeps_rights: bool = False) -> None:
+    """Writes a file beside its place and renames it; a device or a pipe is written itself.
+
+    It has the rights that the mask leaves, or those of the file in whose place it comes.
+    """
     try:
         target = Path(os.path.realpath(path))
         if target.exists() and not stat.S_ISREG(target.stat().st_mode):
             target.write_bytes(octets)
         else:
-            _write_beside(target, octets)
+            _write_beside(target, octets, target.stat().st_mode if keeps_rights and target.exists() else None)
     except OSError as error:
         raise Fault(f"{shown_path(path)}: {why(error)}") from error
 
@@ -31,12 +34,14 @@ def append(path: Path, octets: bytes) -> None:
         raise Fault(f"{shown_path(path)}: {why(error)}") from error
 
 
-def _write_beside(target: Path, octets: bytes) -> None:
+def _write_beside(target: Path, octets: bytes, mode: int | None) -> None:
     beside = target.with_name(f".{target.name[:200]}.{os.getpid()}")
     descriptor = os.open(beside, os.O_WRONLY | os.O_CREAT | os.O_EXCL, 0o666)
     try:
         with open(descriptor, "wb") as file:
             file.write(octets)
+            if mode is not None:
+                os.fchmod(descriptor, stat.S_IMODE(mode))
         beside.replace(target)
     except BaseException:
         beside.unlink(missing_ok=True)

@@ -14,6 +14,7 @@ from pdsuite.commands.list import list_scripts
 from pdsuite.commands.run import Wish, run
 from pdsuite.faults import Fault, why
 from pdsuite.octets import shown, shown_text
+from pdsuite.packages import need
 from pdsuite.page.plots import MOST, Plots
 from pdsuite.reports.as_json import Json
 from pdsuite.reports.form import Form
@@ -51,6 +52,19 @@ class _Part(click.ParamType):
         if shard is None:
             self.fail(f"{shown_text(str(value))} is no K/N, with K from 1 to N.", param, ctx)
         return shard
+
+
+class _Reason(click.ParamType):
+    """Why a script is known not to pass, in a line."""
+
+    name = "text"
+
+    def convert(self, value: str, param: click.Parameter | None, ctx: click.Context | None) -> str:
+        if not value.strip():
+            self.fail("it is empty, and so says nothing.", param, ctx)
+        if not value.isprintable():
+            self.fail("it is no line of characters that print.", param, ctx)
+        return value
 
 
 def _print_version(context: click.Context, option: click.Parameter, on: bool) -> None:
@@ -238,6 +252,30 @@ def list_command(
     """Lists the scripts with their settings, and runs nothing."""
     with Screen(wants_color() and not no_color, progress=False) as screen:
         return list_scripts(paths, only, shard, last_failed, settings, screen)
+
+
+@pdsuite.command(name="expect")
+@_choice
+@_workers
+@click.option("--reason", metavar="TEXT", type=_Reason(), help="Why those that don't pass are known.")
+def expect_command(
+    paths: tuple[Path, ...],
+    only: tuple[str, ...],
+    settings: str,
+    no_color: bool,
+    workers: int | None,
+    reason: str | None,
+) -> int:
+    """Writes into pdsuite.toml which scripts are known not to pass.
+
+    The rows that they have now are expected from then on, with --reason. What is expected of scripts that pass is taken
+    away. All else in the files stays.
+    """
+    need("tomlkit")
+    from pdsuite.commands.expect import Wish, expect
+
+    with Screen(wants_color() and not no_color, progress=True) as screen:
+        return expect(Wish(paths, only, settings, _threads(workers), reason), screen)
 
 
 @pdsuite.command(name="diff")

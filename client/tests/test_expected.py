@@ -306,7 +306,7 @@ def test_a_row_that_is_expected_of_no_script_is_a_fault_of_the_file(stand_in: Pa
     write(tmp_path, known=b"row fail 1 seq\n")
     (tmp_path / "pdsuite.toml").write_text('root = true\n["knwon.pkt"]\nexpect = "fail"\nreason = "x"\n')
     said = 'pdsuite.toml: ["knwon.pkt"]: no script of this name is beside the file; the nearest is known.pkt\n'
-    for command in ("run", "list"):
+    for command in ("run", "list", "expect"):
         called = call(stand_in, command, ".")
         assert (called.status, called.out, called.err) == (2, "", said)
 
