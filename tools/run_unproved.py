@@ -7,7 +7,6 @@ from __future__ import annotations
 
 import contextlib
 import os
-import re
 import sys
 import tempfile
 from pathlib import Path
@@ -46,12 +45,6 @@ def way_to_prove(program: str) -> str:
         if trying.TOP == Path.cwd():
             command = "./prove"
     return f"{command} {program}"
-
-
-def placed(program: str, said: bytes) -> bytes:
-    """What is said, with whole paths of the files of the program's own crate."""
-    folder = os.fsencode(trying.TOP / "crates" / program)
-    return re.sub(rb"^(?=src/|specs/|proofs/)", lambda _: folder + b"/", said, flags=re.MULTILINE)
 
 
 def check_words(words: list[str]) -> None:
@@ -121,7 +114,7 @@ def main() -> int:
         say(program, str(fault))
     except trying.Untried as untried:
         say(program, f"unproved: {untried}")
-        put(2, placed(program, untried.reason.said))
+        put(2, trying.placed(program, untried.reason.said))
     except OSError as error:
         say(program, f"unproved: NoRoom: {error}")
     except stopping.Stopped as signal:

@@ -1,13 +1,16 @@
-"""Runs a program on many cases without proofs, after one build: try_cases.py [--seconds N] PROGRAM CASES ANSWERS
+"""Runs a program on many cases without proofs, after one build:
 
-The folder CASES has for each case a file NAME, its input, and a file NAME.args, its words, one a line. The folder
-ANSWERS gets NAME.output and NAME.errors, what the program wrote, and NAME.status: a number, or where there is none why,
+try_cases.py [--seconds N] [--tree FOLDER] PROGRAM CASES ANSWERS [-- WORD..]
+
+The program is the one of this tree, or of the one below FOLDER. The folder CASES has for each case a file NAME, its
+input, and a file NAME.args, its words, one a line; each WORD stands before these in every case. The folder ANSWERS gets NAME.output and NAME.errors, what the program wrote, and NAME.status: a number, or where there is none why,
 as `TooSlow: the program didn't end within 60 seconds`. Where nothing was run, a line on standard error says why, with
 what was said, and the status is 2; else it is 0.
 """
 from __future__ import annotations
 
 import argparse
+import os
 import sys
 import tempfile
 from pathlib import Path
@@ -43,17 +46,20 @@ def put(folder: Path, name: str, tried: trying.Tried) -> None:
 def run(asked: argparse.Namespace) -> None:
     cases = cases_in(asked.cases)
     with tempfile.TemporaryDirectory(prefix=f"{asked.program}-") as room:
-        answers = trying.run_cases(asked.program, list(cases.values()), Path(room), asked.seconds)
+        words = [os.fsencode(it) for it in asked.words]
+        answers = trying.run_cases(asked.program, list(cases.values()), Path(room), asked.seconds, words, asked.tree)
     for name, tried in zip(cases, answers):
         put(asked.answers, name, tried)
 
 
 def main() -> int:
-    parser = argparse.ArgumentParser(allow_abbrev=False, description=(__doc__ or "").partition("\n")[0])
+    parser = argparse.ArgumentParser(allow_abbrev=False, description=(__doc__ or "").partition(":\n")[0])
     parser.add_argument("--seconds", type=int, default=trying.SECONDS, help="what a case may take")
+    parser.add_argument("--tree", metavar="FOLDER", type=Path, default=trying.TOP, help="the tree of the program")
     parser.add_argument("program", metavar="PROGRAM")
     parser.add_argument("cases", metavar="CASES", type=Path)
     parser.add_argument("answers", metavar="ANSWERS", type=Path)
+    parser.add_argument("words", metavar="WORD", nargs="*", help="a word of every case")
     asked = parser.parse_args()
     stopping.heed()
     try:
@@ -61,7 +67,7 @@ def main() -> int:
     except trying.Untried as untried:
         print(f"{asked.program}: unproved: {untried}", file=sys.stderr)
         sys.stderr.flush()
-        sys.stderr.buffer.write(untried.reason.said)
+        sys.stderr.buffer.write(trying.placed(asked.program, untried.reason.said, asked.tree.absolute()))
         return FAULT
     except stopping.Stopped as signal:
         stopping.end_by(signal.number)

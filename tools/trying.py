@@ -1,7 +1,8 @@
 """Runs programs without proofs, by the kit's `rt try`, which builds the program anew at each call, in about a minute.
 
 `run_once` runs a program on one input, `run_cases` on many after one build. The tree is only read: what is written goes
-into a folder that the caller names. Where there is no answer, a name that stays and a sentence say why.
+into a folder that the caller names. Where there is no answer, a name that stays and a sentence say why. The programs are
+those of this tree, or of another whose folder is named.
 """
 from __future__ import annotations
 
@@ -88,8 +89,18 @@ def run_once(program: str, words: Sequence[bytes], given: Path, room: Path, seco
     return answer_of(called, called.output, called.said, seconds)
 
 
-def run_cases(program: str, cases: Sequence[Case], room: Path, seconds: int = SECONDS) -> list[Tried]:
-    """What a program answers to each case, in whose words is no newline. Outputs get one at their end if need be."""
+def run_cases(
+    program: str,
+    cases: Sequence[Case],
+    room: Path,
+    seconds: int = SECONDS,
+    words: Sequence[bytes] = (),
+    top: Path = TOP,
+) -> list[Tried]:
+    """What a program answers to each case, in whose own words is no newline; those of all cases may have some.
+
+    Outputs get a newline at their end if need be.
+    """
     if not cases:
         return []
     # By chance no program writes such a name.
@@ -99,7 +110,8 @@ def run_cases(program: str, cases: Sequence[Case], room: Path, seconds: int = SE
     folder.mkdir()
     for name, case in zip(names, cases):
         write_case(folder / name.decode(), case)
-    called = call(program, [b"--seconds", b"%d" % seconds, b"--cases", os.fsencode(folder)], Path(os.devnull), room)
+    asked = [b"--seconds", b"%d" % seconds, b"--cases", os.fsencode(folder), *([b"--", *words] if words else [])]
+    called = call(program, asked, Path(os.devnull), room, top)
     shutil.rmtree(folder)
     outputs = dict(parted(rb"^== (%b-\d+)\n" % token.encode(), called.output))
     return [
@@ -164,14 +176,20 @@ def find_kit() -> None:
         raise Untried(NoAnswer("NoKit", "the Rattle kit's command 'rt' has to be on the PATH"))
 
 
-def call(program: str, words: Sequence[bytes], given: Path, room: Path) -> Called:
+def placed(program: str, said: bytes, top: Path = TOP) -> bytes:
+    """What is said, with whole paths of the files of the program's own crate."""
+    folder = os.fsencode(top / "crates" / program)
+    return re.sub(rb"^(?=src/|specs/|proofs/)", lambda _: folder + b"/", said, flags=re.MULTILINE)
+
+
+def call(program: str, words: Sequence[bytes], given: Path, room: Path, top: Path = TOP) -> Called:
     """Calls `rt try` on a program. Whatever ends this, ends what was started."""
     find_kit()
     output, said = room / "output", room / "said"
     with given.open("rb") as input_file, output.open("wb") as output_file, said.open("wb") as said_file:
         process = subprocess.Popen(
             [b"rt", b"try", *words],
-            cwd=TOP / "crates" / program,
+            cwd=top / "crates" / program,
             stdin=input_file,
             stdout=output_file,
             stderr=said_file,

@@ -179,15 +179,28 @@ many() { # what is answered to cases: `try_cases.py` WORD..
     printf 'status\n3\n' >"$work/cases/b.args"
     : >"$work/cases/c.args"
     printf 'lasts\n' >"$work/cases/d.args"
-    with_rt python3 -B "$build/tools/try_cases.py" "$@" "$work/cases" "$work/answers" || return
+    # shellcheck disable=SC2086
+    with_rt python3 -B "${at:-$build}/tools/try_cases.py" "$@" "$work/cases" "$work/answers" ${first:+-- $first} || return
     for file in "$work"/answers/*; do echo "${file##*/}: $(cat "$file")"; done
+}
+
+many_with_a_word() { # PROGRAM
+    first=one many "$1" | sed -n '/^[ac].output/p'
+}
+
+many_of_another_tree() { # PROGRAM
+    at=$work/other many --tree "$build" "$1" | sed -n '/^[ac].output/p'
 }
 
 test_cases() {
     expect cases "$(printf '%s\n' 'a.errors: said' 'a.output: pdsteps x y octets=2' 'a.status: 0' 'b.errors: ' 'b.output: ' 'b.status: 3' \
         'c.errors: said' 'c.output: pdsteps  octets=2' 'c.status: 0' 'd.errors: ' 'd.output: ' "d.status: TooSlow: the program didn't end within 7 seconds"; echo status 0)" many --seconds 7 pdsteps
+    expect cases-with-words-before-their-own "$(printf '%s\n' 'a.output: pdsteps one x y octets=2' 'c.output: pdsteps one octets=2'; echo status 0)" many_with_a_word pdsteps
+    mkdir "$work/other"
+    cp -R "$build/tools" "$work/other"
+    expect cases-of-another-tree "$(printf '%s\n' 'a.output: pdsteps x y octets=2' 'c.output: pdsteps  octets=2'; echo status 0)" many_of_another_tree pdsteps
     echo wrong >>"$build/crates/low/src/lib.rt"
-    expect cases-of-what-does-not-compile "$(printf '! %s\n' "pdsteps: unproved: NotCompiled: the program doesn't compile" 'src/lib.rt:1:2: error[mismatched-types]: wrong'; echo status 2)" many pdsteps
+    expect cases-of-what-does-not-compile "$(printf '! %s\n' "pdsteps: unproved: NotCompiled: the program doesn't compile" "$build/crates/pdsteps/src/lib.rt:1:2: error[mismatched-types]: wrong"; echo status 2)" many pdsteps
     sed -i /wrong/d "$build/crates/low/src/lib.rt"
     expect cases-where-the-tool-stops "$(printf '! %s\n' 'pdsteps: unproved: ToolFailed: `rt try` ended with status 2'; echo status 2)" env STOPS=1 sh -c "PATH='$top/tools/tests/edges/stand_in:$PATH' python3 -B '$build/tools/try_cases.py' pdsteps '$work/cases' '$work/answers'"
 }
