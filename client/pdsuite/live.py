@@ -14,8 +14,10 @@ from pdsuite.turns import Wanted
 
 # So many rows of a kind are shown, and so many blocks.
 _MOST = 10
-_STATE = "  state: "
+# What these begin are words and facts, which nobody pastes.
+_PROSE = ("  state: ", "  reason: ", "  rule: ", "  expected: ")
 _INDENT = "    "
+_LEAST = 20
 
 
 class Live(News):
@@ -37,7 +39,7 @@ class Live(News):
 
     def head(self) -> Styled:
         """A line with the time of day, across the terminal."""
-        return Styled([(f"\u2500\u2500 {time.strftime('%H:%M:%S')} ".ljust(self._width() - 1, "\u2500") + "\n", "dim")])
+        return Styled([(f"\u2500\u2500 {time.strftime('%H:%M:%S')} ".ljust(self._columns(), "\u2500") + "\n", "dim")])
 
     def rows(self, before: Outcomes, after: Outcomes, moves: Sequence[Move]) -> Styled:
         """The folders that moved, and a few of the other rows of each kind."""
@@ -62,18 +64,22 @@ class Live(News):
         """The totals that aren't 0."""
         totals = totals_of(outcomes)
         line = f"{totals.brief()} in {seconds:.2f} s"
-        return Styled([("\n".join(textwrap.wrap(line, self._width() - 1)) + "\n", style_of(totals))])
+        return Styled([("\n".join(textwrap.wrap(line, self._columns())) + "\n", style_of(totals))])
+
+    def _columns(self) -> int:
+        """How long a line may be, so that no terminal begins another one after it."""
+        return max(_LEAST, self._width() - 1)
 
     def _fitting(self, text: Styled) -> Styled:
-        """The text, whose lines of states are broken at blanks where they don't fit."""
+        """The text, whose lines of words and facts are broken at blanks where they don't fit."""
         return Styled([("".join(map(self._broken, it.splitlines(keepends=True))), style) for it, style in text.pieces])
 
     def _broken(self, line: str) -> str:
-        if not line.startswith(_STATE):
+        if not line.startswith(_PROSE):
             return line
         lines = textwrap.wrap(
             line,
-            self._width() - 1,
+            self._columns(),
             subsequent_indent=_INDENT,
             break_long_words=False,
             break_on_hyphens=False,

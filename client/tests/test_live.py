@@ -5,10 +5,12 @@ import os
 import pty
 import re
 import select
+import signal
 import struct
 import subprocess
 import termios
-from collections.abc import Mapping
+from collections.abc import Iterator, Mapping
+from contextlib import contextmanager
 from pathlib import Path
 
 import pytest
@@ -71,6 +73,18 @@ def test_a_state_is_broken_at_blanks_and_a_packet_is_not_broken() -> None:
     assert [it[:4] for it in lines[2:5]] == ["  st", "    ", "    "]
 
 
+def test_a_reason_is_broken_at_blanks_and_a_short_line_stays() -> None:
+    words = "reason: all that is queued was sent, up to 1001, and only the timer sends the oldest again (RFC 6298)"
+    told = (words, "rule: a command", f"{'x' * 100} y")
+    outcome = Outcome("a.pkt", (), FAIL, None, "so it is", told)
+    assert live().first({"a.pkt": outcome}, False, 0.01).plain.splitlines()[1:-1] == [
+        "  reason: all that is queued was sent, up to 1001, and only the timer sends the",
+        "    oldest again (RFC 6298)",
+        "  rule: a command",
+        f"  {'x' * 100} y",
+    ]
+
+
 def test_totals_have_no_zeros_and_fit() -> None:
     outcomes = report(PASS, *names(123))
     assert live().foot(outcomes, 0.5).plain == "total 123 pass 123 in 0.50 s\n"
@@ -87,6 +101,12 @@ def test_totals_have_no_zeros_and_fit() -> None:
 def test_a_rule_with_the_time_of_day_goes_across() -> None:
     line = live(60).head().plain
     assert re.fullmatch(r"\u2500\u2500 \d\d:\d\d:\d\d \u2500{47}\n", line)
+
+
+def test_a_terminal_without_columns_has_a_few() -> None:
+    for width in (0, 1, 2):
+        lines = live(width).first(report(FAIL, "a.pkt"), False, 0.01).plain.splitlines()
+        assert lines[2] == "  state: ESTABLISHED" and len(live(width).head().plain) == 21
 
 
 def test_of_many_that_turn_ten_are_shown_then_how_many_more_and_the_command() -> None:
@@ -177,6 +197,13 @@ class OnTerminal:
         self._process.wait()
         os.close(self._near)
 
+    @contextmanager
+    def stopped(self) -> Iterator[None]:
+        """Has it see nothing of what happens in the meantime but the end."""
+        self._process.send_signal(signal.SIGSTOP)
+        yield
+        self._process.send_signal(signal.SIGCONT)
+
     def wait_for(self, words: str) -> list[str]:
         """Waits until words are shown; the lines up to there since those that were waited for before."""
         while words not in (shown := self._shown()):
@@ -199,8 +226,11 @@ def test_on_a_terminal_a_save_begins_with_the_time_of_day(stand_in: Path, tmp_pa
         block = f"row fail 2 seq\n{PACKET}\n{STATE}\n".encode()
         beside = tmp_path / "beside"
         write(beside, **{f"s{number:02}": block for number in range(30)})
-        (tmp_path / "t").rename(tmp_path / "away")
-        beside.rename(tmp_path / "t")
+        for path in beside.iterdir():
+            os.utime(path, (1, 1))  # nobody writes them any more
+        with terminal.stopped():
+            (tmp_path / "t").rename(tmp_path / "away")
+            beside.rename(tmp_path / "t")
         lines = terminal.wait_for("total 30 fail 30 in ")
         rules = [it for it in lines if re.fullmatch(r"\u2500\u2500 \d\d:\d\d:\d\d \u2500+", it)]
         assert rules and all(len(it) < 80 or it.startswith(f"  {PACKET[:9]}") for it in lines)
