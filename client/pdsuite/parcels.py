@@ -2,7 +2,6 @@
 
 import os
 from collections.abc import Callable, Iterator
-from dataclasses import replace
 from itertools import chain, islice
 from pathlib import Path
 
@@ -106,7 +105,7 @@ def _plain_row(it: Outcome) -> PlainRow:
 
 def _outcome(script: Script, plain: PlainRow) -> Outcome:
     verdict, number, word, line, meaning, told = plain
-    return replace(outcome_of(script, Row(Verdict(verdict), number, word), line), why=meaning, told=told)
+    return outcome_of(script, Row(Verdict(verdict), number, word), line, meaning, told)
 
 
 def _find(programs: Programs) -> dict[str, Path]:

@@ -118,11 +118,11 @@ class Outcome:
 
 @dataclass(frozen=True)
 class Totals:
-    """How many scripts are counted how, how many warnings there are, and whether some of these make a run fail."""
+    """How many scripts are counted how, how many warnings there are, and how many of those that pass fail by one."""
 
     counts: dict[Verdict | Tally, int]
     warnings: int = 0
-    is_strict: bool = False
+    failing: int = 0
 
     @classmethod
     def of(cls, outcomes: Iterable[Outcome]) -> "Totals":
@@ -134,11 +134,17 @@ class Totals:
             counts[tally] += 1
             if outcome.warnings:
                 warned.append(outcome)
-        return cls(counts, sum(len(it.warnings) for it in warned), any(it.is_strict for it in warned))
+        failing = sum(it.is_strict and it.expected is None for it in warned)
+        return cls(counts, sum(len(it.warnings) for it in warned), failing)
 
     @property
     def scripts(self) -> int:
         return sum(self.counts.values())
+
+    @property
+    def passing(self) -> int:
+        """How many scripts pass, and fail by no warning."""
+        return self.counts[Verdict.PASS] - self.failing
 
     def __str__(self) -> str:
         counts = [f"{it.value} {count}" for it, count in self.counts.items() if count or isinstance(it, Verdict)]
@@ -155,4 +161,4 @@ class Totals:
         """The exit status: 0 where each script passes or is known not to, 2 where one couldn't be run, else 1."""
         if self.counts[Verdict.ERROR]:
             return 2
-        return 0 if self.counts[Verdict.PASS] + self.counts[Tally.KNOWN] == self.scripts and not self.is_strict else 1
+        return 0 if self.passing + self.counts[Tally.KNOWN] == self.scripts else 1

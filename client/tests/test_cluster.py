@@ -20,7 +20,7 @@ from tests.helpers import FAILS, HANGS, PASSES, TOP, Call, ends, wait_for, write
 
 pytest.importorskip("distributed", reason="python3-distributed isn't installed")
 
-_SECONDS = re.compile(r' in [0-9.]+ s$|"seconds": [0-9.]+|time="[0-9.]+"', re.MULTILINE)
+_SECONDS = re.compile(r' in [0-9.]+ s$|"seconds": [0-9.]+|time="[0-9.]+"|timestamp="[0-9T:-]+"', re.MULTILINE)
 Add = Callable[..., LocalCluster]
 
 # pdsuite, but for how long it waits for a worker: on a busy machine a nanny takes its time.

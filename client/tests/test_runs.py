@@ -144,3 +144,4 @@ def test_a_script_without_an_event_is_a_warning_that_counts_where_it_is_strict()
     counted = Totals.of([empty, strict, outcome(Verdict.PASS)])
     assert str(counted).endswith("total 3 pass 3 fail 0 syntax 0 unsupported 0 limit 0 error 0 not run 0 warnings 2")
     assert [Totals.of(it).status() for it in ([empty], [strict], [strict, outcome(Verdict.ERROR)])] == [0, 1, 2]
+    assert (counted.passing, counted.warnings) == (2, 2)

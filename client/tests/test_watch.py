@@ -232,7 +232,8 @@ def test_a_text_over_the_limits_is_a_row_that_the_next_save_mends(programs: Path
         write(tmp_path, a=b"\n" * 4_097)
         watching.await_out("a.pkt: error: more than 4,096 lines\n" + total(error=1))
         write(tmp_path, a=b"\n" * 4_096)
-        watching.await_out("a.pkt: pass 0\n" + total(**{"pass": 1}))
+        said = f"a.pkt: pass 0\na.pkt: passes, but has no event\n{total(**{'pass': 1})}"
+        watching.await_out(said.replace(" in ", " warnings 1 in "))
         (tmp_path / "a.pkt").unlink()
         (tmp_path / "a.pkt").symlink_to("nowhere")
         watching.await_out("a.pkt: error: No such file or directory\n")

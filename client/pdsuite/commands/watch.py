@@ -118,7 +118,7 @@ class View:
     def tell(self, doing: str) -> None:
         """Keeps at the bottom of a terminal how many scripts pass, and what is running."""
         totals = totals_of(self.outcomes)
-        passing = "" if self.status is None else f"{totals.counts[Verdict.PASS]:,} of {totals.scripts:,} pass"
+        passing = "" if self.status is None else f"{totals.passing:,} of {totals.scripts:,} pass"
         self._screen.bottom(", ".join(it for it in (passing, doing) if it))
 
 
