@@ -1,5 +1,6 @@
 """Asks the program, in a run without scripts, which settings it takes."""
 
+import re
 from collections.abc import Callable, Iterable
 from contextlib import suppress
 
@@ -12,6 +13,8 @@ from pdsuite.suite import Claim
 
 # Why the program refuses a key or its value; any other refusal ends the run.
 _REFUSALS = ("UnknownKey", "BadValue")
+# Where the answer to a question ends.
+_AFTER_TOTAL = re.compile(rb"(?<=pending 0\n)")
 
 # What was asked about already, and why it is refused, if it is.
 _Known = dict[tuple[str, str], str | None]
@@ -36,13 +39,37 @@ def _refused(claims: list[Claim], known: _Known, start: Callable[[], Program]) -
             words = set_words(claim.key, claim.value)
             if words not in known:
                 known[words] = _answer(words, program)
+    return _told(claims, known)
+
+
+def questions(claims: Iterable[Claim]) -> list[tuple[str, str]]:
+    """What is asked where all is asked at once: each key with its value, once."""
+    return list(dict.fromkeys(set_words(it.key, it.value) for it in claims))
+
+
+def refused_at_once(claims: Iterable[Claim], answer: bytes) -> list[str]:
+    """The lines of the claims that the program refuses, by its answer to `set_and_show` of all questions."""
+    each = list(claims)
+    asked = questions(each)
+    *parts, rest = _AFTER_TOTAL.split(answer)
+    # The last part is the report at the end.
+    if rest or len(parts) != len(asked) + 1:
+        raise Ended(f"pdregress answered {len(parts) - 1} of {len(asked)} questions")
+    return _told(each, {words: _reason(part) for words, part in zip(asked, parts)})
+
+
+def _told(claims: Iterable[Claim], known: _Known) -> list[str]:
     reasons = ((claim, known[set_words(claim.key, claim.value)]) for claim in claims)
     return [claim.refused(reason) for claim, reason in reasons if reason is not None]
 
 
 def _answer(words: tuple[str, str], program: Program) -> str | None:
     """Why the program refuses a key with its value, if it does."""
-    answer = program.ask(set_and_show(*words), 3 * LONGEST_LINE)
+    return _reason(program.ask(set_and_show(*words), 3 * LONGEST_LINE))
+
+
+def _reason(answer: bytes) -> str | None:
+    """Why a key with its value is refused, by the answer to both, if it is."""
     reason = refusal_in(answer)
     _check(answer, answer.split(b"\n", 1)[0] + b"\n" if reason in _REFUSALS else b"")
     return reason

@@ -91,10 +91,11 @@ class Explainer:
         blocks = self._asker.told(step)
         if not blocks:
             return step.outcomes
-        return [(script, _with(outcome, blocks.get(script.index))) for script, outcome in step.outcomes]
+        return [(script, with_block(outcome, blocks.get(script.index))) for script, outcome in step.outcomes]
 
 
-def _with(outcome: Outcome, block: Sequence[bytes] | None) -> Outcome:
+def with_block(outcome: Outcome, block: Sequence[bytes] | None) -> Outcome:
+    """The outcome with what a block tells of it."""
     if not block:
         return outcome
     why, told = _told(block, outcome.row)

@@ -152,6 +152,7 @@ def _wanted(html: Path | None, plot: str | None, plots: int | None) -> Plots:
 @_html
 @_plots
 @click.option("--scheduler", metavar="ADDRESS", help="Run scripts on the cluster of this Dask scheduler.")
+@click.option("--proved", is_flag=True, help="Run nothing that isn't proved.")
 @click.option("--fail-fast", is_flag=True, help="Stop at the first piece that doesn't pass.")
 @click.option(
     "--junit",
@@ -177,6 +178,7 @@ def run_command(
     plot: str | None,
     plots: int | None,
     scheduler: str | None,
+    proved: bool,
     fail_fast: bool,
     junit: Path | None,
     form: str | None,
@@ -199,6 +201,7 @@ def run_command(
         is_strict=strict,
         workers=_threads(workers),
         scheduler=scheduler,
+        is_proved=proved,
         fail_fast=fail_fast,
         junit=junit,
         summary=_summary(form),

@@ -1,4 +1,7 @@
-"""The built programs: where they are, and how they are started and asked. No other module starts a process."""
+"""The built programs: where they are, and how they are started and asked.
+
+No module but this one and `tree` starts a process.
+"""
 
 import contextlib
 import fcntl
@@ -21,6 +24,8 @@ TOP = Path(__file__).resolve().parents[2]
 FOLDER = "PDSUITE_PROGRAMS"
 # In a package: its version, and the commit that it was made of. The programs are then installed, too.
 PACKED = TOP / "version"
+# In a tree: what runs its programs as they stand, without proofs.
+TOOL = TOP / "tools/try_cases.py"
 REGRESS = "pdregress"
 EXPLAIN = "pdexplain"
 RECORD = "pdrecord"
@@ -40,6 +45,10 @@ class Ended(Exception):
     """A program ended, or has to be ended; the text says so, in the program's own words where it has any."""
 
 
+class Unproved(Fault):
+    """That a program isn't proved and built, or has changed since."""
+
+
 def locate(name: str) -> Path:
     """The built program of this name."""
     if folder := os.environ.get(FOLDER):
@@ -56,7 +65,7 @@ def locate(name: str) -> Path:
         process_group=0,  # a key of the terminal ends the client alone
     )
     if said.returncode:
-        raise Fault(shown(said.stderr.strip()))
+        raise Unproved(shown(said.stderr.strip()))
     return Path(os.fsdecode(said.stdout.removesuffix(b"\n")))
 
 

@@ -1,6 +1,7 @@
 """A report while it grows: outcomes come run by run, and are shown in the order of paths."""
 
 from collections.abc import Iterable, Iterator, Sequence
+from dataclasses import replace
 
 
 from pdsuite.reports.form import Form
@@ -13,8 +14,9 @@ from pdsuite.styled import Styled
 class Report:
     """The outcomes that were shown, and those that wait for earlier ones."""
 
-    def __init__(self, scripts: Sequence[Script], form: Form, screen: Screen) -> None:
+    def __init__(self, scripts: Sequence[Script], form: Form, screen: Screen, is_unproved: bool = False) -> None:
         self.outcomes: list[Outcome] = []
+        self.is_unproved = is_unproved
         self._scripts = scripts
         self._form = form
         self._screen = screen
@@ -41,9 +43,13 @@ class Report:
         """Shows what is left, and the totals."""
         self._screen.clear()
         self._show(self.left())
-        totals = Totals.of(self.outcomes)
+        totals = self.totals(self.outcomes)
         self._screen.show(self._form.foot(totals, seconds))
         return totals
+
+    def totals(self, outcomes: Iterable[Outcome]) -> Totals:
+        """The totals of outcomes of this report."""
+        return replace(Totals.of(outcomes), is_unproved=self.is_unproved)
 
     def _ready(self) -> Iterator[Outcome]:
         """The outcomes that wait for none before them."""

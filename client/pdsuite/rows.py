@@ -7,6 +7,9 @@ from enum import StrEnum
 from pdsuite.expected import Expected
 from pdsuite.settings import Settings
 
+# Stands in each report of a sender that isn't proved.
+UNPROVED = "UNPROVED"
+
 
 class Verdict(StrEnum):
     """What came of a script: as the program says it, or why the program couldn't say."""
@@ -118,11 +121,15 @@ class Outcome:
 
 @dataclass(frozen=True)
 class Totals:
-    """How many scripts are counted how, how many warnings there are, and how many of those that pass fail by one."""
+    """How many scripts are counted how, how many warnings there are, and how many of those that pass fail by one.
+
+    And whether the sender isn't proved, which the last line of a report says.
+    """
 
     counts: dict[Verdict | Tally, int]
     warnings: int = 0
     failing: int = 0
+    is_unproved: bool = False
 
     @classmethod
     def of(cls, outcomes: Iterable[Outcome]) -> "Totals":
@@ -145,6 +152,11 @@ class Totals:
     def passing(self) -> int:
         """How many scripts pass, and fail by no warning."""
         return self.counts[Verdict.PASS] - self.failing
+
+    @property
+    def mark(self) -> str:
+        """What ends the last line where the sender isn't proved."""
+        return f" {UNPROVED}" if self.is_unproved else ""
 
     def __str__(self) -> str:
         counts = [f"{it.value} {count}" for it, count in self.counts.items() if count or isinstance(it, Verdict)]

@@ -69,7 +69,7 @@ def without_programs() -> dict[str, str]:
     return {key: value for key, value in os.environ.items() if key != "PDSUITE_PROGRAMS"}
 
 
-@pytest.mark.parametrize("words", [["run", "client"], ["--version"]])
+@pytest.mark.parametrize("words", [["run", "--proved", "client"], ["--version"]])
 def test_a_program_that_is_not_built_is_named_with_its_command(words: list[str], tmp_path: Path) -> None:
     command = copied(tmp_path)
     write(tmp_path / "client", a=PASSES)
@@ -93,7 +93,8 @@ def test_a_program_older_than_its_sources_is_not_taken(stand_in: Path, tmp_path:
     environment = without_programs()
 
     def status() -> int:
-        return subprocess.run([command, "run", "suite"], cwd=tmp_path, env=environment, capture_output=True).returncode
+        words = [command, "run", "--proved", "suite"]
+        return subprocess.run(words, cwd=tmp_path, env=environment, capture_output=True).returncode
 
     os.utime(source, (1, 1))
     assert status() == 0
@@ -239,7 +240,8 @@ def test_a_program_whose_crates_are_not_known_is_not_taken(stand_in: Path, tmp_p
             (tmp_path / "crates.txt").unlink()
         else:
             (tmp_path / "crates.txt").write_text(lines)
-        done = subprocess.run([command, "run", "suite"], cwd=tmp_path, env=environment, capture_output=True, text=True)
+        words = [command, "run", "--proved", "suite"]
+        done = subprocess.run(words, cwd=tmp_path, env=environment, capture_output=True, text=True)
         assert (done.returncode, done.stdout) == (2, "")
         assert done.stderr.splitlines()[-1].endswith(said)
 

@@ -18,12 +18,12 @@ from pdsuite.here import here
 from pdsuite.lost import lost_in
 from pdsuite.packages import need
 from pdsuite.page.plots import Plots
-from pdsuite.programs import EXPLAIN, REGRESS, Program, digest, locate
+from pdsuite.programs import EXPLAIN, REGRESS, TOOL, TOP, Program, Unproved, digest, locate
+from pdsuite.protocol import Cause
 from pdsuite.report import Report
 from pdsuite.reports.form import Form
 from pdsuite.reports.github import summary_of
 from pdsuite.reports.plain import Plain
-from pdsuite.rows import Totals
 from pdsuite.runs import Script, runs_of
 from pdsuite.screen import Screen, say
 from pdsuite.settle import Again, Mapper, Settled, Step, start_with
@@ -34,6 +34,7 @@ from pdsuite.text import Text
 
 if TYPE_CHECKING:
     from pdsuite.page.drawing import Drawing
+    from pdsuite.unproved import Tried
 
 
 @dataclass(frozen=True)
@@ -49,6 +50,7 @@ class Wish:
     is_strict: bool
     workers: int
     scheduler: str | None
+    is_proved: bool  # whether nothing else may run
     fail_fast: bool
     junit: Path | None
     summary: Path | None
@@ -73,23 +75,56 @@ def run(wish: Wish, form: Form, screen: Screen) -> int:
                 screen.note(f"pdsuite: {part.nothing()}")
             if wish.new:
                 form = only_new(form, Plain(True) if isinstance(form, Plain) else form, wish.paths, screen.note)
-            programs = {name: locate(name) for name in (REGRESS, EXPLAIN)}
-            asked = refused(suite.claims(), lambda: Program([programs[REGRESS]], stop))
+            programs = _proved(wish)
+            if programs is None:
+                return _run_unproved(suite, scripts, wish, form, screen, begin, stop)
+            regress = programs[REGRESS]
+            asked = refused(suite.claims(), lambda: Program([regress], stop))
             if lines := [*lost_in(suite), *asked]:
-                for line in lines:
-                    say(line)
-                return 2
+                return _refuse(lines)
             with _mapper(wish, programs, stop, screen.note) as mapper:
                 return _run(mapper, scripts, wish, form, screen, begin, stop)
         except Stopped as stopped:
             return stopped.status
 
 
-def _drawing(folder: Path, plots: Plots, screen: Screen) -> "Drawing":
+def _refuse(lines: Iterable[str]) -> int:
+    for line in lines:
+        say(line)
+    return 2
+
+
+def _proved(wish: Wish) -> dict[str, Path] | None:
+    """The proved programs, or none where the sender may run without proofs."""
+    try:
+        return {name: locate(name) for name in (REGRESS, EXPLAIN)}
+    except Unproved:
+        if wish.is_proved or wish.scheduler is not None or not TOOL.is_file():
+            raise
+    return None
+
+
+def _run_unproved(
+    suite: Suite, scripts: Sequence[Script], wish: Wish, form: Form, screen: Screen, begin: float, stop: Stop
+) -> int:
+    """Runs the scripts by the sender as it stands, reports what came of them, and answers the exit status."""
+    # Only who has no proved programs pays for what does without them.
+    from pdsuite.unproved import first_line, run_unproved
+
+    if lines := lost_in(suite):
+        return _refuse(lines)
+    screen.note(f"pdsuite: {first_line()}")
+    tried = run_unproved(runs_of(scripts), suite.claims(), TOP, wish.html is not None, stop, screen.note)
+    if tried.refused:
+        return _refuse(tried.refused)
+    return _run(tried.steps, scripts, wish, form, screen, begin, stop, tried)
+
+
+def _drawing(folder: Path, plots: Plots, screen: Screen, is_unproved: bool) -> "Drawing":
     # Only who asks for a page pays for what draws it.
     from pdsuite.page.drawing import Drawing
 
-    return Drawing(folder, plots, screen.note)
+    return Drawing(folder, plots, screen.note, is_unproved)
 
 
 def _kept(steps: Iterable[Step], texts: dict[int, Text]) -> Iterator[Step]:
@@ -115,11 +150,18 @@ def _mapper(
 
 
 def _run(
-    mapper: Mapper, scripts: Sequence[Script], wish: Wish, form: Form, screen: Screen, begin: float, stop: Stop
+    mapper: Mapper,
+    scripts: Sequence[Script],
+    wish: Wish,
+    form: Form,
+    screen: Screen,
+    begin: float,
+    stop: Stop,
+    tried: "Tried | None" = None,
 ) -> int:
     """Runs the scripts by whoever is given, reports what came of them, and answers the exit status."""
-    drawing = None if wish.html is None else _drawing(wish.html, wish.plots, screen)
-    report = Report(scripts, form, screen)
+    report = Report(scripts, form, screen, is_unproved=tried is not None)
+    drawing = None if wish.html is None else _drawing(wish.html, wish.plots, screen, report.is_unproved)
     checking = Checking(stop, screen.note)
     texts: dict[int, Text] = {}
     ended: Stopped | Cut | None = None
@@ -137,7 +179,8 @@ def _run(
         leave(wish.paths, [*report.outcomes, *report.left()], wish.is_part, screen.note)
         _write_files(wish, report, time.monotonic() - begin)
         if drawing is not None and ended is None:
-            ended = _draw(drawing, report, texts, screen, stop)
+            causes = {} if tried is None else tried.causes
+            ended = _draw(drawing, report, texts, causes, screen, stop)
     if isinstance(ended, Stopped):
         return ended.status
     if ended is not None:
@@ -169,18 +212,25 @@ def _write_files(wish: Wish, report: Report, seconds: float) -> None:
         # Only who asks for this file pays for what writes it.
         from pdsuite.reports.junit import junit
 
-        write(wish.junit, junit([*report.outcomes, *report.left()], seconds))
+        write(wish.junit, junit([*report.outcomes, *report.left()], seconds, report.is_unproved))
     if wish.summary is not None:
         outcomes = [*report.outcomes, *report.left()]
-        append(wish.summary, summary_of(outcomes, Totals.of(outcomes)).encode())
+        append(wish.summary, summary_of(outcomes, report.totals(outcomes)).encode())
 
 
-def _draw(drawing: "Drawing", report: Report, texts: dict[int, Text], screen: Screen, stop: Stop) -> Stopped | None:
+def _draw(
+    drawing: "Drawing",
+    report: Report,
+    texts: Mapping[int, Text],
+    causes: Mapping[int, Cause],
+    screen: Screen,
+    stop: Stop,
+) -> Stopped | None:
     """Has the page drawn; the signal that ended it, if one did."""
     from pdsuite.page.sheets import Entry
 
     outcomes = [*report.outcomes, *report.left()]
-    entries = [Entry(it, texts.get(index)) for index, it in enumerate(outcomes)]
+    entries = [Entry(it, texts.get(index), cause=causes.get(index)) for index, it in enumerate(outcomes)]
     try:
         with drawing:
             drawing.follow(entries)

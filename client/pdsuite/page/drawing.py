@@ -24,11 +24,12 @@ _SHARE = 128
 class Drawing:
     """The page in a folder, and the processes that draw it; `note` is told why one has to end."""
 
-    def __init__(self, folder: Path, plots: Plots, note: Callable[[str], None]) -> None:
+    def __init__(self, folder: Path, plots: Plots, note: Callable[[str], None], is_unproved: bool = False) -> None:
         if plots.pattern is not None:
             need("matplotlib")
         prepare(folder)
         self._plots = plots
+        self._is_unproved = is_unproved
         self.has_failed = False
         self._folder = folder.absolute()
         self._note = note
@@ -89,7 +90,7 @@ class Drawing:
         plots = tuple(name for it in entries if it.plot is Plot.FILES for name in plot_files(it.outcome.path))
         for number in range(count):
             share = tuple(changed[number::count])
-            job = Job(self._folder, rows if number == 0 else None, plots, share)
+            job = Job(self._folder, rows if number == 0 else None, plots, share, self._is_unproved)
             self._workers[Worker(_DRAWER, job)] = share
 
     def _hear(self, worker: Worker, entries: Sequence[Entry]) -> None:

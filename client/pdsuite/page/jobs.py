@@ -23,31 +23,38 @@ from pdsuite.stop import Stop
 class Job:
     """The folder, the rows of the table if that is to be written, and the scripts whose pages are.
 
-    With the table the names come that files of diagrams may have, since all others are taken away.
+    With the table the names come that files of diagrams may have, since all others are taken away. Where the
+    sender isn't proved, the entries hold all that is told.
     """
 
     folder: Path
     rows: tuple[Row, ...] | None
     plots: tuple[str, ...]
     entries: tuple[Entry, ...]
+    is_unproved: bool = False
 
 
 def carry_out(job: Job, stop: Stop, done: Callable[[int], None]) -> None:
     """Does a job. `done` is told the place of each script whose page stands."""
     if job.rows is not None:
-        write(job.folder / TABLE, table_page(job.rows))
+        write(job.folder / TABLE, table_page(job.rows, job.is_unproved))
         sweep(job.folder, (it.file for it in job.rows), job.plots)
     scripts = [Script(place, it.outcome.path, it.outcome.settings) for place, it in enumerate(job.entries)]
     # Where it tells nothing of a script, that has been said when its row was shown.
-    asker = Asker(locate(EXPLAIN), CAUSES, stop, lambda line: None)
+    asker = None if job.is_unproved else Asker(locate(EXPLAIN), CAUSES, stop, lambda line: None)
     recorder = Recorder(stop, lambda line: None)
     for run in runs_of(scripts):
         for piece in run.pieces:
-            told = asker.told(_settled(piece, job.entries))
+            told = _known(piece, job.entries) if asker is None else asker.told(_settled(piece, job.entries))
             for script in piece:
                 stop.check()
                 _write_page(job, script.index, told.get(script.index), recorder)
                 done(script.index)
+
+
+def _known(piece: Sequence[Script], entries: Sequence[Entry]) -> dict[int, Cause]:
+    """What the entries tell of scripts."""
+    return {it.index: cause for it in piece if (cause := entries[it.index].cause) is not None}
 
 
 def _settled(piece: Sequence[Script], entries: Sequence[Entry]) -> Settled:
@@ -59,4 +66,4 @@ def _write_page(job: Job, place: int, cause: Cause | None, recorder: Recorder) -
     entry = job.entries[place]
     diagram = diagram_of(entry.outcome, entry.text, entry.plot, cause, recorder, job.folder)
     sheet = sheet_of(entry, cause, diagram)
-    write(job.folder / FOLDER / sheet.row.file, script_page(sheet))
+    write(job.folder / FOLDER / sheet.row.file, script_page(sheet, job.is_unproved))

@@ -37,11 +37,12 @@ def static(name: str) -> bytes:
     return octets + f"\n/* The colours of diagrams. */\n{rules(':root')}\n".encode() if name == _STYLE else octets
 
 
-def table_page(rows: Sequence[Row]) -> bytes:
+def table_page(rows: Sequence[Row], is_unproved: bool = False) -> bytes:
     """The page with the table: what fails stands first, and what is counted alike in the order of paths."""
     counts = Counter(it.tally for it in rows)
     tallies = [(it, counts[it]) for it in (*Verdict, *Tally) if counts[it]]
-    return _filled("table.html", rows=sorted(rows, key=_rank), tallies=tallies, folder=FOLDER)
+    ranked = sorted(rows, key=_rank)
+    return _filled("table.html", rows=ranked, tallies=tallies, folder=FOLDER, is_unproved=is_unproved)
 
 
 def _rank(row: Row) -> tuple[int, bool]:
@@ -49,9 +50,9 @@ def _rank(row: Row) -> tuple[int, bool]:
     return _RANKS.index(row.tally), row.tally is Verdict.PASS and not row.why
 
 
-def script_page(sheet: Sheet) -> bytes:
+def script_page(sheet: Sheet, is_unproved: bool = False) -> bytes:
     """The page of a script."""
-    return _filled("script.html", sheet=sheet, row=sheet.row, plots=PLOTS)
+    return _filled("script.html", sheet=sheet, row=sheet.row, plots=PLOTS, is_unproved=is_unproved)
 
 
 def _filled(name: str, **values: object) -> bytes:

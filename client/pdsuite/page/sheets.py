@@ -57,11 +57,15 @@ _STATE = {
 
 @dataclass(frozen=True, slots=True)
 class Entry:
-    """A script for the page: what came of it, its text where it was run, and whether its diagram is drawn."""
+    """A script for the page: what came of it, its text where it was run, and whether its diagram is drawn.
+
+    And what is told of it by keys, where that is known already.
+    """
 
     outcome: Outcome
     text: Text | None = None
     plot: Plot = Plot.NONE
+    cause: Cause | None = None
 
 
 @dataclass(frozen=True, slots=True)

@@ -6,7 +6,7 @@ from functools import cache
 
 from pdsuite.block import block
 from pdsuite.octets import shown_path
-from pdsuite.rows import Outcome, Tally, Totals, Verdict
+from pdsuite.rows import UNPROVED, Outcome, Tally, Totals, Verdict
 from pdsuite.settings import Settings
 from pdsuite.shards import Shard
 from pdsuite.styled import Styled, plainly
@@ -34,7 +34,8 @@ class Json:
             counts["warnings"] = totals.warnings
         total = json.dumps({"scripts": totals.scripts, **counts})
         shard = "" if self.shard is None else f', "shard": "{self.shard}"'
-        return plainly(f'\n], "total": {total}, "seconds": {seconds:.2f}{shard}}}\n')
+        unproved = f', "{UNPROVED}": true' if totals.is_unproved else ""
+        return plainly(f'\n], "total": {total}, "seconds": {seconds:.2f}{shard}{unproved}}}\n')
 
 
 def script_text(outcome: Outcome, path: str) -> str:

@@ -51,7 +51,7 @@ class Github:
     def foot(self, totals: Totals, seconds: float) -> Styled:
         left = {level: count - _MOST for level, count in self._counts.items() if count > _MOST}
         more = [f"and {count:,} more {level}{'s' if count > 1 else ''}\n" for level, count in sorted(left.items())]
-        return plainly("".join(more) + f"{totals} in {seconds:.2f} s\n")
+        return plainly("".join(more) + f"{totals} in {seconds:.2f} s{totals.mark}\n")
 
     def _annotation(self, level: str, outcome: Outcome, title: str, told: Sequence[str]) -> str:
         """The command that puts lines beside a script, while GitHub shows it; else the first of them alone."""
@@ -77,7 +77,7 @@ def summary_of(outcomes: Sequence[Outcome], totals: Totals) -> str:
     """The summary of a step in Markdown: the totals, and a row for each script that fails the run or is warned of."""
     verdicts = ", ".join(f"{count:,} {it.value}" for it, count in totals.counts.items() if count)
     warnings = f"; warnings: {totals.warnings:,}" if totals.warnings else ""
-    parts = [f"### pdsuite: {totals.scripts:,} scripts: {verdicts}{warnings}\n\n"]
+    parts = [f"### pdsuite: {totals.scripts:,} scripts: {verdicts}{warnings}{totals.mark}\n\n"]
     rows = [line for it in outcomes for line in _summary_rows(it)]
     if rows:
         parts.append("| script | line | row | reason |\n|---|---|---|---|\n")

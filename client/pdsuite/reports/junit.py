@@ -9,7 +9,7 @@ from junitparser import Attr, Error, Failure, JUnitXml, Skipped, TestCase, TestS
 
 from pdsuite.block import block, heading, summary, warned
 from pdsuite.octets import shown_path
-from pdsuite.rows import Outcome, Verdict
+from pdsuite.rows import UNPROVED, Outcome, Verdict
 
 # The line of a script that none is named of.
 _FIRST = 1
@@ -19,11 +19,11 @@ _FIRST = 1
 TestCase.file, TestCase.line = Attr("file"), Attr("line")
 
 
-def junit(outcomes: Sequence[Outcome], seconds: float) -> bytes:
+def junit(outcomes: Sequence[Outcome], seconds: float, is_unproved: bool = False) -> bytes:
     """A suite for each folder, with a case for each script: a `fail` is a failure, all else that doesn't pass an error.
 
     One that is known not to pass is skipped, and one that passes though another row is expected is a failure.
-    The suites share the seconds of the run, by the numbers of their scripts.
+    The suites share the seconds of the run, by the numbers of their scripts. Each says where the sender isn't proved.
     """
     begin = (datetime.now(UTC) - timedelta(seconds=seconds)).strftime("%Y-%m-%dT%H:%M:%S")
     folders: dict[str, list[Outcome]] = {}
@@ -34,6 +34,8 @@ def junit(outcomes: Sequence[Outcome], seconds: float) -> bytes:
         report.append(_suite(folder, scripts, begin))
     report.update_statistics()
     for suite in report:
+        if is_unproved:
+            suite.add_property(UNPROVED, "true")
         suite.time = round(seconds * suite.tests / len(outcomes), 3)
     report.time = round(seconds, 3)
     octets = BytesIO()

@@ -55,7 +55,7 @@ class Plain:
         return self.row(outcome).append("\n").append_text(self.warnings(outcome))
 
     def foot(self, totals: Totals, seconds: float) -> Styled:
-        return Styled().append(str(totals), style_of(totals)).append(f" in {seconds:.2f} s\n")
+        return Styled().append(str(totals), style_of(totals)).append(f" in {seconds:.2f} s{totals.mark}\n")
 
 
 def style_of(totals: Totals) -> str:

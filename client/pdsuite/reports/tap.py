@@ -28,4 +28,4 @@ class Tap:
         return plainly("".join(f"{line}\n" for line in lines))
 
     def foot(self, totals: Totals, seconds: float) -> Styled:
-        return plainly(f"# {totals} in {seconds:.2f} s\n")
+        return plainly(f"# {totals} in {seconds:.2f} s{totals.mark}\n")

@@ -1,0 +1,183 @@
+"""Runs a suite on the sender as it stands, without proofs: all scripts, and what is told of them, after one build."""
+
+from collections import ChainMap
+from collections.abc import Callable, Generator, Iterable, Mapping, Sequence
+from contextlib import suppress
+from dataclasses import dataclass, field
+from pathlib import Path
+
+from pdsuite.asked import questions, refused_at_once
+from pdsuite.explain import with_block
+from pdsuite.faults import Fault
+from pdsuite.octets import shown_path
+from pdsuite.programs import EXPLAIN, TOP, Ended
+from pdsuite.protocol import Cause, Unexpected
+from pdsuite.protocol import add, blocks_in, causes_in, name_of, rows_in, set_and_show, set_key
+from pdsuite.rows import Outcome, Row, Verdict
+from pdsuite.runs import Run, Script, outcome_of
+from pdsuite.settings import Settings, set_words
+from pdsuite.settle import Settled, Step, load
+from pdsuite.stop import Stop
+from pdsuite.suite import Claim
+from pdsuite.text import Text
+from pdsuite.tree import Answer, Build, Case, try_all
+
+# A start of pdexplain is expected to say so much at most, far less than `rt try` takes; and so much of a script, beside
+# as many octets as its text has.
+_ROOM = 1 << 19
+_TOLD = 4_096
+_JSON = ("--json",)
+
+
+@dataclass(frozen=True)
+class Batch:
+    """Scripts with equal settings for one start of pdexplain."""
+
+    settings: Settings
+    scripts: tuple[tuple[Script, Text], ...]
+
+    def names(self) -> list[bytes]:
+        """The names of the scripts in its commands."""
+        return [name_of(number) for number in range(len(self.scripts))]
+
+    def given(self) -> bytes:
+        """The commands that set the settings and add the scripts."""
+        sets = [set_key(*set_words(key, value)) for key, value in self.settings]
+        return b"".join(sets + [add(name, text) for name, (_, text) in zip(self.names(), self.scripts)])
+
+
+@dataclass(frozen=True)
+class Tried:
+    """What came of a suite: the lines of refused settings, or else its scripts, and what is told of them by keys."""
+
+    refused: list[str] = field(default_factory=list)
+    settled: list[Settled] = field(default_factory=list)
+    causes: Mapping[int, Cause] = field(default_factory=dict)
+
+    def steps(self, runs: Iterable[Run]) -> Generator[Step, None, None]:
+        """The pieces of the runs, in their order."""
+        yield from self.settled
+
+
+def first_line() -> str:
+    """What is said before a sender is run that isn't proved."""
+    return f"unproved: running without proofs, which takes about a minute; {_way_to_prove()} proves the programs"
+
+
+def run_unproved(
+    runs: Iterable[Run],
+    claims: Iterable[Claim],
+    tree: Path,
+    wants_causes: bool,
+    stop: Stop,
+    note: Callable[[str], None],
+) -> Tried:
+    """What comes of runs after one build. Where a start ends early, a second build runs its scripts one by one."""
+    each = list(claims)
+    pieces = [[(script, load(script)) for script in piece] for run in runs for piece in run.pieces]
+    batches = [it for piece in pieces for it in batches_of(piece)]
+    asking = Case((), b"".join(set_and_show(*it) for it in questions(each)))
+    told = [Case(_JSON, it.given()) for it in batches] if wants_causes else []
+    asked, *answers = _answers(tree, [asking, *cases_of(batches), *told], stop)
+    if lines := _refused(each, asked):
+        return Tried(lines)
+    outcomes, unheard = heard(batches, answers)
+    if unheard:
+        singles = [Batch(it.settings, (one,)) for it, _ in unheard for one in it.scripts]
+        note(f"pdsuite: {unheard[0][1]}; {len(singles):,} scripts are run again, each by itself")
+        again, lost = heard(singles, _answers(tree, cases_of(singles), stop))
+        outcomes |= again | {it.scripts[0][0].index: _error(it.scripts[0][0], why) for it, why in lost}
+    causes = [causes_of(*it) for it in zip(batches, answers[len(batches) :])]
+    return Tried([], [_settled(piece, outcomes) for piece in pieces], dict(ChainMap(*causes)))
+
+
+def batches_of(piece: Iterable[tuple[Script, Text | str]]) -> list[Batch]:
+    """The scripts of a piece that can be run, in batches of which no great output is expected."""
+    batches: list[list[tuple[Script, Text]]] = []
+    room = 0
+    for script, text in piece:
+        if isinstance(text, str):
+            continue
+        told = _TOLD + len(text.octets)
+        if not batches or told > room:
+            batches.append([])
+            room = _ROOM
+        room -= told
+        batches[-1].append((script, text))
+    return [Batch(it[0][0].settings, tuple(it)) for it in batches]
+
+
+def cases_of(batches: Iterable[Batch]) -> list[Case]:
+    """The starts of the program on batches."""
+    return [Case((), it.given()) for it in batches]
+
+
+def heard(batches: Iterable[Batch], answers: Iterable[Answer]) -> tuple[dict[int, Outcome], list[tuple[Batch, str]]]:
+    """The outcomes by the places of scripts; and the batches without an answer, each with the reason."""
+    outcomes: dict[int, Outcome] = {}
+    unheard = []
+    for batch, answer in zip(batches, answers):
+        try:
+            outcomes |= outcomes_of(batch, answer)
+        except Unexpected as unexpected:
+            unheard.append((batch, f"{EXPLAIN}: {unexpected}"))
+    return outcomes, unheard
+
+
+def outcomes_of(batch: Batch, answer: Answer) -> dict[int, Outcome]:
+    """What came of the scripts of a batch, by their places, each that doesn't pass with what is told of it."""
+    names = batch.names()
+    rows = rows_in(_heard(answer).output, b"", names, len(names))
+    blocks = blocks_in(answer.errors)
+    outcomes = {}
+    for name, (script, text), row in zip(names, batch.scripts, rows):
+        line = None if row.line is None else text.line(row.line)
+        outcomes[script.index] = with_block(outcome_of(script, row, line), blocks.get((name, row.number)))
+    return outcomes
+
+
+def causes_of(batch: Batch, answer: Answer) -> dict[int, Cause]:
+    """What is told by keys of the scripts of a batch, by their places; nothing where there is no answer."""
+    places = {name: script.index for name, (script, _) in zip(batch.names(), batch.scripts)}
+    try:
+        causes = causes_in(_heard(answer).errors)
+    except Unexpected:
+        return {}
+    return {places[name]: cause for (name, _), cause in causes.items() if name in places}
+
+
+def _heard(answer: Answer) -> Answer:
+    if answer.fault:
+        raise Unexpected(answer.fault)
+    return answer
+
+
+def _answers(tree: Path, cases: Sequence[Case], stop: Stop) -> list[Answer]:
+    return try_all([Build(tree, EXPLAIN, (), tuple(cases))], stop)[0]
+
+
+def _refused(claims: Iterable[Claim], answer: Answer) -> list[str]:
+    try:
+        return refused_at_once(claims, _heard(answer).output)
+    except (Ended, Unexpected) as end:
+        raise Fault(str(end)) from end
+
+
+def _settled(piece: Sequence[tuple[Script, Text | str]], outcomes: Mapping[int, Outcome]) -> Settled:
+    texts = {script.index: text for script, text in piece if isinstance(text, Text)}
+    return Settled(
+        [(script, _error(script, text) if isinstance(text, str) else outcomes[script.index]) for script, text in piece],
+        texts,
+    )
+
+
+def _error(script: Script, reason: str) -> Outcome:
+    return outcome_of(script, Row(Verdict.ERROR, word=reason))
+
+
+def _way_to_prove() -> str:
+    """The command that proves the programs of this tree, as it is written from here."""
+    with suppress(OSError):
+        if Path.cwd() == TOP:
+            return "./prove"
+    return shown_path(TOP / "prove")

@@ -1,0 +1,57 @@
+"""A tree of a test's own, in which nothing is proved: the client and the tools, and crates that a stand-in builds."""
+
+import os
+import shutil
+import subprocess
+from pathlib import Path
+
+from tests.helpers import HANGS, TOP, Called
+
+HERE = Path(__file__).parent
+PROGRAMS = ("pdregress", "pdexplain", "pdrecord")
+_TOOLS = ("built.sh", "crates_below.sh", "stopping.py", "try_cases.py", "trying.py")
+_STAND_INS = {"rt": "stand_in_rt.py", "pdregress": "stand_in.py", "pdexplain": "stand_in_explain.py"}
+
+
+class Tree:
+    """A tree in a folder, and a folder `suite` beside it, where ./pdsuite is called."""
+
+    def __init__(self, top: Path) -> None:
+        self.top = top / "tree"
+        self.suite = top / "suite"
+        self.notes = top / "notes"
+        self.bin = top / "bin"
+        for folder in (self.top / "tools", self.suite, self.notes, self.bin):
+            folder.mkdir(parents=True)
+        shutil.copy(TOP / "pdsuite", self.top)
+        shutil.copytree(TOP / "client/pdsuite", self.top / "client/pdsuite")
+        shutil.copy(TOP / "client/packages.txt", self.top / "client")
+        for name in _TOOLS:
+            shutil.copy(TOP / "tools" / name, self.top / "tools")
+        for name, file in _STAND_INS.items():
+            shutil.copy(HERE / file, self.bin / name)
+        for name in PROGRAMS:
+            (self.top / "crates" / name / "src").mkdir(parents=True)
+        (self.top / "crates.txt").write_text("".join(f"{name}:\n" for name in PROGRAMS))
+
+    @property
+    def environment(self) -> dict[str, str]:
+        """The environment, in which the stand-in for `rt` is found, and no folder of programs is named."""
+        there = {key: value for key, value in os.environ.items() if key != "PDSUITE_PROGRAMS"}
+        return {**there, "NOTES": str(self.notes), "PATH": f"{self.bin}:{os.environ['PATH']}"}
+
+    def builds(self) -> list[str]:
+        """The programs that were built, in this order."""
+        file = self.notes / "builds"
+        return [Path(it).name for it in file.read_text().splitlines()] if file.exists() else []
+
+    def call(self, *words: str | Path, **more: str) -> Called:
+        """Calls its ./pdsuite beside the folder of scripts."""
+        done = subprocess.run(
+            [self.top / "pdsuite", *words],
+            cwd=self.suite.parent,
+            env={**self.environment, **more},
+            capture_output=True,
+            timeout=HANGS,
+        )
+        return Called(done.returncode, done.stdout.decode(), done.stderr.decode())
