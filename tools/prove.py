@@ -7,6 +7,7 @@ proved in one is handed to the other by hard links, and the copy is gone at the 
 Says on standard error which crate is proved, how many are left, and about how long they take: as long as they took
 last on this machine, as a file below ~/.cache/pdregress says. Where one isn't proved, it says each error with its file
 and line. Interrupted, it keeps what was proved. Both end with status 2. Two calls in one tree work one after the other.
+In the end it keeps copies of all programs that are proved, with their commit, as tools/kept_programs.py says.
 """
 from __future__ import annotations
 
@@ -27,6 +28,7 @@ from pathlib import Path
 
 import stopping
 from crate_graph import dependencies, libraries_below
+from kept_programs import keep_programs
 from lanes import JOBS, TOP, Lane, Unproved, copy_crates, hand_over, has_room
 from prove_errors import errors
 from prove_times import Times, amount, key_of, time_of_proof
@@ -222,6 +224,7 @@ def main() -> int:
             left = [it for it in programs if not is_built(it)]
             if left:
                 prove(left, (asked.lanes or (2 if has_room() else 1)) == 1)
+            keep_programs([it for it in every if it in programs or is_built(it)])
         say(f"proved and built: {', '.join(programs)}")
     except Unproved as crate:
         say_errors(str(crate))

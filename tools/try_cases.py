@@ -3,9 +3,10 @@
 try_cases.py [--seconds N] [--tree FOLDER] PROGRAM CASES ANSWERS [-- WORD..]
 
 The program is the one of this tree, or of the one below FOLDER. The folder CASES has for each case a file NAME, its
-input, and a file NAME.args, its words, one a line; each WORD stands before these in every case. The folder ANSWERS gets NAME.output and NAME.errors, what the program wrote, and NAME.status: a number, or where there is none why,
-as `TooSlow: the program didn't end within 60 seconds`. Where nothing was run, a line on standard error says why, with
-what was said, and the status is 2; else it is 0.
+input, and a file NAME.args, its words, one a line; each WORD stands before these in every case. The folder ANSWERS gets
+NAME.output and NAME.errors, what the program wrote, and NAME.status: a number, or where there is none why, as `TooSlow:
+the program didn't end within 60 seconds`. Where nothing was run, a line on standard error says why, with what was said,
+and the status is 2; else it is 0.
 """
 from __future__ import annotations
 

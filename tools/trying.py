@@ -1,8 +1,8 @@
 """Runs programs without proofs, by the kit's `rt try`, which builds the program anew at each call, in about a minute.
 
-`run_once` runs a program on one input, `run_cases` on many after one build. The tree is only read: what is written goes
-into a folder that the caller names. Where there is no answer, a name that stays and a sentence say why. The programs are
-those of this tree, or of another whose folder is named.
+`run_once` runs a program on one input, `run_cases` on many after one build, of this tree or of another one. The tree is
+only read: what is written goes into a folder that the caller names. Where there is no answer, a name that stays and a
+sentence say why.
 """
 from __future__ import annotations
 

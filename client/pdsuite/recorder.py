@@ -25,10 +25,10 @@ class Recording:
 class Recorder:
     """Records scripts; `note` is told, once, that the program isn't there, and of each script on which it ends."""
 
-    def __init__(self, stop: Stop, note: Callable[[str], None]) -> None:
+    def __init__(self, stop: Stop, note: Callable[[str], None], program: Path | None = None) -> None:
         self._stop = stop
         self._note = note
-        self._program: Path | None = None
+        self._program = program
         self._fault = ""
 
     def record(self, path: str, text: bytes, settings: Settings) -> Recording:

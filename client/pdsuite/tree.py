@@ -57,8 +57,8 @@ class Answer:
 
 def try_all(builds: Sequence[Build], stop: Stop) -> list[list[Answer]]:
     """The answers to the cases of each program, several of which are built side by side."""
-    if len(builds) == 1:
-        return [_tried(builds[0], stop)]
+    if len(builds) < 2:
+        return [_tried(it, stop) for it in builds]
     count = min(len(os.sched_getaffinity(0)), _MOST)
     with ThreadPoolExecutor(count) as pool:
         return list(pool.map(lambda build: _tried(build, stop), builds))

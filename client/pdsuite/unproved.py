@@ -64,31 +64,50 @@ def first_line() -> str:
     return f"unproved: running without proofs, which takes about a minute; {_way_to_prove()} proves the programs"
 
 
-def run_unproved(
-    runs: Iterable[Run],
-    claims: Iterable[Claim],
-    tree: Path,
-    wants_causes: bool,
-    stop: Stop,
-    note: Callable[[str], None],
-) -> Tried:
-    """What comes of runs after one build. Where a start ends early, a second build runs its scripts one by one."""
-    each = list(claims)
+@dataclass(frozen=True)
+class Plan:
+    """What pdexplain is started on: the claims that it is asked about, and the batches of all pieces, once or twice."""
+
+    claims: Sequence[Claim]
+    pieces: Sequence[Sequence[tuple[Script, Text | str]]]
+    wants_causes: bool
+
+    @property
+    def batches(self) -> list[Batch]:
+        return [it for piece in self.pieces for it in batches_of(piece)]
+
+    def cases(self) -> list[Case]:
+        """The starts: one asks about the claims, the others run the batches, a second time for what is told by keys."""
+        asking = Case((), b"".join(set_and_show(*it) for it in questions(self.claims)))
+        told = [Case(_JSON, it.given()) for it in self.batches] if self.wants_causes else []
+        return [asking, *cases_of(self.batches), *told]
+
+
+def plan_of(runs: Iterable[Run], claims: Iterable[Claim], wants_causes: bool) -> Plan:
+    """What is to be run of these runs, whose scripts are read."""
     pieces = [[(script, load(script)) for script in piece] for run in runs for piece in run.pieces]
-    batches = [it for piece in pieces for it in batches_of(piece)]
-    asking = Case((), b"".join(set_and_show(*it) for it in questions(each)))
-    told = [Case(_JSON, it.given()) for it in batches] if wants_causes else []
-    asked, *answers = _answers(tree, [asking, *cases_of(batches), *told], stop)
-    if lines := _refused(each, asked):
+    return Plan(list(claims), pieces, wants_causes)
+
+
+def run_unproved(plan: Plan, tree: Path, stop: Stop, note: Callable[[str], None]) -> Tried:
+    """What comes of a plan, after one build or two."""
+    return tried_of(plan, _answers(tree, plan.cases(), stop), tree, stop, note)
+
+
+def tried_of(plan: Plan, answers: Sequence[Answer], tree: Path, stop: Stop, note: Callable[[str], None]) -> Tried:
+    """What the answers say. Where a start ends early, a second build runs its scripts one by one."""
+    asked, *told = answers
+    if lines := _refused(plan.claims, asked):
         return Tried(lines)
-    outcomes, unheard = heard(batches, answers)
+    batches = plan.batches
+    outcomes, unheard = heard(batches, told)
     if unheard:
         singles = [Batch(it.settings, (one,)) for it, _ in unheard for one in it.scripts]
         note(f"pdsuite: {unheard[0][1]}; {len(singles):,} scripts are run again, each by itself")
         again, lost = heard(singles, _answers(tree, cases_of(singles), stop))
         outcomes |= again | {it.scripts[0][0].index: _error(it.scripts[0][0], why) for it, why in lost}
-    causes = [causes_of(*it) for it in zip(batches, answers[len(batches) :])]
-    return Tried([], [_settled(piece, outcomes) for piece in pieces], dict(ChainMap(*causes)))
+    causes = [causes_of(*it) for it in zip(batches, told[len(batches) :])]
+    return Tried([], [_settled(piece, outcomes) for piece in plan.pieces], dict(ChainMap(*causes)))
 
 
 def batches_of(piece: Iterable[tuple[Script, Text | str]]) -> list[Batch]:

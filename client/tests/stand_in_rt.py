@@ -1,7 +1,8 @@
 #!/usr/bin/python3 -IS
 """Stands in for the kit's `rt try --cases` in a tree: its programs are stand-ins that do what the texts of scripts say.
 
-NOTES names a folder, which gets a line for each build. A crate whose src/main.rt is there isn't compiled.
+NOTES names a folder, which gets a line for each build. A crate whose src/main.rt is there isn't compiled. The tree's
+file crates/change says, for `sed`, what its sender does otherwise.
 """
 
 import os
@@ -17,6 +18,12 @@ NOTES = Path(os.environ["NOTES"])
 def said_by(program: str, words: list[str], given: bytes) -> "subprocess.CompletedProcess[bytes]":
     """What a stand-in says to this input."""
     return subprocess.run([HERE / program, *words], input=given, capture_output=True)
+
+
+def changed(given: bytes) -> bytes:
+    """An input as the tree's sender reads it."""
+    change = Path("../change")
+    return subprocess.check_output(["sed", "-f", change], input=given) if change.exists() else given
 
 
 def explained(words: list[str], given: bytes) -> tuple[bytes, bytes, int]:
@@ -68,7 +75,7 @@ def main() -> int:
     folder, common = Path(sys.argv[5]), sys.argv[7:]
     for file in sorted(it for it in folder.iterdir() if it.suffix != ".args"):
         words = file.with_name(f"{file.name}.args").read_text().splitlines()
-        answer(crate, file.name, [*common, *words], file.read_bytes())
+        answer(crate, file.name, [*common, *words], changed(file.read_bytes()))
     print("cases=1 ended=1 fault=0 differs=0 no-answer=0 proved=no", file=sys.stderr)
     return 0
 

@@ -93,7 +93,7 @@ def test_a_program_older_than_its_sources_is_not_taken(stand_in: Path, tmp_path:
     environment = without_programs()
 
     def status() -> int:
-        words = [command, "run", "--proved", "suite"]
+        words: list[str | Path] = [command, "run", "--proved", "suite"]
         return subprocess.run(words, cwd=tmp_path, env=environment, capture_output=True).returncode
 
     os.utime(source, (1, 1))
@@ -240,7 +240,7 @@ def test_a_program_whose_crates_are_not_known_is_not_taken(stand_in: Path, tmp_p
             (tmp_path / "crates.txt").unlink()
         else:
             (tmp_path / "crates.txt").write_text(lines)
-        words = [command, "run", "--proved", "suite"]
+        words: list[str | Path] = [command, "run", "--proved", "suite"]
         done = subprocess.run(words, cwd=tmp_path, env=environment, capture_output=True, text=True)
         assert (done.returncode, done.stdout) == (2, "")
         assert done.stderr.splitlines()[-1].endswith(said)

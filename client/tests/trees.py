@@ -9,8 +9,13 @@ from tests.helpers import HANGS, TOP, Called
 
 HERE = Path(__file__).parent
 PROGRAMS = ("pdregress", "pdexplain", "pdrecord")
-_TOOLS = ("built.sh", "crates_below.sh", "stopping.py", "try_cases.py", "trying.py")
-_STAND_INS = {"rt": "stand_in_rt.py", "pdregress": "stand_in.py", "pdexplain": "stand_in_explain.py"}
+_TOOLS = ("built.sh", "crates_below.sh", "kept_programs.py", "stopping.py", "try_cases.py", "trying.py")
+_STAND_INS = {
+    "rt": "stand_in_rt.py",
+    "pdregress": "stand_in.py",
+    "pdexplain": "stand_in_explain.py",
+    "pdrecord": "stand_in_record.py",
+}
 
 
 class Tree:
@@ -38,7 +43,16 @@ class Tree:
     def environment(self) -> dict[str, str]:
         """The environment, in which the stand-in for `rt` is found, and no folder of programs is named."""
         there = {key: value for key, value in os.environ.items() if key != "PDSUITE_PROGRAMS"}
-        return {**there, "NOTES": str(self.notes), "PATH": f"{self.bin}:{os.environ['PATH']}"}
+        return {
+            **there,
+            "NOTES": str(self.notes),
+            "XDG_CACHE_HOME": str(self.notes / "cache"),
+            "PATH": f"{self.bin}:{os.environ['PATH']}",
+        }
+
+    def change(self, commands: str) -> None:
+        """Changes its sender, by commands of `sed`."""
+        (self.top / "crates/change").write_text(commands)
 
     def builds(self) -> list[str]:
         """The programs that were built, in this order."""

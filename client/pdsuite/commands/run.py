@@ -109,12 +109,13 @@ def _run_unproved(
 ) -> int:
     """Runs the scripts by the sender as it stands, reports what came of them, and answers the exit status."""
     # Only who has no proved programs pays for what does without them.
-    from pdsuite.unproved import first_line, run_unproved
+    from pdsuite.unproved import first_line, plan_of, run_unproved
 
     if lines := lost_in(suite):
         return _refuse(lines)
     screen.note(f"pdsuite: {first_line()}")
-    tried = run_unproved(runs_of(scripts), suite.claims(), TOP, wish.html is not None, stop, screen.note)
+    plan = plan_of(runs_of(scripts), suite.claims(), wish.html is not None)
+    tried = run_unproved(plan, TOP, stop, screen.note)
     if tried.refused:
         return _refuse(tried.refused)
     return _run(tried.steps, scripts, wish, form, screen, begin, stop, tried)

@@ -4,13 +4,18 @@ from collections import Counter
 from collections.abc import Sequence
 from functools import cache
 from pathlib import Path
+from typing import TYPE_CHECKING
 
 from jinja2 import Environment, FileSystemLoader, StrictUndefined
 
+from pdsuite.compared import Count
 from pdsuite.diagram.palette import rules
 from pdsuite.page.links import FOLDER, PLOTS
 from pdsuite.page.sheets import Row, Sheet
 from pdsuite.rows import Tally, Verdict
+
+if TYPE_CHECKING:
+    from pdsuite.page.comparing import Section
 
 _HERE = Path(__file__).parent
 # Stands in each page, and tells whose it is.
@@ -53,6 +58,13 @@ def _rank(row: Row) -> tuple[int, bool]:
 def script_page(sheet: Sheet, is_unproved: bool = False) -> bytes:
     """The page of a script."""
     return _filled("script.html", sheet=sheet, row=sheet.row, plots=PLOTS, is_unproved=is_unproved)
+
+
+def compare_page(
+    sections: "Sequence[Section]", counts: Sequence[Count], names: tuple[str, str], is_unproved: bool
+) -> bytes:
+    """The page of a comparison."""
+    return _filled("compare.html", sections=sections, counts=counts, names=names, is_unproved=is_unproved)
 
 
 def _filled(name: str, **values: object) -> bytes:

@@ -180,16 +180,16 @@ many() { # what is answered to cases: `try_cases.py` WORD..
     : >"$work/cases/c.args"
     printf 'lasts\n' >"$work/cases/d.args"
     # shellcheck disable=SC2086
-    with_rt python3 -B "${at:-$build}/tools/try_cases.py" "$@" "$work/cases" "$work/answers" ${first:+-- $first} || return
+    with_rt python3 -B "${from:-$build}/tools/try_cases.py" "$@" "$work/cases" "$work/answers" ${each:+-- $each} || return
     for file in "$work"/answers/*; do echo "${file##*/}: $(cat "$file")"; done
 }
 
 many_with_a_word() { # PROGRAM
-    first=one many "$1" | sed -n '/^[ac].output/p'
+    each=one many "$1" | sed -n '/^[ac].output/p'
 }
 
 many_of_another_tree() { # PROGRAM
-    at=$work/other many --tree "$build" "$1" | sed -n '/^[ac].output/p'
+    from=$work/other many --tree "$build" "$1" | sed -n '/^[ac].output/p'
 }
 
 test_cases() {

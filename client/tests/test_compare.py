@@ -1,0 +1,209 @@
+"""`pdsuite compare`, by stand-ins: two senders, of which one is changed."""
+
+import json
+import shutil
+import signal
+import subprocess
+from pathlib import Path
+
+import pytest
+
+from tests.helpers import Called, ends, is_alive, wait_for, write
+from tests.trees import Tree
+
+STATE = "//= at 0.100000 ESTABLISHED cwnd:4000 DupAcks:{}\n"
+# Each has a row, and below it a recording; of one that doesn't pass that is what is told, too.
+QUICK = f"row pass 9\n+0 > . 1:1001(1000) ack 1\n{STATE.format(2)}".encode()
+SLOW = f"row pass 8\n+0 > . 2001:3001(1000) ack 1\n{STATE.format(3)}".encode()
+LONE = b"row pass 7\n"
+# The changes that are planted, and how the scripts QUICK, SLOW and LONE then compare.
+CHANGES = {
+    "s/^row pass 9/row fail 2 seq/": ["turned", "as before", "not compared"],
+    "s/^+0 > [.] 2001:3001/+0 > . 1:1001/": ["as before", "played otherwise", "not compared"],
+    "s/^row pass [78]/row fail 1 missing/": ["as before", "turned", "turned"],
+}
+BUILDS = ["pdexplain", "pdrecord"]
+
+
+@pytest.fixture
+def tree(tmp_path: Path) -> Tree:
+    """A tree in which nothing is proved, and three scripts."""
+    tree = Tree(tmp_path)
+    write(tree.suite, quick=QUICK)
+    write(tree.suite / "low", lone=LONE, slow=SLOW)
+    return tree
+
+
+def compare(tree: Tree, *words: str | Path) -> Called:
+    """Compares the stand-ins as they are with the tree's sender."""
+    return tree.call("compare", "--base", tree.bin, *words, "suite")
+
+
+def untimed(out: str) -> str:
+    """What is printed, without the seconds."""
+    lines = out.splitlines()
+    return "\n".join([*lines[:-1], lines[-1].split(" in ")[0]])
+
+
+def test_where_nothing_differs_the_status_is_0(tree: Tree) -> None:
+    called = compare(tree)
+    assert (called.status, untimed(called.out)) == (
+        0,
+        "suite/low: 2 turned 0 played otherwise 0 as before 1 not compared 1\n"
+        "suite: 1 turned 0 played otherwise 0 as before 1\n"
+        "total 3 turned 0 played otherwise 0 as before 2 not compared 1",
+    )
+    assert called.out.endswith(" s UNPROVED\n") and sorted(tree.builds()) == BUILDS
+    assert called.err == (
+        f"pdsuite: before: {tree.bin}; after: the tree as it stands, unknown, unproved; "
+        "building takes a minute or two\n"
+    )
+
+
+def test_a_script_that_turns_is_told_with_both_blocks_and_where_its_recordings_part(tree: Tree) -> None:
+    tree.change("s/^row pass 9/row fail 2 seq/\ns/1:1001(1000)/5001:6001(1000)/\n")
+    called = compare(tree)
+    state = STATE.format(2).strip()
+    assert called.status == 1 and called.out.splitlines()[:10] == [
+        "suite/quick.pkt: turned",
+        "  before: pass 9",
+        "  after: line 2: fail seq: so it is",
+        "    +0 > . 5001:6001(1000) ack 1",
+        f"    {state}",
+        "  the first event that differs:",
+        "    before: +0 > . 1:1001(1000) ack 1 // 0.100000",
+        "    after:  +0 > . 5001:6001(1000) ack 1 // 0.100000",
+        "    state:  none",
+        "suite/low: 2 turned 0 played otherwise 0 as before 1 not compared 1",
+    ]
+
+
+def test_a_script_that_stays_and_is_played_otherwise_is_told_after_those_that_turn(tree: Tree) -> None:
+    tree.change("s/^row pass 8/row fail 2 seq/\ns/^+0 > [.] 1:1001/+0 > . 1:501/\n")
+    heads = [line for line in compare(tree).out.splitlines() if line.startswith("suite/") and ".pkt" in line]
+    assert heads == ["suite/low/slow.pkt: turned", "suite/quick.pkt: played otherwise"]
+
+
+def rows(called: Called) -> dict[str, str]:
+    """The verdicts of a report as JSON."""
+    return {it["path"]: it["verdict"] for it in json.loads(called.out)["scripts"]}
+
+
+@pytest.mark.parametrize("change", CHANGES)
+def test_a_planted_change_turns_what_differs_between_the_two_full_reports(tree: Tree, change: str) -> None:
+    before = rows(tree.call("run", "--json", "suite"))
+    tree.change(change + "\n")
+    after = rows(tree.call("run", "--json", "suite"))
+    told = json.loads(compare(tree, "--json").out)
+    turned = [it["path"] for it in told["scripts"] if it["kind"] == "turned"]
+    assert turned == [path for path in after if before[path] != after[path]]
+    kinds = dict(zip(["suite/quick.pkt", "suite/low/slow.pkt", "suite/low/lone.pkt"], CHANGES[change]))
+    assert {it["path"]: it["kind"] for it in told["scripts"]} == {
+        path: kind for path, kind in kinds.items() if kind in ("turned", "played otherwise")
+    }
+    assert told["total"] == {
+        "scripts": 3,
+        **{kind: CHANGES[change].count(kind) for kind in ("turned", "played otherwise", "as before", "not compared")},
+    }
+
+
+def test_as_json_it_has_both_senders_both_blocks_and_both_events(tree: Tree) -> None:
+    tree.change("s/^row pass 9/row fail 2 seq/\ns/1:1001(1000)/5001:6001(1000)/\n")
+    told = json.loads(compare(tree, "--json").out)
+    assert (told["before"], told["UNPROVED"]) == (str(tree.bin), True)
+    (script,) = told["scripts"]
+    assert (script["before"]["row"], script["after"]["row"], script["after"]["line"]) == ("pass 9", "fail seq", 2)
+    assert script["parting"]["after"] == {"event": "+0 > . 5001:6001(1000) ack 1", "moment": "0.100000", "state": ""}
+
+
+def test_two_folders_of_programs_are_compared_without_a_build(tree: Tree) -> None:
+    other = tree.suite.parent / "other"
+    shutil.copytree(tree.bin, other)
+    script = f'#!/bin/sh\nexec sed -u "s/^row pass 9/row fail 2 seq/" | "{tree.bin}/{{}}" "$@"\n'
+    for name in ("pdregress", "pdexplain", "pdrecord"):
+        (other / name).write_text(script.format(name))
+    called = compare(tree, "--with", other)
+    assert called.status == 1 and called.out.startswith("suite/quick.pkt: turned\n  before: pass 9\n  after: line 2: ")
+    assert tree.builds() == [] and "UNPROVED" not in called.out
+    assert called.err == f"pdsuite: before: {tree.bin}; after: {other}\n"
+
+
+def git(folder: Path, *words: str) -> None:
+    """Runs git in a folder."""
+    name = ["-c", "user.name=a", "-c", "user.email=a@example.com"]
+    subprocess.run(["git", "-C", folder, *name, *words], check=True, capture_output=True)
+
+
+def test_a_commit_is_checked_out_and_built_beside(tree: Tree) -> None:
+    git(tree.top, "init", "-q")
+    (tree.top / "crates/pdrecord/src/x").touch()
+    (tree.top / "crates/pdexplain/src/x").touch()
+    git(tree.top, "add", ".")
+    git(tree.top, "commit", "-qm", "one")
+    tree.change("s/^row pass 9/row fail 2 seq/\n")
+    called = tree.call("compare", "--base", "HEAD", "suite")
+    assert called.status == 1 and called.out.startswith("suite/quick.pkt: turned\n")
+    assert "pdsuite: before: commit " in called.err and sorted(tree.builds()) == [*BUILDS[:1] * 2, *BUILDS[1:] * 2]
+
+
+def test_the_programs_that_were_proved_last_are_the_base_if_nothing_is_said(tree: Tree) -> None:
+    called = tree.call("compare", "suite")
+    said = "pdsuite: ./prove has kept no programs of this tree: name a sender by --base, or run ./prove\n"
+    assert (called.status, called.err) == (2, said)
+    for name in ("pdregress", "pdexplain", "pdrecord"):
+        (tree.top / "crates" / name / "out").mkdir()
+        shutil.copy(tree.bin / name, tree.top / "crates" / name / "out")
+    keep = "import kept_programs as it; it.keep_programs(['pdregress', 'pdexplain', 'pdrecord'])"
+    subprocess.run(["/usr/bin/python3", "-c", keep], cwd=tree.top / "tools", env=tree.environment, check=True)
+    for name in ("pdregress", "pdexplain", "pdrecord"):
+        shutil.rmtree(tree.top / "crates" / name / "out")
+    called = tree.call("compare", "suite")
+    assert called.status == 0 and called.err.startswith("pdsuite: before: the last proved programs, unknown; after: ")
+
+
+def test_a_tree_that_does_not_compile_is_told_with_its_errors(tree: Tree) -> None:
+    wrong = tree.top / "crates/pdexplain/src/main.rt"
+    wrong.touch()
+    called = compare(tree)
+    assert (called.status, called.out) == (2, "")
+    assert called.err.splitlines()[1:] == [
+        "pdsuite: unproved: NotCompiled: the program doesn't compile",
+        f"{wrong}:1:2: error[mismatched-types]: wrong",
+    ]
+
+
+@pytest.mark.parametrize(
+    ("word", "said"),
+    [
+        ("suite", "suite: no folder of programs: it has no pdexplain"),
+        ("nowhere", "nowhere: neither a folder of programs nor a commit"),
+        ("-x", "-x: neither a folder of programs nor a commit"),
+    ],
+)
+def test_a_word_that_names_no_sender_is_refused(tree: Tree, word: str, said: str) -> None:
+    called = tree.call("compare", f"--base={word}", "suite")
+    assert (called.status, called.out, called.err) == (2, "", f"pdsuite: --base: {said}\n")
+
+
+def test_the_page_has_both_blocks_and_says_that_nothing_is_proved(tree: Tree) -> None:
+    tree.change("s/^row pass 9/row fail 2 seq/\n")
+    assert compare(tree, "--html", "page").status == 1
+    page = (tree.suite.parent / "page/index.html").read_text()
+    assert '<p class="unproved">' in page and "<h2>suite/quick.pkt: turned</h2>" in page
+    assert "after: line 2: fail seq: so it is" in page
+
+
+def test_a_signal_while_both_programs_are_built_ends_all(tree: Tree) -> None:
+    (tree.notes / "stall").touch()
+    process = subprocess.Popen(
+        [tree.top / "pdsuite", "compare", "--base", tree.bin, "suite"],
+        cwd=tree.suite.parent,
+        env=tree.environment,
+        stdout=subprocess.PIPE,
+        stderr=subprocess.PIPE,
+        process_group=0,
+    )
+    wait_for(tree.notes / "mark", process)
+    status, out, _ = ends(process, signal.SIGTERM)
+    assert (status, out) == (128 + signal.SIGTERM, "")
+    assert not is_alive(int((tree.notes / "mark").read_text()))
