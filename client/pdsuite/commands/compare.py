@@ -8,7 +8,7 @@ from tempfile import TemporaryDirectory
 from typing import TYPE_CHECKING
 
 from pdsuite.beside import Refused, Task, run_both
-from pdsuite.commands.choice import scripts_of
+from pdsuite.commands.choice import found_of, scripts_of
 from pdsuite.compared import Compared, Results, compare
 from pdsuite.lost import lost_in
 from pdsuite.reports.compared import as_json, plain
@@ -45,7 +45,7 @@ def compare_senders(wish: Wish, screen: Screen) -> int:
     suite = Suite(option_of(wish.settings))
     try:
         with Stop() as stop, TemporaryDirectory(prefix="pdsuite-") as room:
-            scripts = scripts_of(wish.paths, wish.only, suite, stop)
+            scripts = scripts_of(found_of(wish.paths, wish.only, suite, stop), suite)
             if lines := lost_in(suite):
                 return _refuse(lines)
             page = None if wish.html is None else _page(wish.html)
