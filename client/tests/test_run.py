@@ -196,7 +196,9 @@ def test_what_may_not_be_read_is_a_row(tmp_path: Path, programs: Path) -> None:
     tmp_path.chmod(0o755)
     for folder in tmp_path.parents[:2]:
         folder.chmod(0o755)
-    environment = {**os.environ, "PDSUITE_PROGRAMS": str(programs)}
+    (tmp_path / "kept").mkdir()
+    (tmp_path / "kept").chmod(0o777)
+    environment = {**os.environ, "PDSUITE_PROGRAMS": str(programs), "XDG_CACHE_HOME": str(tmp_path / "kept")}
     done = subprocess.run(command, cwd=tmp_path, env=environment, capture_output=True, text=True)
     lines = done.stdout.splitlines()
     assert lines[:2] == ["suite/b.pkt: error: Permission denied", "suite/shut: error: Permission denied"]
