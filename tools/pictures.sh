@@ -1,0 +1,18 @@
+#!/bin/sh
+# Makes the two pictures of docs/SUITE.md anew, docs/page.png and docs/diagram.png, of examples/scripts. It needs the built
+# programs, the packages in client/packages*.txt and chromium; PDSUITE_PROGRAMS names other builds.
+#
+#   tools/pictures.sh
+set -eu
+top=$(CDPATH='' cd -P -- "$(dirname -- "$0")/.." && pwd -P)
+cd "$top"
+work=$(mktemp -d)
+trap 'rm -rf "$work"' EXIT
+# Some scripts don't pass, so the status is 1; 2 is a fault.
+status=0
+./pdsuite run --html "$work/page" --plots 0 --plot 23_sack.pkt examples/scripts >/dev/null || status=$?
+[ "$status" -le 1 ] || exit "$status"
+chromium --headless --no-sandbox --hide-scrollbars --window-size=1100,720 --screenshot="$work/page.png" \
+    "file://$work/page/index.html#verdict=fail&verdict=syntax&verdict=limit" 2>/dev/null
+cp "$work/page.png" docs/page.png
+cp "$work"/page/plots/*.png docs/diagram.png
