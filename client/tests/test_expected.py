@@ -6,7 +6,6 @@ import signal
 from collections.abc import Mapping
 from pathlib import Path
 
-import junitparser
 import pytest
 from junitparser import Error, Failure, JUnitXml, Skipped
 
@@ -206,21 +205,14 @@ def test_junit_skips_known_rows_with_the_reason(stand_in: Path, tmp_path: Path, 
     call(stand_in, "run", "--junit", "out.xml", ".")
     (suite,) = JUnitXml.fromfile(str(tmp_path / "out.xml"))
     assert (suite.tests, suite.failures, suite.errors, suite.skipped) == (9, 3, 1, 4)
-    results = {case.name.removesuffix(".pkt"): result_of(case) for case in suite}
+    results = {case.name.removesuffix(".pkt"): case.result[0] for case in suite if case.result}
     kinds = {"a other": Failure, "e limit": Error, "g mended": Failure, "i fails": Failure}
-    assert {name: type(it) for name, it in results.items() if it is not None} == {
-        **dict.fromkeys(KNOWN, Skipped),
-        **kinds,
-    }
+    assert {name: type(it) for name, it in results.items()} == {**dict.fromkeys(KNOWN, Skipped), **kinds}
     for name in KNOWN:
         assert (results[name].message, results[name].type) == ("so #1", "known")
     assert results["b known"].text == "b known.pkt:1: known: fail seq (so #1): so it is\n  below"
     assert (results["g mended"].message, results["g mended"].type) == (LINES[6], "unexpected")
     assert results["a other"].message.startswith(LINES[0])
-
-
-def result_of(case: junitparser.TestCase) -> Failure | Error | Skipped | None:
-    return case.result[0] if case.result else None
 
 
 def test_json_has_what_is_expected(stand_in: Path, tmp_path: Path, call: Call) -> None:

@@ -165,7 +165,7 @@ def test_of_random_files_nothing_is_lost(seed: int) -> None:
     edits = {f"{it}.pkt": chance.choice((SEQ, None)) for it in chance.sample("abcdefghij", chance.randrange(10))}
     new = edited("here", text, edits)
     before, after = layer_of("here", text.encode()), layer_of("here", new.encode())
-    expected = {**before.expected, **edits}
+    expected: dict[str, Expected | None] = {**before.expected, **edits}
     assert after.expected == {name: it for name, it in expected.items() if it is not None}
     assert {name: it for name, it in after.tables.items() if it} == {
         name: it for name, it in before.tables.items() if it

@@ -137,7 +137,16 @@ SETUP = b"""0 socket(..., SOCK_STREAM, IPPROTO_TCP) = 3
 STARTS = [""] * 4 + ["\n", " \n\n", "/*/ = 3 */ ", "// (\n"]
 
 # What may stand after a random event: mostly the end of its line.
-ENDS = ["\n"] * 8 + [" ", " // a\n", " /* b */\n", "\n\n", "\n// c\n", "/* d\n e */", "\n  \n//= f\n", " /*/ g */ // h\n"]
+ENDS = ["\n"] * 8 + [
+    " ",
+    " // a\n",
+    " /* b */\n",
+    "\n\n",
+    "\n// c\n",
+    "/* d\n e */",
+    "\n  \n//= f\n",
+    " /*/ g */ // h\n",
+]
 
 # What may stand for the octets that are written: mostly dots.
 TEXTS = ["..."] * 5 + ['"a)=b"', '"= 1 (" /* "i" */', "%{ ) = 1 // }% // j\n", "--k=(/*= "]
@@ -250,7 +259,8 @@ def without_trace(text: bytes) -> bytes:
 def comments_and_blanks(text: bytes) -> Counter[bytes]:
     """The comments of a text, and its blank lines, each with how often it stands there."""
     comments = Counter(found["comment"] for found in PIECE.finditer(text) if found["comment"])
-    blanks = Counter(b"" for line in text.removesuffix(b"\n").split(b"\n") if not line.strip(b" \t\r"))
+    lines = text.removesuffix(b"\n").split(b"\n") if text else []
+    blanks = Counter(b"" for line in lines if not line.strip(b" \t\r"))
     return comments + blanks
 
 
