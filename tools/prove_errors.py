@@ -8,8 +8,8 @@ from pathlib import Path
 
 # What is said of a place, as `src/lib.rt:5:1`. That a goal is open is said in a note.
 PLACED = re.compile(r"(?:note: )?(?P<path>[^\s:]+\.(?:rt|antt)):(?P<place>\d+:\d+): (?P<said>error.*|it is not .*)")
-# What is said of no place.
-PLAIN = re.compile(r"error\b|fn \S+: no proof: ")
+# What is said of no place. A function that calls one without a proof has none either, and is no error of its own.
+PLAIN = re.compile(r"error\b|fn \S+: no proof: (?!it calls )")
 DIFFERENCE = "differ "
 
 

@@ -50,6 +50,7 @@ rt: chose --jobs 2 for right
 note: src/lib.rt:5:1: it is not proved that what the function ensures holds when it returns (`returns`)
 note: to see how far a `search` got, write `search rules`
 fn right::f: no proof: expected answers in ./proofs/f/Answers.antt; `search` did not prove `returns`
+fn right::g: no proof: it calls `right::f`, which is not proved
 help: write ./proofs/f/Answers.antt with these lines
     use Rattle.std.proofs.Common.{rules}
 src/lib.rt:9:5: error[mismatched-types]: expected `u32`, found `u64`
