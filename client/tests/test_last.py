@@ -7,6 +7,7 @@ import shutil
 import subprocess
 from collections.abc import Callable
 from pathlib import Path
+from typing import Any
 
 import pytest
 
@@ -35,7 +36,7 @@ def run(stand_in: Path, kept: Path, call: Call) -> Run:
     return lambda *words, **more: call(stand_in, "run", *words, **{"XDG_CACHE_HOME": str(kept), **more})
 
 
-def reports(kept: Path) -> list[dict[str, object]]:
+def reports(kept: Path) -> list[dict[str, Any]]:
     """The reports that are kept, the newest last."""
     files = sorted((kept / "pdsuite").glob("*.json"), key=lambda it: it.stat().st_mtime_ns)
     return [json.loads(it.read_bytes()) for it in files]
@@ -44,9 +45,7 @@ def reports(kept: Path) -> list[dict[str, object]]:
 def rows(kept: Path, top: Path) -> dict[str, str]:
     """The verdicts of the only report that is kept, by paths from a folder."""
     (report,) = reports(kept)
-    scripts = report["scripts"]
-    assert isinstance(scripts, list)
-    return {it["path"].removeprefix(f"{top}/"): it["verdict"] for it in scripts}
+    return {it["path"].removeprefix(f"{top}/"): it["verdict"] for it in report["scripts"]}
 
 
 def test_a_run_leaves_its_report_by_the_absolute_path_of_what_was_run(run: Run, kept: Path, tmp_path: Path) -> None:
@@ -82,7 +81,7 @@ def test_what_failed_by_a_warning_is_run_again_too(run: Run, tmp_path: Path) -> 
     run("suite")
     assert run("--last-failed", "suite").totals == {}
     run("--strict", "suite")
-    assert run("--last-failed", "-v", "suite").rows == ["suite/a.pkt: pass 0", "suite/a.pkt: passes, but has no event"]
+    assert run("--last-failed", "-v", "suite").rows == ["suite/a.pkt: pass 0"]
 
 
 def test_list_shows_what_failed_last(run: Run, stand_in: Path, kept: Path, tmp_path: Path, call: Call) -> None:
@@ -351,6 +350,19 @@ def test_a_report_whose_rows_were_damaged_is_named(run: Run, kept: Path, tmp_pat
     assert (called.status, called.err) == (2, f"pdsuite: {file}: {why}\n")
     assert run("--only", "*", "suite").status == 1
     assert rows(kept, tmp_path / "suite") == {"a.pkt": "fail"}
+
+
+def test_a_file_of_other_paths_is_no_report_of_these(
+    kept: Path, tmp_path: Path, monkeypatch: pytest.MonkeyPatch
+) -> None:
+    monkeypatch.setenv("XDG_CACHE_HOME", str(kept))
+    monkeypatch.setattr(cache, "_name", lambda of: "alike.json")
+    one, two = LastReport([tmp_path / "one"]), LastReport([tmp_path / "two"])
+    one.leave([Outcome("a.pkt", (), Row(Verdict.PASS, 1))], False)
+    assert (two.load(), one.load() is None) == (None, False)
+    two.leave([Outcome("b.pkt", (), Row(Verdict.PASS, 1))], True)
+    (report,) = reports(kept)
+    assert (report["of"], len(report["scripts"])) == ([f"{tmp_path}/two"], 1)
 
 
 def test_only_so_many_reports_are_kept(kept: Path, tmp_path: Path, monkeypatch: pytest.MonkeyPatch) -> None:
