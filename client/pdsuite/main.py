@@ -303,7 +303,6 @@ def diff_command(old: Path, new: tuple[Path, ...], no_color: bool) -> int:
 @_choice
 @click.option("--base", metavar="SENDER", help="The sender before: a folder of programs or a commit.")
 @click.option("--with", "other", metavar="SENDER", help="The sender after, if not the tree as it stands.")
-@_workers
 @_html
 @click.option("--json", "is_json", is_flag=True, help="Print JSON.")
 def compare_command(
@@ -313,21 +312,18 @@ def compare_command(
     no_color: bool,
     base: str | None,
     other: str | None,
-    workers: int | None,
     html: Path | None,
     is_json: bool,
 ) -> int:
     """Shows what a change of the sender does to scripts: which turn, and which are played otherwise.
 
-    Without --base the sender before is the one that ./prove has proved last in this tree. A commit, and a tree that
-    isn't proved as it stands, run without proofs, after a build of a minute or two.
+    Without --base the sender before is the one that ./prove has proved last in this tree.
     """
     # Only who compares senders pays for what runs two.
     from pdsuite.commands.compare import Wish, compare_senders
 
-    wish = Wish(paths, only, settings, base, other, _threads(workers), is_json, html)
     with Screen(wants_color() and not no_color, progress=False) as screen:
-        return compare_senders(wish, screen)
+        return compare_senders(Wish(paths, only, settings, base, other, _threads(None), is_json, html), screen)
 
 
 @pdsuite.command(name="import")

@@ -79,9 +79,8 @@ def _say_senders(senders: tuple[Sender, Sender], screen: Screen) -> None:
     before, after = senders
     takes = "" if before.is_proved and after.is_proved else "; building takes a minute or two"
     screen.note(f"pdsuite: before: {before}; after: {after}{takes}")
-    for it in senders:
-        if not it.records:
-            screen.note(f"pdsuite: {it} has no pdrecord: scripts whose row stays aren't compared")
+    for name in dict.fromkeys(str(it) for it in senders if not it.records):
+        screen.note(f"pdsuite: {name} has no pdrecord: scripts whose row stays aren't compared")
 
 
 def _page(folder: Path) -> "Page":
