@@ -81,14 +81,16 @@ class Asker(Generic[T]):
 
 
 class Explainer:
-    """Has pdexplain tell why scripts don't pass, in lines for people."""
+    """Has pdexplain tell why scripts don't pass, in lines for people; of those that are known not to if it is asked."""
 
-    def __init__(self, program: Path, stop: Stop, note: Callable[[str], None]) -> None:
+    def __init__(self, program: Path, stop: Stop, note: Callable[[str], None], of_known: bool = True) -> None:
         self._asker = Asker(program, BLOCKS, stop, note)
+        self._of_known = of_known
 
     def explain(self, step: Settled) -> list[tuple[Script, Outcome]]:
         """The outcomes of a piece, each that doesn't pass with what is told of it."""
-        blocks = self._asker.told(step)
+        asked = step if self._of_known else replace(step, outcomes=[it for it in step.outcomes if not it[1].is_known])
+        blocks = self._asker.told(asked)
         if not blocks:
             return step.outcomes
         return [(script, with_block(outcome, blocks.get(script.index))) for script, outcome in step.outcomes]

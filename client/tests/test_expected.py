@@ -158,6 +158,8 @@ def test_people_see_known_rows_with_v_alone(stand_in: Path, tmp_path: Path, call
     make(tmp_path)
     called = call(stand_in, "run", "-v", ".")
     assert (without_below(called.out), called.status) == ([*LINES, TOTALS], 1)
+    lines = called.out.splitlines()
+    assert not any(lines[place + 1].startswith("  ") for place, it in enumerate(lines) if ": known: " in it)
     shown = [it for it in LINES if ": known: " not in it and not it.endswith(": pass 9")]
     called = call(stand_in, "run", ".")
     assert (without_below(called.out), called.status) == ([*shown, TOTALS], 1)
@@ -184,6 +186,16 @@ def test_what_is_known_ends_no_run_that_is_to_fail_fast(stand_in: Path, tmp_path
         'root = true\n["s001.pkt"]\nexpect = "fail"\nreason = "x"\n["s000.pkt"]\nexpect = "fail 1"\nreason = "x"\n'
     )
     assert call(stand_in, "run", "--fail-fast", ".").totals == {"pass": 62, "known": 1, "unexpected": 1, "not run": 136}
+
+
+def test_why_a_script_fails_is_asked_where_it_is_shown(stand_in: Path, tmp_path: Path, call: Call) -> None:
+    write(tmp_path, a=b"row fail 1 seq\ncrash\n")
+    (tmp_path / "pdsuite.toml").write_text('root = true\n["a.pkt"]\nexpect = "fail"\nreason = "x"\n')
+    told = "pdsuite: pdexplain was ended by SIGSEGV; nothing is told of a.pkt\n"
+    for words in (["-v"], ["--new"]):
+        assert told not in call(stand_in, "run", *words, ".").err
+    for words in (["--tap"], ["--json"], ["--github"], ["--junit", "out.xml"], ["--html", "page"]):
+        assert told in call(stand_in, "run", *words, ".").err
 
 
 def test_tap_has_known_rows_still_to_do(stand_in: Path, tmp_path: Path, call: Call) -> None:
@@ -291,6 +303,11 @@ def test_while_scripts_are_watched_it_is_told_when_one_passes(stand_in: Path, tm
         watching.await_out("a.pkt:2: fail seq: so it is\n")
         toml.write_text('root = true\n["a.pkt"]\nexpect = "fail 2"\nreason = "so #3"\n')
         watching.await_out("a.pkt:2: known: fail seq (so #3)\n")
+        toml.write_text('root = true\n["a.pkt"]\nexpect = "fail"\nreason = "so #4"\n')
+        watching.await_out("a.pkt:2: known: fail seq (so #4)\n")
+        write(tmp_path, b=b"row pass 5\n")
+        watching.await_out("b.pkt: pass 5\n")
+        assert watching.out.count("(so #4)") == 1
         assert watching.ends(signal.SIGINT).status == 0
 
 

@@ -73,6 +73,8 @@ def run(wish: Wish, form: Form, screen: Screen) -> int:
             scripts = scripts_of(found_of(wish.paths, wish.only, suite, stop, part), suite, wish.is_strict)
             if not scripts:
                 screen.note(f"pdsuite: {part.nothing()}")
+            # For people a known row is one line, and so nothing is asked about it.
+            of_known = not isinstance(form, Plain) or wish.junit is not None or wish.html is not None
             if wish.new:
                 form = only_new(form, Plain(True) if isinstance(form, Plain) else form, wish.paths, screen.note)
             programs = _proved(wish)
@@ -82,7 +84,7 @@ def run(wish: Wish, form: Form, screen: Screen) -> int:
             asked = refused(suite.claims(), lambda: Program([regress], stop))
             if lines := [*lost_in(suite), *asked]:
                 return _refuse(lines)
-            with _mapper(wish, programs, stop, screen.note) as mapper:
+            with _mapper(wish, programs, of_known, stop, screen.note) as mapper:
                 return _run(mapper, scripts, wish, form, screen, begin, stop)
         except Stopped as stopped:
             return stopped.status
@@ -137,12 +139,12 @@ def _kept(steps: Iterable[Step], texts: dict[int, Text]) -> Iterator[Step]:
 
 
 def _mapper(
-    wish: Wish, programs: Mapping[str, Path], stop: Stop, note: Callable[[str], None]
+    wish: Wish, programs: Mapping[str, Path], of_known: bool, stop: Stop, note: Callable[[str], None]
 ) -> AbstractContextManager[Mapper]:
     """The cluster that was asked for, else the processors of this machine."""
     if wish.scheduler is None:
         start = start_with(programs[REGRESS], wish.workers, 1, stop)
-        return nullcontext(here(start, Explainer(programs[EXPLAIN], stop, note)))
+        return nullcontext(here(start, Explainer(programs[EXPLAIN], stop, note, of_known)))
     # Only who has a cluster needs what speaks with it.
     need("distributed")
     from pdsuite.cluster import cluster

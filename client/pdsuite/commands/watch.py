@@ -56,13 +56,14 @@ class Wish:
 class View:
     """What was shown last."""
 
-    def __init__(self, screen: Screen, explainer: Explainer, every: bool, news: News) -> None:
+    def __init__(self, screen: Screen, explainer: Explainer, every: bool, news: News, of_known: bool = False) -> None:
         self.status: int | None = None
         self.outcomes: Outcomes = {}
         self._screen = screen
         self._explainer = explainer
         self._every = every
         self._news = news
+        self._of_known = of_known
         self._wanted: Mapping[str, Wanted] = {}
 
     def show(self, outcomes: Outcomes, wanted: Mapping[str, Wanted], begin: float) -> None:
@@ -73,7 +74,7 @@ class View:
         if rows.plain:
             self._screen.show(self._news.head().append_text(rows))
         after = {path: self.outcomes[path] if self._is_told(it, wanted) else it for path, it in outcomes.items()}
-        asked = [it for path, it in after.items() if it.row.line is not None and it is outcomes[path]]
+        asked = [it for path, it in after.items() if self._is_asked(it) and it is outcomes[path]]
         try:
             for outcome in self._explained(asked, wanted):
                 after[outcome.path] = outcome
@@ -106,6 +107,10 @@ class View:
             return False
         return self._wanted.get(path) == wanted.get(path)
 
+    def _is_asked(self, outcome: Outcome) -> bool:
+        """Whether it is asked why an outcome is so; of a known one nothing is shown but on the page."""
+        return outcome.row.line is not None and (self._of_known or not outcome.is_known)
+
     def _explained(self, outcomes: Sequence[Outcome], wanted: Mapping[str, Wanted]) -> Iterator[Outcome]:
         """Outcomes with what is told of them, piece by piece."""
         scripts = [Script(index, it.path, wanted[it.path].settings) for index, it in enumerate(outcomes)]
@@ -126,7 +131,13 @@ def watch(wish: Wish, screen: Screen) -> int:
     """Watches until a signal comes, and answers the exit status of the last report."""
     with Stop() as stop:
         program = locate(REGRESS)
-        view = View(screen, Explainer(locate(EXPLAIN), stop, screen.note), wish.every, _news(wish, screen))
+        view = View(
+            screen,
+            Explainer(locate(EXPLAIN), stop, screen.note),
+            wish.every,
+            _news(wish, screen),
+            wish.html is not None,
+        )
 
         def ask(claims: Iterable[Claim]) -> list[str]:
             return refused(claims, lambda: Program([program], stop))
