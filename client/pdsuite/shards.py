@@ -46,16 +46,10 @@ def parts(octets: Mapping[str, int], count: int) -> list[list[str]]:
 
 def members(found: Sequence[Found], shard: Shard) -> list[Found]:
     """The scripts of a shard, in the order in which all were found."""
-    names = _names([os.path.abspath(it.path) for it in found])
+    names = [os.path.abspath(it.path) for it in found]
     each = parts({name: _octets(it) for name, it in zip(names, found)}, shard.count)
     chosen = set(each[shard.number - 1]) if shard.number <= len(each) else set()
     return [it for name, it in zip(names, found) if name in chosen]
-
-
-def _names(paths: Sequence[str]) -> list[str]:
-    """Names that no two paths share, and that are the same wherever the folder above all of them lies."""
-    top = os.path.commonpath([os.path.dirname(it) for it in paths]) if paths else ""
-    return [os.path.relpath(it, top) for it in paths]
 
 
 def _octets(found: Found) -> int:
