@@ -22,49 +22,16 @@ from pdsuite.reports.github import SUMMARY, Github
 from pdsuite.reports.plain import Plain
 from pdsuite.reports.tap import Tap
 from pdsuite.screen import Screen, Unwritten, say, wants_color
-from pdsuite.shards import Shard, shard_of
+from pdsuite.shards import Shard
 from pdsuite.stop import Stopped
 from pdsuite.styled import plainly
 from pdsuite.version import version
+from pdsuite.words import PlaceWord, ReasonWord, ShardWord
 
 MOST_WORKERS = 64
 FAULT = 2
 
 Command = TypeVar("Command", bound=Callable[..., int])
-
-
-class _Place(click.Path):
-    """The path of a file or folder. An empty word, as a shell makes of a variable that isn't set, names none."""
-
-    def convert(self, value: str | os.PathLike[str], param: click.Parameter | None, ctx: click.Context | None) -> Path:
-        if not os.fspath(value):
-            self.fail("it is empty, and so names no file.", param, ctx)
-        return Path(value)
-
-
-class _Part(click.ParamType):
-    """A shard, as K/N."""
-
-    name = "shard"
-
-    def convert(self, value: str | Shard, param: click.Parameter | None, ctx: click.Context | None) -> Shard:
-        shard = value if isinstance(value, Shard) else shard_of(value)
-        if shard is None:
-            self.fail(f"{shown_text(str(value))} is no K/N, with K from 1 to N.", param, ctx)
-        return shard
-
-
-class _Reason(click.ParamType):
-    """Why a script is known not to pass, in a line."""
-
-    name = "text"
-
-    def convert(self, value: str, param: click.Parameter | None, ctx: click.Context | None) -> str:
-        if not value.strip():
-            self.fail("it is empty, and so says nothing.", param, ctx)
-        if not value.isprintable():
-            self.fail("it is no line of characters that print.", param, ctx)
-        return value
 
 
 def _print_version(context: click.Context, option: click.Parameter, on: bool) -> None:
@@ -96,7 +63,7 @@ def _choice(command: Command) -> Command:
         click.option(
             "--only", metavar="PATTERN", multiple=True, help="Only scripts whose path or name fits; again for more."
         ),
-        click.argument("paths", nargs=-1, required=True, type=_Place()),
+        click.argument("paths", nargs=-1, required=True, type=PlaceWord()),
     ):
         command = option(command)
     return command
@@ -106,7 +73,9 @@ def _part(command: Command) -> Command:
     """The words that choose among the scripts that are found."""
     for option in (
         click.option("--last-failed", is_flag=True, help="Only what didn't pass in the last run of these paths."),
-        click.option("--shard", metavar="K/N", type=_Part(), help="Only the K-th of N parts of about as many octets."),
+        click.option(
+            "--shard", metavar="K/N", type=ShardWord(), help="Only the K-th of N parts of about as many octets."
+        ),
     ):
         command = option(command)
     return command
@@ -121,7 +90,7 @@ _strict = click.option("--strict", is_flag=True, help="A warning makes a script 
 _html = click.option(
     "--html",
     metavar="FOLDER",
-    type=_Place(),
+    type=PlaceWord(),
     help="Write a page into this folder, too.",
 )
 
@@ -157,7 +126,7 @@ def _wanted(html: Path | None, plot: str | None, plots: int | None) -> Plots:
 @click.option(
     "--junit",
     metavar="FILE",
-    type=_Place(),
+    type=PlaceWord(),
     help="Write JUnit's XML, too.",
 )
 @click.option("--tap", "form", flag_value="tap", help="Print TAP, version 13.")
@@ -260,7 +229,7 @@ def list_command(
 @pdsuite.command(name="expect")
 @_choice
 @_workers
-@click.option("--reason", metavar="TEXT", type=_Reason(), help="Why those that don't pass are known.")
+@click.option("--reason", metavar="TEXT", type=ReasonWord(), help="Why those that don't pass are known.")
 def expect_command(
     paths: tuple[Path, ...],
     only: tuple[str, ...],
@@ -283,8 +252,8 @@ def expect_command(
 
 @pdsuite.command(name="diff")
 @click.option("--no-color", is_flag=True, help="No colours on a terminal.")
-@click.argument("old", metavar="OLD", type=_Place())
-@click.argument("new", metavar="[NEW]...", nargs=-1, type=_Place())
+@click.argument("old", metavar="OLD", type=PlaceWord())
+@click.argument("new", metavar="[NEW]...", nargs=-1, type=PlaceWord())
 def diff_command(old: Path, new: tuple[Path, ...], no_color: bool) -> int:
     """Shows what turned between two reports, and runs nothing.
 
@@ -329,8 +298,8 @@ def compare_command(
 @pdsuite.command(name="import")
 @click.option("--keep", is_flag=True, help="Change nothing of packets.")
 @click.option("--no-color", is_flag=True, help="No colours on a terminal.")
-@click.argument("source", metavar="FROM", type=_Place())
-@click.argument("target", metavar="TO", type=_Place())
+@click.argument("source", metavar="FROM", type=PlaceWord())
+@click.argument("target", metavar="TO", type=PlaceWord())
 def import_command(source: Path, target: Path, keep: bool, no_color: bool) -> int:
     """Brings scripts of the kernel's self-tests over into a new folder, and runs nothing."""
     # Only who imports pays for what reads the kernel's scripts.
