@@ -8,6 +8,7 @@ import time
 import zlib
 from collections.abc import Callable, Iterable, Iterator, Mapping, Sequence
 from contextlib import contextmanager, suppress
+from itertools import islice
 from pathlib import Path
 
 from pdsuite.faults import Fault, why
@@ -27,6 +28,9 @@ _REPORTS = "*.json"
 # What ends the first line of a report, so that it can be read by itself.
 _END = b"]}"
 _LONGEST = 80
+_NOT_RUN = Verdict.NOT_RUN
+# So many lines are written at once.
+_AT_ONCE = 1_024
 _OTHER = re.compile(r"[^A-Za-z0-9.-]+")
 
 
@@ -46,7 +50,7 @@ def absolute_paths() -> Callable[[str], str]:
     here = os.getcwd().rstrip("/")
 
     def absolute(path: str) -> str:
-        whole = path if path.startswith("/") else f"{here}/{path}"
+        whole = path if path[:1] == "/" else f"{here}/{path}"
         return shown_path(os.path.normpath(whole) if "/." in whole else whole)
 
     return absolute
@@ -68,19 +72,18 @@ class LastReport:
     def leave(self, outcomes: Sequence[Outcome], is_part: bool) -> None:
         """Keeps the rows of a run. What was known of scripts that it had no row of stays, if they are there still."""
         absolute = absolute_paths()
-        each = ((absolute(it.path), it) for it in outcomes)
         with _alone(self._folder):
-            if is_part or any(it.row.verdict is Verdict.NOT_RUN for it in outcomes):
-                lines = self._merged(dict(each), is_part)
+            if is_part or any(it.row.verdict is _NOT_RUN for it in outcomes):
+                lines = self._merged({absolute(it.path): it for it in outcomes}, is_part)
             else:
-                lines = (script_text(it, path) for path, it in each)
+                lines = (script_text(it, absolute(it.path)) for it in outcomes)
             self._write(lines)
             _sweep(self._folder)
 
     def _merged(self, outcomes: Mapping[str, Outcome], is_part: bool) -> Iterator[str]:
         lines = self._lines()
         for path, it in outcomes.items():
-            if it.row.verdict is not Verdict.NOT_RUN:
+            if it.row.verdict is not _NOT_RUN:
                 lines[path] = script_text(it, path)
         return (line for path, line in lines.items() if is_part or path in outcomes)
 
@@ -106,13 +109,13 @@ class LastReport:
             raise Fault(f"{shown_path(self._file)}: {why(error)}") from error
         return octets if _of(octets.split(b"\n", 1)[0]) == self.of else None
 
-    def _write(self, lines: Iterable[str]) -> None:
+    def _write(self, lines: Iterator[str]) -> None:
         beside = self._folder / _NEW
         with beside.open("w", encoding="utf-8") as file:
             file.write(f'{{"of": {json.dumps(self.of, ensure_ascii=False)}, "scripts": [')
             before = "\n"
-            for line in lines:
-                file.write(before + line)
+            while several := ",\n".join(islice(lines, _AT_ONCE)):
+                file.write(before + several)
                 before = ",\n"
             file.write("\n]}\n")
         beside.replace(self._file)

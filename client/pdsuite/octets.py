@@ -34,7 +34,10 @@ def shown_text(text: str, most: int | None = None) -> str:
 
 def shown_path(path: str | Path, also: str = "") -> str:
     """A path as people see it."""
-    return shown(os.fsencode(path), also=also)
+    text = path if isinstance(path, str) else os.fspath(path)
+    if not also and text.isascii() and text.isprintable() and "\\" not in text:
+        return text
+    return shown(os.fsencode(text), also=also)
 
 
 def _sign(character: str, also: str) -> str:

@@ -102,14 +102,16 @@ class Outcome:
     @property
     def tally(self) -> Verdict | Tally:
         """How the script is counted. One that couldn't be run is an error, whatever else is expected of it."""
+        if self.expected is None or self.row.verdict is Verdict.NOT_RUN:
+            return self.row.verdict
         if self.is_known:
             return Tally.KNOWN
-        return Tally.UNEXPECTED if self.is_unexpected and self.row.verdict is not Verdict.ERROR else self.row.verdict
+        return self.row.verdict if self.row.verdict is Verdict.ERROR else Tally.UNEXPECTED
 
     @property
     def warnings(self) -> tuple[Warned, ...]:
         """What is to be warned of."""
-        return (Warned.NO_EVENT,) if self.row.verdict is Verdict.PASS and not self.row.number else ()
+        return (Warned.NO_EVENT,) if not self.row.number and self.row.verdict is Verdict.PASS else ()
 
     @property
     def passes(self) -> bool:

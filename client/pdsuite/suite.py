@@ -60,15 +60,13 @@ class Claim:
         return f"{self.place}: {_shown(self.key)}: {reason}{beside}" + (f": {helps}" if helps else "")
 
 
-@dataclass(frozen=True)
-class Common:
-    """What all scripts of a folder have in common, and what the file beside them says of single ones."""
+@dataclass(frozen=True, slots=True)
+class Held:
+    """What holds for a script: its settings, whether a warning makes it fail, and the row that it is known to have."""
 
     settings: Settings
     is_strict: bool
-    tables: Mapping[str, Table]
-    strict: Mapping[str, bool]
-    expected: Mapping[str, Expected]
+    expected: Expected | None
 
 
 class Suite:
@@ -78,22 +76,29 @@ class Suite:
         self._option = option
         self._read = read or read_layer
         self._layers: dict[str, Layer | None] = {}
-        self._known: dict[str, Common] = {}
+        self._known: dict[str, tuple[Held, Layer]] = {}
+
+    def held(self, script: Found) -> Held:
+        """What holds for a script."""
+        common, beside = self._known.get(script.folder) or self._common(script.folder)
+        own = beside.tables.get(script.name)
+        if own is None:
+            return common
+        settings = self._merged(script.folder, own) if own else common.settings
+        is_strict = beside.strict.get(script.name, common.is_strict)
+        return Held(settings, is_strict, beside.expected.get(script.name))
 
     def settings(self, script: Found) -> Settings:
         """The settings of a script."""
-        common = self._common(script.folder)
-        own = common.tables.get(script.name)
-        return self._merged(script.folder, own) if own else common.settings
+        return self.held(script).settings
 
     def is_strict(self, script: Found) -> bool:
         """Whether a warning makes a script fail."""
-        common = self._common(script.folder)
-        return common.strict.get(script.name, common.is_strict)
+        return self.held(script).is_strict
 
     def expected(self, script: Found) -> Expected | None:
         """The row that a script is known to have, if one is said."""
-        return self._common(script.folder).expected.get(script.name)
+        return self.held(script).expected
 
     def look(self, folders: Iterable[str]) -> None:
         """Reads the files of these folders, whichever scripts they are about."""
@@ -113,14 +118,11 @@ class Suite:
         """What `--settings` and the files that were read say, whichever scripts it is about."""
         yield from claims_of([self._option, *(layer for _, layer in self.files())])
 
-    def _common(self, folder: str) -> Common:
-        known = self._known.get(folder)
-        if known is None:
-            chain = self._chain(folder)
-            is_strict = next((it.strict[""] for it in chain if "" in it.strict), False)
-            beside = self._layer(folder) or _EMPTY
-            known = Common(self._merged(folder, {}), is_strict, beside.tables, beside.strict, beside.expected)
-            self._known[folder] = known
+    def _common(self, folder: str) -> tuple[Held, Layer]:
+        """What holds for all scripts of a folder of which the file beside them says nothing, and that file."""
+        is_strict = next((it.strict[""] for it in self._chain(folder) if "" in it.strict), False)
+        known = Held(self._merged(folder, {}), is_strict, None), self._layer(folder) or _EMPTY
+        self._known[folder] = known
         return known
 
     def _merged(self, folder: str, own: Table) -> Settings:

@@ -55,5 +55,5 @@ def _chosen(found: list[Found], part: Part) -> list[Found]:
 def _script(index: int, it: Found, suite: Suite, is_strict: bool) -> Script:
     if it.fault:
         return Script(index, it.path, (), it.fault)
-    is_strict = is_strict or suite.is_strict(it)
-    return Script(index, it.path, suite.settings(it), is_strict=is_strict, expected=suite.expected(it))
+    held = suite.held(it)
+    return Script(index, it.path, held.settings, "", is_strict or held.is_strict, held.expected)

@@ -11,6 +11,7 @@ from pdsuite.settings import Settings
 from pdsuite.shards import Shard
 from pdsuite.styled import Styled, plainly
 
+_PASS = Verdict.PASS
 _encoded = json.JSONEncoder(ensure_ascii=False).encode
 
 
@@ -39,12 +40,14 @@ class Json:
 
 
 def script_text(outcome: Outcome, path: str) -> str:
-    """A script under this path, on one line."""
-    if outcome.row.verdict is not Verdict.PASS or outcome.warnings or outcome.expected is not None:
+    """A script on one line, under this path, which is safe to print."""
+    row = outcome.row
+    if row.verdict is not _PASS or not row.number or outcome.expected is not None:
         return _encoded(_script(outcome, path))
-    # Most scripts pass, and so their line is put together by hand: that takes a fifth of the time.
-    begin = f'{{"path": {_encoded(path)}, "verdict": "pass", "events": {outcome.row.number}'
-    return f'{begin}, "below": [], "settings": {_settings(outcome.settings)}}}'
+    # Most scripts pass and have nothing else to tell: their line is put together by hand, in a fifth of the time.
+    quoted = _encoded(path) if '"' in path or "\\" in path else f'"{path}"'
+    settings = _settings(outcome.settings) if outcome.settings else "{}"
+    return f'{{"path": {quoted}, "verdict": "pass", "events": {row.number}, "below": [], "settings": {settings}}}'
 
 
 @cache

@@ -18,6 +18,8 @@ _STYLES: dict[Verdict | Tally, str] = {
     Tally.KNOWN: "dim",
     Tally.UNEXPECTED: "bold red",
 }
+# What is shown only where every script is.
+_UNSHOWN = (Verdict.PASS, Verdict.NOT_RUN, Tally.KNOWN)
 _WARNED = "yellow"
 _STRICT = "bold red"
 
@@ -32,8 +34,7 @@ class Plain:
         return Styled()
 
     def entry(self, number: int, outcome: Outcome) -> Styled | None:
-        tally = outcome.tally
-        if not self.every and tally in (Verdict.PASS, Verdict.NOT_RUN, Tally.KNOWN):
+        if not self.every and outcome.tally in _UNSHOWN:
             return self.warnings(outcome) if outcome.warnings else None
         if outcome.warnings or outcome.is_known:
             return self.changed(outcome)
