@@ -3,12 +3,14 @@
 # processor time of the client alone, and that of a loop that only reads these files. The status is 1 where the client takes
 # more than four times as much, or a script doesn't pass. Or measures `pdsuite watch` over 500 scripts of 60 events: the
 # time from the return of a save to its row on standard output, and to all of its report, 100 times. Or measures what
-# `pdsuite watch` over 50,000 scripts takes of a processor in 200 seconds in which nothing happens; 1 % is the most.
+# `pdsuite watch` over 50,000 scripts takes of a processor in 200 seconds in which nothing happens; 1 % is the most. Or the
+# time over 50,000 scripts of which each tenth fails with that failure expected, beside the time without: 1.1 times is the most.
 #
 #   bench/suite.sh [SCRIPTS [EVENTS]]      100,000 scripts of 20 events if nothing is said. PDSUITE_PROGRAMS names the folder
 #                                          of another build, or PROGRAM that of pdregress and EXPLAIN that of pdexplain
 #   bench/suite.sh watch [SAVES]
 #   bench/suite.sh idle [SECONDS [SCRIPTS]]
+#   bench/suite.sh known [SCRIPTS [EVENTS]]
 #   bench/suite.sh cluster [SCRIPTS [EVENTS]]   the time with 1, 2 and 4 workers of a Dask cluster on this machine, beside a
 #                                               run without a cluster that has as many threads
 #   bench/suite.sh all [SCRIPTS [EVENTS]]       the first, and then the cluster over the same scripts
@@ -29,6 +31,10 @@ case ${1:-} in
         seconds=${2:-200}
         set -- "${3:-50000}" 20
         ;;
+    known)
+        mode=known
+        set -- "${2:-50000}" "${3:-20}"
+        ;;
     cluster | all)
         mode=$1
         shift
@@ -41,7 +47,7 @@ explain=${EXPLAIN:-$top/crates/pdexplain/out/pdexplain}
 mkdir "$work/programs"
 ln -s "$(realpath "$program")" "$work/programs/pdregress"
 ln -s "$(realpath "$explain")" "$work/programs/pdexplain"
-export PDSUITE_PROGRAMS="$work/programs"
+export PDSUITE_PROGRAMS="$work/programs" XDG_CACHE_HOME="$work/cache"
 
 # A file for each script, 1,000 to a folder.
 generate "$scripts" "$events" | awk -v top="$work/suite" '
@@ -60,6 +66,10 @@ if [ "$mode" = watch ]; then
 fi
 if [ "$mode" = idle ]; then
     /usr/bin/python3 -I "$top/bench/watch.py" "$top" "$work/suite" idle "$seconds"
+    exit
+fi
+if [ "$mode" = known ]; then
+    /usr/bin/python3 -I "$top/bench/known.py" "$top" "$work/suite"
     exit
 fi
 measure_cluster() {
