@@ -53,7 +53,7 @@ class Row:
         """The row as the program says it, without the script's name."""
         if self.line is None:
             return str(self)
-        return " ".join(it for it in (self.verdict.value, str(self.line), self.word) if it)
+        return f"{self.verdict.value} {self.number} {self.word}" if self.word else f"{self.verdict.value} {self.number}"
 
 
 _WITHOUT_LINE = (Verdict.PASS, Verdict.ERROR, Verdict.NOT_RUN)
