@@ -4,41 +4,33 @@ import gc
 import io
 import os
 import sys
-from collections.abc import Callable
 from pathlib import Path
-from typing import TypeVar
+from typing import Any
 
 import click
 
 from pdsuite.commands.list import list_scripts
-from pdsuite.commands.run import Wish, run
+from pdsuite.commands.options import PlaceWord, ReasonWord
+from pdsuite.commands.options import choice_options, html_option, part_options, plot_options
+from pdsuite.commands.options import strict_option, workers_option
+from pdsuite.commands.run import RunOptions, run
+from pdsuite.commands.version import version
 from pdsuite.faults import Fault, why
-from pdsuite.octets import shown, shown_text
 from pdsuite.packages import need
-from pdsuite.page.plots import MOST, Plots
-from pdsuite.reports.as_json import Json
-from pdsuite.reports.form import Form
-from pdsuite.reports.github import SUMMARY, Github
-from pdsuite.reports.plain import Plain
-from pdsuite.reports.tap import Tap
-from pdsuite.screen import Screen, Unwritten, say, wants_color
-from pdsuite.shards import Shard
-from pdsuite.stop import Stopped
-from pdsuite.styled import plainly
-from pdsuite.version import version
-from pdsuite.words import PlaceWord, ReasonWord, ShardWord
+from pdsuite.scripts.shards import Shard
+from pdsuite.show.octets import shown, shown_text
+from pdsuite.show.screen import Screen, Unwritten, say, wants_color
+from pdsuite.show.styled_text import unstyled
+from pdsuite.signals import Stopped
 
-MOST_WORKERS = 64
 FAULT = 2
-
-Command = TypeVar("Command", bound=Callable[..., int])
 
 
 def _print_version(context: click.Context, option: click.Parameter, on: bool) -> None:
     if on and not context.resilient_parsing:
         with Screen(False, progress=False) as screen:
             for line in version():
-                screen.show(plainly(f"{line}\n"))
+                screen.show(unstyled(f"{line}\n"))
         context.exit()
 
 
@@ -55,71 +47,14 @@ def pdsuite() -> None:
     """Runs folders of packetdrill scripts by the built program pdregress."""
 
 
-def _choice(command: Command) -> Command:
-    """The words that say which scripts are meant, and with which settings."""
-    for option in (
-        click.option("--no-color", is_flag=True, help="No colours on a terminal."),
-        click.option("--settings", default="", metavar="TEXT", help="Settings before all others."),
-        click.option(
-            "--only", metavar="PATTERN", multiple=True, help="Only scripts whose path or name fits; again for more."
-        ),
-        click.argument("paths", nargs=-1, required=True, type=PlaceWord()),
-    ):
-        command = option(command)
-    return command
-
-
-def _part(command: Command) -> Command:
-    """The words that choose among the scripts that are found."""
-    for option in (
-        click.option("--last-failed", is_flag=True, help="Only what didn't pass in the last run of these paths."),
-        click.option(
-            "--shard", metavar="K/N", type=ShardWord(), help="Only the K-th of N parts of about as many octets."
-        ),
-    ):
-        command = option(command)
-    return command
-
-
-_workers = click.option(
-    "--workers",
-    type=click.IntRange(0, MOST_WORKERS),
-    help="How many threads run scripts; one a processor if nothing is said.",
-)
-_strict = click.option("--strict", is_flag=True, help="A warning makes a script fail.")
-_html = click.option(
-    "--html",
-    metavar="FOLDER",
-    type=PlaceWord(),
-    help="Write a page into this folder, too.",
-)
-
-
-def _plots(command: Command) -> Command:
-    """The words that say of which scripts the page has diagrams."""
-    for option in (
-        click.option("--plots", metavar="N", type=click.IntRange(0), help=f"Draw the first N that fail, not {MOST}."),
-        click.option("--plot", metavar="PATTERN", help="Draw scripts whose path or name fits, as files too."),
-    ):
-        command = option(command)
-    return command
-
-
-def _wanted(html: Path | None, plot: str | None, plots: int | None) -> Plots:
-    """The diagrams that are asked for."""
-    if html is None and (plot is not None or plots is not None):
-        raise click.UsageError("--plot and --plots draw into the page of --html FOLDER")
-    return Plots(plot, MOST if plots is None else plots)
-
-
 @pdsuite.command(name="run")
-@_choice
-@_part
+@choice_options
+@part_options
 @click.option("--new", is_flag=True, help="Show only rows that the last run of these paths didn't have.")
-@_strict
-@_workers
-@_html
-@_plots
+@strict_option
+@workers_option
+@html_option
+@plot_options
 @click.option("--scheduler", metavar="ADDRESS", help="Run scripts on the cluster of this Dask scheduler.")
 @click.option("--proved", is_flag=True, help="Run nothing that isn't proved.")
 @click.option("--fail-fast", is_flag=True, help="Stop at the first piece that doesn't pass.")
@@ -133,86 +68,48 @@ def _wanted(html: Path | None, plot: str | None, plots: int | None) -> Plots:
 @click.option("--json", "form", flag_value="json", help="Print JSON.")
 @click.option("--github", "form", flag_value="github", help="Print annotations.")
 @click.option("-v", "--verbose", is_flag=True, help="A line for each script.")
-def run_command(
-    paths: tuple[Path, ...],
-    only: tuple[str, ...],
-    settings: str,
-    no_color: bool,
-    shard: Shard | None,
-    last_failed: bool,
-    new: bool,
-    strict: bool,
-    workers: int | None,
-    html: Path | None,
-    plot: str | None,
-    plots: int | None,
-    scheduler: str | None,
-    proved: bool,
-    fail_fast: bool,
-    junit: Path | None,
-    form: str | None,
-    verbose: bool,
-) -> int:
+def run_command(no_color: bool, **words: Any) -> int:
     """Runs scripts in files and folders, and reports what came of them."""
-    if scheduler is not None and workers is not None:
+    options = RunOptions(**words)
+    if options.scheduler is not None and options.workers is not None:
         raise click.UsageError("--workers is of this machine, and --scheduler runs scripts elsewhere")
-    if scheduler is not None and html is not None:
+    if options.scheduler is not None and options.html is not None:
         raise click.UsageError("--html draws what ran on this machine, and --scheduler runs scripts elsewhere")
-    if new and form in ("tap", "json"):
+    if options.new and options.form in ("tap", "json"):
         raise click.UsageError("--new leaves rows out, and --tap and --json have all")
-    wish = Wish(
-        paths=paths,
-        only=only,
-        shard=shard,
-        last_failed=last_failed,
-        new=new,
-        settings=settings,
-        is_strict=strict,
-        workers=_threads(workers),
-        scheduler=scheduler,
-        is_proved=proved,
-        fail_fast=fail_fast,
-        junit=junit,
-        summary=_summary(form),
-        html=html,
-        plots=_wanted(html, plot, plots),
-    )
-    with Screen(wants_color() and not no_color, progress=form is None) as screen:
-        return run(wish, _form(form, verbose, shard), screen)
+    _refuse_plots(options.html, options.plot, options.plots)
+    with Screen(wants_color() and not no_color, progress=options.form is None) as screen:
+        return run(options, screen)
 
 
 @pdsuite.command(name="watch")
-@_choice
-@_strict
-@_workers
-@_html
-@_plots
+@choice_options
+@strict_option
+@workers_option
+@html_option
+@plot_options
 @click.option("-v", "--verbose", is_flag=True, help="At first a line for each script.")
-def watch_command(
-    paths: tuple[Path, ...],
-    only: tuple[str, ...],
-    settings: str,
-    no_color: bool,
-    strict: bool,
-    workers: int | None,
-    html: Path | None,
-    plot: str | None,
-    plots: int | None,
-    verbose: bool,
-) -> int:
+def watch_command(no_color: bool, **words: Any) -> int:
     """Watches files and folders, and shows at once what each change did."""
     # Only who watches pays for what reports changes.
-    from pdsuite.commands.watch import Wish, watch
+    from pdsuite.commands.watch import WatchOptions, watch
 
-    wish = Wish(paths, only, settings, strict, _threads(workers), verbose, html, _wanted(html, plot, plots))
+    options = WatchOptions(**words)
+    _refuse_plots(options.html, options.plot, options.plots)
     gc.enable()  # this may go on for days
     with Screen(wants_color() and not no_color, progress=False) as screen:
-        return watch(wish, screen)
+        return watch(options, screen)
+
+
+def _refuse_plots(html: Path | None, plot: str | None, plots: int | None) -> None:
+    """Refuses words that say which diagrams are drawn, where no page is asked for."""
+    if html is None and (plot is not None or plots is not None):
+        raise click.UsageError("--plot and --plots draw into the page of --html FOLDER")
 
 
 @pdsuite.command(name="list")
-@_choice
-@_part
+@choice_options
+@part_options
 def list_command(
     paths: tuple[Path, ...],
     only: tuple[str, ...],
@@ -227,27 +124,20 @@ def list_command(
 
 
 @pdsuite.command(name="expect")
-@_choice
-@_workers
+@choice_options
+@workers_option
 @click.option("--reason", metavar="TEXT", type=ReasonWord(), help="Why those that don't pass are known.")
-def expect_command(
-    paths: tuple[Path, ...],
-    only: tuple[str, ...],
-    settings: str,
-    no_color: bool,
-    workers: int | None,
-    reason: str | None,
-) -> int:
+def expect_command(no_color: bool, **words: Any) -> int:
     """Writes into pdsuite.toml which scripts are known not to pass.
 
     The rows that they have now are expected from then on, with --reason. What is expected of scripts that pass is taken
     away. All else in the files stays.
     """
     need("tomlkit")
-    from pdsuite.commands.expect import Wish, expect
+    from pdsuite.commands.expect import ExpectOptions, expect
 
     with Screen(wants_color() and not no_color, progress=True) as screen:
-        return expect(Wish(paths, only, settings, _threads(workers), reason), screen)
+        return expect(ExpectOptions(**words), screen)
 
 
 @pdsuite.command(name="diff")
@@ -269,30 +159,21 @@ def diff_command(old: Path, new: tuple[Path, ...], no_color: bool) -> int:
 
 
 @pdsuite.command(name="compare")
-@_choice
+@choice_options
 @click.option("--base", metavar="SENDER", help="The sender before: a folder of programs or a commit.")
 @click.option("--with", "other", metavar="SENDER", help="The sender after, if not the tree as it stands.")
-@_html
+@html_option
 @click.option("--json", "is_json", is_flag=True, help="Print JSON.")
-def compare_command(
-    paths: tuple[Path, ...],
-    only: tuple[str, ...],
-    settings: str,
-    no_color: bool,
-    base: str | None,
-    other: str | None,
-    html: Path | None,
-    is_json: bool,
-) -> int:
+def compare_command(no_color: bool, **words: Any) -> int:
     """Shows what a change of the sender does to scripts: which turn, and which are played otherwise.
 
     Without --base the sender before is the one that ./prove has proved last in this tree.
     """
     # Only who compares senders pays for what runs two.
-    from pdsuite.commands.compare import Wish, compare_senders
+    from pdsuite.commands.compare import CompareOptions, compare_senders
 
     with Screen(wants_color() and not no_color, progress=False) as screen:
-        return compare_senders(Wish(paths, only, settings, base, other, _threads(None), is_json, html), screen)
+        return compare_senders(CompareOptions(**words), screen)
 
 
 @pdsuite.command(name="import")
@@ -307,28 +188,6 @@ def import_command(source: Path, target: Path, keep: bool, no_color: bool) -> in
 
     with Screen(wants_color() and not no_color, progress=False) as screen:
         return import_scripts(source, target, keep, screen)
-
-
-def _summary(form: str | None) -> Path | None:
-    """The file for a summary that GitHub names, where its annotations are asked for."""
-    name = os.environ.get(SUMMARY)
-    return Path(name) if form == "github" and name else None
-
-
-def _threads(workers: int | None) -> int:
-    """As many threads as are asked for, or one a processor."""
-    return min(len(os.sched_getaffinity(0)), MOST_WORKERS) if workers is None else workers
-
-
-def _form(name: str | None, every: bool, shard: Shard | None) -> Form:
-    match name:
-        case "tap":
-            return Tap()
-        case "json":
-            return Json(shard)
-        case "github":
-            return Github()
-    return Plain(every)
 
 
 def main() -> int:

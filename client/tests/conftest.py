@@ -11,9 +11,9 @@ import pytest
 from _pytest.terminal import TerminalReporter
 
 from pdsuite.faults import Fault
-from pdsuite.programs import RECORD, locate
-from pdsuite.stop import Stop
-from pdsuite.watcher import Watcher
+from pdsuite.programs.places import RECORD, locate
+from pdsuite.signals import Stop
+from pdsuite.watch.watcher import Watcher
 from tests.helpers import HANGS, TOP, Call, Called
 from tests.site import Site
 
@@ -123,7 +123,7 @@ def call(tmp_path: Path) -> Call:
 @pytest.fixture
 def site(tmp_path: Path, monkeypatch: pytest.MonkeyPatch) -> Iterator[Site]:
     """A folder that is watched in this process, where nobody goes on writing."""
-    monkeypatch.setattr("pdsuite.stamps._FRESH", 0)
+    monkeypatch.setattr("pdsuite.watch.file_stamps._FRESH", 0)
     top = tmp_path / "top"
     top.mkdir()
     (top / "pdsuite.toml").write_text("root = true\n")

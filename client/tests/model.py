@@ -4,12 +4,13 @@ import re
 import zlib
 from dataclasses import replace
 
-from pdsuite.defaults import DEFAULTS
-from pdsuite.programs import Ended
-from pdsuite.rows import Outcome, Row, Verdict
-from pdsuite.runs import Script
-from pdsuite.settings import Settings, set_words
-from pdsuite.settle import Settled
+from pdsuite.programs.program import Ended
+from pdsuite.programs.rows import Row, Verdict
+from pdsuite.run.outcomes import Outcome
+from pdsuite.run.runs import Script
+from pdsuite.run.settling import SettledPiece
+from pdsuite.scripts.defaults import DEFAULTS
+from pdsuite.scripts.settings import Settings, set_words
 
 MOST = 1_024
 
@@ -34,7 +35,7 @@ def meaning_of(text: bytes, settings: Settings) -> str:
 class Teller:
     """Stands in for what asks pdexplain."""
 
-    def explain(self, step: Settled) -> list[tuple[Script, Outcome]]:
+    def explain(self, step: SettledPiece) -> list[tuple[Script, Outcome]]:
         """Tells of each script, in pieces with equal settings."""
         assert len({script.settings for script, _ in step.outcomes}) == 1
         return [

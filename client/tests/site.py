@@ -6,23 +6,23 @@ from pathlib import Path
 from typing import cast
 
 from pdsuite.commands.watch import View, step
-from pdsuite.explain import Explainer
-from pdsuite.find import find
-from pdsuite.fleet import Fleet
-from pdsuite.folders import Choice, Folders
-from pdsuite.layers import Layers
-from pdsuite.news import News
-from pdsuite.octets import shown_path
-from pdsuite.programs import Program
-from pdsuite.runs import Script
-from pdsuite.screen import Screen
-from pdsuite.settings import Settings, set_words
-from pdsuite.settle import load
-from pdsuite.stop import Stop
-from pdsuite.styled import Styled
-from pdsuite.suite import Claim, Suite, option_of
-from pdsuite.text import Text
-from pdsuite.watcher import Event, Watcher
+from pdsuite.programs.program import Program
+from pdsuite.run.explainer import Explainer
+from pdsuite.run.runs import Script
+from pdsuite.run.settling import load
+from pdsuite.scripts.search import find
+from pdsuite.scripts.settings import Settings, set_words
+from pdsuite.scripts.suite import Claim, Suite, option_of
+from pdsuite.scripts.text import Text
+from pdsuite.show.octets import shown_path
+from pdsuite.show.screen import Screen
+from pdsuite.show.styled_text import StyledText
+from pdsuite.signals import Stop
+from pdsuite.watch.change_report import ChangeReport
+from pdsuite.watch.fleet import Fleet
+from pdsuite.watch.folders import Choice, Folders
+from pdsuite.watch.settings_files import SettingsFiles
+from pdsuite.watch.watcher import Event, Watcher
 from tests.helpers import Replay
 from tests.model import Model, Teller, meaning_of, row_of, settings_words
 
@@ -34,7 +34,7 @@ class Paper:
         self.parts: list[str] = []
         self.notes: list[str] = []
 
-    def show(self, text: Styled) -> None:
+    def show(self, text: StyledText) -> None:
         self.parts.append(text.plain)
 
     def note(self, line: str) -> None:
@@ -62,10 +62,10 @@ class Site:
     now: float = 1_000.0
 
     def __post_init__(self) -> None:
-        self.layers = Layers(option_of(""), refused, self.paper.note)
-        self.folders = Folders(Choice([self.top], ()), self.layers, self.watcher, self.stop, self.paper.note)
+        self.settings_files = SettingsFiles(option_of(""), refused, self.paper.note)
+        self.folders = Folders(Choice([self.top], ()), self.settings_files, self.watcher, self.stop, self.paper.note)
         self.fleet = Fleet(self._start, self.paper.note, lambda doing: None)
-        self.view = View(cast(Screen, self.paper), cast(Explainer, Teller()), True, News())
+        self.view = View(cast(Screen, self.paper), cast(Explainer, Teller()), True, ChangeReport())
 
     def _start(self, settings: Settings) -> Program:
         self.models.append(Model(settings, self.most_acts))

@@ -27,7 +27,8 @@ Add = Callable[..., LocalCluster]
 _PATIENT = f"""
 import sys
 sys.path.insert(0, {str(TOP / "client")!r})
-from pdsuite import cluster, main
+from pdsuite import main
+from pdsuite.run import cluster
 cluster._PATIENCE = {HANGS}
 sys.exit(main.main())
 """

@@ -4,16 +4,17 @@ from pathlib import Path
 
 import pytest
 
-from pdsuite.diagram.failing import failing_of
-from pdsuite.diagram.labels import MOST_ROWS, Label, placed
 from pdsuite.diagram.canvas import WIDE
+from pdsuite.diagram.failing_line import failing_line_of
+from pdsuite.diagram.labels import MOST_ROWS, Label, placed
 from pdsuite.diagram.pictures import for_page, png_file, svg_file
 from pdsuite.diagram.plot import figure_of
 from pdsuite.diagram.strokes import strokes_of
 from pdsuite.diagram.values import Arrival, Block, Expected, Flag, Kind, Segment, Step, Strokes
 from pdsuite.page.plots import Plot, Plots, plots_of
-from pdsuite.rows import Outcome, Row, Verdict
-from pdsuite.trace import events_in
+from pdsuite.programs.rows import Row, Verdict
+from pdsuite.programs.trace import events_in
+from pdsuite.run.outcomes import Outcome
 
 RECORDINGS = Path(__file__).with_name("recordings")
 
@@ -193,7 +194,7 @@ WRONG = {
 
 def test_the_failing_packet_is_an_outline_and_what_was_sent_is_filled_and_what_comes_later_is_pale() -> None:
     script = script_of("fails").replace("> . 5001:6001(1000) ack 1 win 511", "> . 1:1001(1000) ack 1")
-    failing = failing_of(script, 16, WRONG)
+    failing = failing_line_of(script, 16, WRONG)
     assert failing is not None
     assert (failing.inputs, failing.packets, failing.moment) == (9, 6, 310_000)
     found = strokes_of(events_in((RECORDINGS / "fails.txt").read_text()), failing)
@@ -209,7 +210,7 @@ def test_the_failing_packet_is_an_outline_and_what_was_sent_is_filled_and_what_c
 def test_a_missing_packet_has_an_outline_alone_and_its_moments() -> None:
     script = "0 write(3, ..., 1) = 1\n+0.1~+0.3 > P. 1:2(1) ack 1\n"
     cause = {"script_packet": "+0.1~+0.3 > P. 1:2(1) ack 1", "awaited_from_us": 100_000, "awaited_until_us": 300_000}
-    failing = failing_of(script, 2, cause)
+    failing = failing_line_of(script, 2, cause)
     assert failing is not None and failing.expected is not None
     assert (failing.inputs, failing.packets, failing.moment, failing.actual) == (1, 0, 300_000, None)
     assert (failing.expected.first, failing.expected.last) == (100_000, 300_000)
@@ -225,10 +226,10 @@ def test_a_missing_packet_has_an_outline_alone_and_its_moments() -> None:
 
 
 def test_a_call_that_fails_has_no_packet() -> None:
-    failing = failing_of("0 close(3) = 0\n+1 close(3) = 1\n", 2, {"call": "+1 close(3) = 1"})
+    failing = failing_line_of("0 close(3) = 0\n+1 close(3) = 1\n", 2, {"call": "+1 close(3) = 1"})
     assert failing is not None
     assert (failing.inputs, failing.packets, failing.expected, failing.actual) == (2, 0, None, None)
-    assert failing_of("0 close(3) = 0\n", 7, {}) is None
+    assert failing_line_of("0 close(3) = 0\n", 7, {}) is None
 
 
 def test_words_above_never_lie_over_each_other() -> None:

@@ -5,9 +5,9 @@ from collections.abc import Mapping
 
 import pytest
 
-from pdsuite.differences import Difference, Kind, differences
-from pdsuite.rows import Row, Verdict
-from pdsuite.saved import Saved
+from pdsuite.programs.rows import Row, Verdict
+from pdsuite.reports.differences import Difference, Kind, differences
+from pdsuite.reports.saved_reports import SavedRow
 
 PASSES = Row(Verdict.PASS, 9)
 FAILS = Row(Verdict.FAIL, 12, "seq")
@@ -22,8 +22,8 @@ OTHERS = [
 ]
 
 
-def rows(**each: Row) -> Mapping[str, Saved]:
-    return {path: Saved(row) for path, row in each.items()}
+def rows(**each: Row) -> Mapping[str, SavedRow]:
+    return {path: SavedRow(row) for path, row in each.items()}
 
 
 def turned(before: Row | None, now: Row | None) -> Difference | None:
@@ -95,7 +95,7 @@ def test_what_turned_one_way_turns_back_the_other_way(seed: int) -> None:
     chance = random.Random(seed)
     kinds = [None, PASSES, FAILS, *OTHERS]
     before, now = (
-        {name: Saved(row) for name in "abcdefghijkl" if (row := chance.choice(kinds)) is not None} for _ in range(2)
+        {name: SavedRow(row) for name in "abcdefghijkl" if (row := chance.choice(kinds)) is not None} for _ in range(2)
     )
     back = {Kind.NO_MORE: Kind.AGAIN, Kind.AGAIN: Kind.NO_MORE, Kind.NEW: Kind.GONE, Kind.GONE: Kind.NEW}
     there = {it.path: it.kind for it in differences(before, now)}

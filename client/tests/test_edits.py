@@ -5,10 +5,10 @@ import re
 
 import pytest
 
-from pdsuite.defaults import DEFAULTS, KEYS, can_be_set, changed_keys
-from pdsuite.edits import Edit, edit_between
-from pdsuite.settings import Value
-from pdsuite.text import Text, text_of
+from pdsuite.scripts.defaults import DEFAULTS, KEYS, can_be_set, changed_keys
+from pdsuite.scripts.edits import Edit, edit_between
+from pdsuite.scripts.settings import Value
+from pdsuite.scripts.text import Text, text_of
 from tests.helpers import TOP
 
 

@@ -5,7 +5,7 @@ from pathlib import Path
 
 import pytest
 
-from pdsuite.watcher import Event, Kind
+from pdsuite.watch.watcher import Event, Kind
 from tests.site import Site
 
 
@@ -32,7 +32,7 @@ def test_each_change_is_shown_at_once_and_nothing_twice(site: Site) -> None:
 
 
 def test_what_is_being_written_is_taken_at_once_when_it_is_closed(site: Site, monkeypatch: pytest.MonkeyPatch) -> None:
-    monkeypatch.setattr("pdsuite.stamps._FRESH", 10**12)
+    monkeypatch.setattr("pdsuite.watch.file_stamps._FRESH", 10**12)
     (site.top / "a.pkt").write_bytes(b"one\n")
     site.wait(0)
     (site.top / "b.pkt").write_bytes(b"two\n")
@@ -223,7 +223,7 @@ def test_a_full_history_begins_a_new_run_with_all_files(site: Site) -> None:
 
 def test_the_more_a_look_takes_the_more_rarely_it_is_done(site: Site, monkeypatch: pytest.MonkeyPatch) -> None:
     processor, costs = [0.0], iter([8.0, 0.5, 0.001, 3.0, 0.6])
-    monkeypatch.setattr("pdsuite.folders.process_time", lambda: processor[0])
+    monkeypatch.setattr("pdsuite.watch.folders.process_time", lambda: processor[0])
     walk = site.folders._walk_through
 
     def costly(closed: set[tuple[str, str]], now: float) -> bool:

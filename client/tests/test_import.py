@@ -8,7 +8,7 @@ from pathlib import Path
 import pytest
 
 from tests.helpers import PASSES, TOP, Call, write
-from tests.test_import_convert import LEFT, OPEN, REPLACED
+from tests.test_import_conversion import LEFT, OPEN, REPLACED
 
 SUITE = TOP / "examples/suite"
 DEFAULTS = """#!/bin/bash

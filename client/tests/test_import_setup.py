@@ -8,8 +8,8 @@ from pdsuite.imports.kernel import ALIKE, DROPPED_COMMANDS, FEATURES, REFUSED_CO
 from pdsuite.imports.kernel import command_meaning, meaning
 from pdsuite.imports.setup import Looked, Place, Setup, look_at, setup_of, shift_count
 from pdsuite.imports.shell import Command, Defaults, Metric, Other, Switch, commands_in
-from pdsuite.settings import Value
-from pdsuite.text import Unfit
+from pdsuite.scripts.settings import Value
+from pdsuite.scripts.text import Unfit
 from tests.helpers import TOP
 
 COMMANDS: list[tuple[str, list[Command]]] = [

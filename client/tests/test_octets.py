@@ -5,7 +5,7 @@ from pathlib import Path
 
 import pytest
 
-from pdsuite.octets import shown, shown_path
+from pdsuite.show.octets import shown, shown_path
 
 
 @pytest.mark.parametrize(

@@ -10,9 +10,10 @@ from pdsuite.page.diagrams import undrawn
 from pdsuite.page.links import file_of, is_file
 from pdsuite.page.packets import Mark, Packet, columns
 from pdsuite.page.sheets import Entry, Fact, Refused, Sheet, row_of, sheet_of
-from pdsuite.protocol import Cause, Unexpected, causes_in
-from pdsuite.rows import Outcome, Row, Verdict
-from pdsuite.text import text_of
+from pdsuite.programs.protocol import Cause, Unexpected, causes_in
+from pdsuite.programs.rows import Row, Verdict
+from pdsuite.run.outcomes import Outcome
+from pdsuite.scripts.text import text_of
 from tests.helpers import FAILS, PASSES, Call, write
 from tests.watching import Watching
 

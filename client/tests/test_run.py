@@ -6,12 +6,12 @@ from pathlib import Path
 
 import pytest
 
-from pdsuite.asked import refused
-from pdsuite.defaults import KEYS, Number
-from pdsuite.programs import Program
-from pdsuite.settings import Value
-from pdsuite.stop import Stop
-from pdsuite.suite import Claim
+from pdsuite.programs.program import Program
+from pdsuite.programs.refusals import refusals
+from pdsuite.scripts.defaults import KEYS, Number
+from pdsuite.scripts.settings import Value
+from pdsuite.scripts.suite import Claim
+from pdsuite.signals import Stop
 from tests.helpers import FAILS, PASSES, TOP, Call, write
 
 EXAMPLES = TOP / "examples/scripts"
@@ -155,7 +155,7 @@ def test_the_program_takes_what_the_client_says_a_key_takes(key: str, programs: 
     bad += ["rfc5681", "rfc6928"] if isinstance(it.default, bool) else [True, False]
     claims = [Claim("p", "", key, value) for value in (*good, *bad)]
     with Stop() as stop:
-        lines = refused(claims, lambda: Program([programs / "pdregress"], stop))
+        lines = refusals(claims, lambda: Program([programs / "pdregress"], stop))
     assert lines == [f"p: {key}: BadValue: it takes {it.takes}"] * len(bad)
 
 

@@ -3,11 +3,12 @@
 
 import pytest
 
-from pdsuite.protocol import Unexpected, add, before_total, name_of, refusal_in, rows_in, set_and_show
-from pdsuite.rows import Outcome, Row, Totals, Verdict, Warned
-from pdsuite.runs import Script, cut, runs_of
-from pdsuite.settings import Settings
-from pdsuite.text import text_of
+from pdsuite.programs.protocol import Unexpected, add, before_total, name_of, refusal_in, rows_in, set_and_show
+from pdsuite.programs.rows import Row, Verdict
+from pdsuite.run.outcomes import Outcome, Totals, Warned
+from pdsuite.run.runs import Script, cut, runs_of
+from pdsuite.scripts.settings import Settings
+from pdsuite.scripts.text import text_of
 
 FASTER: Settings = (("mss", 1000),)
 

@@ -8,10 +8,10 @@ from pathlib import Path
 import pytest
 
 from pdsuite.faults import Fault
-from pdsuite.find import find
-from pdsuite.settings import Settings, Value, set_words, settings_text
-from pdsuite.stop import Stop
-from pdsuite.suite import Claim, Suite, layer_of, option_of
+from pdsuite.scripts.search import find
+from pdsuite.scripts.settings import Settings, Value, set_words, settings_text
+from pdsuite.scripts.suite import Claim, Suite, layer_of, option_of
+from pdsuite.signals import Stop
 
 VALUES: list[tuple[Value, str]] = [
     (1000, "1000"),

@@ -7,9 +7,9 @@ from pathlib import Path
 
 import pytest
 
-from pdsuite.find import find
-from pdsuite.shards import Shard, members, parts, shard_of
-from pdsuite.stop import Stop
+from pdsuite.scripts.search import find
+from pdsuite.scripts.shards import Shard, members, parts, shard_of
+from pdsuite.signals import Stop
 from tests.helpers import Call, write
 
 

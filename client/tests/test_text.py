@@ -6,7 +6,7 @@ from pathlib import Path
 
 import pytest
 
-from pdsuite.text import Text, Unfit, read_text, text_of
+from pdsuite.scripts.text import Text, Unfit, read_text, text_of
 
 
 @pytest.mark.parametrize(

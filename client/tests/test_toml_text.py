@@ -5,12 +5,12 @@ import tomllib
 
 import pytest
 
-from pdsuite.expected import Expected
 from pdsuite.faults import Fault
-from pdsuite.suite import layer_of
-from pdsuite.toml_text import edited
+from pdsuite.scripts.expectation import Expectation
+from pdsuite.scripts.suite import layer_of
+from pdsuite.scripts.toml_text import edited
 
-SEQ = Expected("fail 12 seq", 'the peer\'s "window"')
+SEQ = Expectation("fail 12 seq", 'the peer\'s "window"')
 WRITTEN = 'expect = "fail 12 seq"\nreason = "the peer\'s \\"window\\""\n'
 FILE = """\
 # The suite of the peer.
@@ -70,7 +70,7 @@ def test_what_was_not_there_is_not_taken_away() -> None:
 def test_all_at_once() -> None:
     new = edited("here", FILE, {"a.pkt": SEQ, "b.pkt": None, "c.pkt": None, "d.pkt": SEQ, "e.pkt": SEQ})
     layer = layer_of("here", new.encode())
-    assert layer.expected == dict.fromkeys(("a.pkt", "d.pkt", "e.pkt"), Expected(SEQ.row, SEQ.reason))
+    assert layer.expected == dict.fromkeys(("a.pkt", "d.pkt", "e.pkt"), Expectation(SEQ.row, SEQ.reason))
     assert layer.tables == {"a.pkt": {"mss": 1200}, "b.pkt": {"sack": False}, "d.pkt": {}, "e.pkt": {}}
     assert (layer.is_root, layer.keys) == (True, {"mss": 1000})
     for comment in ("# The suite of the peer.", "# nothing above counts", "# Late ones.", "# since May", "# as there"):
@@ -165,7 +165,7 @@ def test_of_random_files_nothing_is_lost(seed: int) -> None:
     edits = {f"{it}.pkt": chance.choice((SEQ, None)) for it in chance.sample("abcdefghij", chance.randrange(10))}
     new = edited("here", text, edits)
     before, after = layer_of("here", text.encode()), layer_of("here", new.encode())
-    expected: dict[str, Expected | None] = {**before.expected, **edits}
+    expected: dict[str, Expectation | None] = {**before.expected, **edits}
     assert after.expected == {name: it for name, it in expected.items() if it is not None}
     assert {name: it for name, it in after.tables.items() if it} == {
         name: it for name, it in before.tables.items() if it

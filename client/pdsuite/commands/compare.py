@@ -7,26 +7,27 @@ from pathlib import Path
 from tempfile import TemporaryDirectory
 from typing import TYPE_CHECKING
 
-from pdsuite.beside import Refused, Task, run_both
-from pdsuite.commands.choice import found_of, scripts_of
-from pdsuite.compared import Compared, Results, compare
-from pdsuite.lost import lost_in
-from pdsuite.reports.compared import as_json, plain
-from pdsuite.rows import Verdict
-from pdsuite.runs import runs_of
-from pdsuite.screen import Screen, say
-from pdsuite.senders import Sender, last_proved, sender_of, standing
-from pdsuite.stop import Stop, Stopped
-from pdsuite.suite import Suite, option_of
+from pdsuite.commands.options import threads_of
+from pdsuite.compare.comparison import ComparedScript, Results, compare
+from pdsuite.compare.senders import Sender, last_proved, sender_of, standing
+from pdsuite.compare.two_senders import SettingsRefused, Task, run_both
+from pdsuite.programs.rows import Verdict
+from pdsuite.reports.comparison import as_json, plain
+from pdsuite.run.choice import found_of, scripts_of
+from pdsuite.run.runs import runs_of
+from pdsuite.scripts.suite import Suite, option_of
+from pdsuite.scripts.unused_tables import unused_in
+from pdsuite.show.screen import Screen, say
+from pdsuite.signals import Stop, Stopped
 
 if TYPE_CHECKING:
-    from pdsuite.page.comparing import Page
+    from pdsuite.page.comparison import Page
 
 _FAULT = 2
 
 
 @dataclass(frozen=True)
-class Wish:
+class CompareOptions:
     """What a call asks for: which scripts, which senders, and how it is told."""
 
     paths: Sequence[Path]
@@ -34,28 +35,27 @@ class Wish:
     settings: str
     base: str | None
     other: str | None
-    workers: int
     is_json: bool
     html: Path | None
 
 
-def compare_senders(wish: Wish, screen: Screen) -> int:
+def compare_senders(options: CompareOptions, screen: Screen) -> int:
     """Compares two senders, and answers the exit status: 1 where something differs."""
     begin = time.monotonic()
-    suite = Suite(option_of(wish.settings))
+    suite = Suite(option_of(options.settings))
     try:
         with Stop() as stop, TemporaryDirectory(prefix="pdsuite-") as room:
-            scripts = scripts_of(found_of(wish.paths, wish.only, suite, stop), suite)
-            if lines := lost_in(suite):
+            scripts = scripts_of(found_of(options.paths, options.only, suite, stop), suite)
+            if lines := unused_in(suite):
                 return _refuse(lines)
-            page = None if wish.html is None else _page(wish.html)
-            senders = _senders(wish, Path(room))
+            page = None if options.html is None else _page(options.html)
+            senders = _senders(options, Path(room))
             _say_senders(senders, screen)
             records = all(it.records for it in senders)
             task = Task(runs_of(scripts), list(suite.claims()), records, page is not None)
-            results = run_both(senders, task, wish.workers, stop, screen.note)
-            return _tell(senders, results, page, wish, screen, begin)
-    except Refused as refused:
+            results = run_both(senders, task, threads_of(None), stop, screen.note)
+            return _tell(senders, results, page, options, screen, begin)
+    except SettingsRefused as refused:
         return _refuse(refused.lines)
     except Stopped as stopped:
         return stopped.status
@@ -67,10 +67,10 @@ def _refuse(lines: Sequence[str]) -> int:
     return _FAULT
 
 
-def _senders(wish: Wish, room: Path) -> tuple[Sender, Sender]:
+def _senders(options: CompareOptions, room: Path) -> tuple[Sender, Sender]:
     """The sender before the change, and the one after it; what is checked out goes into a folder."""
-    before = last_proved() if wish.base is None else sender_of(wish.base, "--base", room / "before")
-    after = standing() if wish.other is None else sender_of(wish.other, "--with", room / "after")
+    before = last_proved() if options.base is None else sender_of(options.base, "--base", room / "before")
+    after = standing() if options.other is None else sender_of(options.other, "--with", room / "after")
     return before, after
 
 
@@ -85,7 +85,7 @@ def _say_senders(senders: tuple[Sender, Sender], screen: Screen) -> None:
 
 def _page(folder: Path) -> "Page":
     # Only who asks for a page pays for what draws it.
-    from pdsuite.page.comparing import Page
+    from pdsuite.page.comparison import Page
 
     return Page(folder)
 
@@ -94,7 +94,7 @@ def _tell(
     senders: tuple[Sender, Sender],
     results: Sequence[Results],
     page: "Page | None",
-    wish: Wish,
+    options: CompareOptions,
     screen: Screen,
     begin: float,
 ) -> int:
@@ -106,12 +106,12 @@ def _tell(
     if page is not None:
         page.write(compared, (before, after), names, is_unproved)
     seconds = time.monotonic() - begin
-    form = as_json(compared, names, seconds, is_unproved) if wish.is_json else plain(compared, seconds, is_unproved)
+    form = as_json(compared, names, seconds, is_unproved) if options.is_json else plain(compared, seconds, is_unproved)
     screen.show(form)
     return _status(compared)
 
 
-def _status(compared: Sequence[Compared]) -> int:
+def _status(compared: Sequence[ComparedScript]) -> int:
     if any(Verdict.ERROR in (it.before.row.verdict, it.after.row.verdict) for it in compared):
         return _FAULT
     return 1 if any(it.differs for it in compared) else 0

@@ -5,13 +5,13 @@ from collections import Counter
 from collections.abc import Iterable, Sequence
 from pathlib import Path
 
-from pdsuite.cache import newest
-from pdsuite.differences import Difference, Kind, differences
 from pdsuite.faults import Fault
-from pdsuite.octets import shown_path
-from pdsuite.saved import SavedReport, read_report
-from pdsuite.screen import Screen
-from pdsuite.styled import Styled, plainly
+from pdsuite.reports.differences import Difference, Kind, differences
+from pdsuite.reports.report_cache import newest
+from pdsuite.reports.saved_reports import SavedReport, read_report
+from pdsuite.show.octets import shown_path
+from pdsuite.show.screen import Screen
+from pdsuite.show.styled_text import StyledText, unstyled
 
 _STYLES = {Kind.AGAIN: "green", Kind.NEW: "", Kind.GONE: "dim", Kind.NOT_RUN: "dim"}
 _WORSE = "bold red"
@@ -54,8 +54,8 @@ def _refuse(before: SavedReport, now: SavedReport) -> None:
         raise Fault(f"{before.place} and {now.place} have no script in common: paths count as they stand there")
 
 
-def _text(turned: Iterable[Difference], same: int) -> Styled:
-    text = Styled()
+def _text(turned: Iterable[Difference], same: int) -> StyledText:
+    text = StyledText()
     counts: Counter[Kind] = Counter()
     for it in turned:
         counts[it.kind] += 1
@@ -64,12 +64,12 @@ def _text(turned: Iterable[Difference], same: int) -> Styled:
     return text.append(f"total {counts.total() + same} {each} as before {same}\n")
 
 
-def _line(it: Difference) -> Styled:
+def _line(it: Difference) -> StyledText:
     """The line of a script: how it turned, its row, and the one that it had before."""
     row = None if it.now is None else it.now.row
     place = it.path if row is None or row.line is None else f"{it.path}:{row.line}"
     style = _WORSE if it.is_worse else _STYLES.get(it.kind, "")
-    line = plainly(f"{place}: ").append(it.kind, style)
+    line = unstyled(f"{place}: ").append(it.kind, style)
     if row is not None and it.kind is not Kind.NOT_RUN:
         line.append(f": {'known: ' if it.now is not None and it.now.is_known else ''}{row}")
     if it.before is not None and it.kind is not Kind.NEW:

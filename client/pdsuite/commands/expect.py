@@ -4,36 +4,39 @@ from collections.abc import Iterable, Iterator, Mapping, Sequence
 from dataclasses import dataclass
 from pathlib import Path
 
-from pdsuite.asked import refused
-from pdsuite.commands.choice import found_of, scripts_of
-from pdsuite.expected import Expected
+from pdsuite.commands.options import threads_of
 from pdsuite.faults import Fault
 from pdsuite.files import write
-from pdsuite.find import SUFFIX, Found
 from pdsuite.imports.tables import is_key
-from pdsuite.lost import lost_in
-from pdsuite.octets import shown_path
-from pdsuite.programs import REGRESS, Program, locate
-from pdsuite.rows import Outcome, Verdict
-from pdsuite.runs import Script, runs_of
-from pdsuite.screen import Screen, say
-from pdsuite.settle import Again, Start, settle, start_with
-from pdsuite.stop import Stop, Stopped
-from pdsuite.styled import plainly
-from pdsuite.suite import FILE, LONGEST, Suite, option_of, place_of, read_octets
-from pdsuite.toml_text import edited
+from pdsuite.programs.places import REGRESS, locate
+from pdsuite.programs.program import Program
+from pdsuite.programs.refusals import refusals
+from pdsuite.programs.rows import Verdict
+from pdsuite.run.choice import found_of, scripts_of
+from pdsuite.run.outcomes import Outcome
+from pdsuite.run.runs import Script, runs_of
+from pdsuite.run.settling import Restart, Start, settle, start_with
+from pdsuite.scripts.expectation import Expectation
+from pdsuite.scripts.search import SUFFIX, ScriptFile
+from pdsuite.scripts.suite import FILE, LONGEST, Suite, option_of, place_of, read_octets
+from pdsuite.scripts.toml_text import edited
+from pdsuite.scripts.unused_tables import unused_in
+from pdsuite.show.octets import shown_path
+from pdsuite.show.screen import Screen, say
+from pdsuite.show.styled_text import unstyled
+from pdsuite.signals import Stop, Stopped
 
 _FAULT = 2
 
 
 @dataclass(frozen=True)
-class Wish:
+class ExpectOptions:
     """What a call asks for: which scripts, how they are run, and why those are known that don't pass."""
 
     paths: Sequence[Path]
     only: Sequence[str]
     settings: str
-    workers: int
+    workers: int | None
     reason: str | None
 
 
@@ -41,30 +44,30 @@ class Wish:
 class Change:
     """What is expected of a script from now on, and what it is said of it."""
 
-    found: Found
-    expected: Expected | None
+    found: ScriptFile
+    expected: Expectation | None
     said: str
 
 
-def expect(wish: Wish, screen: Screen) -> int:
+def expect(options: ExpectOptions, screen: Screen) -> int:
     """Runs the scripts, writes what is expected of them, and answers the exit status."""
     with Stop() as stop:
-        suite = Suite(option_of(wish.settings))
+        suite = Suite(option_of(options.settings))
         try:
-            found = found_of(wish.paths, wish.only, suite, stop)
+            found = found_of(options.paths, options.only, suite, stop)
             scripts = scripts_of(found, suite)
             program = locate(REGRESS)
-            asked = refused(suite.claims(), lambda: Program([program], stop))
-            if lines := [*lost_in(suite), *asked]:
+            asked = refusals(suite.claims(), lambda: Program([program], stop))
+            if lines := [*unused_in(suite), *asked]:
                 for line in lines:
                     say(line)
                 return _FAULT
-            outcomes = _outcomes(scripts, start_with(program, wish.workers, 1, stop), screen)
+            outcomes = _outcomes(scripts, start_with(program, threads_of(options.workers), 1, stop), screen)
         except Stopped as stopped:
             return stopped.status
         finally:
             screen.clear()
-    return _change(list(zip(found, outcomes)), wish.reason, screen)
+    return _change(list(zip(found, outcomes)), options.reason, screen)
 
 
 def _outcomes(scripts: Sequence[Script], start: Start, screen: Screen) -> list[Outcome]:
@@ -72,7 +75,7 @@ def _outcomes(scripts: Sequence[Script], start: Start, screen: Screen) -> list[O
     outcomes: dict[int, Outcome] = {}
     for run in runs_of(scripts):
         for step in settle(run, start):
-            if isinstance(step, Again):
+            if isinstance(step, Restart):
                 screen.note(str(step))
                 continue
             outcomes.update((script.index, outcome) for script, outcome in step.outcomes)
@@ -80,7 +83,7 @@ def _outcomes(scripts: Sequence[Script], start: Start, screen: Screen) -> list[O
     return [outcomes[it.index] for it in scripts]
 
 
-def _change(settled: Sequence[tuple[Found, Outcome]], reason: str | None, screen: Screen) -> int:
+def _change(settled: Sequence[tuple[ScriptFile, Outcome]], reason: str | None, screen: Screen) -> int:
     """Writes what is expected from now on, and says what changed."""
     changes = list(changes_of(settled, reason or ""))
     written = sum(it.expected is not None for it in changes)
@@ -95,11 +98,11 @@ def _change(settled: Sequence[tuple[Found, Outcome]], reason: str | None, screen
         *(it.said for it in changes),
         f"total {len(settled)} written {written} taken away {len(changes) - written}",
     ]
-    screen.show(plainly("".join(f"{line}\n" for line in lines)))
+    screen.show(unstyled("".join(f"{line}\n" for line in lines)))
     return _FAULT if lost else 0
 
 
-def changes_of(settled: Iterable[tuple[Found, Outcome]], reason: str) -> Iterator[Change]:
+def changes_of(settled: Iterable[tuple[ScriptFile, Outcome]], reason: str) -> Iterator[Change]:
     """What changes: a row is expected that isn't yet, or none any more of a script that passes."""
     for found, outcome in settled:
         path, row = shown_path(outcome.path), outcome.row.whole
@@ -107,10 +110,10 @@ def changes_of(settled: Iterable[tuple[Found, Outcome]], reason: str) -> Iterato
             if outcome.expected is not None:
                 yield Change(found, None, f'{path}: passes, so "{outcome.expected.row}" is expected no more')
         elif not outcome.is_known and not _unwritable(found, outcome):
-            yield Change(found, Expected(row, reason), f'{path}: "{row}" is expected from now on')
+            yield Change(found, Expectation(row, reason), f'{path}: "{row}" is expected from now on')
 
 
-def _unwritable(found: Found, outcome: Outcome) -> str:
+def _unwritable(found: ScriptFile, outcome: Outcome) -> str:
     """Why no row is expected of a script that isn't known not to pass, where that is so."""
     if outcome.row.verdict is Verdict.PASS or outcome.is_known:
         return ""
@@ -123,14 +126,14 @@ def _unwritable(found: Found, outcome: Outcome) -> str:
 
 def _files(changes: Iterable[Change]) -> Iterator[tuple[Path, bytes]]:
     """The files that are to be written."""
-    folders: dict[str, dict[str, Expected | None]] = {}
+    folders: dict[str, dict[str, Expectation | None]] = {}
     for it in changes:
         folders.setdefault(it.found.folder, {})[it.found.name] = it.expected
     for folder, edits in folders.items():
         yield _file(Path(folder, FILE), edits)
 
 
-def _file(path: Path, edits: Mapping[str, Expected | None]) -> tuple[Path, bytes]:
+def _file(path: Path, edits: Mapping[str, Expectation | None]) -> tuple[Path, bytes]:
     place = place_of(path)
     try:
         octets = edited(place, (read_octets(path) or b"").decode(), edits).encode()

@@ -7,19 +7,19 @@ from pathlib import Path
 
 from pdsuite.faults import Fault
 from pdsuite.files import new_folder, write_folder
-from pdsuite.find import Found, find
-from pdsuite.imports.convert import Imported, Left, Source, convert
+from pdsuite.imports.conversion import Imported, Left, Source, convert
 from pdsuite.imports.findings import Reason
 from pdsuite.imports.listing import Listed, lines_of, status, summary
 from pdsuite.imports.tables import is_key, tables_of
-from pdsuite.lost import lost_in
-from pdsuite.octets import shown_path
-from pdsuite.screen import Screen
-from pdsuite.settings import set_words
-from pdsuite.stop import Stop
-from pdsuite.styled import plainly
-from pdsuite.suite import Suite, option_of
-from pdsuite.text import LONGEST_FILE, Unfit, read_file, text_of
+from pdsuite.scripts.search import ScriptFile, find
+from pdsuite.scripts.settings import set_words
+from pdsuite.scripts.suite import Suite, option_of
+from pdsuite.scripts.text import LONGEST_FILE, Unfit, read_file, text_of
+from pdsuite.scripts.unused_tables import unused_in
+from pdsuite.show.octets import shown_path
+from pdsuite.show.screen import Screen
+from pdsuite.show.styled_text import unstyled
+from pdsuite.signals import Stop
 
 _NO_WORD = "?"
 
@@ -41,17 +41,17 @@ def import_scripts(source: Path, target: Path, keep: bool, screen: Screen) -> in
         if any(isinstance(it.came, Imported) for it in scripts):
             write_folder(place, _files(source, scripts, stop))
     lines = [line for it in scripts for line in lines_of(it)]
-    screen.show(plainly("".join(f"{line}\n" for line in [*lines, *summary(scripts)])))
+    screen.show(unstyled("".join(f"{line}\n" for line in [*lines, *summary(scripts)])))
     return status(scripts)
 
 
-def _imported(found: Sequence[Found], suite: Suite, keep: bool, stop: Stop) -> Iterator[Listed]:
+def _imported(found: Sequence[ScriptFile], suite: Suite, keep: bool, stop: Stop) -> Iterator[Listed]:
     for it in found:
         stop.check()
         yield Listed(it.path, it.fault or _import(it, suite, keep))
 
 
-def _import(found: Found, suite: Suite, keep: bool) -> Imported | Left | str:
+def _import(found: ScriptFile, suite: Suite, keep: bool) -> Imported | Left | str:
     """What comes of a script; or why it can't be read."""
     try:
         octets = read_file(found.path, LONGEST_FILE + 1)
@@ -81,7 +81,7 @@ def _text(octets: bytes) -> str:
 
 def _refuse(suite: Suite) -> None:
     """Refuses settings of a pdsuite.toml that no run could be given, or no script has."""
-    for line in lost_in(suite):
+    for line in unused_in(suite):
         raise Fault(line)
     for claim in suite.claims():
         if _NO_WORD in set_words(claim.key, claim.value):

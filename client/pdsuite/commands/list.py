@@ -4,17 +4,17 @@ from collections.abc import Sequence
 from pathlib import Path
 
 
-from pdsuite.commands.choice import Part, found_of, scripts_of
-from pdsuite.commands.last import failed_last
-from pdsuite.lost import lost_in
-from pdsuite.octets import shown_path, shown_text
-from pdsuite.runs import Script
-from pdsuite.screen import Screen, say
-from pdsuite.settings import Settings, shown_value
-from pdsuite.shards import Shard
-from pdsuite.stop import Stop
-from pdsuite.styled import plainly
-from pdsuite.suite import Suite, option_of
+from pdsuite.reports.last_run import failed_last
+from pdsuite.run.choice import Part, found_of, scripts_of
+from pdsuite.run.runs import Script
+from pdsuite.scripts.settings import Settings, shown_value
+from pdsuite.scripts.shards import Shard
+from pdsuite.scripts.suite import Suite, option_of
+from pdsuite.scripts.unused_tables import unused_in
+from pdsuite.show.octets import shown_path, shown_text
+from pdsuite.show.screen import Screen, say
+from pdsuite.show.styled_text import unstyled
+from pdsuite.signals import Stop
 
 
 def list_scripts(
@@ -30,13 +30,13 @@ def list_scripts(
         part = Part(shard, failed_last(paths) if last_failed else None)
         suite = Suite(option_of(settings))
         scripts = scripts_of(found_of(paths, only, suite, stop, part), suite)
-        if lines := lost_in(suite):
+        if lines := unused_in(suite):
             for line in lines:
                 say(line)
             return 2
         if not scripts:
             screen.note(f"pdsuite: {part.nothing()}")
-        screen.show(plainly("".join(f"{_line(script)}\n" for script in scripts)))
+        screen.show(unstyled("".join(f"{_line(script)}\n" for script in scripts)))
     return 2 if any(script.fault for script in scripts) else 0
 
 

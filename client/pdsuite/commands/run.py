@@ -1,5 +1,6 @@
 """`pdsuite run`: runs scripts and reports what came of them."""
 
+import os
 import time
 from collections.abc import Callable, Iterable, Iterator, Mapping, Sequence
 from contextlib import AbstractContextManager, closing, nullcontext
@@ -7,38 +8,42 @@ from dataclasses import dataclass
 from pathlib import Path
 from typing import TYPE_CHECKING
 
-from pdsuite.asked import refused
-from pdsuite.checking import Checking
-from pdsuite.commands.choice import Part, found_of, scripts_of
-from pdsuite.commands.last import failed_last, leave, only_new
-from pdsuite.explain import Explainer
+from pdsuite.commands.options import threads_of
 from pdsuite.faults import Cut
 from pdsuite.files import append, write
-from pdsuite.here import here
-from pdsuite.lost import lost_in
 from pdsuite.packages import need
-from pdsuite.page.plots import Plots
-from pdsuite.programs import EXPLAIN, REGRESS, TOOL, TOP, Program, Unproved, digest, locate
-from pdsuite.protocol import Cause
-from pdsuite.report import Report
+from pdsuite.page.plots import plots_asked
+from pdsuite.programs.places import EXPLAIN, REGRESS, TOOL, TOP, Unproved, digest, locate
+from pdsuite.programs.program import Program
+from pdsuite.programs.protocol import Cause
+from pdsuite.programs.refusals import refusals
+from pdsuite.reports.as_json import Json
 from pdsuite.reports.form import Form
-from pdsuite.reports.github import summary_of
+from pdsuite.reports.github import SUMMARY, Github, summary_of
+from pdsuite.reports.last_run import failed_last, leave, only_new
 from pdsuite.reports.plain import Plain
-from pdsuite.runs import Script, runs_of
-from pdsuite.screen import Screen, say
-from pdsuite.settle import Again, Mapper, Settled, Step, start_with
-from pdsuite.shards import Shard
-from pdsuite.stop import Stop, Stopped
-from pdsuite.suite import Suite, option_of
-from pdsuite.text import Text
+from pdsuite.reports.report import Report
+from pdsuite.reports.tap import Tap
+from pdsuite.run.assertion_check import AssertionCheck
+from pdsuite.run.choice import Part, found_of, scripts_of
+from pdsuite.run.explainer import Explainer
+from pdsuite.run.local_mapper import local_mapper
+from pdsuite.run.runs import Script, runs_of
+from pdsuite.run.settling import Mapper, Restart, SettledPiece, Step, start_with
+from pdsuite.scripts.shards import Shard
+from pdsuite.scripts.suite import Suite, option_of
+from pdsuite.scripts.text import Text
+from pdsuite.scripts.unused_tables import unused_in
+from pdsuite.show.screen import Screen, say
+from pdsuite.signals import Stop, Stopped
 
 if TYPE_CHECKING:
     from pdsuite.page.drawing import Drawing
-    from pdsuite.unproved import Tried
+    from pdsuite.run.unproved_run import UnprovedResults
 
 
 @dataclass(frozen=True)
-class Wish:
+class RunOptions:
     """What a call asks for: which scripts, and how they are run."""
 
     paths: Sequence[Path]
@@ -47,47 +52,67 @@ class Wish:
     last_failed: bool
     new: bool
     settings: str
-    is_strict: bool
-    workers: int
+    strict: bool
+    workers: int | None
     scheduler: str | None
-    is_proved: bool  # whether nothing else may run
+    proved: bool  # whether nothing else may run
     fail_fast: bool
     junit: Path | None
-    summary: Path | None
+    form: str | None
+    verbose: bool
     html: Path | None
-    plots: Plots
+    plot: str | None
+    plots: int | None
 
     @property
     def is_part(self) -> bool:
         """Whether scripts of the paths may be left out."""
         return bool(self.only) or self.shard is not None or self.last_failed
 
+    @property
+    def summary(self) -> Path | None:
+        """The file for a summary that GitHub names, where its annotations are asked for."""
+        name = os.environ.get(SUMMARY)
+        return Path(name) if self.form == "github" and name else None
 
-def run(wish: Wish, form: Form, screen: Screen) -> int:
+
+def run(options: RunOptions, screen: Screen) -> int:
     """Runs the scripts, and answers the exit status."""
     begin = time.monotonic()
+    form = _form(options)
     with Stop() as stop:
-        suite = Suite(option_of(wish.settings))
-        part = Part(wish.shard, failed_last(wish.paths) if wish.last_failed else None)
+        suite = Suite(option_of(options.settings))
+        part = Part(options.shard, failed_last(options.paths) if options.last_failed else None)
         try:
-            scripts = scripts_of(found_of(wish.paths, wish.only, suite, stop, part), suite, wish.is_strict)
+            scripts = scripts_of(found_of(options.paths, options.only, suite, stop, part), suite, options.strict)
             if not scripts:
                 screen.note(f"pdsuite: {part.nothing()}")
             # For people a known row is one line, and so nothing is asked about it.
-            of_known = not isinstance(form, Plain) or wish.junit is not None or wish.html is not None
-            if wish.new:
-                form = only_new(form, Plain(True) if isinstance(form, Plain) else form, wish.paths, screen.note)
-            programs = _proved(wish)
+            of_known = not isinstance(form, Plain) or options.junit is not None or options.html is not None
+            if options.new:
+                form = only_new(form, Plain(True) if isinstance(form, Plain) else form, options.paths, screen.note)
+            programs = _proved(options)
             if programs is None:
-                return _run_unproved(suite, scripts, wish, form, screen, begin, stop)
+                return _run_unproved(suite, scripts, options, form, screen, begin, stop)
             regress = programs[REGRESS]
-            asked = refused(suite.claims(), lambda: Program([regress], stop))
-            if lines := [*lost_in(suite), *asked]:
+            asked = refusals(suite.claims(), lambda: Program([regress], stop))
+            if lines := [*unused_in(suite), *asked]:
                 return _refuse(lines)
-            with _mapper(wish, programs, of_known, stop, screen.note) as mapper:
-                return _run(mapper, scripts, wish, form, screen, begin, stop)
+            with _mapper(options, programs, of_known, stop, screen.note) as mapper:
+                return _run(mapper, scripts, options, form, screen, begin, stop)
         except Stopped as stopped:
             return stopped.status
+
+
+def _form(options: RunOptions) -> Form:
+    match options.form:
+        case "tap":
+            return Tap()
+        case "json":
+            return Json(options.shard)
+        case "github":
+            return Github()
+    return Plain(options.verbose)
 
 
 def _refuse(lines: Iterable[str]) -> int:
@@ -96,91 +121,94 @@ def _refuse(lines: Iterable[str]) -> int:
     return 2
 
 
-def _proved(wish: Wish) -> dict[str, Path] | None:
+def _proved(options: RunOptions) -> dict[str, Path] | None:
     """The proved programs, or none where the sender may run without proofs."""
     try:
         return {name: locate(name) for name in (REGRESS, EXPLAIN)}
     except Unproved:
-        if wish.is_proved or wish.scheduler is not None or not TOOL.is_file():
+        if options.proved or options.scheduler is not None or not TOOL.is_file():
             raise
     return None
 
 
 def _run_unproved(
-    suite: Suite, scripts: Sequence[Script], wish: Wish, form: Form, screen: Screen, begin: float, stop: Stop
+    suite: Suite, scripts: Sequence[Script], options: RunOptions, form: Form, screen: Screen, begin: float, stop: Stop
 ) -> int:
     """Runs the scripts by the sender as it stands, reports what came of them, and answers the exit status."""
     # Only who has no proved programs pays for what does without them.
-    from pdsuite.unproved import first_line, plan_of, run_unproved
+    from pdsuite.run.unproved_run import first_line, plan_of, run_unproved
 
-    if lines := lost_in(suite):
+    if lines := unused_in(suite):
         return _refuse(lines)
     screen.note(f"pdsuite: {first_line()}")
-    plan = plan_of(runs_of(scripts), suite.claims(), wish.html is not None)
+    plan = plan_of(runs_of(scripts), suite.claims(), options.html is not None)
     tried = run_unproved(plan, TOP, stop, screen.note)
     if tried.refused:
         return _refuse(tried.refused)
-    return _run(tried.steps, scripts, wish, form, screen, begin, stop, tried)
+    return _run(tried.steps, scripts, options, form, screen, begin, stop, tried)
 
 
-def _drawing(folder: Path, plots: Plots, screen: Screen, is_unproved: bool) -> "Drawing":
+def _drawing(options: RunOptions, screen: Screen, is_unproved: bool) -> "Drawing | None":
+    """The page, if one is asked for."""
+    if options.html is None:
+        return None
     # Only who asks for a page pays for what draws it.
     from pdsuite.page.drawing import Drawing
 
-    return Drawing(folder, plots, screen.note, is_unproved)
+    return Drawing(options.html, plots_asked(options.plot, options.plots), screen.note, is_unproved)
 
 
 def _kept(steps: Iterable[Step], texts: dict[int, Text]) -> Iterator[Step]:
     """The steps, whose texts are kept."""
     for step in steps:
-        if isinstance(step, Settled):
+        if isinstance(step, SettledPiece):
             texts.update(step.texts)
         yield step
 
 
 def _mapper(
-    wish: Wish, programs: Mapping[str, Path], of_known: bool, stop: Stop, note: Callable[[str], None]
+    options: RunOptions, programs: Mapping[str, Path], of_known: bool, stop: Stop, note: Callable[[str], None]
 ) -> AbstractContextManager[Mapper]:
     """The cluster that was asked for, else the processors of this machine."""
-    if wish.scheduler is None:
-        start = start_with(programs[REGRESS], wish.workers, 1, stop)
-        return nullcontext(here(start, Explainer(programs[EXPLAIN], stop, note, of_known)))
+    if options.scheduler is None:
+        start = start_with(programs[REGRESS], threads_of(options.workers), 1, stop)
+        return nullcontext(local_mapper(start, Explainer(programs[EXPLAIN], stop, note, of_known)))
     # Only who has a cluster needs what speaks with it.
     need("distributed")
-    from pdsuite.cluster import cluster
+    from pdsuite.run.cluster import cluster
 
-    return cluster(wish.scheduler, {name: (str(path), digest(path)) for name, path in programs.items()}, stop, note)
+    return cluster(options.scheduler, {name: (str(path), digest(path)) for name, path in programs.items()}, stop, note)
 
 
 def _run(
     mapper: Mapper,
     scripts: Sequence[Script],
-    wish: Wish,
+    options: RunOptions,
     form: Form,
     screen: Screen,
     begin: float,
     stop: Stop,
-    tried: "Tried | None" = None,
+    tried: "UnprovedResults | None" = None,
 ) -> int:
     """Runs the scripts by whoever is given, reports what came of them, and answers the exit status."""
     report = Report(scripts, form, screen, is_unproved=tried is not None)
-    drawing = None if wish.html is None else _drawing(wish.html, wish.plots, screen, report.is_unproved)
-    checking = Checking(stop, screen.note)
+    drawing = _drawing(options, screen, report.is_unproved)
+    checking = AssertionCheck(stop, screen.note)
     texts: dict[int, Text] = {}
     ended: Stopped | Cut | None = None
     try:
         report.open()
         with closing(mapper(runs_of(scripts))) as steps:
             heard = steps if drawing is None else _kept(steps, texts)
-            ended = _take(heard, report, checking, screen, wish.fail_fast)
+            ended = _take(heard, report, checking, screen, options.fail_fast)
         totals = report.close(time.monotonic() - begin)
         if ended is None:
             for line in checking.lines():
                 say(line)
     finally:
         # Also where nothing can be shown any more.
-        leave(wish.paths, [*report.outcomes, *report.left()], wish.is_part, screen.note)
-        _write_files(wish, report, time.monotonic() - begin)
+        leave(options.paths, [*report.outcomes, *report.left()], options.is_part, screen.note)
+        _write_files(options, report, time.monotonic() - begin)
         if drawing is not None and ended is None:
             causes = {} if tried is None else tried.causes
             ended = _draw(drawing, report, texts, causes, screen, stop)
@@ -192,12 +220,12 @@ def _run(
 
 
 def _take(
-    steps: Iterable[Step], report: Report, checking: Checking, screen: Screen, fail_fast: bool
+    steps: Iterable[Step], report: Report, checking: AssertionCheck, screen: Screen, fail_fast: bool
 ) -> Stopped | Cut | None:
     """Reports each step, up to the last one or the one where it is to end; what ended it early, if anything did."""
     try:
         for step in steps:
-            if isinstance(step, Again):
+            if isinstance(step, Restart):
                 screen.note(str(step))
                 continue
             report.take(step.outcomes)
@@ -209,16 +237,16 @@ def _take(
     return None
 
 
-def _write_files(wish: Wish, report: Report, seconds: float) -> None:
+def _write_files(options: RunOptions, report: Report, seconds: float) -> None:
     """Writes the files that are asked for beside the report."""
-    if wish.junit is not None:
+    if options.junit is not None:
         # Only who asks for this file pays for what writes it.
         from pdsuite.reports.junit import junit
 
-        write(wish.junit, junit([*report.outcomes, *report.left()], seconds, report.is_unproved))
-    if wish.summary is not None:
+        write(options.junit, junit([*report.outcomes, *report.left()], seconds, report.is_unproved))
+    if options.summary is not None:
         outcomes = [*report.outcomes, *report.left()]
-        append(wish.summary, summary_of(outcomes, report.totals(outcomes)).encode())
+        append(options.summary, summary_of(outcomes, report.totals(outcomes)).encode())
 
 
 def _draw(

@@ -10,26 +10,29 @@ from pathlib import Path
 from typing import TYPE_CHECKING, NoReturn
 
 
-from pdsuite.asked import refused
-from pdsuite.explain import Explainer
-from pdsuite.fleet import Fleet
-from pdsuite.folders import Choice, Folders
-from pdsuite.layers import Layers
-from pdsuite.moves import Move, Outcomes
-from pdsuite.news import News, totals_of
-from pdsuite.octets import shown_text
-from pdsuite.page.plots import Plots
-from pdsuite.programs import EXPLAIN, REGRESS, Program, locate
-from pdsuite.rows import Outcome, Row, Verdict
-from pdsuite.runs import RUN, Script, runs_of
-from pdsuite.screen import Screen, say
-from pdsuite.settle import Settled, start_with
-from pdsuite.stop import Stop, Stopped
-from pdsuite.styled import Styled
-from pdsuite.suite import Claim, claims_of, option_of
-from pdsuite.text import Text
-from pdsuite.turns import Wanted
-from pdsuite.watcher import Event, Watcher
+from pdsuite.commands.options import threads_of
+from pdsuite.page.plots import plots_asked
+from pdsuite.programs.places import EXPLAIN, REGRESS, locate
+from pdsuite.programs.program import Program
+from pdsuite.programs.refusals import refusals
+from pdsuite.programs.rows import Row, Verdict
+from pdsuite.run.explainer import Explainer
+from pdsuite.run.outcomes import Outcome
+from pdsuite.run.runs import RUN, Script, runs_of
+from pdsuite.run.settling import SettledPiece, start_with
+from pdsuite.scripts.suite import Claim, claims_of, option_of
+from pdsuite.scripts.text import Text
+from pdsuite.show.octets import shown_text
+from pdsuite.show.screen import Screen, say
+from pdsuite.show.styled_text import StyledText
+from pdsuite.signals import Stop, Stopped
+from pdsuite.watch.change_report import ChangeReport, totals_of
+from pdsuite.watch.fleet import Fleet
+from pdsuite.watch.folder_moves import Move, Outcomes
+from pdsuite.watch.folders import Choice, Folders
+from pdsuite.watch.run_changes import WantedScript
+from pdsuite.watch.settings_files import SettingsFiles
+from pdsuite.watch.watcher import Event, Watcher
 
 if TYPE_CHECKING:
     from pdsuite.page.drawing import Drawing
@@ -40,23 +43,26 @@ _WIDTH = 80
 
 
 @dataclass(frozen=True)
-class Wish:
+class WatchOptions:
     """What a call asks for: which scripts, and how they are run and shown."""
 
     paths: Sequence[Path]
     only: Sequence[str]
     settings: str
-    is_strict: bool
-    workers: int
-    every: bool
+    strict: bool
+    workers: int | None
     html: Path | None
-    plots: Plots
+    plot: str | None
+    plots: int | None
+    verbose: bool
 
 
 class View:
     """What was shown last."""
 
-    def __init__(self, screen: Screen, explainer: Explainer, every: bool, news: News, of_known: bool = False) -> None:
+    def __init__(
+        self, screen: Screen, explainer: Explainer, every: bool, news: ChangeReport, of_known: bool = False
+    ) -> None:
         self.status: int | None = None
         self.outcomes: Outcomes = {}
         self._screen = screen
@@ -64,11 +70,11 @@ class View:
         self._every = every
         self._news = news
         self._of_known = of_known
-        self._wanted: Mapping[str, Wanted] = {}
+        self._wanted: Mapping[str, WantedScript] = {}
 
-    def show(self, outcomes: Outcomes, wanted: Mapping[str, Wanted], begin: float) -> None:
+    def show(self, outcomes: Outcomes, wanted: Mapping[str, WantedScript], begin: float) -> None:
         """Shows what changed: the rows at once, what is told of them once it is; at first all in one."""
-        rows, moves = Styled(), self._news.moves(self.outcomes, outcomes, self._wanted, wanted)
+        rows, moves = StyledText(), self._news.moves(self.outcomes, outcomes, self._wanted, wanted)
         if self.status is not None:
             rows = self._news.rows(self.outcomes, outcomes, moves)
         if rows.plain:
@@ -89,7 +95,7 @@ class View:
             self._screen.show(self._news.first(after, self._every, time.monotonic() - begin))
         else:
             blocks = self._news.blocks(self.outcomes, after, moves)
-            head = Styled() if has_changed else self._news.head()
+            head = StyledText() if has_changed else self._news.head()
             if has_changed or blocks.plain:
                 foot = self._news.foot(after, time.monotonic() - begin)
                 self._screen.show(head.append_text(blocks).append_text(foot))
@@ -99,7 +105,7 @@ class View:
         self.status = totals_of(after).status() if after else _NO_SCRIPT
         self.tell("")
 
-    def _is_told(self, outcome: Outcome, wanted: Mapping[str, Wanted]) -> bool:
+    def _is_told(self, outcome: Outcome, wanted: Mapping[str, WantedScript]) -> bool:
         """Whether what was told of a script is told of this outcome."""
         path = outcome.path
         old = self.outcomes.get(path)
@@ -111,13 +117,13 @@ class View:
         """Whether it is asked why an outcome is so; of a known one nothing is shown but on the page."""
         return outcome.row.line is not None and (self._of_known or not outcome.is_known)
 
-    def _explained(self, outcomes: Sequence[Outcome], wanted: Mapping[str, Wanted]) -> Iterator[Outcome]:
+    def _explained(self, outcomes: Sequence[Outcome], wanted: Mapping[str, WantedScript]) -> Iterator[Outcome]:
         """Outcomes with what is told of them, piece by piece."""
         scripts = [Script(index, it.path, wanted[it.path].settings) for index, it in enumerate(outcomes)]
         for run in runs_of(scripts):
             for piece in run.pieces:
                 texts = {it.index: wanted[it.path].text for it in piece}
-                settled = Settled([(it, outcomes[it.index]) for it in piece], texts)
+                settled = SettledPiece([(it, outcomes[it.index]) for it in piece], texts)
                 yield from (outcome for _, outcome in self._explainer.explain(settled))
 
     def tell(self, doing: str) -> None:
@@ -127,62 +133,64 @@ class View:
         self._screen.bottom(", ".join(it for it in (passing, doing) if it))
 
 
-def watch(wish: Wish, screen: Screen) -> int:
+def watch(options: WatchOptions, screen: Screen) -> int:
     """Watches until a signal comes, and answers the exit status of the last report."""
     with Stop() as stop:
         program = locate(REGRESS)
         view = View(
             screen,
             Explainer(locate(EXPLAIN), stop, screen.note),
-            wish.every,
-            _news(wish, screen),
-            wish.html is not None,
+            options.verbose,
+            _news(options, screen),
+            options.html is not None,
         )
 
         def ask(claims: Iterable[Claim]) -> list[str]:
-            return refused(claims, lambda: Program([program], stop))
+            return refusals(claims, lambda: Program([program], stop))
 
-        option = option_of(wish.settings)
+        option = option_of(options.settings)
         try:
             if lines := ask(claims_of([option])):
                 for line in lines:
                     say(line)
                 return 2
-            layers = Layers(option, ask, screen.note)
-            start = start_with(program, wish.workers, RUN, stop)
+            settings_files = SettingsFiles(option, ask, screen.note)
+            start = start_with(program, threads_of(options.workers), RUN, stop)
             with (
-                _drawing(wish, screen) as drawing,
+                _drawing(options, screen) as drawing,
                 Watcher() as watcher,
                 Fleet(start, screen.note, view.tell) as fleet,
             ):
-                folders = Folders(Choice(wish.paths, wish.only, wish.is_strict), layers, watcher, stop, screen.note)
+                folders = Folders(
+                    Choice(options.paths, options.only, options.strict), settings_files, watcher, stop, screen.note
+                )
                 _follow(folders, fleet, watcher, view, drawing, stop)
         except Stopped as stopped:
             return stopped.status if view.status is None else view.status
 
 
-def _news(wish: Wish, screen: Screen) -> News:
+def _news(options: WatchOptions, screen: Screen) -> ChangeReport:
     """How changes are told: on a terminal a few of them."""
     if screen.width is None:
-        return News()
+        return ChangeReport()
     # Only who watches on a terminal pays for what breaks lines.
-    from pdsuite.live import Live
+    from pdsuite.watch.terminal_report import TerminalReport
 
-    words = ["pdsuite", "run", *(["--strict"] if wish.is_strict else [])]
-    words += [word for it in wish.only for word in ("--only", it)]
-    words += ["--settings", wish.settings] if wish.settings else []
-    paths = list(map(str, wish.paths))
+    words = ["pdsuite", "run", *(["--strict"] if options.strict else [])]
+    words += [word for it in options.only for word in ("--only", it)]
+    words += ["--settings", options.settings] if options.settings else []
+    paths = list(map(str, options.paths))
     end = ["--"] if any(it.startswith("-") for it in paths) else []
-    return Live(lambda: screen.width or _WIDTH, shown_text(shlex.join([*words, *end, *paths])))
+    return TerminalReport(lambda: screen.width or _WIDTH, shown_text(shlex.join([*words, *end, *paths])))
 
 
-def _drawing(wish: Wish, screen: Screen) -> "AbstractContextManager[Drawing | None]":
+def _drawing(options: WatchOptions, screen: Screen) -> "AbstractContextManager[Drawing | None]":
     """The page, if one is asked for."""
-    if wish.html is None:
+    if options.html is None:
         return nullcontext()
     from pdsuite.page.drawing import Drawing
 
-    return Drawing(wish.html, wish.plots, screen.note)
+    return Drawing(options.html, plots_asked(options.plot, options.plots), screen.note)
 
 
 def _follow(
@@ -219,7 +227,7 @@ def step(
             drawing.follow(_entries(view.outcomes, wanted))
 
 
-def _entries(outcomes: Outcomes, wanted: Mapping[str, Wanted]) -> "list[Entry]":
+def _entries(outcomes: Outcomes, wanted: Mapping[str, WantedScript]) -> "list[Entry]":
     """What the page shows."""
     from pdsuite.page.sheets import Entry
 
@@ -232,7 +240,7 @@ def _entries(outcomes: Outcomes, wanted: Mapping[str, Wanted]) -> "list[Entry]":
 def _outcomes(folders: Folders, fleet: Fleet, unfit: Mapping[str, str]) -> Outcomes:
     """What came of each script, in the order of paths."""
     rows = {**dict(fleet.rows()), **{path: Row(Verdict.ERROR, word=why) for path, why in unfit.items()}}
-    return {path: _outcome(path, it.file.value, rows[path], folders) for path, it in folders.sight.items()}
+    return {path: _outcome(path, it.file.value, rows[path], folders) for path, it in folders.files.items()}
 
 
 def _outcome(path: str, text: Text | str, row: Row, folders: Folders) -> Outcome:

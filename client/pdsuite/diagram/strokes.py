@@ -3,11 +3,11 @@
 from collections.abc import Callable, Iterator, Sequence
 from dataclasses import dataclass
 
-from pdsuite.diagram.failing import Failing
+from pdsuite.diagram.failing_line import FailingLine
 from pdsuite.diagram.values import Arrival, Block, Expected, Failure, Flag, Kind
 from pdsuite.diagram.values import Note, Segment, Span, Step, Strokes
 from pdsuite.imports.items import Packet
-from pdsuite.trace import Event
+from pdsuite.programs.trace import Event
 
 # The initial slow start threshold, as high as can be (RFC 5681, section 3.1); it says nothing.
 _NO_THRESHOLD = 1 << 30
@@ -25,7 +25,7 @@ class _Moment:
     is_later: bool
 
 
-def strokes_of(events: Sequence[Event], failing: Failing | None = None) -> Strokes | None:
+def strokes_of(events: Sequence[Event], failing: FailingLine | None = None) -> Strokes | None:
     """The strokes of a recording, or None where it has no packet."""
     first = next((it.moment for it in events if isinstance(it.what, Packet)), None)
     if first is None:
@@ -55,7 +55,7 @@ def strokes_of(events: Sequence[Event], failing: Failing | None = None) -> Strok
     )
 
 
-def _later(events: Sequence[Event], failing: Failing | None) -> Iterator[bool]:
+def _later(events: Sequence[Event], failing: FailingLine | None) -> Iterator[bool]:
     """Of each event, whether it comes after the failing line: it belongs to a later input, or to an expiry after it."""
     inputs = packets = 0
     is_past = False
@@ -87,7 +87,7 @@ def _sent(moments: Sequence[_Moment]) -> Iterator[Segment]:
             yield Segment(it.at, start, end, kind, _flag(packet), it.is_later)
 
 
-def _segments(moments: Sequence[_Moment], failing: Failing | None) -> Iterator[Segment]:
+def _segments(moments: Sequence[_Moment], failing: FailingLine | None) -> Iterator[Segment]:
     """The segments that leave, but for the one on which the script fails."""
     for number, segment in enumerate(_sent(moments)):
         if failing is None or failing.actual is None or number != failing.packets:
@@ -249,13 +249,13 @@ def _seconds(text: str) -> str:
 # ---- the failing line
 
 
-def _failure(failing: Failing, moments: Sequence[_Moment], first: int) -> Failure:
+def _failure(failing: FailingLine, moments: Sequence[_Moment], first: int) -> Failure:
     done = [it.at for it in moments if not it.is_later]
     at = max(done, default=first) if failing.moment is None else max(first, failing.moment)
     return Failure(failing.line, at, _expected(failing, at, first), _actual(failing, moments, at))
 
 
-def _expected(failing: Failing, at: int, first: int) -> Expected | None:
+def _expected(failing: FailingLine, at: int, first: int) -> Expected | None:
     awaited = failing.expected
     if awaited is None:
         return None
@@ -264,7 +264,7 @@ def _expected(failing: Failing, at: int, first: int) -> Expected | None:
     return Expected(begin, end, *_extent(awaited.packet))
 
 
-def _actual(failing: Failing, moments: Sequence[_Moment], at: int) -> Segment | None:
+def _actual(failing: FailingLine, moments: Sequence[_Moment], at: int) -> Segment | None:
     if failing.actual is None:
         return None
     sent = list(_sent(moments))[failing.packets : failing.packets + 1]

@@ -4,10 +4,10 @@ from collections import Counter
 from collections.abc import Iterable, Iterator, Sequence
 from dataclasses import dataclass
 
-from pdsuite.imports.convert import Imported, Left
+from pdsuite.imports.conversion import Imported, Left
 from pdsuite.imports.findings import Finding, Heading, Reason
-from pdsuite.octets import shown_path, shown_text
-from pdsuite.settings import shown_value
+from pdsuite.scripts.settings import shown_value
+from pdsuite.show.octets import shown_path, shown_text
 
 _MOST = 120
 _FLOOR = "  of a kernel, min_rto_us: RFC 6298 puts this floor under the whole RTO, Linux under 4 RTTVAR alone"

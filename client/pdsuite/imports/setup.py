@@ -8,8 +8,8 @@ from enum import Enum, auto
 from pdsuite.imports.findings import Reason
 from pdsuite.imports.kernel import Meaning, Use, command_meaning, meaning
 from pdsuite.imports.shell import Command, Defaults, Metric, Other, Switch, commands_in
-from pdsuite.settings import Value
-from pdsuite.text import Unfit
+from pdsuite.scripts.settings import Value
+from pdsuite.scripts.text import Unfit
 
 # The text of a `defaults.sh`, by its path from the script's folder, or `Unfit`.
 Load = Callable[[str], str]

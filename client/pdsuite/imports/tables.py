@@ -4,8 +4,8 @@ import json
 import os
 from collections.abc import Iterator, Mapping
 
-from pdsuite.settings import Settings, settings_text
-from pdsuite.suite import FILE
+from pdsuite.scripts.settings import Settings, settings_text
+from pdsuite.scripts.suite import FILE
 
 _HEAD = "# The settings of the scripts in this folder, as pdsuite import read them.\n"
 _ROOT = "root = true\n"

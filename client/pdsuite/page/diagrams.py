@@ -4,19 +4,20 @@ from collections.abc import Iterator
 from dataclasses import dataclass
 from pathlib import Path
 
-from pdsuite.diagram.failing import Failing, failing_of
+from pdsuite.diagram.failing_line import FailingLine, failing_line_of
 from pdsuite.diagram.strokes import strokes_of
 from pdsuite.diagram.values import Strokes
 from pdsuite.files import write
-from pdsuite.octets import shown_path
 from pdsuite.packages import missing
 from pdsuite.page.links import PLOTS, plot_files
 from pdsuite.page.plots import Plot
-from pdsuite.protocol import Cause
-from pdsuite.recorder import Recorder
-from pdsuite.rows import Outcome, Row, Verdict
-from pdsuite.text import Text
-from pdsuite.trace import events_in
+from pdsuite.programs.protocol import Cause
+from pdsuite.programs.recorder import Recorder
+from pdsuite.programs.rows import Row, Verdict
+from pdsuite.programs.trace import events_in
+from pdsuite.run.outcomes import Outcome
+from pdsuite.scripts.text import Text
+from pdsuite.show.octets import shown_path
 
 
 @dataclass(frozen=True, slots=True)
@@ -70,10 +71,10 @@ def diagram_of(
     return Diagram(for_page(strokes), tuple(_words(strokes)), files)
 
 
-def _failing(text: Text, row: Row, cause: Cause | None) -> Failing | None:
+def _failing(text: Text, row: Row, cause: Cause | None) -> FailingLine | None:
     if row.verdict is not Verdict.FAIL or row.line is None:
         return None
-    return failing_of(text.octets.decode("utf-8", "surrogateescape"), row.line, cause or {})
+    return failing_line_of(text.octets.decode("utf-8", "surrogateescape"), row.line, cause or {})
 
 
 def _words(strokes: Strokes) -> Iterator[str]:

@@ -6,7 +6,7 @@ import sys
 
 from pdsuite.faults import Fault
 from pdsuite.page.jobs import Job, carry_out
-from pdsuite.stop import Stop, Stopped
+from pdsuite.signals import Stop, Stopped
 
 # Begins the line that says why it has to end; the status then.
 FAULT = "!"

@@ -13,8 +13,8 @@ from pdsuite.page.jobs import Job
 from pdsuite.page.links import plot_files
 from pdsuite.page.plots import Plot, Plots, plots_of
 from pdsuite.page.sheets import Entry, row_of
-from pdsuite.programs import Worker
-from pdsuite.stop import Stop
+from pdsuite.programs.worker import Worker
+from pdsuite.signals import Stop
 
 _DRAWER = "pdsuite.page.drawer"
 # So many pages are worth a process more.

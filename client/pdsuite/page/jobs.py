@@ -4,19 +4,19 @@ from collections.abc import Callable, Sequence
 from dataclasses import dataclass
 from pathlib import Path
 
-from pdsuite.explain import CAUSES, Asker
 from pdsuite.files import write
 from pdsuite.page.diagrams import diagram_of
 from pdsuite.page.folder import TABLE, sweep
 from pdsuite.page.links import FOLDER
 from pdsuite.page.render import script_page, table_page
 from pdsuite.page.sheets import Entry, Row, sheet_of
-from pdsuite.programs import EXPLAIN, locate
-from pdsuite.protocol import Cause
-from pdsuite.recorder import Recorder
-from pdsuite.runs import Script, runs_of
-from pdsuite.settle import Settled
-from pdsuite.stop import Stop
+from pdsuite.programs.places import EXPLAIN, locate
+from pdsuite.programs.protocol import Cause
+from pdsuite.programs.recorder import Recorder
+from pdsuite.run.explainer import CAUSES, Asker
+from pdsuite.run.runs import Script, runs_of
+from pdsuite.run.settling import SettledPiece
+from pdsuite.signals import Stop
 
 
 @dataclass(frozen=True)
@@ -57,9 +57,9 @@ def _known(piece: Sequence[Script], entries: Sequence[Entry]) -> dict[int, Cause
     return {it.index: cause for it in piece if (cause := entries[it.index].cause) is not None}
 
 
-def _settled(piece: Sequence[Script], entries: Sequence[Entry]) -> Settled:
+def _settled(piece: Sequence[Script], entries: Sequence[Entry]) -> SettledPiece:
     texts = {it.index: text for it in piece if (text := entries[it.index].text) is not None}
-    return Settled([(it, entries[it.index].outcome) for it in piece], texts)
+    return SettledPiece([(it, entries[it.index].outcome) for it in piece], texts)
 
 
 def _write_page(job: Job, place: int, cause: Cause | None, recorder: Recorder) -> None:

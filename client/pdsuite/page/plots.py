@@ -4,8 +4,9 @@ from collections.abc import Iterable, Iterator
 from dataclasses import dataclass
 from enum import Enum
 
-from pdsuite.find import fits
-from pdsuite.rows import Outcome, Verdict
+from pdsuite.programs.rows import Verdict
+from pdsuite.run.outcomes import Outcome
+from pdsuite.scripts.search import fits
 
 # So many failing scripts are drawn if nothing is said.
 MOST = 50
@@ -25,6 +26,11 @@ class Plots:
 
     pattern: str | None = None
     most: int = MOST
+
+
+def plots_asked(pattern: str | None, most: int | None) -> Plots:
+    """What is asked for by words, each of which may be missing."""
+    return Plots(pattern, MOST if most is None else most)
 
 
 def plots_of(outcomes: Iterable[Outcome], wanted: Plots) -> Iterator[Plot]:

@@ -8,14 +8,15 @@ from typing import TYPE_CHECKING
 
 from jinja2 import Environment, FileSystemLoader, StrictUndefined
 
-from pdsuite.compared import Count
+from pdsuite.compare.comparison import Count
 from pdsuite.diagram.palette import rules
 from pdsuite.page.links import FOLDER, PLOTS
 from pdsuite.page.sheets import Row, Sheet
-from pdsuite.rows import Tally, Verdict
+from pdsuite.programs.rows import Verdict
+from pdsuite.run.outcomes import Tally
 
 if TYPE_CHECKING:
-    from pdsuite.page.comparing import Section
+    from pdsuite.page.comparison import Section
 
 _HERE = Path(__file__).parent
 # Stands in each page, and tells whose it is.

@@ -3,16 +3,17 @@
 from collections.abc import Iterator, Mapping
 from dataclasses import dataclass
 
-from pdsuite.block import block, reason, warnings
-from pdsuite.octets import shown, shown_path, shown_text
 from pdsuite.page.diagrams import Diagram
 from pdsuite.page.links import file_of
 from pdsuite.page.packets import Mark, Packet, Part, columns
 from pdsuite.page.plots import Plot
-from pdsuite.protocol import Cause
-from pdsuite.rows import Outcome, Tally, Verdict
-from pdsuite.settings import shown_value
-from pdsuite.text import Text
+from pdsuite.programs.protocol import Cause
+from pdsuite.programs.rows import Verdict
+from pdsuite.reports.outcome_text import block, reason, warnings
+from pdsuite.run.outcomes import Outcome, Tally
+from pdsuite.scripts.settings import shown_value
+from pdsuite.scripts.text import Text
+from pdsuite.show.octets import shown, shown_path, shown_text
 
 _LONGEST_LINE = 160
 _MICROSECONDS = 1_000_000

@@ -1,1 +1,1 @@
-"""The forms of a report. Each is made from values alone, and knows nothing of what runs."""
+"""Reports: while they grow, in each form, kept, read back, and one beside another."""

@@ -4,12 +4,13 @@ import json
 from dataclasses import dataclass
 from functools import cache
 
-from pdsuite.block import block
-from pdsuite.octets import shown_path
-from pdsuite.rows import UNPROVED, Outcome, Tally, Totals, Verdict
-from pdsuite.settings import Settings
-from pdsuite.shards import Shard
-from pdsuite.styled import Styled, plainly
+from pdsuite.programs.rows import Verdict
+from pdsuite.reports.outcome_text import block
+from pdsuite.run.outcomes import UNPROVED, Outcome, Tally, Totals
+from pdsuite.scripts.settings import Settings
+from pdsuite.scripts.shards import Shard
+from pdsuite.show.octets import shown_path
+from pdsuite.show.styled_text import StyledText, unstyled
 
 _PASS = Verdict.PASS
 _encoded = json.JSONEncoder(ensure_ascii=False).encode
@@ -21,14 +22,14 @@ class Json:
 
     shard: Shard | None = None
 
-    def head(self, count: int) -> Styled:
-        return plainly('{"scripts": [')
+    def head(self, count: int) -> StyledText:
+        return unstyled('{"scripts": [')
 
-    def entry(self, number: int, outcome: Outcome) -> Styled:
+    def entry(self, number: int, outcome: Outcome) -> StyledText:
         begin = "\n" if number == 1 else ",\n"
-        return plainly(begin + script_text(outcome, shown_path(outcome.path)))
+        return unstyled(begin + script_text(outcome, shown_path(outcome.path)))
 
-    def foot(self, totals: Totals, seconds: float) -> Styled:
+    def foot(self, totals: Totals, seconds: float) -> StyledText:
         counts = {it.value: totals.counts[it] for it in Verdict}
         counts |= {it.value: totals.counts[it] for it in Tally if totals.counts[it]}
         if totals.warnings:
@@ -36,7 +37,7 @@ class Json:
         total = json.dumps({"scripts": totals.scripts, **counts})
         shard = "" if self.shard is None else f', "shard": "{self.shard}"'
         unproved = f', "{UNPROVED}": true' if totals.is_unproved else ""
-        return plainly(f'\n], "total": {total}, "seconds": {seconds:.2f}{shard}{unproved}}}\n')
+        return unstyled(f'\n], "total": {total}, "seconds": {seconds:.2f}{shard}{unproved}}}\n')
 
 
 def script_text(outcome: Outcome, path: str) -> str:

@@ -6,10 +6,11 @@ from collections import Counter
 from collections.abc import Iterator, Sequence
 from pathlib import Path
 
-from pdsuite.block import block, heading, reason, said, warned, warnings
-from pdsuite.octets import shown_path
-from pdsuite.rows import Outcome, Tally, Totals, Verdict
-from pdsuite.styled import Styled, plainly
+from pdsuite.programs.rows import Verdict
+from pdsuite.reports.outcome_text import block, heading, reason, said, warned, warnings
+from pdsuite.run.outcomes import Outcome, Tally, Totals
+from pdsuite.show.octets import shown_path
+from pdsuite.show.styled_text import StyledText, unstyled
 
 SUMMARY = "GITHUB_STEP_SUMMARY"
 _WORKSPACE = "GITHUB_WORKSPACE"
@@ -33,10 +34,10 @@ class Github:
         self._counts: Counter[str] = Counter()
         self._roots: dict[str, str] = {}
 
-    def head(self, count: int) -> Styled:
-        return Styled()
+    def head(self, count: int) -> StyledText:
+        return StyledText()
 
-    def entry(self, number: int, outcome: Outcome) -> Styled | None:
+    def entry(self, number: int, outcome: Outcome) -> StyledText | None:
         if outcome.row.verdict is Verdict.NOT_RUN:
             return None
         lines: list[str] = []
@@ -46,12 +47,12 @@ class Github:
         level = "error" if outcome.is_strict else "warning"
         each = zip(warnings(outcome), warned(outcome))
         lines += [self._annotation(level, outcome, title, [line]) for title, line in each]
-        return plainly("".join(lines)) if lines else None
+        return unstyled("".join(lines)) if lines else None
 
-    def foot(self, totals: Totals, seconds: float) -> Styled:
+    def foot(self, totals: Totals, seconds: float) -> StyledText:
         left = {level: count - _MOST for level, count in self._counts.items() if count > _MOST}
         more = [f"and {count:,} more {level}{'s' if count > 1 else ''}\n" for level, count in sorted(left.items())]
-        return plainly("".join(more) + f"{totals} in {seconds:.2f} s{totals.mark}\n")
+        return unstyled("".join(more) + f"{totals} in {seconds:.2f} s{totals.mark}\n")
 
     def _annotation(self, level: str, outcome: Outcome, title: str, told: Sequence[str]) -> str:
         """The command that puts lines beside a script, while GitHub shows it; else the first of them alone."""

@@ -7,9 +7,10 @@ from io import BytesIO
 
 from junitparser import Attr, Error, Failure, JUnitXml, Skipped, TestCase, TestSuite
 
-from pdsuite.block import block, heading, summary, warned
-from pdsuite.octets import shown_path
-from pdsuite.rows import UNPROVED, Outcome, Verdict
+from pdsuite.programs.rows import Verdict
+from pdsuite.reports.outcome_text import block, heading, summary, warned
+from pdsuite.run.outcomes import UNPROVED, Outcome
+from pdsuite.show.octets import shown_path
 
 # The line of a script that none is named of.
 _FIRST = 1

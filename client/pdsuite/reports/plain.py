@@ -3,9 +3,10 @@
 from dataclasses import dataclass
 
 
-from pdsuite.block import block, meaning, place, said, warned
-from pdsuite.rows import Outcome, Tally, Totals, Verdict
-from pdsuite.styled import Styled, plainly
+from pdsuite.programs.rows import Verdict
+from pdsuite.reports.outcome_text import block, meaning, place, said, warned
+from pdsuite.run.outcomes import Outcome, Tally, Totals
+from pdsuite.show.styled_text import StyledText, unstyled
 
 _STYLES: dict[Verdict | Tally, str] = {
     Verdict.PASS: "green",
@@ -30,10 +31,10 @@ class Plain:
 
     every: bool
 
-    def head(self, count: int) -> Styled:
-        return Styled()
+    def head(self, count: int) -> StyledText:
+        return StyledText()
 
-    def entry(self, number: int, outcome: Outcome) -> Styled | None:
+    def entry(self, number: int, outcome: Outcome) -> StyledText | None:
         if not self.every and outcome.tally in _UNSHOWN:
             return self.warnings(outcome) if outcome.warnings else None
         if outcome.warnings or outcome.is_known:
@@ -42,21 +43,21 @@ class Plain:
         below = "".join(f"  {it}\n" for it in block(outcome))
         return line.append("\n").append(below, "dim")
 
-    def row(self, outcome: Outcome) -> Styled:
+    def row(self, outcome: Outcome) -> StyledText:
         """A script's row alone."""
-        return plainly(f"{place(outcome)}: ").append(said(outcome), _STYLES[outcome.tally])
+        return unstyled(f"{place(outcome)}: ").append(said(outcome), _STYLES[outcome.tally])
 
-    def warnings(self, outcome: Outcome) -> Styled:
+    def warnings(self, outcome: Outcome) -> StyledText:
         """What is warned of, a line each."""
         style = _STRICT if outcome.is_strict else _WARNED
-        return Styled([(f"{line}\n", style) for line in warned(outcome)])
+        return StyledText([(f"{line}\n", style) for line in warned(outcome)])
 
-    def changed(self, outcome: Outcome) -> Styled:
+    def changed(self, outcome: Outcome) -> StyledText:
         """A script's row alone, with what is warned of."""
         return self.row(outcome).append("\n").append_text(self.warnings(outcome))
 
-    def foot(self, totals: Totals, seconds: float) -> Styled:
-        return Styled().append(str(totals), style_of(totals)).append(f" in {seconds:.2f} s{totals.mark}\n")
+    def foot(self, totals: Totals, seconds: float) -> StyledText:
+        return StyledText().append(str(totals), style_of(totals)).append(f" in {seconds:.2f} s{totals.mark}\n")
 
 
 def style_of(totals: Totals) -> str:

@@ -1,10 +1,11 @@
 """The report as TAP, version 13, as the kernel's tests print it: what is told of a test stands before its line."""
 
 
-from pdsuite.block import block, heading, warned
-from pdsuite.octets import shown_path
-from pdsuite.rows import Outcome, Totals, Verdict
-from pdsuite.styled import Styled, plainly
+from pdsuite.programs.rows import Verdict
+from pdsuite.reports.outcome_text import block, heading, warned
+from pdsuite.run.outcomes import Outcome, Totals
+from pdsuite.show.octets import shown_path
+from pdsuite.show.styled_text import StyledText, unstyled
 
 # Begins a directive, and so stands in no name.
 _DIRECTIVE = "#"
@@ -13,10 +14,10 @@ _DIRECTIVE = "#"
 class Tap:
     """`ok` for each script that passes, and `not ok` for every other; one that is known not to is still to be done."""
 
-    def head(self, count: int) -> Styled:
-        return plainly(f"TAP version 13\n1..{count}\n")
+    def head(self, count: int) -> StyledText:
+        return unstyled(f"TAP version 13\n1..{count}\n")
 
-    def entry(self, number: int, outcome: Outcome) -> Styled:
+    def entry(self, number: int, outcome: Outcome) -> StyledText:
         name = shown_path(outcome.path, also=_DIRECTIVE)
         if outcome.tally is Verdict.PASS:
             told = warned(outcome)
@@ -25,7 +26,7 @@ class Tap:
         is_ok = outcome.passes and not outcome.is_known
         todo = f" # TODO {outcome.expected.reason}" if outcome.is_known and outcome.expected is not None else ""
         lines = [*(f"# {it}" for it in told), f"{'ok' if is_ok else 'not ok'} {number} {name}{todo}"]
-        return plainly("".join(f"{line}\n" for line in lines))
+        return unstyled("".join(f"{line}\n" for line in lines))
 
-    def foot(self, totals: Totals, seconds: float) -> Styled:
-        return plainly(f"# {totals} in {seconds:.2f} s{totals.mark}\n")
+    def foot(self, totals: Totals, seconds: float) -> StyledText:
+        return unstyled(f"# {totals} in {seconds:.2f} s{totals.mark}\n")

@@ -1,0 +1,105 @@
+"""The words that several commands take: their kinds, why others are refused, and what they mean."""
+
+import os
+from collections.abc import Callable
+from pathlib import Path
+from typing import TypeVar
+
+import click
+
+from pdsuite.page.plots import MOST
+from pdsuite.scripts.shards import Shard, shard_of
+from pdsuite.show.octets import shown_text
+
+MOST_WORKERS = 64
+
+Command = TypeVar("Command", bound=Callable[..., int])
+
+
+class PlaceWord(click.Path):
+    """The path of a file or folder. An empty word, as a shell makes of a variable that isn't set, names none."""
+
+    def convert(self, value: str | os.PathLike[str], param: click.Parameter | None, ctx: click.Context | None) -> Path:
+        if not os.fspath(value):
+            self.fail("it is empty, and so names no file.", param, ctx)
+        return Path(value)
+
+
+class ShardWord(click.ParamType):
+    """A shard, as K/N."""
+
+    name = "shard"
+
+    def convert(self, value: str | Shard, param: click.Parameter | None, ctx: click.Context | None) -> Shard:
+        shard = value if isinstance(value, Shard) else shard_of(value)
+        if shard is None:
+            self.fail(f"{shown_text(str(value))} is no K/N, with K from 1 to N.", param, ctx)
+        return shard
+
+
+class ReasonWord(click.ParamType):
+    """Why a script is known not to pass, in a line."""
+
+    name = "text"
+
+    def convert(self, value: str, param: click.Parameter | None, ctx: click.Context | None) -> str:
+        if not value.strip():
+            self.fail("it is empty, and so says nothing.", param, ctx)
+        if not value.isprintable():
+            self.fail("it is no line of characters that print.", param, ctx)
+        return value
+
+
+def choice_options(command: Command) -> Command:
+    """The words that say which scripts are meant, and with which settings."""
+    for option in (
+        click.option("--no-color", is_flag=True, help="No colours on a terminal."),
+        click.option("--settings", default="", metavar="TEXT", help="Settings before all others."),
+        click.option(
+            "--only", metavar="PATTERN", multiple=True, help="Only scripts whose path or name fits; again for more."
+        ),
+        click.argument("paths", nargs=-1, required=True, type=PlaceWord()),
+    ):
+        command = option(command)
+    return command
+
+
+def part_options(command: Command) -> Command:
+    """The words that choose among the scripts that are found."""
+    for option in (
+        click.option("--last-failed", is_flag=True, help="Only what didn't pass in the last run of these paths."),
+        click.option(
+            "--shard", metavar="K/N", type=ShardWord(), help="Only the K-th of N parts of about as many octets."
+        ),
+    ):
+        command = option(command)
+    return command
+
+
+workers_option = click.option(
+    "--workers",
+    type=click.IntRange(0, MOST_WORKERS),
+    help="How many threads run scripts; one a processor if nothing is said.",
+)
+strict_option = click.option("--strict", is_flag=True, help="A warning makes a script fail.")
+html_option = click.option(
+    "--html",
+    metavar="FOLDER",
+    type=PlaceWord(),
+    help="Write a page into this folder, too.",
+)
+
+
+def plot_options(command: Command) -> Command:
+    """The words that say of which scripts the page has diagrams."""
+    for option in (
+        click.option("--plots", metavar="N", type=click.IntRange(0), help=f"Draw the first N that fail, not {MOST}."),
+        click.option("--plot", metavar="PATTERN", help="Draw scripts whose path or name fits, as files too."),
+    ):
+        command = option(command)
+    return command
+
+
+def threads_of(workers: int | None) -> int:
+    """As many threads as are asked for, or one a processor."""
+    return min(len(os.sched_getaffinity(0)), MOST_WORKERS) if workers is None else workers

@@ -1,0 +1,1 @@
+"""Comparing: what two senders do with the same scripts, and where they are."""

@@ -1,0 +1,114 @@
+"""The senders that are compared: which one a word means, and where it is: proved programs, or a tree to be built."""
+
+import os
+import subprocess
+import sys
+import tarfile
+from dataclasses import dataclass
+from pathlib import Path
+
+from pdsuite.faults import Fault, why
+from pdsuite.programs.places import EXPLAIN, PACKED, RECORD, REGRESS, TOOL, TOP, Unproved, commit, locate
+from pdsuite.show.octets import shown, shown_path, shown_text
+
+_KEPT = TOP / "tools/kept_programs.py"
+_COMMIT = "commit"
+# What of a commit a program is built from.
+_PARTS = ("crates", "crates.txt", "HANDLES")
+
+
+@dataclass(frozen=True)
+class Sender:
+    """A sender, as people call it: its programs by their names, or else the tree that it is built from."""
+
+    name: str
+    programs: dict[str, Path] | None
+    tree: Path = TOP
+
+    @property
+    def is_proved(self) -> bool:
+        """Whether its programs are there. Who names a folder of programs says that they are proved."""
+        return self.programs is not None
+
+    @property
+    def records(self) -> bool:
+        """Whether it can record."""
+        return self.programs is None or RECORD in self.programs
+
+    def __str__(self) -> str:
+        return self.name if self.is_proved else f"{self.name}, unproved"
+
+
+def sender_of(word: str, option: str, place: Path) -> Sender:
+    """The sender that a word names: a folder of programs, or a commit, whose tree is put into a new folder."""
+    folder = Path(word)
+    if (folder / EXPLAIN).is_file():
+        return Sender(shown_path(folder), _programs_in(folder, option))
+    if folder.is_dir():
+        raise Fault(f"{option}: {shown_path(folder)}: no folder of programs: it has no {EXPLAIN}")
+    if not TOOL.is_file():
+        raise Fault(f"{option}: {shown_text(word)}: no folder, and here is no tree with commits")
+    place.mkdir()
+    return Sender(_checked_out(word, option, place), None, place)
+
+
+def standing() -> Sender:
+    """The tree as it stands, or the programs of a package or of PDSUITE_PROGRAMS."""
+    try:
+        programs = {name: locate(name) for name in (REGRESS, EXPLAIN, RECORD)}
+    except Unproved:
+        if not TOOL.is_file():
+            raise
+        return Sender(f"the tree as it stands, {commit()}", None)
+    return Sender(f"the proved programs, {commit()}", programs)
+
+
+def last_proved() -> Sender:
+    """The sender that was last proved in this tree, whose programs ./prove has kept."""
+    if PACKED.exists() or not _KEPT.is_file():
+        raise Fault("here nothing is proved: name another sender by --base")
+    said = subprocess.run([sys.executable, "-B", _KEPT], stdin=subprocess.DEVNULL, capture_output=True)
+    if said.returncode:
+        raise Fault(f"{shown(said.stderr.strip())}: name a sender by --base, or run ./prove")
+    folder = Path(os.fsdecode(said.stdout.removesuffix(b"\n")))
+    try:
+        name = shown((folder / _COMMIT).read_bytes().strip())
+    except OSError as error:
+        raise Fault(f"{shown_path(folder / _COMMIT)}: {why(error)}") from error
+    return Sender(f"the last proved programs, {name}", _programs_in(folder, "./prove"))
+
+
+def _programs_in(folder: Path, option: str) -> dict[str, Path]:
+    """The programs of a folder; pdrecord may be missing."""
+    programs = {name: (folder / name).absolute() for name in (REGRESS, EXPLAIN, RECORD)}
+    there = {name: it for name, it in programs.items() if it.is_file() and os.access(it, os.X_OK)}
+    for name in (REGRESS, EXPLAIN):
+        if name not in there:
+            raise Fault(f"{option}: {shown_path(folder)} has no program {name}")
+    return there
+
+
+def _checked_out(word: str, option: str, place: Path) -> str:
+    """The name of a commit, whose crates are put into a folder."""
+    asked = _git("rev-parse", "--verify", "--quiet", "--end-of-options", f"{word}^{{commit}}")
+    if asked is None:
+        raise Fault(f"{option}: {shown_text(word)}: neither a folder of programs nor a commit")
+    number = asked.strip().decode()
+    there = _git("ls-tree", "--name-only", number) or b""
+    parts = [it for it in _PARTS if it.encode() in there.split(b"\n")]
+    archive = place / "archive.tar"
+    if _git("archive", "--format=tar", f"--output={archive}", number, "--", *parts) is None:
+        raise Fault(f"{option}: {shown_text(word)}: git can't archive this commit")
+    with tarfile.open(archive) as file:
+        file.extractall(place)
+    archive.unlink()
+    return f"commit {number[:12]}"
+
+
+def _git(*words: str) -> bytes | None:
+    """What git says in this tree, if it does what it is asked for."""
+    try:
+        said = subprocess.run(["git", "-C", TOP, *words], stdin=subprocess.DEVNULL, capture_output=True)
+    except OSError as error:
+        raise Fault(f"git: {why(error)}") from error
+    return said.stdout if said.returncode == 0 else None

@@ -1,0 +1,262 @@
+"""A script of the kernel's self-tests as a script of this profile, or why it can't be one."""
+
+import re
+from collections.abc import Iterator, Mapping, Sequence
+from dataclasses import dataclass
+
+from pdsuite.imports.assertions import asserted, comment
+from pdsuite.imports.calls import is_buffer, written
+from pdsuite.imports.findings import Finding, Heading, Reason
+from pdsuite.imports.items import Call, Code, Command, HeaderOption, Item, Packet, Time
+from pdsuite.imports.packets import Sending, as_sent, count_of_pieces, moments_of, smss_of, writes_of
+from pdsuite.imports.profile import is_place, tolerance_of, unrun
+from pdsuite.imports.reading import read
+from pdsuite.imports.rewrite import Rewrite, kept, rewritten
+from pdsuite.imports.setup import RUN, Load, Looked, Place, look_at, setup_of
+from pdsuite.imports.tokens import line_of
+from pdsuite.scripts.defaults import DEFAULTS
+from pdsuite.scripts.settings import Settings, Value, settings_of
+from pdsuite.scripts.text import LINES, Unfit, text_of
+
+MOST_EVENTS = 4_096
+_NOW = Time(0)
+
+
+@dataclass(frozen=True)
+class Source:
+    """A script to import: its text, the settings that a pdsuite.toml has for it, if any, and what it may load."""
+
+    text: str
+    own: Mapping[str, Value] | None
+    load: Load
+
+
+@dataclass(frozen=True)
+class Imported:
+    """A script of this profile, with its settings, and what was done to it."""
+
+    text: str
+    settings: Settings
+    findings: tuple[Finding, ...]
+    changed: int  # how many of its packets were
+    is_own: bool  # a pdsuite.toml has its settings, and none are a kernel's
+
+
+@dataclass(frozen=True)
+class Left:
+    """A script that isn't imported, and why, in the order of lines."""
+
+    reasons: tuple[Reason, ...]
+
+
+def convert(source: Source, keep: bool) -> Imported | Left:
+    """Imports a script. With `keep`, and where a pdsuite.toml has settings for it, packets stay as they are."""
+    reading = read(source.text)
+    items = reading.items
+    looked = _looked(items, source.load)
+    mss = _number({**DEFAULTS, **(source.own or {})}, "mss")
+    smss = smss_of(items, mss)
+    first = _first_act(items)
+    told = [told for number in range(first) if number in looked for told in looked[number].told]
+    setup = setup_of(told, max(smss, 1), source.own)
+    reasons = [*setup.reasons, *unrun(items, setup.has_timestamps), *_unshifted(items)]
+    reasons.extend(reason for it in looked.values() for reason in it.reasons)
+    reasons.extend(_buffer(items, _number({**DEFAULTS, **setup.settings}, "sndbuf")))
+    if reading.fault is not None:
+        line = line_of(source.text, reading.fault.place)
+        reasons.append(Reason(line, reading.fault.words, reading.fault.what))
+    keeps = keep or source.own is not None
+    if not keeps:
+        reasons.extend(_long(items, smss))
+    if reasons:
+        return Left(_in_order(reasons))
+    tolerance = tolerance_of(items)
+    if tolerance is None:
+        tolerance = _number({**DEFAULTS, **setup.settings}, "tolerance_us")
+    rewrites = list(_rewrites(source.text, items, looked, None if keeps else smss, tolerance))
+    text = rewritten(source.text, [it for it, _ in rewrites])
+    findings = tuple(finding for _, them in rewrites for finding in them)
+    changed = sum(any(it.heading is Heading.CHANGED for it in them) for _, them in rewrites)
+    settings = settings_of(setup.settings)
+    return _within_limits(text) or Imported(text, settings, findings, changed, source.own is not None)
+
+
+def _number(settings: Mapping[str, Value], key: str) -> int:
+    """A setting that is a number, or its default where a pdsuite.toml has anything else."""
+    value = settings[key]
+    return value if isinstance(value, int) else _number(DEFAULTS, key)
+
+
+def _first_act(items: Sequence[Item]) -> int:
+    """The place of the first packet or call: what stands before it is set-up."""
+    acts = (number for number, it in enumerate(items) if isinstance(it.what, Packet | Call))
+    return next(acts, len(items))
+
+
+def _looked(items: Sequence[Item], load: Load) -> dict[int, Looked]:
+    """What each command says, by the places of the items."""
+    first = _first_act(items)
+    return {
+        number: look_at(it.what.text, it.line, Place.SETUP if number < first else Place.MIDST, load)
+        for number, it in enumerate(items)
+        if isinstance(it.what, Command)
+    }
+
+
+def _in_order(reasons: Sequence[Reason]) -> tuple[Reason, ...]:
+    """The first reason of each kind, in the order of lines."""
+    first: dict[str, Reason] = {}
+    for reason in sorted(reasons, key=lambda it: it.line):
+        first.setdefault(reason.words, reason)
+    return tuple(first.values())
+
+
+def _buffer(items: Sequence[Item], sndbuf: int) -> Iterator[Reason]:
+    """A send buffer that the default can't stand for, since more is written."""
+    asked = sum(written(it.what) for it in items if isinstance(it.what, Call))
+    for item in items:
+        if isinstance(item.what, Call) and is_buffer(item.what) and asked > sndbuf:
+            yield Reason(item.line, "SO_SNDBUF, where more is written than the default holds", f"{asked} octets")
+
+
+def _long(items: Sequence[Item], smss: int) -> Iterator[Reason]:
+    """Packets that become more than a script may hold."""
+    count = 0
+    for item in items:
+        if isinstance(item.what, Packet) and not item.what.is_inbound:
+            count += count_of_pieces(item.what, smss)
+            if count > MOST_EVENTS:
+                yield Reason(item.line, "more than 4,096 events", str(item.what))
+                return
+
+
+def _within_limits(text: str) -> Left | None:
+    """Why the text of an import is no script's, if it isn't."""
+    octets = text.encode("utf-8", "surrogateescape")
+    try:
+        text_of(octets)
+    except Unfit as unfit:
+        return Left((Reason(min(octets.count(b"\n"), LINES), str(unfit)),))
+    events = sum(it.time is not None for it in read(text).items)
+    return Left((Reason(LINES, "more than 4,096 events"),)) if events > MOST_EVENTS else None
+
+
+# ---- times
+
+
+def _is_dropped(what: object) -> bool:
+    return isinstance(what, Command | Code) or (isinstance(what, Call) and is_buffer(what))
+
+
+def _shifted(carried: Time, time: Time) -> Time | None:
+    """A time after another one that is dropped; None where it can't be said."""
+    if carried == _NOW or (time.first is not None and not time.is_relative):
+        return time
+    if time.first is None or carried.first is None or carried.last is not None:
+        return None
+    last = None if time.last is None else carried.first + time.last
+    return Time(carried.first + time.first, last, carried.is_relative)
+
+
+def _unshifted(items: Sequence[Item]) -> Iterator[Reason]:
+    """Times of what is dropped that can't go to the event after it."""
+    carried = _NOW
+    for item in items:
+        if item.time is None:
+            continue
+        shifted = _shifted(carried, item.time)
+        if shifted is None or (_is_dropped(item.what) and not shifted.is_fixed):
+            yield Reason(item.line, "a time of a command that no event can take")
+            return
+        carried = shifted if _is_dropped(item.what) else _NOW
+
+
+# ---- what comes in the place of items
+
+Rewritten = tuple[Rewrite, tuple[Finding, ...]]
+
+
+def _rewrites(
+    text: str, items: Sequence[Item], looked: Mapping[int, Looked], smss: int | None, tolerance: int
+) -> Iterator[Rewritten]:
+    """What comes in the place of the items that don't stay as they are; packets stay where there is no SMSS."""
+    moments = moments_of(items)
+    writes = writes_of(items, moments)
+    first = _first_act(items)
+    carried = _NOW
+    for number, item in enumerate(items):
+        old = text[item.start : item.end]
+        time = None if item.time is None else _shifted(carried, item.time)
+        match item.what:
+            case HeaderOption():
+                if is_place(item.what):
+                    words = "where packets are sent"
+                    yield _dropped(item, old, [words], [Finding(Heading.DROPPED, words)])
+            case Command():
+                yield _command(item, old, looked[number], number < first)
+            case Code():
+                yield _code(item, old, item.what)
+            case Call() if is_buffer(item.what):
+                words = "SO_SNDBUF: the default holds all that is written"
+                yield _dropped(item, old, [words], [Finding(Heading.DROPPED, "SO_SNDBUF")])
+            case Packet() if not item.what.is_inbound and smss is not None:
+                sending = Sending(smss, moments[number], writes[number], tolerance)
+                if found := _packet(item, old, item.what, time or _NOW, sending):
+                    yield found
+            case Packet() | Call() if time is not None and time != item.time:
+                yield _moved(text, item, old, time)
+        if time is not None:
+            carried = time if _is_dropped(item.what) else _NOW
+
+
+def _dropped(item: Item, old: str, reasons: Sequence[str], findings: Sequence[Finding]) -> Rewritten:
+    return Rewrite(item.start, item.end, (), kept("dropped", old, reasons)), tuple(findings)
+
+
+def _command(item: Item, old: str, looked: Looked, is_setup: bool) -> Rewritten:
+    reasons = ["set-up, which is read and never run"] if is_setup else []
+    for begin, words in (
+        ("settings in pdsuite.toml: ", looked.settings),
+        ("" if looked.features == (RUN,) else "this sender hasn't: ", looked.features),
+        ("as this sender has it: ", looked.alike),
+    ):
+        if words:
+            reasons.append(begin + ", ".join(words))
+    heading = Heading.SETUP if is_setup else Heading.DROPPED
+    findings = [Finding(heading, it) for it in (*looked.features, *looked.alike)]
+    return _dropped(item, old, reasons or [RUN], findings or ([] if is_setup else [Finding(heading, RUN)]))
+
+
+def _code(item: Item, old: str, code: Code) -> Rewritten:
+    found = asserted(code.text)
+    comments = [*kept("dropped", old, ())]
+    comments.extend(f"// not compared: {it}" for it in found.others)
+    comments.extend(map(comment, found.assertions))
+    findings = [Finding(Heading.NOT_COMPARED, it) for it in found.others]
+    findings.extend(Finding(Heading.ASSERTED, it.name) for it in found.assertions)
+    return Rewrite(item.start, item.end, (), tuple(comments)), tuple(findings)
+
+
+_MOVED = "the time of what was dropped before it"
+_TIME = re.compile(r"[0-9.+~*]+")
+
+
+def _packet(item: Item, old: str, packet: Packet, time: Time, sending: Sending) -> Rewritten | None:
+    """The packets that come in the place of one, where it doesn't stay as it is."""
+    sent, changes = as_sent(packet, sending)
+    reasons = [*changes, *([_MOVED] if time != item.time else [])]
+    if not reasons:
+        return None
+    as_written = old[: item.action - item.start].rstrip()
+    begin = as_written if time == item.time and _TIME.fullmatch(as_written) else str(time)
+    # After a moment the others leave at once; at any time each leaves at any.
+    after = "*" if time.first is None else "+0".rjust(len(begin))
+    lines = [f"{begin} {sent[0]}", *(f"{after} {it}" for it in sent[1:])]
+    findings = tuple(Finding(Heading.CHANGED, it) for it in changes)
+    return Rewrite(item.start, item.end, tuple(lines), kept("changed", old, ["; ".join(reasons)])), findings
+
+
+def _moved(text: str, item: Item, old: str, time: Time) -> Rewritten:
+    line = f"{time} {text[item.action:item.end]}"
+    finding = Finding(Heading.DROPPED, "times, which the next event takes")
+    return Rewrite(item.start, item.end, (line,), kept("changed", old, [_MOVED])), (finding,)

@@ -1,0 +1,62 @@
+"""The built programs and the tree's tools: where they are, and what they are of."""
+
+import os
+import subprocess
+from pathlib import Path
+
+from pdsuite.faults import Fault
+from pdsuite.show.octets import shown, shown_path
+
+TOP = Path(__file__).resolve().parents[3]
+FOLDER = "PDSUITE_PROGRAMS"
+# In a package: its version, and the commit that it was made of. The programs are then installed, too.
+PACKED = TOP / "version"
+# In a tree: what runs its programs as they stand, without proofs.
+TOOL = TOP / "tools/try_cases.py"
+REGRESS = "pdregress"
+EXPLAIN = "pdexplain"
+RECORD = "pdrecord"
+
+
+class Unproved(Fault):
+    """That a program isn't proved and built, or has changed since."""
+
+
+def locate(name: str) -> Path:
+    """The built program of this name."""
+    if folder := os.environ.get(FOLDER):
+        path = Path(folder, name).absolute()
+        if not path.is_file() or not os.access(path, os.X_OK):
+            raise Fault(f"{shown_path(path)}: no program ({FOLDER} names the folder)")
+        return path
+    if PACKED.exists():
+        return TOP.parents[1] / "bin" / name
+    said = subprocess.run(
+        [TOP / "tools/built.sh", name],
+        stdin=subprocess.DEVNULL,
+        capture_output=True,
+        process_group=0,  # a key of the terminal ends the client alone
+    )
+    if said.returncode:
+        raise Unproved(shown(said.stderr.strip()))
+    return Path(os.fsdecode(said.stdout.removesuffix(b"\n")))
+
+
+def commit() -> str:
+    """The commit that this client is of, with `-dirty` where files differ from it; before it the package's version."""
+    if PACKED.exists():
+        return shown(PACKED.read_bytes().strip())
+    words = ["describe", "--always", "--dirty", "--abbrev=40", "--exclude=*"]
+    try:
+        said = subprocess.run(["git", "-C", TOP, *words], stdin=subprocess.DEVNULL, capture_output=True)
+    except OSError:
+        return "unknown"
+    return shown(said.stdout.strip()) if said.returncode == 0 else "unknown"
+
+
+def digest(path: Path) -> str:
+    """The SHA-256 of a program."""
+    import hashlib  # only who asks for it pays for what makes it
+
+    with path.open("rb") as file:
+        return hashlib.file_digest(file, "sha256").hexdigest()

@@ -1,0 +1,238 @@
+"""A program that runs: it is started, asked, and ended. No other module starts a built program."""
+
+import contextlib
+import fcntl
+import os
+import select
+import selectors
+import signal
+import subprocess
+import time
+from collections.abc import Sequence
+from pathlib import Path
+
+from pdsuite.faults import why
+from pdsuite.show.octets import shown, shown_path
+from pdsuite.signals import Stop
+
+_PIPE = 1 << 20
+_READ = 1 << 18
+_KEPT = 4_096
+_SHOWN = 200
+_GRACE = 1.0
+# The statuses of a program that has read all commands.
+_REGULAR = (0, 1)
+
+
+class Ended(Exception):
+    """A program ended, or has to be ended; the text says so, in the program's own words where it has any."""
+
+
+class Program:
+    """A started program, in a process group of its own: it is asked, and it ends with the block that uses it."""
+
+    def __init__(self, words: Sequence[str | Path], stop: Stop) -> None:
+        self._stop = stop
+        self._name = shown_path(Path(Path(words[0]).name))
+        try:
+            self._process = subprocess.Popen(
+                words,
+                stdin=subprocess.PIPE,
+                stdout=subprocess.PIPE,
+                stderr=subprocess.PIPE,
+                bufsize=0,
+                process_group=0,
+            )
+        except (OSError, ValueError) as error:
+            raise Ended(f"{shown_path(Path(words[0]))}: {why(error)}") from error
+        try:
+            self._in, self._out, self._err = _pipes(self._process)
+            self._selector = selectors.EpollSelector()
+        except OSError as error:
+            self._kill()
+            raise Ended(f"{self._name}: {why(error)}") from error
+        self._unsent = b""
+        # An empty line before what was said lets every line begin after a newline.
+        self._got = bytearray(b"\n")
+        self._said = b""
+        self._kept = _KEPT
+        self._is_last = False
+        for descriptor in (stop.fileno(), self._out, self._err):
+            self._selector.register(descriptor, selectors.EVENT_READ)
+
+    def __enter__(self) -> "Program":
+        return self
+
+    def __exit__(self, *error: object) -> None:
+        self.close()
+
+    def ask(self, commands: bytes, longest: int) -> bytes:
+        """What the program answers, up to the line `total`. It is read while the commands are written."""
+        self._send(commands)
+        seen = 0
+        while True:
+            start = self._got.find(b"\ntotal ", seen)
+            end = self._got.find(b"\n", start + 1) if start >= 0 else -1
+            if end >= 0:
+                return self._take(end)
+            seen = max(0, start if start >= 0 else len(self._got) - len(b"\ntotal "))
+            if len(self._got) > longest:
+                raise Ended(f"{self._name} answered more than was asked")
+            if not self._is_open(self._out):
+                raise Ended(self._last_words())
+            self._work(None)
+
+    def finish(self, commands: bytes, longest: int) -> bytes:
+        """What the program says on standard error of these commands. It is asked nothing after them, and ends."""
+        self._finish(commands, longest)
+        return self._said
+
+    def record(self, text: bytes, longest: int) -> tuple[bytes, str]:
+        """What the program writes of this text, which is all of its input, and the first line that it says."""
+        self._finish(text, longest)
+        return bytes(self._got[1:]), shown(self._said.partition(b"\n")[0], _SHOWN)
+
+    def _finish(self, commands: bytes, longest: int) -> None:
+        """Writes the last of the input, and reads what the program writes until it has ended."""
+        self._kept = longest + 1
+        self._is_last = True
+        self._send(commands)
+        while self._is_open(self._out) or self._is_open(self._err):
+            self._work(None)
+            if max(len(self._said), len(self._got)) > longest:
+                raise Ended(f"{self._name} said more than was asked")
+        if not self._has_ended():
+            raise Ended(f"{self._name} closed its output")
+        status = self._kill()
+        if status not in _REGULAR:
+            raise Ended((self._last_line() if status > 0 else "") or self._end())
+
+    def fileno(self) -> int:
+        """What can be read once a program that nobody asks has something to say, or has ended."""
+        return self._selector.fileno()
+
+    def check(self) -> None:
+        """Raises Ended where the program has ended since it was asked last, or says what nobody asked."""
+        self._work(0)
+        if not self._is_open(self._out):
+            raise Ended(self._last_words())
+        if len(self._got) > 1:
+            raise Ended(f"{self._name} answered more than was asked")
+
+    def close(self) -> None:
+        """Ends the program."""
+        self._kill()
+        self._selector.close()
+        for pipe in (self._process.stdin, self._process.stdout, self._process.stderr):
+            if pipe is not None:
+                pipe.close()
+
+    def _take(self, end: int) -> bytes:
+        """What was said up to this newline; that newline stays, before what comes next."""
+        answer = bytes(self._got[1 : end + 1])
+        del self._got[:end]
+        return answer
+
+    def _send(self, commands: bytes) -> None:
+        """Writes as much of the commands as the pipe takes; the rest is written while answers are read."""
+        self._unsent += commands
+        self._write()
+        if self._unsent and not self._is_open(self._in):
+            self._selector.register(self._in, selectors.EVENT_WRITE)
+
+    def _work(self, seconds: float | None) -> bool:
+        """Waits until something can be read or written, and does it; whether there was anything in that time."""
+        ready = self._selector.select(seconds)
+        for key, _ in ready:
+            if key.fd == self._in:
+                self._write()
+            elif key.fd == self._out:
+                self._got += self._read(self._out)
+            elif key.fd == self._err:
+                self._said = (self._said + self._read(self._err))[-self._kept :]
+        self._stop.check()
+        return bool(ready)
+
+    def _write(self) -> None:
+        try:
+            self._unsent = self._unsent[os.write(self._in, self._unsent) :]
+        except BlockingIOError:
+            return
+        except OSError:
+            # Whoever reads no more has ended, or is about to answer.
+            self._unsent = b""
+        if not self._unsent:
+            if self._is_open(self._in):
+                self._selector.unregister(self._in)
+            if self._is_last and self._process.stdin is not None:
+                self._process.stdin.close()
+
+    def _read(self, descriptor: int) -> bytes:
+        try:
+            octets = os.read(descriptor, _READ)
+        except BlockingIOError:
+            return b""
+        except OSError:
+            octets = b""  # as at its end
+        if not octets:
+            self._selector.unregister(descriptor)
+        return octets
+
+    def _is_open(self, descriptor: int) -> bool:
+        return descriptor in self._selector.get_map()
+
+    def _last_words(self) -> str:
+        """Why the program has ended: the last line that it said, else its status."""
+        until = time.monotonic() + _GRACE
+        while self._is_open(self._err) and (left := until - time.monotonic()) > 0 and self._work(left):
+            pass
+        if line := self._last_line():
+            return line
+        if not self._has_ended():
+            return f"{self._name} closed its output"
+        return self._end()
+
+    def _last_line(self) -> str:
+        """The last line that the program said, if it said one."""
+        lines = [line for line in self._said.split(b"\n") if line.strip()]
+        return shown(lines[-1], _SHOWN) if lines else ""
+
+    def _end(self) -> str:
+        """How the program ended, by its status."""
+        status = self._kill()
+        if status < 0:
+            return f"{self._name} was ended by {_signal_name(-status)}"
+        return f"{self._name} ended with status {status}"
+
+    def _has_ended(self) -> bool:
+        descriptor = os.pidfd_open(self._process.pid)
+        try:
+            poll = select.poll()
+            poll.register(descriptor, select.POLLIN)
+            return bool(poll.poll(_GRACE * 1_000))
+        finally:
+            os.close(descriptor)
+
+    def _kill(self) -> int:
+        """Ends all of the program's group, and answers its status; until then no other process can have its number."""
+        if self._process.returncode is None:
+            with contextlib.suppress(ProcessLookupError):
+                os.killpg(self._process.pid, signal.SIGKILL)
+        return self._process.wait()
+
+
+def _pipes(process: "subprocess.Popen[bytes]") -> tuple[int, int, int]:
+    pipes = (process.stdin, process.stdout, process.stderr)
+    ends = [pipe.fileno() for pipe in pipes if pipe is not None]
+    for end in ends:
+        os.set_blocking(end, False)
+        with contextlib.suppress(OSError):  # a smaller pipe does, too
+            fcntl.fcntl(end, fcntl.F_SETPIPE_SZ, _PIPE)
+    return ends[0], ends[1], ends[2]
+
+
+def _signal_name(number: int) -> str:
+    try:
+        return signal.Signals(number).name
+    except ValueError:
+        return f"signal {number}"

@@ -1,0 +1,156 @@
+"""What is written to the program, and what its answers say. Names are given here and seen nowhere else."""
+
+import json
+import re
+from collections.abc import Mapping, Sequence
+
+from pdsuite.programs.rows import Row, Verdict
+from pdsuite.scripts.edits import Edit
+from pdsuite.scripts.text import Text
+from pdsuite.show.octets import shown
+
+SETTLE = b"settle\n"
+SHOW = b"show\n"
+# The longest row, refusal or line of totals, and more.
+LONGEST_LINE = 256
+# The longest block, and more; and as JSON, where nothing is cut.
+LONGEST_BLOCK = 65_536
+LONGEST_CAUSE = 1 << 20
+_SHOWN = 80
+
+_ROW = re.compile(rb"(pass|syntax|unsupported|limit) (\d{1,6})|fail (\d{1,6}) ([a-z]+)")
+_BLOCK = re.compile(rb"(s\d{1,4}):(\d{1,6}): (.*)")
+_INDENT = b"  "
+_TOTAL = re.compile(rb"total (\d+) pass \d+ fail \d+ syntax \d+ unsupported \d+ limit \d+ pending 0")
+
+# What is told of a script as JSON, by its keys.
+Cause = Mapping[str, object]
+
+_WORDS = (Verdict.PASS, Verdict.SYNTAX, Verdict.UNSUPPORTED, Verdict.LIMIT)
+_VERDICTS = {it.value.encode(): it for it in _WORDS}
+
+
+class Unexpected(Exception):
+    """An answer that isn't the one to what was asked; the text says what it has in its place."""
+
+
+def name_of(number: int) -> bytes:
+    """The name of the script with this number in a run: never a word of a command or of a report."""
+    return b"s%d" % number
+
+
+def add(name: bytes, text: Text) -> bytes:
+    """The command that adds a script."""
+    return b"add %s %d\n%s" % (name, text.lines, text.octets)
+
+
+def edit(name: bytes, change: Edit) -> bytes:
+    """The command that edits a script."""
+    return b"edit %s %d %d %d\n%s" % (name, change.first, change.removed, change.put.lines, change.put.octets)
+
+
+def remove(name: bytes) -> bytes:
+    """The command that removes a script."""
+    return b"remove %s\n" % name
+
+
+def set_key(key: str, word: str) -> bytes:
+    """The command that sets a key."""
+    return f"set {key} {word}\n".encode()
+
+
+def set_and_show(key: str, word: str) -> bytes:
+    """The commands that set a key in an empty run, and have it answered."""
+    return set_key(key, word) + SHOW
+
+
+def refusal_in(answer: bytes) -> str | None:
+    """The name of the refusal that an answer begins with: `BadValue` of `refused 4 BadValue`."""
+    first = answer.split(b"\n", 1)[0].split(b" ")
+    return shown(first[2]) if first[0] == b"refused" and len(first) == 3 else None
+
+
+def rows_in(answer: bytes, before: bytes, names: Sequence[bytes], count: int) -> list[Row]:
+    """The rows of these names in an answer, after the ones that came before and before the totals of `count` rows."""
+    if not answer.startswith(before):
+        raise Unexpected(_first_other(answer, before))
+    lines = answer[len(before) :].split(b"\n")
+    known: dict[bytes, Row] = {}
+    rows = [_row(line, name, known) for line, name in zip(lines, names)]
+    last = lines[len(names)] if len(lines) > len(names) else b""
+    total = _TOTAL.fullmatch(last)
+    if total is None or int(total[1]) != count or lines[len(names) + 1 :] != [b""]:
+        raise Unexpected(_quoted(last))
+    return rows
+
+
+def blocks_in(said: bytes) -> dict[tuple[bytes, int], list[bytes]]:
+    """The blocks that were said, by the names of their scripts and their lines: what each is, and the lines below."""
+    blocks: dict[tuple[bytes, int], list[bytes]] = {}
+    block: list[bytes] = []
+    for line in said.split(b"\n")[:-1]:
+        if found := _BLOCK.fullmatch(line):
+            block = blocks[found[1], int(found[2])] = [found[3]]
+        elif block and line.startswith(_INDENT):
+            block.append(line.removeprefix(_INDENT))
+        else:
+            raise Unexpected(f'said "{shown(line, _SHOWN)}", which is no line of a block')
+    return blocks
+
+
+def causes_in(said: bytes) -> dict[tuple[bytes, int], Cause]:
+    """What was said as JSON, an object a line, by the names of scripts and their lines."""
+    causes: dict[tuple[bytes, int], Cause] = {}
+    for line in said.split(b"\n")[:-1]:
+        cause = _object(line)
+        match cause:
+            case {"name": str(name), "line": int(number)}:
+                causes[name.encode(), number] = cause
+            case _:
+                raise Unexpected(f'said "{shown(line, _SHOWN)}", which tells of no script')
+    return causes
+
+
+def _object(line: bytes) -> Cause:
+    try:
+        found = json.loads(line)
+    except (ValueError, RecursionError):
+        found = None
+    return found if isinstance(found, dict) else {}
+
+
+def before_total(answer: bytes) -> bytes:
+    """The rows of an answer, which the next answer of the same run begins with."""
+    return answer[: answer.rindex(b"total ")]
+
+
+def _row(line: bytes, name: bytes, known: dict[bytes, Row]) -> Row:
+    """The row of this name in a line. `known` has what words were read as before, since many rows are equal."""
+    said, _, words = line.partition(b" ")
+    if words not in known:
+        known[words] = _read_row(words, line)
+    if said != name:
+        raise Unexpected(_quoted(line))
+    return known[words]
+
+
+def _read_row(words: bytes, line: bytes) -> Row:
+    found = _ROW.fullmatch(words)
+    if found is None:
+        raise Unexpected(_quoted(line))
+    if found[4] is not None:
+        return Row(Verdict.FAIL, int(found[3]), found[4].decode())
+    return Row(_VERDICTS[found[1]], int(found[2]))
+
+
+def _first_other(answer: bytes, before: bytes) -> str:
+    for line, wanted in zip(answer.split(b"\n"), before.split(b"\n")):
+        if line != wanted:
+            return _quoted(line)
+    return _quoted(b"")
+
+
+def _quoted(line: bytes) -> str:
+    if line.startswith(b"refused "):
+        return shown(line, _SHOWN)
+    return f'answered "{shown(line, _SHOWN)}", which isn\'t the row that is due'

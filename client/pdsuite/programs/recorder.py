@@ -1,0 +1,61 @@
+"""Has pdrecord record a script, with the sender's state after each event."""
+
+from collections.abc import Callable
+from dataclasses import dataclass
+from pathlib import Path
+
+from pdsuite.faults import Fault
+from pdsuite.programs.places import RECORD, locate
+from pdsuite.programs.program import Ended, Program
+from pdsuite.scripts.settings import Settings, settings_text
+from pdsuite.show.octets import shown_path
+from pdsuite.signals import Stop
+
+# A recording has at most 4,096 events, each with a line of its state.
+_LONGEST = 8 << 20
+
+
+@dataclass(frozen=True, slots=True)
+class Recording:
+    """What was recorded, with its trace; or nothing, and why."""
+
+    text: str
+    fault: str = ""
+
+
+class Recorder:
+    """Records scripts; `note` is told, once, that the program isn't there, and of each script on which it ends."""
+
+    def __init__(self, stop: Stop, note: Callable[[str], None], program: Path | None = None) -> None:
+        self._stop = stop
+        self._note = note
+        self._program = program
+        self._fault = ""
+
+    def record(self, path: str, text: bytes, settings: Settings) -> Recording:
+        """The recording of a script, or why there is none: the program refuses it, ends on it, or isn't there."""
+        program = self._located()
+        if program is None:
+            return Recording("", self._fault)
+        try:
+            with Program(_words(program, settings), self._stop) as started:
+                octets, said = started.record(text, _LONGEST)
+        except Ended as end:
+            self._note(f"pdsuite: {end}; {shown_path(Path(path))} isn't recorded")
+            return Recording("", str(end))
+        return Recording(octets.decode("utf-8", "surrogateescape"), said)
+
+    def _located(self) -> Path | None:
+        """The program; that it isn't there is told once."""
+        if self._program is None and not self._fault:
+            try:
+                self._program = locate(RECORD)
+            except Fault as fault:
+                self._fault = str(fault)
+                self._note(f"pdsuite: {fault}; nothing is recorded")
+        return self._program
+
+
+def _words(program: Path, settings: Settings) -> list[str | Path]:
+    text = settings_text(settings)
+    return [program, "--trace", *(["--settings", text] if text else [])]

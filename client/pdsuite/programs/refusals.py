@@ -1,0 +1,83 @@
+"""Asks the program, in a run without scripts, which settings it takes."""
+
+import re
+from collections.abc import Callable, Iterable
+from contextlib import suppress
+
+from pdsuite.faults import Fault
+from pdsuite.programs.program import Ended, Program
+from pdsuite.programs.protocol import LONGEST_LINE, SHOW, Unexpected
+from pdsuite.programs.protocol import refusal_in, rows_in, set_and_show
+from pdsuite.scripts.settings import set_words
+from pdsuite.scripts.suite import Claim
+
+# Why the program refuses a key or its value; any other refusal ends the run.
+_REFUSALS = ("UnknownKey", "BadValue")
+# Where the answer to a question ends.
+_AFTER_TOTAL = re.compile(rb"(?<=pending 0\n)")
+
+# What was asked about already, and why it is refused, if it is.
+_Known = dict[tuple[str, str], str | None]
+
+
+def refusals(claims: Iterable[Claim], start: Callable[[], Program]) -> list[str]:
+    """The lines of the claims that the program refuses. Without claims it is still asked whether it answers."""
+    each = list(claims)
+    known: _Known = {}
+    with suppress(Ended):  # a new run begins with what is left
+        return _refused(each, known, start)
+    try:
+        return _refused(each, known, start)
+    except Ended as end:
+        raise Fault(str(end)) from end
+
+
+def _refused(claims: list[Claim], known: _Known, start: Callable[[], Program]) -> list[str]:
+    with start() as program:
+        _check(program.ask(SHOW, 2 * LONGEST_LINE), b"")
+        for claim in claims:
+            words = set_words(claim.key, claim.value)
+            if words not in known:
+                known[words] = _answer(words, program)
+    return _told(claims, known)
+
+
+def questions(claims: Iterable[Claim]) -> list[tuple[str, str]]:
+    """What is asked where all is asked at once: each key with its value, once."""
+    return list(dict.fromkeys(set_words(it.key, it.value) for it in claims))
+
+
+def refusals_at_once(claims: Iterable[Claim], answer: bytes) -> list[str]:
+    """The lines of the claims that the program refuses, by its answer to `set_and_show` of all questions."""
+    each = list(claims)
+    asked = questions(each)
+    *parts, rest = _AFTER_TOTAL.split(answer)
+    # The last part is the report at the end.
+    if rest or len(parts) != len(asked) + 1:
+        raise Ended(f"pdregress answered {len(parts) - 1} of {len(asked)} questions")
+    return _told(each, {words: _reason(part) for words, part in zip(asked, parts)})
+
+
+def _told(claims: Iterable[Claim], known: _Known) -> list[str]:
+    reasons = ((claim, known[set_words(claim.key, claim.value)]) for claim in claims)
+    return [claim.refused(reason) for claim, reason in reasons if reason is not None]
+
+
+def _answer(words: tuple[str, str], program: Program) -> str | None:
+    """Why the program refuses a key with its value, if it does."""
+    return _reason(program.ask(set_and_show(*words), 3 * LONGEST_LINE))
+
+
+def _reason(answer: bytes) -> str | None:
+    """Why a key with its value is refused, by the answer to both, if it is."""
+    reason = refusal_in(answer)
+    _check(answer, answer.split(b"\n", 1)[0] + b"\n" if reason in _REFUSALS else b"")
+    return reason
+
+
+def _check(answer: bytes, before: bytes) -> None:
+    """Raises Ended where an answer is no report without scripts, behind what may stand before it."""
+    try:
+        rows_in(answer, before, (), 0)
+    except Unexpected as unexpected:
+        raise Ended(f"pdregress: {unexpected}") from unexpected

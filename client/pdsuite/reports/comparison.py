@@ -1,0 +1,111 @@
+"""What two senders do with the same scripts: for people, and as JSON."""
+
+import json
+from collections.abc import Iterator, Sequence
+
+from pdsuite.compare.comparison import ComparedScript, Count, Kind, counts_of
+from pdsuite.compare.parting import Parting, PlayedEvent
+from pdsuite.reports.outcome_text import block, meaning
+from pdsuite.run.outcomes import UNPROVED, Outcome
+from pdsuite.show.octets import shown_path, shown_text
+from pdsuite.show.styled_text import StyledText, unstyled
+
+_STYLES = {Kind.TURNED: "bold red", Kind.OTHERWISE: "yellow"}
+_SIDES = ("before", "after")
+_ENDS = "nothing more"
+
+
+def lines_of(it: ComparedScript) -> list[str]:
+    """The lines below a script: both blocks where it turned, and where the recordings part."""
+    lines = [*_told("before", it.before), *_told("after", it.after)] if it.kind is Kind.TURNED else []
+    if it.parting is not None:
+        return [*lines, *_parting(it.parting)]
+    if it.kind is Kind.OTHERWISE:
+        lines += [f"{side}: {_unrecorded(why)}" for side, why in zip(_SIDES, it.unrecorded)]
+    return lines
+
+
+def _told(side: str, outcome: Outcome) -> Iterator[str]:
+    line = "" if outcome.row.line is None else f"line {outcome.row.line}: "
+    yield f"{side}: {line}{outcome.row}{meaning(outcome)}"
+    yield from (f"  {it}" for it in block(outcome))
+
+
+def _parting(it: Parting) -> Iterator[str]:
+    yield "the first event that differs:"
+    yield f"  before: {_played(it.before)}"
+    yield f"  after:  {_played(it.after)}"
+    if it.state_before == it.state_after:
+        yield f"  state:  {it.state_before or 'none'}"
+    else:
+        yield f"  state before: {it.state_before}"
+        yield f"  state after:  {it.state_after}"
+
+
+def _played(it: PlayedEvent | None) -> str:
+    return _ENDS if it is None else shown_text(str(it))
+
+
+def _unrecorded(why: str) -> str:
+    return f"not recorded: {why}" if why else "recorded"
+
+
+def plain(compared: Sequence[ComparedScript], seconds: float, is_unproved: bool) -> StyledText:
+    """The scripts that turned, those that are played otherwise, and the totals by folder."""
+    text = StyledText()
+    for kind in _STYLES:
+        for it in compared:
+            if it.kind is kind:
+                text.append(f"{shown_path(it.path)}: ").append(kind, _STYLES[kind]).append("\n")
+                text.append("".join(f"  {line}\n" for line in lines_of(it)), "dim")
+    *folders, total = counts_of(compared)
+    for count in folders:
+        text.append(f"{shown_path(count.name)}: {count}\n")
+    mark = f" {UNPROVED}" if is_unproved else ""
+    return text.append(f"total {total} in {seconds:.2f} s{mark}\n")
+
+
+def as_json(
+    compared: Sequence[ComparedScript], names: tuple[str, str], seconds: float, is_unproved: bool
+) -> StyledText:
+    """One object: the two senders, the scripts that differ, and the totals by folder."""
+    *folders, total = counts_of(compared)
+    told: dict[str, object] = {
+        **dict(zip(_SIDES, names)),
+        "scripts": [_script(it) for it in compared if it.differs],
+        "folders": {shown_path(it.name): _counts(it) for it in folders},
+        "total": _counts(total),
+        "seconds": round(seconds, 2),
+    }
+    if is_unproved:
+        told[UNPROVED] = True
+    return unstyled(json.dumps(told, ensure_ascii=False, indent=1) + "\n")
+
+
+def _counts(count: Count) -> dict[str, int]:
+    return {"scripts": sum(count.counts.values()), **{it.value: count.counts[it] for it in Kind}}
+
+
+def _script(it: ComparedScript) -> dict[str, object]:
+    script: dict[str, object] = {"path": shown_path(it.path), "kind": it.kind.value}
+    for side, outcome in zip(_SIDES, (it.before, it.after)):
+        script[side] = {
+            "row": str(outcome.row),
+            "line": outcome.row.line,
+            "what": outcome.why,
+            "below": block(outcome),
+        }
+    if it.parting is not None:
+        script["parting"] = {
+            "before": _event(it.parting.before, it.parting.state_before),
+            "after": _event(it.parting.after, it.parting.state_after),
+        }
+    elif it.kind is Kind.OTHERWISE:
+        script["unrecorded"] = dict(zip(_SIDES, it.unrecorded))
+    return script
+
+
+def _event(it: PlayedEvent | None, state: str) -> dict[str, object]:
+    if it is None:
+        return {"event": None, "state": state}
+    return {"event": shown_text(it.line), "moment": it.moment, "state": state}

@@ -1,0 +1,46 @@
+"""What a run has to do with the one before it: which scripts failed then, what is new since, and what it leaves."""
+
+from collections.abc import Callable, Sequence
+from pathlib import Path
+
+from pdsuite.faults import Fault, why
+from pdsuite.reports.form import Form
+from pdsuite.reports.new_rows import NewRows
+from pdsuite.reports.report_cache import LastReport
+from pdsuite.run.outcomes import Outcome
+from pdsuite.show.octets import absolute_paths
+from pdsuite.show.octets import shown_path
+
+# What a run may do with each line that no report holds.
+Note = Callable[[str], None]
+
+
+def failed_last(paths: Sequence[Path]) -> frozenset[str]:
+    """The absolute paths of the scripts that didn't pass when these paths were run last."""
+    report = LastReport(paths).load()
+    if report is None:
+        raise Fault(f"{_shown(paths)}: no run has left a report: run it without --last-failed first")
+    return frozenset(path for path, it in report.rows.items() if it.is_failing)
+
+
+def only_new(form: Form, turned: Form, paths: Sequence[Path], note: Note) -> Form:
+    """A form without the rows that are as they were when these paths were run last."""
+    report = LastReport(paths).load()
+    if report is None:
+        note(f"pdsuite: {_shown(paths)}: no run has left a report: all rows are new")
+    return NewRows(form, turned, {} if report is None else report.rows, absolute_paths())
+
+
+def leave(paths: Sequence[Path], outcomes: Sequence[Outcome], is_part: bool, note: Note) -> None:
+    """Leaves the report of a run for the next one. Where it can't be written, that is told, and is no fault."""
+    try:
+        LastReport(paths).leave(outcomes, is_part)
+    except Fault as fault:
+        note(f"pdsuite: {fault}: the report isn't kept")
+    except OSError as error:
+        place = f"{shown_path(error.filename)}: " if error.filename else ""
+        note(f"pdsuite: {place}{why(error)}: the report isn't kept")
+
+
+def _shown(paths: Sequence[Path]) -> str:
+    return ", ".join(map(shown_path, paths))

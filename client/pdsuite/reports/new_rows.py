@@ -1,0 +1,34 @@
+"""A report of those rows alone that are other than they were before."""
+
+from collections.abc import Callable
+from dataclasses import dataclass
+
+from pdsuite.programs.rows import Verdict
+from pdsuite.reports.form import Form
+from pdsuite.reports.saved_reports import SavedRows
+from pdsuite.run.outcomes import Outcome, Totals
+from pdsuite.show.styled_text import StyledText
+
+
+@dataclass(frozen=True)
+class NewRows:
+    """A form of which the rows are left out that were the same before; `turned` shows scripts that had another one."""
+
+    form: Form
+    turned: Form
+    before: SavedRows  # by absolute paths
+    absolute: Callable[[str], str]
+
+    def head(self, count: int) -> StyledText:
+        return self.form.head(count)
+
+    def entry(self, number: int, outcome: Outcome) -> StyledText | None:
+        saved = self.before.get(self.absolute(outcome.path))
+        if saved is None:
+            return self.form.entry(number, outcome)
+        if saved.row == outcome.row or outcome.row.verdict is Verdict.NOT_RUN:
+            return None
+        return self.turned.entry(number, outcome)
+
+    def foot(self, totals: Totals, seconds: float) -> StyledText:
+        return self.form.foot(totals, seconds)

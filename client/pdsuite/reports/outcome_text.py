@@ -1,0 +1,70 @@
+"""What is told of a script that doesn't pass: its row in words, and what stands below that; and what is warned of."""
+
+from pdsuite.programs.rows import Verdict
+from pdsuite.run.outcomes import Outcome
+from pdsuite.show.octets import shown, shown_path
+
+_MOST = 200
+_REASON = "reason: "
+_RULE = "rule: "
+
+
+def place(outcome: Outcome) -> str:
+    """The path, with the line that the row names."""
+    path = shown_path(outcome.path)
+    return path if outcome.row.line is None else f"{path}:{outcome.row.line}"
+
+
+def meaning(outcome: Outcome) -> str:
+    """What comes after the row: what it means, where that is told."""
+    return f": {outcome.why}" if outcome.why else ""
+
+
+def said(outcome: Outcome) -> str:
+    """The row of an outcome, with the one that is expected of it, where one is."""
+    if outcome.expected is None or not (outcome.is_known or outcome.is_unexpected):
+        return str(outcome.row)
+    if outcome.is_known:
+        return f"known: {outcome.row} ({outcome.expected.reason})"
+    row = "passes" if outcome.row.verdict is Verdict.PASS else str(outcome.row)
+    return f'{row}, though "{outcome.expected.row}" is expected ({outcome.expected.reason})'
+
+
+def heading(outcome: Outcome) -> str:
+    """The line of an outcome: its place, its row and what that means."""
+    return f"{place(outcome)}: {said(outcome)}{meaning(outcome)}"
+
+
+def reason(outcome: Outcome) -> str:
+    """Why a row is so, where that is told: the reason, or what the row means, with the rule that stops the script."""
+    if outcome.row.verdict is Verdict.FAIL:
+        found = (it.removeprefix(_REASON) for it in outcome.told if it.startswith(_REASON))
+        return next(found, outcome.why)
+    if outcome.row.verdict is Verdict.SYNTAX:
+        return outcome.why
+    rule = next((it.removeprefix(_RULE) for it in outcome.told[:1] if it.startswith(_RULE)), "")
+    return f"{outcome.why}: {rule}" if rule else outcome.why
+
+
+def summary(outcome: Outcome) -> str:
+    """An outcome in one line: its place, its row and the reason."""
+    why = reason(outcome)
+    return f"{place(outcome)}: {said(outcome)}" + (f": {why}" if why else "")
+
+
+def warnings(outcome: Outcome) -> list[str]:
+    """What is warned of."""
+    end = " (strict)" if outcome.is_strict else ""
+    return [f"passes, but {it}{end}" for it in outcome.warnings]
+
+
+def warned(outcome: Outcome) -> list[str]:
+    """A line for each warning: its place, and what it is."""
+    return [f"{place(outcome)}: {it}" for it in warnings(outcome)]
+
+
+def block(outcome: Outcome) -> list[str]:
+    """The lines below an outcome's row: what is told of it, else the line of the script that it names."""
+    if outcome.told:
+        return list(outcome.told)
+    return [] if outcome.text is None else [shown(outcome.text, _MOST)]

@@ -1,0 +1,72 @@
+"""A report while it grows: outcomes come run by run, and are shown in the order of paths."""
+
+from collections.abc import Iterable, Iterator, Sequence
+from dataclasses import replace
+
+
+from pdsuite.programs.rows import Row, Verdict
+from pdsuite.reports.form import Form
+from pdsuite.run.outcomes import Outcome, Totals
+from pdsuite.run.runs import Script, outcome_of
+from pdsuite.show.screen import Screen
+from pdsuite.show.styled_text import StyledText
+
+
+class Report:
+    """The outcomes that were shown, and those that wait for earlier ones."""
+
+    def __init__(self, scripts: Sequence[Script], form: Form, screen: Screen, is_unproved: bool = False) -> None:
+        self.outcomes: list[Outcome] = []
+        self.is_unproved = is_unproved
+        self._scripts = scripts
+        self._form = form
+        self._screen = screen
+        self._waiting: dict[int, Outcome] = {}
+
+    def open(self) -> None:
+        """Shows what stands before all scripts."""
+        self._screen.show(self._form.head(len(self._scripts)))
+        self._screen.advance(0, len(self._scripts))
+
+    def take(self, outcomes: Iterable[tuple[Script, Outcome]]) -> None:
+        """Shows outcomes, as soon as all before them were shown."""
+        for script, outcome in outcomes:
+            self._waiting[script.index] = outcome
+        self._show(list(self._ready()))
+        done = len(self.outcomes) + len(self._waiting)
+        self._screen.advance(done, len(self._scripts))
+
+    def left(self) -> list[Outcome]:
+        """What wasn't shown: outcomes that still wait, and scripts that weren't run."""
+        return [self._waiting.get(it.index, _not_run(it)) for it in self._scripts[len(self.outcomes) :]]
+
+    def close(self, seconds: float) -> Totals:
+        """Shows what is left, and the totals."""
+        self._screen.clear()
+        self._show(self.left())
+        totals = self.totals(self.outcomes)
+        self._screen.show(self._form.foot(totals, seconds))
+        return totals
+
+    def totals(self, outcomes: Iterable[Outcome]) -> Totals:
+        """The totals of outcomes of this report."""
+        return replace(Totals.of(outcomes), is_unproved=self.is_unproved)
+
+    def _ready(self) -> Iterator[Outcome]:
+        """The outcomes that wait for none before them."""
+        index = len(self.outcomes)
+        while (outcome := self._waiting.pop(index, None)) is not None:
+            yield outcome
+            index += 1
+
+    def _show(self, outcomes: Sequence[Outcome]) -> None:
+        text = StyledText()
+        for number, outcome in enumerate(outcomes, len(self.outcomes) + 1):
+            if (entry := self._form.entry(number, outcome)) is not None:
+                text.append_text(entry)
+        self.outcomes.extend(outcomes)
+        self._screen.show(text)
+
+
+def _not_run(script: Script) -> Outcome:
+    return outcome_of(script, Row(Verdict.NOT_RUN))

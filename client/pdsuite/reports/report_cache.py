@@ -1,0 +1,180 @@
+"""The user's cache: each run leaves its report there as JSON, by the absolute paths of what was run."""
+
+import fcntl
+import json
+import os
+import re
+import time
+import zlib
+from collections.abc import Iterable, Iterator, Mapping, Sequence
+from contextlib import contextmanager, suppress
+from itertools import islice
+from pathlib import Path
+
+from pdsuite.faults import Fault, why
+from pdsuite.programs.rows import Verdict
+from pdsuite.reports.as_json import script_text
+from pdsuite.reports.saved_reports import SavedReport, joined, reports_in
+from pdsuite.run.outcomes import Outcome
+from pdsuite.show.octets import absolute_paths, shown_path
+
+# Of so many groups of paths the last reports are kept.
+MOST = 64
+# Only who holds this file's lock writes, and waits so many seconds for it.
+_LOCK = "lock"
+_PATIENCE = 5.0
+_PAUSE = 0.02
+_NEW = "new"
+_REPORTS = "*.json"
+# What ends the first line of a report, so that it can be read by itself.
+_END = b"]}"
+_LONGEST = 80
+_NOT_RUN = Verdict.NOT_RUN
+# So many lines are written at once.
+_AT_ONCE = 1_024
+_OTHER = re.compile(r"[^A-Za-z0-9.-]+")
+
+
+def cache_folder() -> Path:
+    """Where reports are kept, by the XDG Base Directory Specification, which counts no relative path."""
+    told = os.environ.get("XDG_CACHE_HOME", "")
+    if os.path.isabs(told):
+        return Path(told, "pdsuite")
+    try:
+        return Path.home() / ".cache/pdsuite"
+    except RuntimeError as error:
+        raise Fault("there is no home folder, and XDG_CACHE_HOME names none") from error
+
+
+class LastReport:
+    """The report of the last run of these paths. Rows of scripts that a later run left out stay in it."""
+
+    def __init__(self, paths: Iterable[Path]) -> None:
+        self.of = sorted({shown_path(os.path.abspath(it)) for it in paths})
+        self._folder = cache_folder()
+        self._file = self._folder / _name(self.of)
+
+    def load(self) -> SavedReport | None:
+        """What is kept, if anything is."""
+        octets = self._octets()
+        return None if octets is None else _report(self._file, octets)
+
+    def leave(self, outcomes: Sequence[Outcome], is_part: bool) -> None:
+        """Keeps the rows of a run. What was known of scripts that it had no row of stays, if they are there still."""
+        absolute = absolute_paths()
+        with _alone(self._folder):
+            if is_part or any(it.row.verdict is _NOT_RUN for it in outcomes):
+                lines = self._merged({absolute(it.path): it for it in outcomes}, is_part)
+            else:
+                lines = (script_text(it, absolute(it.path)) for it in outcomes)
+            self._write(lines)
+            _sweep(self._folder)
+
+    def _merged(self, outcomes: Mapping[str, Outcome], is_part: bool) -> Iterator[str]:
+        lines = self._lines()
+        for path, it in outcomes.items():
+            if it.row.verdict is not _NOT_RUN:
+                lines[path] = script_text(it, path)
+        return (line for path, line in lines.items() if is_part or path in outcomes)
+
+    def _lines(self) -> dict[str, str]:
+        """The lines that are kept, by the paths of their scripts; none where the file has been damaged."""
+        try:
+            octets = self._octets()
+            if octets is None:
+                return {}
+            paths = _report(self._file, octets).rows
+            lines = octets.decode().split("\n")[1:-2]
+        except (Fault, ValueError):
+            return {}
+        return {path: line.removesuffix(",") for path, line in zip(paths, lines)} if len(paths) == len(lines) else {}
+
+    def _octets(self) -> bytes | None:
+        """The file, if it is there and of these paths."""
+        try:
+            octets = self._file.read_bytes()
+        except FileNotFoundError:
+            return None
+        except OSError as error:
+            raise Fault(f"{shown_path(self._file)}: {why(error)}") from error
+        return octets if _of(octets.split(b"\n", 1)[0]) == self.of else None
+
+    def _write(self, lines: Iterator[str]) -> None:
+        beside = self._folder / _NEW
+        with beside.open("w", encoding="utf-8") as file:
+            file.write(f'{{"of": {json.dumps(self.of, ensure_ascii=False)}, "scripts": [')
+            before = "\n"
+            while several := ",\n".join(islice(lines, _AT_ONCE)):
+                file.write(before + several)
+                before = ",\n"
+            file.write("\n]}\n")
+        beside.replace(self._file)
+
+
+def newest(paths: Iterable[str]) -> SavedReport | None:
+    """The report that was left last of runs whose paths hold all of these scripts."""
+    each = list(paths)
+    for file in sorted(cache_folder().glob(_REPORTS), key=_age):
+        with suppress(FileNotFoundError), file.open("rb") as opened:
+            of = _of(opened.readline())
+            if of and all(any(it == top or it.startswith(f"{top.rstrip('/')}/") for top in of) for it in each):
+                opened.seek(0)
+                return _report(file, opened.read())
+    return None
+
+
+def _report(file: Path, octets: bytes) -> SavedReport:
+    return joined(shown_path(file), reports_in(shown_path(file), octets))
+
+
+def _of(head: bytes) -> list[str]:
+    """The paths of what was run, as the first line of a report that is kept has them."""
+    try:
+        match json.loads(head + _END):
+            case {"of": list(paths)}:
+                return [it for it in paths if isinstance(it, str)]
+    except (ValueError, RecursionError):
+        pass
+    return []
+
+
+def _name(of: Sequence[str]) -> str:
+    """The name of the file for these paths: two groups of paths can have one, so the file says whose it is."""
+    words = _OTHER.sub("_", of[0])[-_LONGEST:].strip("._-") or "root"
+    return f"{words}-{zlib.crc32(json.dumps(of).encode()):08x}.json"
+
+
+@contextmanager
+def _alone(folder: Path) -> Iterator[None]:
+    """Lets nobody else write into the folder; it is made where it isn't there."""
+    folder.mkdir(mode=0o700, parents=True, exist_ok=True)
+    with (folder / _LOCK).open("a") as lock:
+        until = time.monotonic() + _PATIENCE
+        while not _is_locked(lock.fileno()):
+            if time.monotonic() > until:
+                raise Fault(f"{shown_path(folder)}: another run is writing there")
+            time.sleep(_PAUSE)
+        yield
+
+
+def _is_locked(descriptor: int) -> bool:
+    """Locks a file, if nobody else has: whether it is locked now, until it is closed."""
+    try:
+        fcntl.flock(descriptor, fcntl.LOCK_EX | fcntl.LOCK_NB)
+    except BlockingIOError:
+        return False
+    return True
+
+
+def _sweep(folder: Path) -> None:
+    """Takes the oldest reports away, so that no more than so many stay."""
+    for file in sorted(folder.glob(_REPORTS), key=_age)[MOST:]:
+        file.unlink(missing_ok=True)
+
+
+def _age(file: Path) -> tuple[float, str]:
+    """What puts the newest file first, and one that went last."""
+    try:
+        return -file.stat().st_mtime, file.name
+    except FileNotFoundError:
+        return 0.0, file.name

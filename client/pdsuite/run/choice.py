@@ -1,0 +1,61 @@
+"""What the commands have in common: which scripts are meant, and with which settings."""
+
+from collections.abc import Iterable, Sequence, Set
+from dataclasses import dataclass
+from pathlib import Path
+
+from pdsuite.faults import Fault
+from pdsuite.run.runs import Script
+from pdsuite.scripts.search import ScriptFile, find_with_folders
+from pdsuite.scripts.shards import Shard, members
+from pdsuite.scripts.suite import Suite
+from pdsuite.show.octets import absolute_paths
+from pdsuite.signals import Stop
+
+
+@dataclass(frozen=True)
+class Part:
+    """Which of the scripts that are found are meant: those of a shard, and those with one of these absolute paths."""
+
+    shard: Shard | None = None
+    paths: Set[str] | None = None
+
+    def nothing(self) -> str:
+        """The words that say that it has no script."""
+        return f"shard {self.shard} has no script" if self.paths is None else "none of these scripts failed last"
+
+
+_WHOLE = Part()
+
+
+def found_of(
+    paths: Sequence[Path], only: Sequence[str], suite: Suite, stop: Stop, part: Part = _WHOLE
+) -> list[ScriptFile]:
+    """The scripts that are meant, in the order of their paths; all files with their settings are read."""
+    finding = find_with_folders(paths, only, stop)
+    if not finding.scripts:
+        raise Fault("no script found")
+    suite.look(finding.folders)
+    return _chosen(finding.scripts, part)
+
+
+def scripts_of(found: Iterable[ScriptFile], suite: Suite, is_strict: bool = False) -> list[Script]:
+    """The scripts with what holds for them; all of them are strict, or those that the files name."""
+    return [_script(index, it, suite, is_strict) for index, it in enumerate(found)]
+
+
+def _chosen(found: list[ScriptFile], part: Part) -> list[ScriptFile]:
+    """The scripts of a part. A shard is one of all scripts, so that what failed on its machine is found there again."""
+    if part.shard is not None:
+        found = members(found, part.shard)
+    if part.paths is None:
+        return found
+    absolute = absolute_paths()
+    return [it for it in found if absolute(it.path) in part.paths]
+
+
+def _script(index: int, it: ScriptFile, suite: Suite, is_strict: bool) -> Script:
+    if it.fault:
+        return Script(index, it.path, (), it.fault)
+    rules = suite.rules(it)
+    return Script(index, it.path, rules.settings, "", is_strict or rules.is_strict, rules.expected)

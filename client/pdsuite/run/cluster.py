@@ -1,0 +1,259 @@
+"""A Dask cluster as a mapper of runs. No other module knows of `distributed`."""
+
+import gc
+import logging
+import platform
+import select
+import socket
+import time
+import warnings
+from collections import deque
+from collections.abc import Callable, Generator, Iterable, Iterator
+from concurrent.futures import CancelledError
+from contextlib import contextmanager, suppress
+from dataclasses import dataclass
+from importlib import import_module
+from itertools import islice
+from typing import Any
+
+import dask
+from distributed import Client, Future
+from distributed.comm.addressing import resolve_address
+from distributed.scheduler import KilledWorker
+
+import pdsuite
+from pdsuite.faults import Cut, Fault
+from pdsuite.run import parcels
+from pdsuite.run.parcels import Parcel, Programs
+from pdsuite.run.runs import Run, cut
+from pdsuite.run.settling import Mapper, Step, unrun
+from pdsuite.show.octets import shown_text
+from pdsuite.signals import Stop
+
+# How long a scheduler is waited for, and a worker where there is none.
+_PATIENCE = 10
+# How often a run is sent to workers that all go away.
+_SENDINGS = 3
+# How many pieces a run has that is sent, and how many of these each thread of the cluster has before it.
+_PIECES = 8
+_AHEAD = 4
+# How often it is looked which workers there are.
+_LOOK = 1.0
+
+
+@dataclass
+class _Task:
+    """A run that was read, and what was sent where."""
+
+    run: Run
+    parcel: Parcel
+    future: Future | None = None
+    workers: frozenset[str] = frozenset()
+    sendings: int = 0
+
+
+@contextmanager
+def cluster(address: str, programs: Programs, stop: Stop, note: Callable[[str], None]) -> Iterator[Mapper]:
+    """Has runs settled by the workers of a scheduler that have the same programs as this machine."""
+    client = _connected(address)
+    stop.check()
+    try:
+        workers = _Cluster(client, address, programs, stop, note)
+        workers.wait_for_one()
+        yield workers.settle
+    finally:
+        # A scheduler that went away answers no good-bye, and what ended the run counts.
+        with suppress(OSError):
+            client.close(timeout=_LOOK)
+
+
+def _connected(address: str) -> Client:
+    gc.enable()  # the library's objects have cycles
+    logging.disable()  # what counts is said here
+    warnings.filterwarnings("ignore", "Large object of size")
+    dask.config.set({"distributed.comm.timeouts.connect": _PATIENCE})
+    # The code goes along, with every call.
+    pickle = import_module("cloudpickle")  # it declares no types
+    for module in (pdsuite, parcels):
+        pickle.register_pickle_by_value(module)
+    place = _shown(address)
+    try:
+        resolve_address(address)
+    except (OSError, ValueError) as error:
+        raise Fault(f"{place}: no address of a scheduler: {_shown(error)}") from error
+    try:
+        return Client(address, timeout=_PATIENCE, set_as_default=False)
+    except Exception as error:  # the library has many for this
+        raise Fault(f"{place}: no scheduler is reached within {_PATIENCE} s: {_shown(error)}") from error
+
+
+class _Cluster:
+    """The workers that may be used, and the runs that they have."""
+
+    def __init__(
+        self, client: Client, address: str, programs: Programs, stop: Stop, note: Callable[[str], None]
+    ) -> None:
+        self._client = client
+        self._address = _shown(address)
+        self._programs = programs
+        self._stop = stop
+        self._note = note
+        self._near, self._far = socket.socketpair()
+        self._near.setblocking(False)
+        self._far.setblocking(False)
+        # Of each worker why it isn't used, and of those that are how many threads they have.
+        self._faults: dict[str, str] = {}
+        self._threads: dict[str, int] = {}
+        self._looked = 0.0
+        self._served = time.monotonic()
+
+    def wait_for_one(self) -> None:
+        """Waits for a worker that may be used."""
+        self._look()
+        while not self._threads:
+            if self._is_deserted():
+                raise Fault(f"{self._address}: no worker that can be used")
+            self._wait()
+            self._look()
+
+    def settle(self, runs: Iterable[Run]) -> Generator[Step, None, None]:
+        """Has runs settled, some ahead; their steps come in the order of the runs."""
+        left = (Run(run.settings, pieces) for run in runs for pieces in cut(run.pieces, _PIECES))
+        tasks: deque[_Task] = deque()
+        while True:
+            if self._look():
+                self._send_again(tasks)
+            room = max(1, _AHEAD * sum(self._threads.values())) - len(tasks)
+            for run in islice(left, max(0, room)):
+                tasks.append(_Task(run, parcels.packed(run)))
+                self._send(tasks[-1])
+            if not tasks:
+                return
+            if (steps := self._steps(tasks[0])) is None:
+                self._wait()
+            else:
+                tasks.popleft()
+                yield from steps
+
+    def _steps(self, task: _Task) -> list[Step] | None:
+        """The steps of a task, if it has come to any."""
+        if task.future is None:
+            if task.sendings == _SENDINGS:
+                return _unrun(task.run, f"all workers that had it went away, {_SENDINGS} times")
+            return _unrun(task.run, "no worker is left") if self._is_deserted() else None
+        if not task.future.done():
+            return None
+        try:
+            answer = task.future.result(timeout=_PATIENCE)
+        except TimeoutError:
+            return None  # its worker went away with it
+        except CancelledError as error:
+            raise self._gone() from error
+        except KilledWorker as killed:
+            return _unrun(task.run, f"{killed.allowed_failures + 1} workers ended that had it")
+        except Exception as error:  # whatever a worker has for this
+            return _unrun(task.run, f"a worker says: {_shown(error)}")
+        if isinstance(answer, str):
+            self._give_up(task, answer)
+            return None
+        return list(parcels.steps_of(task.run, task.parcel, answer, self._note))
+
+    def _send(self, task: _Task) -> None:
+        """Sends a task to the workers that may be used, if there are any."""
+        task.workers = frozenset(self._threads)
+        task.future = None
+        if task.workers and task.sendings < _SENDINGS:
+            task.sendings += 1
+            task.future = self._client.submit(
+                parcels.work, task.parcel, self._programs, workers=list(task.workers), pure=False
+            )
+            task.future.add_done_callback(self._ring)
+
+    def _send_again(self, tasks: Iterable[_Task]) -> None:
+        """Sends each task again whose workers are all gone; what one of them made isn't there any more, either."""
+        for task in tasks:
+            is_settled = task.future is not None and task.future.status == "error"
+            if not is_settled and not task.workers & self._threads.keys():
+                self._send(task)
+
+    def _give_up(self, task: _Task, fault: str) -> None:
+        """Uses the worker no longer that has other programs by now, and sends its task elsewhere."""
+        for workers in self._asked(self._client.who_has, [task.future]).values():
+            for worker in workers:
+                self._refuse(worker, fault)
+        task.sendings -= 1
+        self._send(task)
+
+    def _look(self) -> bool:
+        """Looks which workers there are, once in a while; whether it did."""
+        now = time.monotonic()
+        if now < self._looked + _LOOK:
+            return False
+        self._looked = now
+        threads = self._asked(self._client.nthreads)
+        self._faults = {it: fault for it, fault in self._faults.items() if it in threads}
+        self._meet([it for it in threads if it not in self._faults])
+        self._threads = {it: threads[it] for it, fault in self._faults.items() if not fault}
+        if self._threads:
+            self._served = now
+        return True
+
+    def _meet(self, workers: list[str]) -> None:
+        """Asks new workers whether they can be used. One that doesn't answer is asked again."""
+        here = platform.python_version_tuple()[:2]
+        pythons = self._answers(workers, platform.python_version_tuple)
+        for worker, python in pythons.items():
+            if tuple(python[:2]) != here:
+                self._refuse(worker, f"has Python {'.'.join(python)}")
+        same = [it for it in pythons if it not in self._faults]
+        for worker, fault in self._answers(same, parcels.fault_of, self._programs).items():
+            self._faults[worker] = ""
+            if fault:
+                self._refuse(worker, _shown(fault))
+
+    def _refuse(self, worker: str, fault: str) -> None:
+        self._faults[worker] = fault
+        self._threads.pop(worker, None)
+        self._note(f"pdsuite: worker {worker} isn't used: {fault}")
+
+    def _answers(self, workers: list[str], function: Callable[..., Any], *words: Any) -> dict[str, Any]:
+        """What workers answer to a call, without those that don't."""
+        if not workers:
+            return {}
+        answers = self._asked(self._client.run, function, *words, workers=workers, on_error="return")
+        return {it: answer for it, answer in answers.items() if not isinstance(answer, OSError)}
+
+    def _asked(self, call: Callable[..., Any], *words: Any, **more: Any) -> Any:
+        """What the scheduler answers."""
+        try:
+            return call(*words, **more)
+        except (OSError, CancelledError) as error:
+            raise self._gone() from error
+
+    def _gone(self) -> Cut:
+        return Cut(f"{self._address}: the scheduler went away")
+
+    def _is_deserted(self) -> bool:
+        return not self._threads and time.monotonic() > self._served + _PATIENCE
+
+    def _wait(self) -> None:
+        """Waits until a task is done, a signal comes, or it is time to look at the workers."""
+        seconds = self._looked + _LOOK - time.monotonic()
+        ready, _, _ = select.select([self._stop, self._near], [], [], max(0.0, seconds))
+        if self._near in ready:
+            self._near.recv(4_096)
+        self._stop.check()
+
+    def _ring(self, future: Future) -> None:
+        """Ends the waiting; called in a thread of the library's."""
+        with suppress(OSError):
+            self._far.send(b"\0")
+
+
+def _unrun(run: Run, reason: str) -> list[Step]:
+    return [unrun(piece, reason) for piece in run.pieces]
+
+
+def _shown(what: object) -> str:
+    """In one line."""
+    return shown_text(" ".join(str(what).split()), 200)

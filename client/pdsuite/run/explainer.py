@@ -1,0 +1,123 @@
+"""Asks pdexplain why scripts don't pass."""
+
+import re
+from collections.abc import Callable, Iterable, Iterator, Mapping, Sequence
+from dataclasses import dataclass, replace
+from pathlib import Path
+from typing import Generic, TypeVar
+
+from pdsuite.programs.program import Ended, Program
+from pdsuite.programs.protocol import LONGEST_BLOCK, LONGEST_CAUSE, Cause, Unexpected
+from pdsuite.programs.protocol import add, blocks_in, causes_in, name_of
+from pdsuite.programs.rows import Row
+from pdsuite.run.outcomes import Outcome
+from pdsuite.run.runs import Script
+from pdsuite.run.settling import SettledPiece, Step
+from pdsuite.scripts.settings import Settings, settings_text
+from pdsuite.scripts.text import Text
+from pdsuite.show.octets import shown, shown_path
+from pdsuite.signals import Stop, Stopped
+
+# What the program has made safe to print already.
+_PLAIN = re.compile(rb"[ -~]*")
+
+# What a row means, and the lines below it.
+Told = tuple[str, tuple[str, ...]]
+
+T = TypeVar("T")
+
+
+@dataclass(frozen=True)
+class Speech(Generic[T]):
+    """How pdexplain is to speak: by which words, how much of a script at most, and how that is read."""
+
+    words: tuple[str, ...]
+    longest: int
+    read: Callable[[bytes], Mapping[tuple[bytes, int], T]]
+
+
+BLOCKS: Speech[list[bytes]] = Speech((), LONGEST_BLOCK, blocks_in)
+CAUSES: Speech[Cause] = Speech(("--json",), LONGEST_CAUSE, causes_in)
+
+
+class Asker(Generic[T]):
+    """Has pdexplain speak of scripts that don't pass; `note` is told of a script on which it ends."""
+
+    def __init__(self, program: Path, speech: Speech[T], stop: Stop, note: Callable[[str], None]) -> None:
+        self._program = program
+        self._speech = speech
+        self._stop = stop
+        self._note = note
+
+    def told(self, step: SettledPiece) -> dict[int, T]:
+        """What is told of the scripts of a piece, by their places."""
+        asked = [it for it in step.outcomes if it[1].row.line is not None and it[0].index in step.texts]
+        return self._told(asked, step.texts) if asked else {}
+
+    def _told(self, asked: Sequence[tuple[Script, Outcome]], texts: Mapping[int, Text]) -> dict[int, T]:
+        """What is told of these scripts; where the program ends on the way, each is asked about by itself."""
+        try:
+            return self._ask(asked, texts)
+        except (Ended, Unexpected) as end:
+            if len(asked) == 1:
+                self._note(f"pdsuite: {end}; nothing is told of {shown_path(asked[0][0].path)}")
+                return {}
+        return {index: told for one in asked for index, told in self._told([one], texts).items()}
+
+    def _ask(self, asked: Sequence[tuple[Script, Outcome]], texts: Mapping[int, Text]) -> dict[int, T]:
+        names = [name_of(number) for number in range(len(asked))]
+        commands = b"".join(add(name, texts[script.index]) for name, (script, _) in zip(names, asked))
+        with self._start(asked[0][0].settings) as program:
+            told = self._speech.read(program.finish(commands, self._speech.longest * (len(asked) + 1)))
+        return {
+            script.index: told[name, outcome.row.number]
+            for name, (script, outcome) in zip(names, asked)
+            if (name, outcome.row.number) in told
+        }
+
+    def _start(self, settings: Settings) -> Program:
+        words: list[str | Path] = [self._program, *self._speech.words, "--cache", "1"]
+        text = settings_text(settings)
+        return Program([*words, "--settings", text] if text else words, self._stop)
+
+
+class Explainer:
+    """Has pdexplain tell why scripts don't pass, in lines for people; of those that are known not to if it is asked."""
+
+    def __init__(self, program: Path, stop: Stop, note: Callable[[str], None], of_known: bool = True) -> None:
+        self._asker = Asker(program, BLOCKS, stop, note)
+        self._of_known = of_known
+
+    def explain(self, step: SettledPiece) -> list[tuple[Script, Outcome]]:
+        """The outcomes of a piece, each that doesn't pass with what is told of it."""
+        asked = step if self._of_known else replace(step, outcomes=[it for it in step.outcomes if not it[1].is_known])
+        blocks = self._asker.told(asked)
+        if not blocks:
+            return step.outcomes
+        return [(script, with_block(outcome, blocks.get(script.index))) for script, outcome in step.outcomes]
+
+
+def with_block(outcome: Outcome, block: Sequence[bytes] | None) -> Outcome:
+    """The outcome with what a block tells of it."""
+    if not block:
+        return outcome
+    why, told = _told(block, outcome.row)
+    return replace(outcome, why=why, told=told)
+
+
+def explained_steps(steps: Iterable[Step], explainer: Explainer) -> Iterator[Step]:
+    """The steps, each piece with what is told of it; without that where a signal comes while it is asked for."""
+    for step in steps:
+        if isinstance(step, SettledPiece):
+            try:
+                step = replace(step, outcomes=explainer.explain(step))
+            except Stopped:
+                yield step
+                raise
+        yield step
+
+
+def _told(block: Sequence[bytes], row: Row) -> Told:
+    """What a block tells of a row; its first line begins with the row's own words."""
+    first, *below = [it.decode("ascii") if _PLAIN.fullmatch(it) else shown(it) for it in block]
+    return first.removeprefix(str(row)).removeprefix(": "), tuple(below)

@@ -1,0 +1,131 @@
+"""What came of scripts: outcomes and their totals."""
+
+from collections.abc import Iterable
+from dataclasses import dataclass
+from enum import StrEnum
+
+from pdsuite.programs.rows import Row, Verdict
+from pdsuite.scripts.expectation import Expectation
+from pdsuite.scripts.settings import Settings
+
+# Stands in each report of a sender that isn't proved.
+UNPROVED = "UNPROVED"
+
+
+class Tally(StrEnum):
+    """How a script is counted of which a row is expected: by whether it has it."""
+
+    KNOWN = "known"
+    UNEXPECTED = "unexpected"
+
+
+class Warned(StrEnum):
+    """Why a script that passes shows nothing, in the words that follow `passes, but`."""
+
+    NO_EVENT = "has no event"
+
+
+@dataclass(slots=True)
+class Outcome:
+    """A script's path and settings, its row, the line of its text that the row names, and why it is so.
+
+    That is what the row means and the lines below it, as they are said by the program that explains. Whether a warning
+    makes the script fail, and which row is expected of it, is said by whoever runs it.
+    """
+
+    path: str
+    settings: Settings
+    row: Row
+    text: bytes | None = None
+    why: str = ""
+    told: tuple[str, ...] = ()
+    is_strict: bool = False
+    expected: Expectation | None = None
+
+    @property
+    def is_known(self) -> bool:
+        """Whether the script doesn't pass, as is expected of it."""
+        return self.expected is not None and self.expected.fits(self.row.whole)
+
+    @property
+    def is_unexpected(self) -> bool:
+        """Whether the script was run, and another row is expected of it."""
+        return self.expected is not None and self.row.verdict is not Verdict.NOT_RUN and not self.is_known
+
+    @property
+    def tally(self) -> Verdict | Tally:
+        """How the script is counted. One that couldn't be run is an error, whatever else is expected of it."""
+        if self.expected is None or self.row.verdict is Verdict.NOT_RUN:
+            return self.row.verdict
+        if self.is_known:
+            return Tally.KNOWN
+        return self.row.verdict if self.row.verdict is Verdict.ERROR else Tally.UNEXPECTED
+
+    @property
+    def warnings(self) -> tuple[Warned, ...]:
+        """What is to be warned of."""
+        return (Warned.NO_EVENT,) if not self.row.number and self.row.verdict is Verdict.PASS else ()
+
+    @property
+    def passes(self) -> bool:
+        """Whether the script makes no run fail: it passes, and no warning makes it fail, or its row is expected."""
+        if self.expected is not None:
+            return self.is_known
+        return self.row.verdict is Verdict.PASS and not (self.is_strict and self.warnings)
+
+
+@dataclass(frozen=True)
+class Totals:
+    """How many scripts are counted how, how many warnings there are, and how many of those that pass fail by one.
+
+    And whether the sender isn't proved, which the last line of a report says.
+    """
+
+    counts: dict[Verdict | Tally, int]
+    warnings: int = 0
+    failing: int = 0
+    is_unproved: bool = False
+
+    @classmethod
+    def of(cls, outcomes: Iterable[Outcome]) -> "Totals":
+        """The totals of outcomes."""
+        counts: dict[Verdict | Tally, int] = dict.fromkeys((*Verdict, *Tally), 0)
+        warned: list[Outcome] = []
+        for outcome in outcomes:
+            tally = outcome.row.verdict if outcome.expected is None else outcome.tally
+            counts[tally] += 1
+            if outcome.warnings:
+                warned.append(outcome)
+        failing = sum(it.is_strict and it.expected is None for it in warned)
+        return cls(counts, sum(len(it.warnings) for it in warned), failing)
+
+    @property
+    def scripts(self) -> int:
+        return sum(self.counts.values())
+
+    @property
+    def passing(self) -> int:
+        """How many scripts pass, and fail by no warning."""
+        return self.counts[Verdict.PASS] - self.failing
+
+    @property
+    def mark(self) -> str:
+        """What ends the last line where the sender isn't proved."""
+        return f" {UNPROVED}" if self.is_unproved else ""
+
+    def __str__(self) -> str:
+        counts = [f"{it.value} {count}" for it, count in self.counts.items() if count or isinstance(it, Verdict)]
+        warnings = [f"warnings {self.warnings}"] if self.warnings else []
+        return " ".join([f"total {self.scripts}", *counts, *warnings])
+
+    def brief(self) -> str:
+        """The counts that aren't 0."""
+        counts = [f"{it.value} {count}" for it, count in self.counts.items() if count]
+        warnings = [f"warnings {self.warnings}"] if self.warnings else []
+        return " ".join([f"total {self.scripts}", *counts, *warnings])
+
+    def status(self) -> int:
+        """The exit status: 0 where each script passes or is known not to, 2 where one couldn't be run, else 1."""
+        if self.counts[Verdict.ERROR]:
+            return 2
+        return 0 if self.passing + self.counts[Tally.KNOWN] == self.scripts else 1

@@ -1,0 +1,63 @@
+"""How scripts are cut into runs of the program, and those into pieces."""
+
+from collections.abc import Iterable, Sequence
+from dataclasses import dataclass
+from itertools import islice
+from typing import TypeVar
+
+from pdsuite.programs.rows import Row
+from pdsuite.run.outcomes import Outcome
+from pdsuite.scripts.expectation import Expectation
+from pdsuite.scripts.settings import Settings
+
+RUN = 1_024
+PIECE = 64
+
+T = TypeVar("T")
+
+
+@dataclass(slots=True)
+class Script:
+    """A script to run: its place in the order of paths, its file, its settings, and why it can't be run."""
+
+    index: int
+    path: str
+    settings: Settings
+    fault: str = ""
+    is_strict: bool = False  # whether a warning makes it fail
+    expected: Expectation | None = None  # the row that it is known to have
+
+
+def outcome_of(
+    script: Script, row: Row, line: bytes | None = None, why: str = "", told: tuple[str, ...] = ()
+) -> Outcome:
+    """What came of a script, whose text has this line where the row names one, and why."""
+    return Outcome(script.path, script.settings, row, line, why, told, script.is_strict, script.expected)
+
+
+Piece = tuple[Script, ...]
+
+
+@dataclass(frozen=True)
+class Run:
+    """Scripts with equal settings for one run of the program, in pieces to be settled one after another."""
+
+    settings: Settings
+    pieces: tuple[Piece, ...]
+
+
+def runs_of(scripts: Iterable[Script]) -> list[Run]:
+    """The runs of all scripts: groups of equal settings in the order of their first scripts."""
+    groups: dict[Settings, list[Script]] = {}
+    for script in scripts:
+        groups.setdefault(script.settings, []).append(script)
+    return [Run(settings, tuple(cut(part, PIECE))) for settings, group in groups.items() for part in cut(group, RUN)]
+
+
+def cut(items: Sequence[T], size: int) -> list[tuple[T, ...]]:
+    """The items in parts of so many, the last one with what is left."""
+    rest = iter(items)
+    parts = []
+    while part := tuple(islice(rest, size)):
+        parts.append(part)
+    return parts

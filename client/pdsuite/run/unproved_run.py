@@ -1,0 +1,208 @@
+"""Runs a suite on the sender as it stands, without proofs: all scripts, and what is told of them, after one build."""
+
+from collections import ChainMap
+from collections.abc import Callable, Generator, Iterable, Mapping, Sequence
+from contextlib import suppress
+from dataclasses import dataclass, field
+from pathlib import Path
+
+from pdsuite.faults import Fault
+from pdsuite.programs.places import EXPLAIN, TOP
+from pdsuite.programs.program import Ended
+from pdsuite.programs.protocol import Cause, Unexpected
+from pdsuite.programs.protocol import add, blocks_in, causes_in, name_of, rows_in, set_and_show, set_key
+from pdsuite.programs.refusals import questions, refusals_at_once
+from pdsuite.programs.rows import Row, Verdict
+from pdsuite.programs.tree import Answer, Build, Case, try_all
+from pdsuite.run.explainer import with_block
+from pdsuite.run.outcomes import Outcome
+from pdsuite.run.runs import Run, Script, outcome_of
+from pdsuite.run.settling import SettledPiece, Step, load
+from pdsuite.scripts.settings import Settings, set_words
+from pdsuite.scripts.suite import Claim
+from pdsuite.scripts.text import Text
+from pdsuite.show.octets import shown_path
+from pdsuite.signals import Stop
+
+# A start of pdexplain is expected to say so much at most, far less than `rt try` takes; and so much of a script, beside
+# as many octets as its text has.
+_ROOM = 1 << 19
+_TOLD = 4_096
+_JSON = ("--json",)
+
+
+@dataclass(frozen=True)
+class Batch:
+    """Scripts with equal settings for one start of pdexplain."""
+
+    settings: Settings
+    scripts: tuple[tuple[Script, Text], ...]
+
+    def names(self) -> list[bytes]:
+        """The names of the scripts in its commands."""
+        return [name_of(number) for number in range(len(self.scripts))]
+
+    def given(self) -> bytes:
+        """The commands that set the settings and add the scripts."""
+        sets = [set_key(*set_words(key, value)) for key, value in self.settings]
+        return b"".join(sets + [add(name, text) for name, (_, text) in zip(self.names(), self.scripts)])
+
+
+@dataclass(frozen=True)
+class UnprovedResults:
+    """What came of a suite: the lines of refused settings, or else its scripts, and what is told of them by keys."""
+
+    refused: list[str] = field(default_factory=list)
+    settled: list[SettledPiece] = field(default_factory=list)
+    causes: Mapping[int, Cause] = field(default_factory=dict)
+
+    def steps(self, runs: Iterable[Run]) -> Generator[Step, None, None]:
+        """The pieces of the runs, in their order."""
+        yield from self.settled
+
+
+def first_line() -> str:
+    """What is said before a sender is run that isn't proved."""
+    return f"unproved: running without proofs, which takes about a minute; {_way_to_prove()} proves the programs"
+
+
+@dataclass(frozen=True)
+class Plan:
+    """What pdexplain is started on: the claims that it is asked about, and the batches of all pieces, once or twice."""
+
+    claims: Sequence[Claim]
+    pieces: Sequence[Sequence[tuple[Script, Text | str]]]
+    wants_causes: bool
+
+    @property
+    def batches(self) -> list[Batch]:
+        return [it for piece in self.pieces for it in batches_of(piece)]
+
+    def cases(self) -> list[Case]:
+        """The starts: one asks about the claims, the others run the batches, a second time for what is told by keys."""
+        asking = Case((), b"".join(set_and_show(*it) for it in questions(self.claims)))
+        told = [Case(_JSON, it.given()) for it in self.batches] if self.wants_causes else []
+        return [asking, *cases_of(self.batches), *told]
+
+
+def plan_of(runs: Iterable[Run], claims: Iterable[Claim], wants_causes: bool) -> Plan:
+    """What is to be run of these runs, whose scripts are read."""
+    pieces = [[(script, load(script)) for script in piece] for run in runs for piece in run.pieces]
+    return Plan(list(claims), pieces, wants_causes)
+
+
+def run_unproved(plan: Plan, tree: Path, stop: Stop, note: Callable[[str], None]) -> UnprovedResults:
+    """What comes of a plan, after one build or two."""
+    return results_of(plan, _answers(tree, plan.cases(), stop), tree, stop, note)
+
+
+def results_of(
+    plan: Plan, answers: Sequence[Answer], tree: Path, stop: Stop, note: Callable[[str], None]
+) -> UnprovedResults:
+    """What the answers say. Where a start ends early, a second build runs its scripts one by one."""
+    asked, *told = answers
+    if lines := _refused(plan.claims, asked):
+        return UnprovedResults(lines)
+    batches = plan.batches
+    outcomes, unheard = read_answers(batches, told)
+    if unheard:
+        singles = [Batch(it.settings, (one,)) for it, _ in unheard for one in it.scripts]
+        note(f"pdsuite: {unheard[0][1]}; {len(singles):,} scripts are run again, each by itself")
+        again, lost = read_answers(singles, _answers(tree, cases_of(singles), stop))
+        outcomes |= again | {it.scripts[0][0].index: _error(it.scripts[0][0], why) for it, why in lost}
+    causes = [causes_of(*it) for it in zip(batches, told[len(batches) :])]
+    return UnprovedResults([], [_settled(piece, outcomes) for piece in plan.pieces], dict(ChainMap(*causes)))
+
+
+def batches_of(piece: Iterable[tuple[Script, Text | str]]) -> list[Batch]:
+    """The scripts of a piece that can be run, in batches of which no great output is expected."""
+    batches: list[list[tuple[Script, Text]]] = []
+    room = 0
+    for script, text in piece:
+        if isinstance(text, str):
+            continue
+        told = _TOLD + len(text.octets)
+        if not batches or told > room:
+            batches.append([])
+            room = _ROOM
+        room -= told
+        batches[-1].append((script, text))
+    return [Batch(it[0][0].settings, tuple(it)) for it in batches]
+
+
+def cases_of(batches: Iterable[Batch]) -> list[Case]:
+    """The starts of the program on batches."""
+    return [Case((), it.given()) for it in batches]
+
+
+def read_answers(
+    batches: Iterable[Batch], answers: Iterable[Answer]
+) -> tuple[dict[int, Outcome], list[tuple[Batch, str]]]:
+    """The outcomes by the places of scripts; and the batches without an answer, each with the reason."""
+    outcomes: dict[int, Outcome] = {}
+    unheard = []
+    for batch, answer in zip(batches, answers):
+        try:
+            outcomes |= outcomes_of(batch, answer)
+        except Unexpected as unexpected:
+            unheard.append((batch, f"{EXPLAIN}: {unexpected}"))
+    return outcomes, unheard
+
+
+def outcomes_of(batch: Batch, answer: Answer) -> dict[int, Outcome]:
+    """What came of the scripts of a batch, by their places, each that doesn't pass with what is told of it."""
+    names = batch.names()
+    rows = rows_in(_heard(answer).output, b"", names, len(names))
+    blocks = blocks_in(answer.errors)
+    outcomes = {}
+    for name, (script, text), row in zip(names, batch.scripts, rows):
+        line = None if row.line is None else text.line(row.line)
+        outcomes[script.index] = with_block(outcome_of(script, row, line), blocks.get((name, row.number)))
+    return outcomes
+
+
+def causes_of(batch: Batch, answer: Answer) -> dict[int, Cause]:
+    """What is told by keys of the scripts of a batch, by their places; nothing where there is no answer."""
+    places = {name: script.index for name, (script, _) in zip(batch.names(), batch.scripts)}
+    try:
+        causes = causes_in(_heard(answer).errors)
+    except Unexpected:
+        return {}
+    return {places[name]: cause for (name, _), cause in causes.items() if name in places}
+
+
+def _heard(answer: Answer) -> Answer:
+    if answer.fault:
+        raise Unexpected(answer.fault)
+    return answer
+
+
+def _answers(tree: Path, cases: Sequence[Case], stop: Stop) -> list[Answer]:
+    return try_all([Build(tree, EXPLAIN, (), tuple(cases))], stop)[0]
+
+
+def _refused(claims: Iterable[Claim], answer: Answer) -> list[str]:
+    try:
+        return refusals_at_once(claims, _heard(answer).output)
+    except (Ended, Unexpected) as end:
+        raise Fault(str(end)) from end
+
+
+def _settled(piece: Sequence[tuple[Script, Text | str]], outcomes: Mapping[int, Outcome]) -> SettledPiece:
+    texts = {script.index: text for script, text in piece if isinstance(text, Text)}
+    return SettledPiece(
+        [(script, _error(script, text) if isinstance(text, str) else outcomes[script.index]) for script, text in piece],
+        texts,
+    )
+
+
+def _error(script: Script, reason: str) -> Outcome:
+    return outcome_of(script, Row(Verdict.ERROR, word=reason))
+
+
+def _way_to_prove() -> str:
+    """The command that proves the programs of this tree, as it is written from here."""
+    with suppress(OSError):
+        if Path.cwd() == TOP:
+            return "./prove"
+    return shown_path(TOP / "prove")

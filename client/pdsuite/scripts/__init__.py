@@ -1,0 +1,1 @@
+"""Scripts before they run: their files, their texts, and what pdsuite.toml says of them."""

@@ -1,0 +1,83 @@
+"""The settings that there are: what each takes, and what holds where none is said. docs/SETTINGS.md has the same."""
+
+from collections.abc import Iterable, Iterator
+from dataclasses import dataclass
+
+from pdsuite.scripts.settings import Settings, Value, shown_value
+
+
+@dataclass(frozen=True, slots=True)
+class Number:
+    """A setting that takes whole numbers of a range."""
+
+    default: int
+    least: int
+    most: int
+    unit: str
+
+    @property
+    def takes(self) -> str:
+        """What it takes, for people."""
+        return f"{self.least:,} to {self.most:,} {self.unit}"
+
+
+@dataclass(frozen=True, slots=True)
+class Word:
+    """A setting that takes one of some words, or a truth value."""
+
+    default: Value
+    words: tuple[Value, ...] = (True, False)
+
+    @property
+    def takes(self) -> str:
+        """What it takes, for people."""
+        return " or ".join(map(shown_value, self.words))
+
+
+KEYS: dict[str, Number | Word] = {
+    "mss": Number(1_460, 64, 65_495, "octets"),
+    "sack": Word(True),
+    "wscale": Number(7, 0, 14, "bits"),
+    "sndbuf": Number(262_144, 1_024, 1_048_576, "octets"),
+    "rcv_wnd": Number(65_535, 1, 1_073_725_440, "octets"),
+    "initial_ssthresh": Number(1_073_741_824, 128, 1_073_741_824, "octets"),
+    "initial_window": Word("rfc5681", ("rfc5681", "rfc6928")),
+    "min_rto_us": Number(1_000_000, 1_000, 60_000_000, "microseconds"),
+    "max_rto_us": Number(60_000_000, 60_000_000, 3_600_000_000, "microseconds"),
+    "granularity_us": Number(1_000, 1, 1_000_000, "microseconds"),
+    "nagle": Word(True),
+    "tolerance_us": Number(4_000, 0, 1_000_000, "microseconds"),
+}
+DEFAULTS: dict[str, Value] = {key: it.default for key, it in KEYS.items()}
+
+
+def can_be_set(old: Settings, new: Settings) -> bool:
+    """Whether a run with the old settings can be given the new ones: of each key that goes the default is known."""
+    after = dict(new)
+    return all(key in after or key in DEFAULTS for key, _ in old)
+
+
+def changed_keys(old: Settings, new: Settings) -> Iterator[tuple[str, Value]]:
+    """The keys whose value changes, each with its new one: the default for a key that goes."""
+    before, after = {**DEFAULTS, **dict(old)}, {**DEFAULTS, **dict(new)}
+    for key in sorted(after):
+        if key not in before or before[key] != after[key]:
+            yield key, after[key]
+
+
+def nearest(word: str, words: Iterable[str]) -> str | None:
+    """The word that a misspelt one may have been meant to be, if one is near; small and capital letters are alike."""
+    from difflib import get_close_matches  # only who mistypes pays for what compares
+
+    alike = {it.lower(): it for it in words}
+    near = get_close_matches(word.lower(), alike, 1)
+    return alike[near[0]] if near else None
+
+
+def help_for(key: str, reason: str, others: Iterable[str] = ()) -> str | None:
+    """What helps against a refusal of a key or its value; `others` are the client's own keys in that place."""
+    if reason == "BadValue" and key in KEYS:
+        return f"it takes {KEYS[key].takes}"
+    if reason == "UnknownKey" and (near := nearest(key, [*KEYS, *others])):
+        return f"the nearest is {near}"
+    return None

@@ -1,0 +1,123 @@
+"""A pdsuite.toml as a text: what is expected of scripts is written into it, and all else stays as it stands there."""
+
+import tomllib
+from collections.abc import Mapping, Sequence
+
+import tomlkit
+from tomlkit.items import Comment, InlineTable, Item, Key, Table
+
+from pdsuite.faults import Fault
+from pdsuite.scripts.expectation import Expectation
+from pdsuite.scripts.suite import EXPECT, REASON
+from pdsuite.show.octets import shown_text
+
+# Rows that are expected of scripts from now on, or none any more, by the scripts' names.
+Edits = Mapping[str, Expectation | None]
+_Body = Sequence[tuple[Key | None, Item]]
+
+
+def edited(place: str, text: str, edits: Edits) -> str:
+    """The text of a file with other rows expected of some scripts. Their tables are edited, and new ones come last."""
+    tables = tomllib.loads(text)
+    end = "\r\n" if "\r\n" in text else "\n"
+    new = _closed(text, end)
+    if not edits.keys().isdisjoint(tables):
+        new = _with_tables(new, edits, end)
+    for name, expected in edits.items():
+        if expected is not None and name not in tables:
+            new += _table(name, expected, end, is_first=not new)
+    _check(place, new, tables, edits)
+    return new
+
+
+def _closed(text: str, end: str) -> str:
+    """The text with an end of its last line."""
+    return f"{text}{end}" if text and not text.endswith("\n") else text
+
+
+def _table(name: str, expected: Expectation, end: str, is_first: bool) -> str:
+    """A new table, which a blank line parts from what stands before it."""
+    text = tomlkit.dumps({name: {EXPECT: expected.row, REASON: expected.reason}})
+    return ("" if is_first else end) + text.replace("\n", end)
+
+
+def _with_tables(text: str, edits: Edits, end: str) -> str:
+    """The text with its tables edited."""
+    document = tomlkit.parse(text)
+    body: list[tuple[Key | None, Item]] = []
+    for key, item in document.body:
+        if key is not None and key.key in edits:
+            body += _edited(key, item, edits[key.key], end)
+        else:
+            body.append((key, item))
+    document.body[:] = body
+    new = document.as_string()
+    while new.endswith(end * 2) and not text.endswith(end * 2):
+        new = new.removesuffix(end)  # it parted a table that went
+    return "" if new == end else new
+
+
+def _edited(key: Key, item: Item, expected: Expectation | None, end: str) -> _Body:
+    """What stands in the place of a table: the table, or the comments of one that has nothing to say any more."""
+    if isinstance(item, InlineTable):
+        _edit_inline(item, expected)
+    elif isinstance(item, Table):
+        body = item.value.body
+        if expected is not None:
+            _put(body, expected, end)
+        else:
+            body[:] = [it for it in body if it[0] is None or it[0].key not in (EXPECT, REASON)]
+            if all(it[0] is None for it in body):
+                return _comments(body)
+    return [(key, item)]
+
+
+def _put(body: list[tuple[Key | None, Item]], expected: Expectation, end: str) -> None:
+    """Puts a row and its reason in the place of others, or after the last key."""
+    for name, value in ((EXPECT, expected.row), (REASON, expected.reason)):
+        item = tomlkit.string(value)
+        item.trivia.trail = end
+        place = next((place for place, it in enumerate(body) if it[0] is not None and it[0].key == name), None)
+        if place is None:
+            last = max((place for place, it in enumerate(body) if it[0] is not None), default=-1)
+            body.insert(last + 1, (tomlkit.key(name), item))
+        else:
+            old = body[place]
+            item.trivia.indent, item.trivia.comment_ws = old[1].trivia.indent, old[1].trivia.comment_ws
+            item.trivia.comment, item.trivia.trail = old[1].trivia.comment, old[1].trivia.trail
+            body[place] = (old[0], item)
+
+
+def _edit_inline(table: InlineTable, expected: Expectation | None) -> None:
+    for name in (EXPECT, REASON):
+        if expected is None:
+            table.pop(name, None)
+        else:
+            table[name] = expected.row if name == EXPECT else expected.reason
+
+
+def _comments(body: _Body) -> _Body:
+    """The comments of a table and what stands between them."""
+    first = next((place for place, it in enumerate(body) if isinstance(it[1], Comment)), len(body))
+    return body[first:]
+
+
+def _check(place: str, text: str, before: Mapping[str, object], edits: Edits) -> None:
+    """Raises a fault where the text doesn't say just what is meant, as where a table's keys stand apart."""
+    meant = dict(before)
+    for name, expected in edits.items():
+        table = before.get(name, {})
+        others = (
+            {key: it for key, it in table.items() if key not in (EXPECT, REASON)} if isinstance(table, dict) else {}
+        )
+        meant[name] = others if expected is None else {**others, EXPECT: expected.row, REASON: expected.reason}
+    said: dict[str, object] = {}
+    try:
+        said = {**dict.fromkeys(edits, {}), **tomllib.loads(text)}
+    except ValueError:
+        pass
+    wrong = next((name for name in edits if said.get(name) != meant[name]), None)
+    if wrong is not None:
+        raise Fault(f'{place}: what it says of ["{shown_text(wrong)}"] can\'t be edited: do it by hand')
+    if said != meant:
+        raise Fault(f"{place}: it can't be edited: do it by hand")

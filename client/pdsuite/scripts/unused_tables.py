@@ -1,0 +1,57 @@
+"""Tables of pdsuite.toml that no script has: each is told, with the name that may have been meant."""
+
+import os
+import stat
+from bisect import bisect
+from collections.abc import Iterator, Set
+
+from pdsuite.scripts.defaults import nearest
+from pdsuite.scripts.search import SUFFIX
+from pdsuite.scripts.suite import Layer, Suite
+from pdsuite.show.octets import shown_path, shown_text
+
+# So many tables of a file are told, and so many names are looked through for the nearest one.
+_MOST = 10
+_NAMES = 1_000
+
+
+def unused_tables(layer: Layer, folder: str, known: Set[str] = frozenset()) -> Iterator[str]:
+    """The lines of a file's tables whose scripts aren't in its folder; those of `known` are taken to be there."""
+    lost = [name for name in layer.tables if name not in known and not _is_beside(name, folder)]
+    for name in lost[:_MOST]:
+        yield f'{layer.place}: ["{shown_text(name)}"]: {_reason(name, folder)}'
+    if len(lost) > _MOST:
+        yield f"{layer.place}: and {len(lost) - _MOST:,} more tables of scripts that aren't there"
+
+
+def unused_in(suite: Suite) -> list[str]:
+    """The lines of all files that were read."""
+    return [line for folder, layer in suite.files() for line in unused_tables(layer, folder)]
+
+
+def _is_beside(name: str, folder: str) -> bool:
+    """Whether a name is that of a file in a folder, of no link and of no folder."""
+    try:
+        mode = os.lstat(os.path.join(folder, name)).st_mode
+    except (OSError, ValueError):
+        return False
+    return os.sep not in name and not stat.S_ISLNK(mode) and not stat.S_ISDIR(mode)
+
+
+def _reason(name: str, folder: str) -> str:
+    if os.path.islink(os.path.join(folder, name)):
+        return "this is a link, and settings go by the name of the file that it leads to"
+    stem = nearest(name.removesuffix(SUFFIX), _around(name, folder))
+    near = f"; the nearest is {shown_path(stem)}{SUFFIX}" if stem else ""
+    return f"no script of this name is beside the file{near}"
+
+
+def _around(name: str, folder: str) -> list[str]:
+    """Names of scripts in a folder, without their ends: those that come before and after this one in their order."""
+    try:
+        names = sorted(it for it in os.listdir(folder) if it.endswith(SUFFIX))
+    except OSError:
+        return []
+    place = bisect(names, name)
+    near = names[max(0, place - _NAMES // 2) : place + _NAMES // 2]
+    return [it.removesuffix(SUFFIX) for it in near if _is_beside(it, folder)]

@@ -1,0 +1,1 @@
+"""What people see: octets as text, styles, a terminal and other outputs."""

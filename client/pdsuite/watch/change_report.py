@@ -1,0 +1,97 @@
+"""What is shown while scripts are watched: at first as `pdsuite run` does, and then what changed."""
+
+from collections.abc import Iterable, Iterator, Mapping, Sequence
+
+from pdsuite.programs.rows import Verdict
+from pdsuite.reports.plain import Plain
+from pdsuite.run.outcomes import Outcome, Tally, Totals
+from pdsuite.show.octets import shown_path
+from pdsuite.show.styled_text import StyledText
+from pdsuite.watch.folder_moves import Move, Outcomes
+from pdsuite.watch.run_changes import WantedScript
+
+
+class ChangeReport:
+    """All of what changed, as programs that read it need it."""
+
+    def first(self, outcomes: Outcomes, every: bool, seconds: float) -> StyledText:
+        """Each script that doesn't pass, or every script; then the totals."""
+        return entries(outcomes.values(), every).append_text(self.foot(outcomes, seconds))
+
+    def moves(
+        self, before: Outcomes, after: Outcomes, had: Mapping[str, WantedScript], has: Mapping[str, WantedScript]
+    ) -> Sequence[Move]:
+        """The folders that are told to have moved."""
+        return ()
+
+    def head(self) -> StyledText:
+        """What stands before a report that isn't the first."""
+        return StyledText()
+
+    def rows(self, before: Outcomes, after: Outcomes, moves: Sequence[Move]) -> StyledText:
+        """The rows that changed, without what is told of them: first of those that don't pass, last what went."""
+        form = Plain(True)
+        text = StyledText()
+        for outcome in changed(before, after):
+            text.append_text(form.changed(outcome))
+        for path in gone(before, after):
+            text.append_text(gone_row(path))
+        return text
+
+    def blocks(self, before: Outcomes, after: Outcomes, moves: Sequence[Move]) -> StyledText:
+        """What is told of the rows that changed, and where something else is told of others."""
+        return entries(told_anew(before, after), False)
+
+    def foot(self, outcomes: Outcomes, seconds: float) -> StyledText:
+        """The totals."""
+        return Plain(True).foot(totals_of(outcomes), seconds)
+
+
+def totals_of(outcomes: Outcomes) -> Totals:
+    """The totals of a report."""
+    return Totals.of(outcomes.values())
+
+
+def changed(before: Outcomes, after: Outcomes) -> list[Outcome]:
+    """The outcomes whose rows changed, last those that pass or are known not to."""
+    found = [it for path, it in after.items() if path not in before or _is_other(before[path], it)]
+    return sorted(found, key=lambda it: it.tally in (Verdict.PASS, Tally.KNOWN))
+
+
+def gone(before: Outcomes, after: Outcomes) -> Iterator[str]:
+    """The scripts that went."""
+    return (path for path in before if path not in after)
+
+
+def gone_row(path: str) -> StyledText:
+    """The row of a script that went."""
+    return StyledText([(f"{shown_path(path)}: ", "")]).append("gone\n", "dim")
+
+
+def told_anew(before: Outcomes, after: Outcomes) -> list[Outcome]:
+    """The outcomes of which something is to be told: their rows changed, or what is told of them did."""
+    return [it for path, it in after.items() if _is_told_anew(before.get(path), it)]
+
+
+def entries(outcomes: Iterable[Outcome], every: bool) -> StyledText:
+    form = Plain(every)
+    text = StyledText()
+    for number, outcome in enumerate(outcomes, 1):
+        if (entry := form.entry(number, outcome)) is not None:
+            text.append_text(entry)
+    return text
+
+
+def _is_other(old: Outcome, new: Outcome) -> bool:
+    """Whether the row changed, the line that it names, or whether it makes the run fail."""
+    if old is new:
+        return False
+    return old.row != new.row or old.text != new.text or old.passes != new.passes or old.expected != new.expected
+
+
+def _is_told_anew(old: Outcome | None, new: Outcome) -> bool:
+    if new.row.line is None:
+        return False
+    if old is None or _is_other(old, new):
+        return True
+    return (new.why, new.told) not in ((old.why, old.told), ("", ()))

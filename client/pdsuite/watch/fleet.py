@@ -1,0 +1,153 @@
+"""The runs that stay up: they are brought to hold what is wanted, and where one ends a new one takes its place."""
+
+from collections.abc import Callable, Iterator, Mapping
+from dataclasses import dataclass
+
+from pdsuite.programs.program import Ended
+from pdsuite.programs.rows import Row, Verdict
+from pdsuite.run.runs import PIECE, Run, Script, cut
+from pdsuite.run.settling import SettledPiece, Start, settle
+from pdsuite.scripts.settings import Settings
+from pdsuite.show.octets import shown_path
+from pdsuite.watch.live_run import LiveRun
+from pdsuite.watch.run_changes import Add, RunChange, RunContents, WantedScript, run_changes
+
+
+@dataclass(frozen=True, slots=True)
+class FatalScript:
+    """A script on which runs ended, and why."""
+
+    wanted: WantedScript
+    reason: str
+    is_lasting: bool  # only another text mends it: an empty run does answer
+
+
+class Fleet:
+    """All runs. `note` is told of each that ends, `tell` what is running."""
+
+    def __init__(self, start: Start, note: Callable[[str], None], tell: Callable[[str], None]) -> None:
+        self._start = start
+        self._note = note
+        self._tell = tell
+        self._runs: list[LiveRun] = []
+        self._unrun: dict[str, FatalScript] = {}
+
+    def __enter__(self) -> "Fleet":
+        return self
+
+    def __exit__(self, *error: object) -> None:
+        for run in self._runs:
+            run.program.close()
+
+    @property
+    def runs(self) -> tuple[LiveRun, ...]:
+        """The runs as they are now."""
+        return tuple(self._runs)
+
+    def follow(self, wanted: Mapping[str, WantedScript]) -> None:
+        """Brings the runs to hold what is wanted."""
+        self._unrun = {path: it for path, it in self._unrun.items() if it.is_lasting and wanted.get(path) == it.wanted}
+        fit = {path: it for path, it in wanted.items() if path not in self._unrun}
+        before = self.runs
+        for change in run_changes([it.contents for it in before], fit):
+            self._tell(_running(change))
+            self._make_change(None if change.run is None else before[change.run], change)
+
+    def mend(self) -> bool:
+        """Begins anew what has ended by itself; whether anything had."""
+        ended = False
+        for run in self.runs:
+            try:
+                run.program.check()
+            except Ended as end:
+                ended = True
+                self._begin_again(run, run.contents, str(end))
+        return ended
+
+    def rows(self) -> Iterator[tuple[str, Row]]:
+        """The row of each script, as it was said last."""
+        for run in self._runs:
+            yield from run.rows.items()
+        for path, it in self._unrun.items():
+            yield path, Row(Verdict.ERROR, word=it.reason)
+
+    def _make_change(self, run: LiveRun | None, change: RunChange) -> None:
+        if run is not None and not change.after.texts:
+            self._end(run)
+            return
+        try:
+            if run is None:
+                self._begin(change.after, len(self._runs))
+            else:
+                run.carry_out(change.acts, change.after)
+        except Ended as end:
+            self._begin_again(run, change.after, str(end))
+
+    def _begin(self, contents: RunContents, place: int) -> None:
+        """Starts a run that holds this, as the one with this number."""
+        run = LiveRun(contents.settings, self._start)
+        try:
+            run.carry_out([Add(path, text) for path, text in contents.texts.items()], contents)
+        except BaseException:
+            run.program.close()
+            raise
+        self._runs.insert(place, run)
+
+    def _end(self, run: LiveRun) -> int:
+        """Ends a run; the number that it had."""
+        place = self._runs.index(run)
+        del self._runs[place]
+        run.program.close()
+        return place
+
+    def _begin_again(self, run: LiveRun | None, contents: RunContents, reason: str) -> None:
+        """Starts a new run with all files of one that ended. If that ends too, each script is tried by itself."""
+        place = len(self._runs) if run is None else self._end(run)
+        self._note(f"pdsuite: {reason}; a new run begins with {_counted(list(contents.texts))}")
+        try:
+            self._begin(contents, place)
+        except Ended:
+            self._begin_apart(contents, place)
+
+    def _begin_apart(self, contents: RunContents, place: int) -> None:
+        """Finds the scripts on which a run ends, and starts one with all others."""
+        reasons = self._reasons(contents)
+        rest = {path: text for path, text in contents.texts.items() if path not in reasons}
+        if rest:
+            try:
+                self._begin(RunContents(contents.settings, rest), place)
+            except Ended as end:
+                reasons.update(dict.fromkeys(rest, str(end)))
+        is_lasting = bool(reasons) and self._answers(contents.settings)
+        for path, reason in reasons.items():
+            self._unrun[path] = FatalScript(WantedScript(contents.settings, contents.texts[path]), reason, is_lasting)
+
+    def _answers(self, settings: Settings) -> bool:
+        """Whether a run without scripts answers."""
+        try:
+            run = LiveRun(settings, self._start)
+        except Ended:
+            return False
+        try:
+            run.carry_out([], run.contents)
+        except Ended:
+            return False
+        finally:
+            run.program.close()
+        return True
+
+    def _reasons(self, contents: RunContents) -> dict[str, str]:
+        """The scripts on which a run ends twice, as `pdsuite run` finds them, each with the last words."""
+        scripts = [Script(index, path, contents.settings) for index, path in enumerate(contents.texts)]
+        run = Run(contents.settings, tuple(cut(scripts, PIECE)))
+        steps = settle(run, self._start, lambda script: contents.texts[script.path])
+        settled = [pair for step in steps if isinstance(step, SettledPiece) for pair in step.outcomes]
+        return {script.path: it.row.word for script, it in settled if it.row.verdict is Verdict.ERROR}
+
+
+def _running(change: RunChange) -> str:
+    return f"running {_counted(change.concerned)}"
+
+
+def _counted(paths: list[str]) -> str:
+    return shown_path(paths[0]) if len(paths) == 1 else f"{len(paths):,} scripts"

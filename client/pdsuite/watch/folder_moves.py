@@ -1,0 +1,103 @@
+"""Folders that moved, as two reports tell it: their scripts went here and came there, with the texts that they had."""
+
+import os
+from collections import defaultdict
+from collections.abc import Callable, Iterable, Iterator, Mapping, Set
+from dataclasses import dataclass
+
+from pdsuite.run.outcomes import Outcome
+from pdsuite.watch.run_changes import WantedScript
+
+# By their paths, in the order of these.
+Outcomes = Mapping[str, Outcome]
+# Folders, each with the names of its scripts.
+_Folders = Mapping[str, frozenset[str]]
+
+
+@dataclass(frozen=True)
+class Move:
+    """A folder's path before and after, and its scripts' paths before, each with the one after."""
+
+    old: str
+    new: str
+    scripts: Mapping[str, str]
+
+
+def moves_of(
+    before: Outcomes,
+    after: Outcomes,
+    wanted_before: Mapping[str, WantedScript],
+    wanted_after: Mapping[str, WantedScript],
+) -> list[Move]:
+    """The folders that moved. One that can't be told from another that went, or came, isn't among them."""
+    gone, come = _folders_only_in(before, after), _folders_only_in(after, before)
+    if not gone or not come:
+        return []
+    stay, were = _above(after), _above(before)
+    pairs: dict[tuple[str, str], dict[str, str]] = defaultdict(dict)
+    for old, new in _alike(gone, come):
+        scripts = {os.path.join(old, name): os.path.join(new, name) for name in sorted(gone[old])}
+        if all(_text(wanted_before, it) == _text(wanted_after, other) for it, other in scripts.items()):
+            pairs[_tops(old, new, stay, were)].update(scripts)
+    return [Move(old, new, scripts) for (old, new), scripts in sorted(pairs.items())]
+
+
+def _folders_only_in(these: Outcomes, others: Outcomes) -> _Folders:
+    """The folders all of whose scripts are in the one report and not in the other, each with their names."""
+    lost = {path for path in these if path not in others}
+    shared = {os.path.dirname(path) for path in these.keys() - lost}
+    folders: dict[str, set[str]] = defaultdict(set)
+    for path in lost:
+        folder, name = os.path.split(path)
+        if folder and folder not in shared:
+            folders[folder].add(name)
+    return {folder: frozenset(names) for folder, names in folders.items()}
+
+
+def _above(outcomes: Outcomes) -> set[str]:
+    """All folders that scripts lie in or below."""
+    folders: set[str] = set()
+    for folder in {os.path.dirname(path) for path in outcomes}:
+        while folder and folder not in folders:
+            folders.add(folder)
+            folder = os.path.dirname(folder)
+    return folders
+
+
+def _alike(gone: _Folders, come: _Folders) -> Iterator[tuple[str, str]]:
+    """The folders that went and came with the same scripts; where these are several, with the same name too."""
+    came = _by(come, lambda folder: (come[folder], ""))
+    named = _by(come, lambda folder: (come[folder], os.path.basename(folder)))
+    for (names, _), olds in _by(gone, lambda folder: (gone[folder], "")).items():
+        news = came.get((names, ""), [])
+        if len(olds) == len(news) == 1:
+            yield olds[0], news[0]
+            continue
+        for key, again in _by(olds, lambda folder: (names, os.path.basename(folder))).items():
+            if len(again) == len(named.get(key, [])) == 1:
+                yield again[0], named[key][0]
+
+
+_Key = tuple[frozenset[str], str]
+
+
+def _by(folders: Iterable[str], key_of: Callable[[str], _Key]) -> dict[_Key, list[str]]:
+    found: dict[_Key, list[str]] = defaultdict(list)
+    for folder in folders:
+        found[key_of(folder)].append(folder)
+    return found
+
+
+def _tops(old: str, new: str, stay: Set[str], were: Set[str]) -> tuple[str, str]:
+    """The folders above two, below which both have the same path, as far as the one is gone and the other new."""
+    while os.path.basename(old) == os.path.basename(new):
+        above, beyond = os.path.dirname(old), os.path.dirname(new)
+        if not above or not beyond or above in stay or beyond in were:
+            break
+        old, new = above, beyond
+    return old, new
+
+
+def _text(wanted: Mapping[str, WantedScript], path: str) -> bytes | None:
+    it = wanted.get(path)
+    return None if it is None else it.text.octets

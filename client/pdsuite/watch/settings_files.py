@@ -1,0 +1,97 @@
+"""The files pdsuite.toml while they change: one that is refused keeps the settings that were good last."""
+
+from collections.abc import Callable, Iterable, Set
+from pathlib import Path
+
+from pdsuite.faults import Fault
+from pdsuite.scripts.suite import FILE, Claim, Layer, Suite
+from pdsuite.scripts.suite import claims_of, layer_of, place_of, read_octets
+from pdsuite.scripts.unused_tables import unused_tables
+from pdsuite.watch.file_stamps import StampedValue, is_as_read, read_stamped
+
+# The lines of the claims that the program refuses.
+Refused = Callable[[Iterable[Claim]], list[str]]
+
+
+class SettingsFiles:
+    """What each file holds, and the layer that counts for it."""
+
+    def __init__(self, option: Layer, refused: Refused, note: Callable[[str], None]) -> None:
+        self._option = option
+        self._refused = refused
+        self._note = note
+        self._read: dict[Path, StampedValue[bytes | str | None]] = {}
+        self._good: dict[Path, Layer | None] = {}
+
+    def suite(self) -> Suite:
+        """The settings of scripts by the files as they are known now."""
+        return Suite(self._option, self.layer)
+
+    def folders(self) -> set[str]:
+        """The folders of the files that are there."""
+        return {str(path.parent) for path, it in self._read.items() if it.value is not None}
+
+    def read(self, folders: Iterable[str]) -> None:
+        """Reads the files of these folders that weren't read before, whichever scripts they are about."""
+        for folder in folders:
+            self.layer(Path(folder, FILE))
+
+    def unused(self, held: Set[tuple[str, str]]) -> list[str]:
+        """The lines of tables whose scripts aren't there; those of `held`, by folder and name, are taken to be."""
+        return [
+            line
+            for path, it in sorted(self._good.items())
+            if it is not None and it.tables
+            for line in unused_tables(
+                it, str(path.parent), {name for folder, name in held if folder == str(path.parent)}
+            )
+        ]
+
+    def layer(self, path: Path) -> Layer | None:
+        """The layer that counts for a file."""
+        if path not in self._read:
+            self._look(path)
+        return self._good[path]
+
+    def look(self) -> tuple[bool, bool]:
+        """Reads again what isn't surely as it was: whether a layer changed, and whether a file is still written."""
+        known = [path for path, it in self._read.items() if not is_as_read(it, path)]
+        changed = [self._look(path) for path in known]
+        return any(changed), any(self._read[path].is_torn for path in known)
+
+    def _look(self, path: Path) -> bool:
+        """Reads a file, and takes it if it is good; whether it was taken."""
+        before = self._read.get(path)
+        now = read_stamped(path, lambda: _octets(path))
+        self._read[path] = now
+        if before is not None and (now.is_torn or before.value == now.value):
+            if now.is_torn:
+                self._read[path] = StampedValue(before.value, now.stamp, True, True)
+            return False
+        try:
+            layer = self._checked(path, now.value)
+        except Fault as fault:
+            stays = "its last good settings stay" if self._good.get(path) else "the file counts for nothing"
+            self._note(f"{fault}; {stays}")
+            self._good.setdefault(path, None)
+            return False
+        self._good[path] = layer
+        return True
+
+    def _checked(self, path: Path, octets: bytes | str | None) -> Layer | None:
+        if octets is None:
+            return None
+        if isinstance(octets, str):
+            raise Fault(octets)
+        layer = layer_of(place_of(path), octets)
+        if lines := self._refused(claims_of([layer])):
+            raise Fault("; ".join(lines))
+        return layer
+
+
+def _octets(path: Path) -> bytes | str | None:
+    """The octets of a file if it is there, or the line that says why it can't be read."""
+    try:
+        return read_octets(path)
+    except Fault as fault:
+        return str(fault)

@@ -1,0 +1,117 @@
+"""What a terminal shows while scripts are watched: no more than one looks through, in lines that fit."""
+
+import textwrap
+import time
+from collections.abc import Callable, Mapping, Sequence
+from dataclasses import replace
+
+from pdsuite.reports.plain import Plain, style_of
+from pdsuite.show.octets import shown_path
+from pdsuite.show.styled_text import StyledText
+from pdsuite.watch.change_report import ChangeReport, changed, entries, gone, gone_row, told_anew, totals_of
+from pdsuite.watch.folder_moves import Move, Outcomes, moves_of
+from pdsuite.watch.run_changes import WantedScript
+
+# So many rows of a kind are shown, and so many blocks.
+_MOST = 10
+# What these begin are words and facts, which nobody pastes.
+_PROSE = ("  state: ", "  reason: ", "  rule: ", "  expected: ")
+_INDENT = "    "
+_LEAST = 20
+
+
+class TerminalReport(ChangeReport):
+    """A few of what changed, and the command that shows all; `width` is that of the terminal."""
+
+    def __init__(self, width: Callable[[], int], command: str) -> None:
+        self._width = width
+        self._command = command
+
+    def first(self, outcomes: Outcomes, every: bool, seconds: float) -> StyledText:
+        """Each script that doesn't pass, or every script; then the totals."""
+        return self._fitting(entries(outcomes.values(), every)).append_text(self.foot(outcomes, seconds))
+
+    def moves(
+        self, before: Outcomes, after: Outcomes, had: Mapping[str, WantedScript], has: Mapping[str, WantedScript]
+    ) -> Sequence[Move]:
+        """The folders that moved."""
+        return moves_of(before, after, had, has)
+
+    def head(self) -> StyledText:
+        """A line with the time of day, across the terminal."""
+        return StyledText(
+            [(f"\u2500\u2500 {time.strftime('%H:%M:%S')} ".ljust(self._columns(), "\u2500") + "\n", "dim")]
+        )
+
+    def rows(self, before: Outcomes, after: Outcomes, moves: Sequence[Move]) -> StyledText:
+        """The folders that moved, and a few of the other rows of each kind."""
+        known = _known(before, moves)
+        text = StyledText()
+        for move in moves:
+            text.append_text(_moved(move, before, after))
+        rows = changed(known, after)
+        form = Plain(True)
+        text.append_text(_few([form.changed(it) for it in rows if not it.passes]))
+        text.append_text(_few([form.changed(it) for it in rows if it.passes]))
+        return text.append_text(_few(list(map(gone_row, gone(known, after)))))
+
+    def blocks(self, before: Outcomes, after: Outcomes, moves: Sequence[Move]) -> StyledText:
+        """What is told of a few scripts, and how many more there are."""
+        told = told_anew(_known(before, moves), after)
+        text = self._fitting(entries(told[:_MOST], False))
+        left = len(told) - _MOST
+        return text.append(f"{left:,} more: {self._command}\n", "bold") if left > 0 else text
+
+    def foot(self, outcomes: Outcomes, seconds: float) -> StyledText:
+        """The totals that aren't 0."""
+        totals = totals_of(outcomes)
+        line = f"{totals.brief()} in {seconds:.2f} s"
+        return StyledText([("\n".join(textwrap.wrap(line, self._columns())) + "\n", style_of(totals))])
+
+    def _columns(self) -> int:
+        """How long a line may be, so that no terminal begins another one after it."""
+        return max(_LEAST, self._width() - 1)
+
+    def _fitting(self, text: StyledText) -> StyledText:
+        """The text, whose lines of words and facts are broken at blanks where they don't fit."""
+        return StyledText(
+            [("".join(map(self._broken, it.splitlines(keepends=True))), style) for it, style in text.pieces]
+        )
+
+    def _broken(self, line: str) -> str:
+        if not line.startswith(_PROSE):
+            return line
+        lines = textwrap.wrap(
+            line,
+            self._columns(),
+            subsequent_indent=_INDENT,
+            break_long_words=False,
+            break_on_hyphens=False,
+        )
+        return "\n".join(lines) + "\n"
+
+
+def _known(before: Outcomes, moves: Sequence[Move]) -> Outcomes:
+    """What was shown, as if the scripts that moved had been where they are."""
+    if not moves:
+        return before
+    new = {old: new for move in moves for old, new in move.scripts.items()}
+    return {new.get(path, path): replace(it, path=new.get(path, path)) for path, it in before.items()}
+
+
+def _moved(move: Move, before: Outcomes, after: Outcomes) -> StyledText:
+    """The line of a folder that moved."""
+    count = len(move.scripts)
+    others = sum(before[old].row != after[new].row for old, new in move.scripts.items())
+    verdicts = f"{others:,} with another row" if others else "same verdicts" if count > 1 else "same verdict"
+    scripts = f"{count:,} {'scripts' if count > 1 else 'script'}"
+    return StyledText([(f"{shown_path(move.old)}/ moved to {shown_path(move.new)}/: {scripts}, {verdicts}\n", "")])
+
+
+def _few(rows: Sequence[StyledText]) -> StyledText:
+    """A few rows, and how many more there are."""
+    text = StyledText()
+    for row in rows[:_MOST]:
+        text.append_text(row)
+    left = len(rows) - _MOST
+    return text.append(f"and {left:,} more\n", "dim") if left > 0 else text

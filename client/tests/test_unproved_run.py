@@ -1,0 +1,213 @@
+"""Runs of a sender that isn't proved: how a suite is cut into starts, what is read of their answers, and whole runs."""
+
+import json
+import signal
+import subprocess
+from pathlib import Path
+from xml.etree import ElementTree
+
+import pytest
+
+from pdsuite.programs.program import Ended
+from pdsuite.programs.protocol import Unexpected
+from pdsuite.programs.refusals import questions, refusals_at_once
+from pdsuite.programs.rows import Row, Verdict
+from pdsuite.programs.tree import Answer, answer_of
+from pdsuite.run.runs import Script
+from pdsuite.run.unproved_run import Batch, batches_of, causes_of, outcomes_of, read_answers
+from pdsuite.scripts.suite import Claim
+from pdsuite.scripts.text import Text, text_of
+from tests.helpers import ends, is_alive, wait_for, write
+from tests.trees import Tree
+
+FIRST = "unproved: running without proofs, which takes about a minute; {} proves the programs\n"
+TOTAL = b"total %d pass 0 fail 0 syntax 0 unsupported 0 limit 0 pending 0\n"
+
+
+@pytest.fixture
+def tree(tmp_path: Path) -> Tree:
+    """A tree in which nothing is proved."""
+    return Tree(tmp_path)
+
+
+def loaded(*texts: bytes) -> list[tuple[Script, Text | str]]:
+    """Scripts with these texts."""
+    return [(Script(index, f"{index}.pkt", ()), text_of(text)) for index, text in enumerate(texts)]
+
+
+def batch(*texts: bytes) -> Batch:
+    """The one batch of scripts with these texts."""
+    (only,) = batches_of(loaded(*texts))
+    return only
+
+
+def test_settings_are_commands_before_the_scripts() -> None:
+    script = Script(0, "a.pkt", (("mss", 1000), ("nagle", False), ("initial_window", "rfc6928")))
+    (only,) = batches_of([(script, text_of(b"one\ntwo\n"))])
+    assert only.given() == b"set mss 1000\nset nagle false\nset initial_window rfc6928\nadd s0 2\none\ntwo\n"
+
+
+def test_a_script_that_cannot_be_read_is_in_no_batch() -> None:
+    scripts: list[tuple[Script, Text | str]] = [(Script(0, "a.pkt", ()), "Is a directory"), *loaded(b"x\n")]
+    assert [[script.path for script, _ in it.scripts] for it in batches_of(scripts)] == [["0.pkt"]]
+    assert batches_of(scripts[:1]) == []
+
+
+def test_scripts_of_which_much_may_be_told_are_in_several_batches() -> None:
+    # 4,096 and 61,440 octets are expected of each: eight have just the room of a start.
+    long = b"x" * 61_439 + b"\n"
+    assert [len(it.scripts) for it in batches_of(loaded(*[long] * 17))] == [8, 8, 1]
+    assert [len(it.scripts) for it in batches_of(loaded(*[b"x\n"] * 64))] == [64]
+
+
+def test_rows_and_blocks_come_to_their_scripts() -> None:
+    rows = b"s0 pass 3\ns1 fail 2 seq\n" + TOTAL % 2
+    told = b"s1:2: fail seq: other octets\n  script packet: a\n  state: b\n"
+    outcomes = outcomes_of(batch(b"one\n", b"one\ntwo\n"), Answer(rows, told))
+    assert [(it.row, it.text, it.why, it.told) for it in outcomes.values()] == [
+        (Row(Verdict.PASS, 3), None, "", ()),
+        (Row(Verdict.FAIL, 2, "seq"), b"two", "other octets", ("script packet: a", "state: b")),
+    ]
+
+
+@pytest.mark.parametrize("rows", [b"", b"s0 pass 1\n", b"s0 pending\n" + TOTAL % 1, b"s0 pass 1\n" + TOTAL % 2])
+def test_an_answer_that_is_not_the_report_of_the_batch_is_none(rows: bytes) -> None:
+    with pytest.raises(Unexpected):
+        outcomes_of(batch(b"x\n"), Answer(rows, b""))
+    assert read_answers([batch(b"x\n")], [Answer(rows, b"")])[0] == {}
+
+
+def test_a_batch_without_an_answer_is_kept_with_the_reason() -> None:
+    one = batch(b"x\n")
+    _, unheard = read_answers([one], [Answer(b"", b"", "TooSlow: it took long")])
+    assert unheard == [(one, "pdexplain: TooSlow: it took long")]
+
+
+def test_what_is_told_by_keys_comes_to_its_script() -> None:
+    told = b'{"name": "s1", "line": 4, "kind": "seq"}\n'
+    (cause,) = causes_of(batch(b"x\n", b"y\n"), Answer(b"", told)).items()
+    assert cause[0] == 1 and cause[1]["kind"] == "seq"
+    assert causes_of(batch(b"x\n"), Answer(b"", b"no JSON\n")) == {}
+    assert causes_of(batch(b"x\n"), Answer(b"", told)) == {}
+
+
+def test_each_setting_is_asked_once_and_each_claim_of_a_refused_one_is_told() -> None:
+    claims = [Claim(place, "", key, value) for place, key, value in (("a", "mss", 0), ("b", "mss", 0), ("b", "x", 1))]
+    assert questions(claims) == [("mss", "0"), ("x", "1")]
+    answer = b"refused 4 BadValue\n" + TOTAL % 0 + TOTAL % 0 + TOTAL % 0
+    lines = refusals_at_once(claims, answer)
+    assert [line.split(": ")[:3] for line in lines] == [["a", "mss", "BadValue"], ["b", "mss", "BadValue"]]
+    with pytest.raises(Ended):
+        refusals_at_once(claims, answer + TOTAL % 0)
+
+
+def test_a_start_that_ends_by_a_fault_has_no_answer() -> None:
+    assert answer_of(b"rows", b"told", "1") == Answer(b"rows", b"told")
+    assert answer_of(b"rows", b"x\npdregress: 19 OutOfMemory\n", "2") == Answer(b"", b"", "pdregress: 19 OutOfMemory")
+    assert answer_of(b"", b"", "2") == Answer(b"", b"", "ended with status 2")
+    assert answer_of(b"rows", b"told", "TooSlow: it took long") == Answer(b"", b"", "TooSlow: it took long")
+
+
+def test_a_suite_runs_in_one_build_with_its_explanations_and_says_that_nothing_is_proved(tree: Tree) -> None:
+    write(tree.suite, a=b"row pass 9\n", b=b"row fail 1 seq\ntold\n")
+    write(tree.suite / "c", c=b"told mss\n")
+    (tree.suite / "c/pdsuite.toml").write_text("mss = 1000\nsack = false\n")
+    called = tree.call("run", "suite")
+    assert (called.status, called.err) == (1, "pdsuite: " + FIRST.format(tree.top / "prove"))
+    assert called.out.splitlines()[:2] == ["suite/b.pkt:1: fail seq: so it is", "  told"]
+    assert called.totals == {"pass": 2, "fail": 1}
+    assert called.out.endswith(" s UNPROVED\n")
+    assert tree.builds() == ["pdexplain"]
+    assert tree.call("run", "-v", "suite").rows[-1] == "suite/c/c.pkt: pass 1000"
+
+
+@pytest.mark.parametrize("form", ["--tap", "--json", "--github"])
+def test_each_form_of_the_report_says_that_nothing_is_proved(tree: Tree, form: str) -> None:
+    write(tree.suite, a=b"row pass 9\n")
+    last = tree.call("run", form, "suite").out.splitlines()[-1]
+    assert last.endswith(', "UNPROVED": true}' if form == "--json" else " s UNPROVED")
+
+
+def test_junits_xml_and_the_page_say_that_nothing_is_proved(tree: Tree) -> None:
+    write(tree.suite, a=b"row pass 9\n")
+    assert tree.call("run", "--junit", "out.xml", "--html", "page", "suite").status == 0
+    top = tree.suite.parent
+    found = ElementTree.parse(top / "out.xml").findall("testsuite/properties/property")
+    assert [it.attrib for it in found] == [{"name": "UNPROVED", "value": "true"}]
+    for page in (top / "page/index.html", *(top / "page/scripts").iterdir()):
+        assert '<p class="unproved">UNPROVED: the sender ran without proofs.</p>' in page.read_text()
+
+
+def test_a_proved_sender_is_marked_nowhere(tree: Tree) -> None:
+    write(tree.suite, a=b"row pass 9\n")
+    words = ("--json", "--junit", "out.xml", "--html", "page", "suite")
+    called = tree.call("run", *words, PDSUITE_PROGRAMS=str(tree.bin))
+    assert called.status == 0 and set(json.loads(called.out)) == {"scripts", "total", "seconds"}
+    for file in ("out.xml", "page/index.html"):
+        assert "UNPROVED" not in (tree.suite.parent / file).read_text()
+
+
+@pytest.mark.parametrize("words", [("run", "--proved"), ("watch",), ("run", "--scheduler", "tcp://localhost:1")])
+def test_what_needs_proved_programs_names_what_proves_them(tree: Tree, words: tuple[str, ...]) -> None:
+    write(tree.suite, a=b"row pass 9\n")
+    called = tree.call(*words, "suite")
+    assert (called.status, called.out) == (2, "")
+    assert called.err.endswith("pdregress isn't proved and built, or has changed since: run ./prove pdregress\n")
+    assert tree.builds() == []
+
+
+def test_settings_that_the_program_refuses_are_told_after_one_build(tree: Tree) -> None:
+    write(tree.suite, a=b"refuse 4 BadValue\n")
+    (tree.suite / "pdsuite.toml").write_text('["b.pkt"]\nmss = 1000\n')
+    called = tree.call("run", "suite")
+    assert (called.status, called.out) == (2, "")
+    assert called.err.startswith('suite/pdsuite.toml: ["b.pkt"]: no script') and tree.builds() == []
+
+
+def test_a_sender_that_does_not_compile_is_told_with_the_places_of_its_errors(tree: Tree) -> None:
+    write(tree.suite, a=b"row pass 9\n")
+    wrong = tree.top / "crates/pdexplain/src/main.rt"
+    wrong.touch()
+    called = tree.call("run", "suite")
+    assert (called.status, called.out) == (2, "")
+    assert called.err.splitlines()[1:] == [
+        "pdsuite: unproved: NotCompiled: the program doesn't compile",
+        f"{wrong}:1:2: error[mismatched-types]: wrong",
+    ]
+
+
+def test_without_the_kit_there_is_a_line_that_says_so(tree: Tree) -> None:
+    write(tree.suite, a=b"row pass 9\n")
+    called = tree.call("run", "suite", PATH="/usr/bin:/bin")
+    said = "pdsuite: unproved: NoKit: the Rattle kit's command 'rt' has to be on the PATH"
+    assert (called.status, called.err.splitlines()[-1]) == (2, said)
+
+
+def test_scripts_of_a_start_that_ends_early_are_run_once_more_one_by_one(tree: Tree) -> None:
+    write(tree.suite, a=b"row pass 9\n", b=b"crash\n", c=b"row fail 1 seq\n")
+    called = tree.call("run", "-v", "suite")
+    assert called.status == 2 and tree.builds() == ["pdexplain", "pdexplain"]
+    again = "pdsuite: pdexplain: Faulted: a failed unwrap; 3 scripts are run again, each by itself"
+    assert called.err.splitlines()[1:] == [again]
+    assert called.rows == [
+        "suite/a.pkt: pass 9",
+        "suite/b.pkt: error: pdexplain: Faulted: a failed unwrap",
+        "suite/c.pkt:1: fail seq",
+    ]
+
+
+def test_a_signal_while_it_is_built_ends_all(tree: Tree) -> None:
+    write(tree.suite, a=b"row pass 9\n")
+    (tree.notes / "stall").touch()
+    process = subprocess.Popen(
+        [tree.top / "pdsuite", "run", "suite"],
+        cwd=tree.suite.parent,
+        env=tree.environment,
+        stdout=subprocess.PIPE,
+        stderr=subprocess.PIPE,
+        process_group=0,
+    )
+    wait_for(tree.notes / "mark", process)
+    status, out, _ = ends(process, signal.SIGTERM)
+    assert (status, out) == (128 + signal.SIGTERM, "")
+    assert not is_alive(int((tree.notes / "mark").read_text()))
