@@ -21,7 +21,6 @@ pytest_plugins = ["tests.browsing"]
 UNPROVED = "--unproved"
 NEEDS_BUILT = "needs a built program"
 STAND_IN = Path(__file__).with_name("stand_in.py")
-STAND_IN_EXPLAIN = Path(__file__).with_name("stand_in_explain.py")
 
 
 def pytest_addoption(parser: pytest.Parser) -> None:
@@ -73,11 +72,10 @@ def _program(name: str) -> Path:
 
 @pytest.fixture(scope="session")
 def programs(proved: None, tmp_path_factory: pytest.TempPathFactory) -> Path:
-    """A folder with the built programs, or a failure that says which command builds one."""
+    """A folder with the built program, or a failure that says which command builds it."""
     folder = tmp_path_factory.mktemp("programs")
     folder.chmod(0o755)  # Another user runs them too.
-    for name in ("pdregress", "pdexplain"):
-        (folder / name).symlink_to(_program(name))
+    (folder / "pdregress").symlink_to(_program("pdregress"))
     return folder
 
 
@@ -96,10 +94,9 @@ def recording_programs(programs: Path, tmp_path_factory: pytest.TempPathFactory)
 
 @pytest.fixture(scope="session")
 def stand_in(tmp_path_factory: pytest.TempPathFactory) -> Path:
-    """A folder whose pdregress and pdexplain do what the texts of scripts say."""
+    """A folder whose pdregress does what the texts of scripts say."""
     folder = tmp_path_factory.mktemp("stand_in")
     shutil.copy(STAND_IN, folder / "pdregress")
-    shutil.copy(STAND_IN_EXPLAIN, folder / "pdexplain")
     return folder
 
 

@@ -100,11 +100,11 @@ def ends(process: "subprocess.Popen[bytes]", number: signal.Signals) -> tuple[in
     return process.returncode, out.decode(), err.decode()
 
 
-def wrapped(folder: Path, stand_in: Path, **before: str) -> Path:
-    """A folder of stand-ins, each of which is begun by what is named, in the language of the shell."""
+def wrapped(folder: Path, stand_in: Path, runs: str = ":", explains: str = ":") -> Path:
+    """A folder with a stand-in that is begun by these commands of the shell, where it runs scripts and explains."""
     folder.mkdir()
-    for name in ("pdregress", "pdexplain"):
-        (folder / f"{name}.py").symlink_to(stand_in / name)
-        (folder / name).write_text(f'#!/bin/sh\n{before.get(name, "")}\nexec "$0.py" "$@"\n')
-        (folder / name).chmod(0o755)
+    (folder / "pdregress.py").symlink_to(stand_in / "pdregress")
+    begin = f'if [ "$1" = --explain ]; then\n{explains}\nelse\n{runs}\nfi\n'
+    (folder / "pdregress").write_text(f'#!/bin/sh\n{begin}exec "$0.py" "$@"\n')
+    (folder / "pdregress").chmod(0o755)
     return folder

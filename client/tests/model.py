@@ -33,7 +33,7 @@ def meaning_of(text: bytes, settings: Settings) -> str:
 
 
 class Teller:
-    """Stands in for what asks pdexplain."""
+    """Stands in for what asks the program that explains."""
 
     def explain(self, step: SettledPiece) -> list[tuple[Script, Outcome]]:
         """Tells of each script, in pieces with equal settings."""

@@ -27,9 +27,9 @@ def changed(given: bytes) -> bytes:
 
 
 def explained(words: list[str], given: bytes) -> tuple[bytes, bytes, int]:
-    """The report of pdregress, with what pdexplain tells beside it."""
+    """The report of pdregress, with what it tells beside that."""
     report = said_by("pdregress", [], given + b"settle\n")
-    told = said_by("pdexplain", words, without_settings(given))
+    told = said_by("pdregress", words, without_settings(given))
     rows = [line.split(b" ")[1] for line in report.stdout.splitlines() if line.startswith(b"s")]
     status = min(report.returncode, told.returncode) or (report.returncode or int(any(it != b"pass" for it in rows)))
     return report.stdout, told.stderr, status

@@ -22,7 +22,7 @@ CHANGES = {
     "s/^+0 > [.] 2001:3001/+0 > . 1:1001/": ["as before", "played otherwise", "not compared"],
     "s/^row pass [78]/row fail 1 missing/": ["as before", "turned", "turned"],
 }
-BUILDS = ["pdexplain", "pdrecord"]
+BUILDS = ["pdrecord", "pdregress"]
 
 
 @pytest.fixture
@@ -120,7 +120,7 @@ def test_two_folders_of_programs_are_compared_without_a_build(tree: Tree) -> Non
     other = tree.suite.parent / "other"
     shutil.copytree(tree.bin, other)
     script = f'#!/bin/sh\nexec sed -u "s/^row pass 9/row fail 2 seq/" | "{tree.bin}/{{}}" "$@"\n'
-    for name in ("pdregress", "pdexplain", "pdrecord"):
+    for name in ("pdregress", "pdrecord"):
         (other / name).write_text(script.format(name))
     called = compare(tree, "--with", other)
     assert called.status == 1 and called.out.startswith("suite/quick.pkt: turned\n  before: pass 9\n  after: line 2: ")
@@ -137,7 +137,7 @@ def git(folder: Path, *words: str) -> None:
 def test_a_commit_is_checked_out_and_built_beside(tree: Tree) -> None:
     git(tree.top, "init", "-q")
     (tree.top / "crates/pdrecord/src/x").touch()
-    (tree.top / "crates/pdexplain/src/x").touch()
+    (tree.top / "crates/pdregress/src/x").touch()
     git(tree.top, "add", ".")
     git(tree.top, "commit", "-qm", "one")
     tree.change("s/^row pass 9/row fail 2 seq/\n")
@@ -150,19 +150,19 @@ def test_the_programs_that_were_proved_last_are_the_base_if_nothing_is_said(tree
     called = tree.call("compare", "suite")
     said = "pdsuite: ./prove has kept no programs of this tree: name a sender by --base, or run ./prove\n"
     assert (called.status, called.err) == (2, said)
-    for name in ("pdregress", "pdexplain", "pdrecord"):
+    for name in ("pdregress", "pdrecord"):
         (tree.top / "crates" / name / "out").mkdir()
         shutil.copy(tree.bin / name, tree.top / "crates" / name / "out")
-    keep = "import kept_programs as it; it.keep_programs(['pdregress', 'pdexplain', 'pdrecord'])"
+    keep = "import kept_programs as it; it.keep_programs(['pdregress', 'pdrecord'])"
     subprocess.run(["/usr/bin/python3", "-c", keep], cwd=tree.top / "tools", env=tree.environment, check=True)
-    for name in ("pdregress", "pdexplain", "pdrecord"):
+    for name in ("pdregress", "pdrecord"):
         shutil.rmtree(tree.top / "crates" / name / "out")
     called = tree.call("compare", "suite")
     assert called.status == 0 and called.err.startswith("pdsuite: before: the last proved programs, unknown; after: ")
 
 
 def test_a_tree_that_does_not_compile_is_told_with_its_errors(tree: Tree) -> None:
-    wrong = tree.top / "crates/pdexplain/src/main.rt"
+    wrong = tree.top / "crates/pdregress/src/main.rt"
     wrong.touch()
     called = compare(tree)
     assert (called.status, called.out) == (2, "")
@@ -175,7 +175,7 @@ def test_a_tree_that_does_not_compile_is_told_with_its_errors(tree: Tree) -> Non
 @pytest.mark.parametrize(
     ("word", "said"),
     [
-        ("suite", "suite: no folder of programs: it has no pdexplain"),
+        ("suite", "suite: no folder of programs: it has no pdregress"),
         ("nowhere", "nowhere: neither a folder of programs nor a commit"),
         ("-x", "-x: neither a folder of programs nor a commit"),
     ],

@@ -192,7 +192,7 @@ def test_what_is_known_ends_no_run_that_is_to_fail_fast(stand_in: Path, tmp_path
 def test_why_a_script_fails_is_asked_where_it_is_shown(stand_in: Path, tmp_path: Path, call: Call) -> None:
     write(tmp_path, a=b"row fail 1 seq\ncrash\n")
     (tmp_path / "pdsuite.toml").write_text('root = true\n["a.pkt"]\nexpect = "fail"\nreason = "x"\n')
-    told = "pdsuite: pdexplain was ended by SIGSEGV; nothing is told of a.pkt\n"
+    told = "pdsuite: pdregress was ended by SIGSEGV; nothing is told of a.pkt\n"
     for words in (["-v"], ["--new"]):
         assert told not in call(stand_in, "run", *words, ".").err
     for words in (["--tap"], ["--json"], ["--github"], ["--junit", "out.xml"], ["--html", "page"]):

@@ -42,16 +42,11 @@ def test_every_form_has_the_block(stand_in: Path, tmp_path: Path, call: Call) ->
 
 
 def test_the_script_s_settings_are_given(tmp_path: Path, stand_in: Path, call: Call) -> None:
-    folder = tmp_path / "programs"
-    folder.mkdir()
-    (folder / "pdregress").symlink_to(stand_in / "pdregress")
-    (folder / "pdexplain").write_text('#!/bin/sh\nprintf "%s\\n" "$@" >words\nexec "$0.py"\n')
-    (folder / "pdexplain").chmod(0o755)
-    (folder / "pdexplain.py").symlink_to(stand_in / "pdexplain")
+    folder = wrapped(tmp_path / "programs", stand_in, explains='printf "%s\\n" "$@" >words')
     write(tmp_path / "suite", b=b"row fail 1 seq\nwhy\n")
     called = call(folder, "run", "--settings", "mss = 1000", "suite")
     assert "\n  why\n" in called.out
-    assert (tmp_path / "words").read_text().splitlines() == ["--cache", "1", "--settings", "mss = 1000"]
+    assert (tmp_path / "words").read_text().splitlines() == ["--explain", "--cache", "1", "--settings", "mss = 1000"]
 
 
 @pytest.mark.parametrize("text", [b"silent\n", b"other line\nwhy\n", b""])
@@ -71,9 +66,9 @@ def test_that_line_is_cut_and_its_octets_are_escaped(stand_in: Path, tmp_path: P
 
 
 REASONS = {
-    b"crash\n": "pdexplain was ended by SIGSEGV",
+    b"crash\n": "pdregress was ended by SIGSEGV",
     b"fault\n": "pdregress: 19 OutOfMemory",
-    b"flood\n": "pdexplain said more than was asked",
+    b"flood\n": "pdregress said more than was asked",
 }
 
 
@@ -97,13 +92,12 @@ def test_what_is_told_is_safe_to_print(stand_in: Path, tmp_path: Path, call: Cal
 
 
 @pytest.mark.parametrize("command", ["run", "watch"])
-def test_it_has_to_be_built(command: str, stand_in: Path, tmp_path: Path, call: Call) -> None:
+def test_it_has_to_be_built(command: str, tmp_path: Path, call: Call) -> None:
     folder = tmp_path / "programs"
     folder.mkdir()
-    (folder / "pdregress").symlink_to(stand_in / "pdregress")
     write(tmp_path / "suite", a=PASSES)
     called = call(folder, command, "suite")
-    said = f"pdsuite: {folder}/pdexplain: no program (PDSUITE_PROGRAMS names the folder)\n"
+    said = f"pdsuite: {folder}/pdregress: no program (PDSUITE_PROGRAMS names the folder)\n"
     assert (called.status, called.out, called.err) == (2, "", said)
 
 
@@ -130,8 +124,7 @@ def test_each_row_of_the_examples_is_explained_by_the_built_program(programs: Pa
 
 
 def test_only_scripts_that_do_not_pass_are_given_to_it(tmp_path: Path, stand_in: Path, call: Call) -> None:
-    folder = wrapped(tmp_path / "programs", stand_in)
-    (folder / "pdexplain").write_text('#!/bin/sh\ntee -a asked | "$0.py" "$@"\n')
+    folder = wrapped(tmp_path / "programs", stand_in, explains='tee -a asked | "$0.py" "$@"\nexit')
     for number in range(130):
         write(tmp_path / "suite", **{f"s{number:03}": b"row limit 1\nwhy\n" if number in (70, 90) else PASSES})
     called = call(folder, "run", "suite")

@@ -78,7 +78,7 @@ def test_each_command_has_its_page() -> None:
         assert f".BR {name} (1)" in told and (TOP / f"packaging/man/{name}.h2m").is_file()
 
 
-@pytest.mark.parametrize("words", [("pdregress",), ("pdexplain",), ("pdsuite",), *(("pdsuite", it) for it in COMMANDS)])
+@pytest.mark.parametrize("words", [("pdregress",), ("pdsuite",), *(("pdsuite", it) for it in COMMANDS)])
 def test_a_page_has_the_words_of_help(words: tuple[str, ...], programs: Path) -> None:
     if shutil.which("help2man") is None:
         pytest.skip("help2man isn't installed")
@@ -154,8 +154,8 @@ def in_root(folder: Path, *words: str, text: str = "", **more: str) -> Called:
 
 def test_all_programs_run_where_nothing_else_is(root: Path, package: Path) -> None:
     send = (TOP / "examples/send.txt").read_text()
-    for name in ("pdregress", "pdsteps", "pdexplain"):
-        done = in_root(root, name, text=send)
+    for words in ((), ("--steps",), ("--explain",)):
+        done = in_root(root, "pdregress", *words, text=send)
         assert (done.status, done.out.splitlines()[0]) == (0, "send pass 9")
     call = "0 socket(..., SOCK_STREAM, 0) = 3\n"
     assert in_root(root, "pdrecord", text=call) == Called(0, "+" + call, "")
@@ -167,7 +167,7 @@ def test_all_programs_run_where_nothing_else_is(root: Path, package: Path) -> No
     assert [it.removeprefix("/usr/share/doc/pdregress/examples/scripts/") for it in done.rows] == expected_rows()
     version, *digests = in_root(root, "pdsuite", "--version").out.splitlines()
     assert version.split()[1] == package.name.split("_")[1]
-    for name, line in zip(("pdregress", "pdexplain", "pdrecord"), digests, strict=True):
+    for name, line in zip(("pdregress", "pdrecord"), digests, strict=True):
         digest = hashlib.sha256((root / "usr/bin" / name).read_bytes()).hexdigest()
         assert line == f"{name} {digest} /usr/bin/{name}"
 

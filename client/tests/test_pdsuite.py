@@ -82,13 +82,12 @@ def test_a_program_that_is_not_built_is_named_with_its_command(words: list[str],
 
 def test_a_program_older_than_its_sources_is_not_taken(stand_in: Path, tmp_path: Path) -> None:
     command = copied(tmp_path)
-    (tmp_path / "crates.txt").write_text("low:\npdregress: low\npdexplain: low\n")
-    for name in ("low/src", "pdregress/src", "pdregress/out", "pdexplain/src", "pdexplain/out"):
+    (tmp_path / "crates.txt").write_text("low:\npdregress: low\n")
+    for name in ("low/src", "pdregress/src", "pdregress/out"):
         (tmp_path / "crates" / name).mkdir(parents=True)
     source = tmp_path / "crates/low/src/lib.rt"
     source.touch()
-    for name in ("pdregress", "pdexplain"):
-        shutil.copy(stand_in / name, tmp_path / f"crates/{name}/out/{name}")
+    shutil.copy(stand_in / "pdregress", tmp_path / "crates/pdregress/out/pdregress")
     write(tmp_path / "suite", a=PASSES)
     environment = without_programs()
 
@@ -111,7 +110,7 @@ def test_another_folder_of_programs_has_to_hold_one(tmp_path: Path, call: Call) 
 
 @pytest.mark.parametrize("more", [[], ["pdrecord"]])
 def test_the_version_names_commit_and_programs(more: list[str], tmp_path: Path, call: Call) -> None:
-    programs = [tmp_path / name for name in ("pdregress", "pdexplain", *more)]
+    programs = [tmp_path / name for name in ("pdregress", *more)]
     for path in programs:
         path.write_text(f"#!/bin/true {path.name}\n")
         path.chmod(0o755)
@@ -229,13 +228,12 @@ def test_words_that_are_not_taken_are_shown_escaped(call: Call) -> None:
 
 def test_a_program_whose_crates_are_not_known_is_not_taken(stand_in: Path, tmp_path: Path) -> None:
     command = copied(tmp_path)
-    for name in ("pdregress", "pdexplain"):
-        (tmp_path / f"crates/{name}/out").mkdir(parents=True)
-        shutil.copy(stand_in / name, tmp_path / f"crates/{name}/out/{name}")
+    (tmp_path / "crates/pdregress/out").mkdir(parents=True)
+    shutil.copy(stand_in / "pdregress", tmp_path / "crates/pdregress/out/pdregress")
     write(tmp_path / "suite", a=PASSES)
     environment = without_programs()
     said = "pdregress isn't proved and built, or has changed since: run ./prove pdregress"
-    for lines in ("", "pdexplain:\n", "pdregress: gone\ngone:\n", None):
+    for lines in ("", "pdrecord:\n", "pdregress: gone\ngone:\n", None):
         if lines is None:
             (tmp_path / "crates.txt").unlink()
         else:
@@ -260,7 +258,7 @@ def test_whether_a_program_is_up_to_date_is_asked_once(tmp_path: Path, stand_in:
     (tmp_path / "suite/pdsuite.toml").write_text('["a.pkt"]\nmss = 1000\n')
     done = subprocess.run([command, "run", "suite"], cwd=tmp_path, env=without_programs(), capture_output=True)
     assert (done.returncode, done.stderr) == (1, b"")
-    assert (tmp_path / "asked").read_text() == "pdregress\npdexplain\n"
+    assert (tmp_path / "asked").read_text() == "pdregress\n"
 
 
 def test_a_key_of_the_terminal_that_ends_it_while_it_asks_has_its_status(tmp_path: Path, stand_in: Path) -> None:

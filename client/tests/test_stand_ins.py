@@ -66,7 +66,6 @@ def test_a_program_that_never_answers_is_a_fault_in_its_words(tmp_path: Path, st
     dead.mkdir()
     (dead / "pdregress").write_bytes((stand_in / "pdregress").read_bytes())
     (dead / "pdregress").chmod(0o755)
-    (dead / "pdexplain").symlink_to(stand_in / "pdexplain")
     (dead / "dead").touch()
     called = call(dead, "run", "suite")
     assert (called.status, called.out, called.err) == (2, "", "pdsuite: pdregress: 19 OutOfMemory\n")
@@ -82,7 +81,6 @@ def test_a_program_that_cannot_be_started_is_a_fault(
     write(tmp_path / "suite", a=PASSES)
     (tmp_path / "pdregress").write_bytes(octets)
     (tmp_path / "pdregress").chmod(0o755)
-    (tmp_path / "pdexplain").symlink_to(stand_in / "pdexplain")
     called = call(tmp_path, "run", "suite")
     assert (called.status, called.err) == (2, f"pdsuite: {tmp_path}/pdregress: {reason}\n")
 
@@ -179,7 +177,7 @@ def test_programs_end_where_the_client_is_killed(tmp_path: Path, stand_in: Path)
 def test_each_group_of_settings_is_one_run_with_its_words(
     words: tuple[str, ...], tmp_path: Path, stand_in: Path, call: Call
 ) -> None:
-    folder = wrapped(tmp_path / "programs", stand_in, pdregress='echo "$*" >>words')
+    folder = wrapped(tmp_path / "programs", stand_in, runs='echo "$*" >>words')
     write(tmp_path / "suite", a=PASSES, c=PASSES)
     write(tmp_path / "suite/in", b=PASSES)
     (tmp_path / "suite/pdsuite.toml").write_text("root = true\n")
@@ -192,7 +190,7 @@ def test_each_group_of_settings_is_one_run_with_its_words(
 
 def test_it_reads_while_it_writes(tmp_path: Path, stand_in: Path, call: Call) -> None:
     loud = "head -c 3000000 /dev/zero | tr '\\0' y >&2; echo >&2"
-    folder = wrapped(tmp_path / "programs", stand_in, pdregress=loud)
+    folder = wrapped(tmp_path / "programs", stand_in, runs=loud)
     for number in range(64):
         write(tmp_path / "suite", **{f"s{number}": PASSES + b"x" * 60_000})
     called = call(folder, "run", "suite")
@@ -201,7 +199,7 @@ def test_it_reads_while_it_writes(tmp_path: Path, stand_in: Path, call: Call) ->
 
 def test_a_program_that_ends_once_while_it_is_asked_for_settings(stand_in: Path, tmp_path: Path, call: Call) -> None:
     once = "[ -e once ] || { touch once; kill -9 $$; }"
-    folder = wrapped(tmp_path / "programs", stand_in, pdregress=once)
+    folder = wrapped(tmp_path / "programs", stand_in, runs=once)
     write(tmp_path / "suite", a=PASSES)
     called = call(folder, "run", "suite")
     assert (called.status, called.totals) == (0, {"pass": 1})
@@ -217,7 +215,6 @@ ANSWERS = [
 def test_another_answer_to_a_setting_says_nothing_of_it(
     answer: str, reason: str, stand_in: Path, tmp_path: Path, call: Call
 ) -> None:
-    (tmp_path / "pdexplain").symlink_to(stand_in / "pdexplain")
     (tmp_path / "pdregress").write_text(
         "#!/bin/sh\nwhile read -r word more; do case $word in\n"
         f'    set) echo "{answer}" ;;\n    add) exit 3 ;;\n'

@@ -80,7 +80,7 @@ def test_an_answer_that_is_not_the_report_of_the_batch_is_none(rows: bytes) -> N
 def test_a_batch_without_an_answer_is_kept_with_the_reason() -> None:
     one = batch(b"x\n")
     _, unheard = read_answers([one], [Answer(b"", b"", "TooSlow: it took long")])
-    assert unheard == [(one, "pdexplain: TooSlow: it took long")]
+    assert unheard == [(one, "pdregress: TooSlow: it took long")]
 
 
 def test_what_is_told_by_keys_comes_to_its_script() -> None:
@@ -104,6 +104,8 @@ def test_each_setting_is_asked_once_and_each_claim_of_a_refused_one_is_told() ->
 def test_a_start_that_ends_by_a_fault_has_no_answer() -> None:
     assert answer_of(b"rows", b"told", "1") == Answer(b"rows", b"told")
     assert answer_of(b"rows", b"x\npdregress: 19 OutOfMemory\n", "2") == Answer(b"", b"", "pdregress: 19 OutOfMemory")
+    refused = b"error: unexpected argument '-x' found\n\nFor more information, try '--help'.\n"
+    assert answer_of(b"", refused, "2") == Answer(b"", b"", "error: unexpected argument '-x' found")
     assert answer_of(b"", b"", "2") == Answer(b"", b"", "ended with status 2")
     assert answer_of(b"rows", b"told", "TooSlow: it took long") == Answer(b"", b"", "TooSlow: it took long")
 
@@ -117,7 +119,7 @@ def test_a_suite_runs_in_one_build_with_its_explanations_and_says_that_nothing_i
     assert called.out.splitlines()[:2] == ["suite/b.pkt:1: fail seq: so it is", "  told"]
     assert called.totals == {"pass": 2, "fail": 1}
     assert called.out.endswith(" s UNPROVED\n")
-    assert tree.builds() == ["pdexplain"]
+    assert tree.builds() == ["pdregress"]
     assert tree.call("run", "-v", "suite").rows[-1] == "suite/c/c.pkt: pass 1000"
 
 
@@ -166,7 +168,7 @@ def test_settings_that_the_program_refuses_are_told_after_one_build(tree: Tree) 
 
 def test_a_sender_that_does_not_compile_is_told_with_the_places_of_its_errors(tree: Tree) -> None:
     write(tree.suite, a=b"row pass 9\n")
-    wrong = tree.top / "crates/pdexplain/src/main.rt"
+    wrong = tree.top / "crates/pdregress/src/main.rt"
     wrong.touch()
     called = tree.call("run", "suite")
     assert (called.status, called.out) == (2, "")
@@ -186,12 +188,12 @@ def test_without_the_kit_there_is_a_line_that_says_so(tree: Tree) -> None:
 def test_scripts_of_a_start_that_ends_early_are_run_once_more_one_by_one(tree: Tree) -> None:
     write(tree.suite, a=b"row pass 9\n", b=b"crash\n", c=b"row fail 1 seq\n")
     called = tree.call("run", "-v", "suite")
-    assert called.status == 2 and tree.builds() == ["pdexplain", "pdexplain"]
-    again = "pdsuite: pdexplain: Faulted: a failed unwrap; 3 scripts are run again, each by itself"
+    assert called.status == 2 and tree.builds() == ["pdregress", "pdregress"]
+    again = "pdsuite: pdregress: Faulted: a failed unwrap; 3 scripts are run again, each by itself"
     assert called.err.splitlines()[1:] == [again]
     assert called.rows == [
         "suite/a.pkt: pass 9",
-        "suite/b.pkt: error: pdexplain: Faulted: a failed unwrap",
+        "suite/b.pkt: error: pdregress: Faulted: a failed unwrap",
         "suite/c.pkt:1: fail seq",
     ]
 

@@ -60,7 +60,6 @@ def test_files_of_folders_without_scripts_and_of_folders_above_are_looked_at(
 
 
 def test_it_is_told_beside_what_the_program_refuses(stand_in: Path, tmp_path: Path, call: Call) -> None:
-    (tmp_path / "pdexplain").symlink_to(stand_in / "pdexplain")
     (tmp_path / "pdregress").write_text(
         "#!/bin/sh\nwhile read -r word more; do case $word in\n"
         "    set) echo refused 4 BadValue ;;\n"

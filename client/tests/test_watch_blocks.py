@@ -1,14 +1,13 @@
 """What `pdsuite watch` tells below the rows that don't pass, and when it asks for that."""
 
 import os
-import shutil
 import signal
 import time
 from pathlib import Path
 
 import pytest
 
-from tests.helpers import HANGS, PASSES, Call, is_alive, wait_for, write
+from tests.helpers import HANGS, PASSES, Call, is_alive, wait_for, wrapped, write
 from tests.watching import Watching
 
 BLOCK = b"script packet: x\nactual packet: y\n"
@@ -23,14 +22,8 @@ def without_totals(out: str) -> list[str]:
 
 @pytest.fixture
 def counting(stand_in: Path, tmp_path: Path) -> Path:
-    """A folder of stand-ins whose pdexplain notes in `calls` with which words it is started."""
-    folder = tmp_path / "programs"
-    folder.mkdir()
-    shutil.copy(stand_in / "pdregress", folder)
-    shutil.copy(stand_in / "pdexplain", folder / "pdexplain.py")
-    (folder / "pdexplain").write_text('#!/bin/sh\nprintf "%s\\n" "$*" >>calls\nexec "$0.py"\n')
-    (folder / "pdexplain").chmod(0o755)
-    return folder
+    """A folder with a stand-in that notes in `calls` by which words it is started to explain."""
+    return wrapped(tmp_path / "programs", stand_in, explains='printf "%s\\n" "$*" >>calls')
 
 
 def test_the_first_report_is_that_of_a_run(stand_in: Path, tmp_path: Path, call: Call) -> None:
@@ -63,7 +56,7 @@ def test_only_what_changed_is_asked_about_and_under_its_settings(counting: Path,
     (tmp_path / "suite/in/pdsuite.toml").write_text("mss = 1000\n")
     calls = tmp_path / "calls"
     with Watching(tmp_path, counting, "suite") as watching:
-        assert calls.read_text() == "--cache 1\n--cache 1 --settings mss = 1000\n"
+        assert calls.read_text() == "--explain --cache 1\n--explain --cache 1 --settings mss = 1000\n"
         calls.unlink()
         write(tmp_path / "suite", b=PASSES + b"\n", a=PASSES)
         watching.await_out("a.pkt: pass 1\n")
@@ -71,7 +64,7 @@ def test_only_what_changed_is_asked_about_and_under_its_settings(counting: Path,
         assert not calls.exists()
         write(tmp_path / "suite/in", d=b"row fail 2 ack\n" + BLOCK)
         watching.await_out("total ", 3)
-        assert calls.read_text() == "--cache 1 --settings mss = 1000\n"
+        assert calls.read_text() == "--explain --cache 1 --settings mss = 1000\n"
 
 
 def test_another_block_of_the_same_row_is_shown_alone_and_an_equal_one_is_not(counting: Path, tmp_path: Path) -> None:
@@ -130,7 +123,7 @@ def test_where_it_ends_the_script_s_line_stands_below_until_the_next_save(stand_
     row = "a.pkt:1: fail seq"
     assert lines[1:5] == [row, row, "  row fail 1 seq", "total"]
     assert lines[5:] == [f"{row}: so it is", "  why", "total"]
-    assert watching.err == "pdsuite: pdexplain was ended by SIGSEGV; nothing is told of a.pkt\n"
+    assert watching.err == "pdsuite: pdregress was ended by SIGSEGV; nothing is told of a.pkt\n"
 
 
 def test_a_setting_that_the_client_does_not_know_comes_changes_and_goes(stand_in: Path, tmp_path: Path) -> None:

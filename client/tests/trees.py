@@ -8,12 +8,11 @@ from pathlib import Path
 from tests.helpers import HANGS, TOP, Called
 
 HERE = Path(__file__).parent
-PROGRAMS = ("pdregress", "pdexplain", "pdrecord")
+PROGRAMS = ("pdregress", "pdrecord")
 _TOOLS = ("built.sh", "crates_below.sh", "kept_programs.py", "stopping.py", "try_cases.py", "trying.py")
 _STAND_INS = {
     "rt": "stand_in_rt.py",
     "pdregress": "stand_in.py",
-    "pdexplain": "stand_in_explain.py",
     "pdrecord": "stand_in_record.py",
 }
 

@@ -5,6 +5,7 @@ import time
 from collections.abc import Callable, Iterable, Iterator, Mapping, Sequence
 from contextlib import AbstractContextManager, closing, nullcontext
 from dataclasses import dataclass
+from functools import partial
 from pathlib import Path
 from typing import TYPE_CHECKING
 
@@ -13,7 +14,7 @@ from pdsuite.faults import Cut
 from pdsuite.files import append, write
 from pdsuite.packages import need
 from pdsuite.page.plots import plots_asked
-from pdsuite.programs.places import EXPLAIN, REGRESS, TOOL, TOP, Unproved, digest, locate
+from pdsuite.programs.places import REGRESS, TOOL, TOP, Unproved, digest, locate
 from pdsuite.programs.program import Program
 from pdsuite.programs.protocol import Cause
 from pdsuite.programs.refusals import refusals
@@ -91,14 +92,13 @@ def run(options: RunOptions, screen: Screen) -> int:
             of_known = not isinstance(form, Plain) or options.junit is not None or options.html is not None
             if options.new:
                 form = only_new(form, Plain(True) if isinstance(form, Plain) else form, options.paths, screen.note)
-            programs = _proved(options)
-            if programs is None:
+            program = _proved(options)
+            if program is None:
                 return _run_unproved(suite, scripts, options, form, screen, begin, stop)
-            regress = programs[REGRESS]
-            asked = refusals(suite.claims(), lambda: Program([regress], stop))
+            asked = refusals(suite.claims(), partial(Program, [program], stop))
             if lines := [*unused_in(suite), *asked]:
                 return _refuse(lines)
-            with _mapper(options, programs, of_known, stop, screen.note) as mapper:
+            with _mapper(options, program, of_known, stop, screen.note) as mapper:
                 return _run(mapper, scripts, options, form, screen, begin, stop)
         except Stopped as stopped:
             return stopped.status
@@ -121,10 +121,10 @@ def _refuse(lines: Iterable[str]) -> int:
     return 2
 
 
-def _proved(options: RunOptions) -> dict[str, Path] | None:
-    """The proved programs, or none where the sender may run without proofs."""
+def _proved(options: RunOptions) -> Path | None:
+    """The proved program, or none where the sender may run without proofs."""
     try:
-        return {name: locate(name) for name in (REGRESS, EXPLAIN)}
+        return locate(REGRESS)
     except Unproved:
         if options.proved or options.scheduler is not None or not TOOL.is_file():
             raise
@@ -135,7 +135,7 @@ def _run_unproved(
     suite: Suite, scripts: Sequence[Script], options: RunOptions, form: Form, screen: Screen, begin: float, stop: Stop
 ) -> int:
     """Runs the scripts by the sender as it stands, reports what came of them, and answers the exit status."""
-    # Only who has no proved programs pays for what does without them.
+    # Only who has no proved program pays for what does without them.
     from pdsuite.run.unproved_run import first_line, plan_of, run_unproved
 
     if lines := unused_in(suite):
@@ -167,17 +167,17 @@ def _kept(steps: Iterable[Step], texts: dict[int, Text]) -> Iterator[Step]:
 
 
 def _mapper(
-    options: RunOptions, programs: Mapping[str, Path], of_known: bool, stop: Stop, note: Callable[[str], None]
+    options: RunOptions, program: Path, of_known: bool, stop: Stop, note: Callable[[str], None]
 ) -> AbstractContextManager[Mapper]:
     """The cluster that was asked for, else the processors of this machine."""
     if options.scheduler is None:
-        start = start_with(programs[REGRESS], threads_of(options.workers), 1, stop)
-        return nullcontext(local_mapper(start, Explainer(programs[EXPLAIN], stop, note, of_known)))
+        start = start_with(program, threads_of(options.workers), 1, stop)
+        return nullcontext(local_mapper(start, Explainer(program, stop, note, of_known)))
     # Only who has a cluster needs what speaks with it.
     need("distributed")
     from pdsuite.run.cluster import cluster
 
-    return cluster(options.scheduler, {name: (str(path), digest(path)) for name, path in programs.items()}, stop, note)
+    return cluster(options.scheduler, (str(program), digest(program)), stop, note)
 
 
 def _run(

@@ -3,7 +3,7 @@
 from collections.abc import Iterator
 
 from pdsuite.faults import Fault
-from pdsuite.programs.places import EXPLAIN, RECORD, REGRESS, commit, digest, locate
+from pdsuite.programs.places import RECORD, REGRESS, commit, digest, locate
 from pdsuite.show.octets import shown_path
 from pdsuite.show.screen import say
 
@@ -12,7 +12,6 @@ def version() -> Iterator[str]:
     """The commit of the client, and each program with its SHA-256. That pdrecord isn't there is said, and no fault."""
     yield f"pdsuite {commit()}"
     yield _program(REGRESS)
-    yield _program(EXPLAIN)
     try:
         yield _program(RECORD)
     except Fault as fault:

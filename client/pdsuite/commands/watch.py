@@ -12,7 +12,7 @@ from typing import TYPE_CHECKING, NoReturn
 
 from pdsuite.commands.options import threads_of
 from pdsuite.page.plots import plots_asked
-from pdsuite.programs.places import EXPLAIN, REGRESS, locate
+from pdsuite.programs.places import REGRESS, locate
 from pdsuite.programs.program import Program
 from pdsuite.programs.refusals import refusals
 from pdsuite.programs.rows import Row, Verdict
@@ -139,7 +139,7 @@ def watch(options: WatchOptions, screen: Screen) -> int:
         program = locate(REGRESS)
         view = View(
             screen,
-            Explainer(locate(EXPLAIN), stop, screen.note),
+            Explainer(program, stop, screen.note),
             options.verbose,
             _news(options, screen),
             options.html is not None,

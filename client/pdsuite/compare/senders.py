@@ -8,7 +8,7 @@ from dataclasses import dataclass
 from pathlib import Path
 
 from pdsuite.faults import Fault, why
-from pdsuite.programs.places import EXPLAIN, PACKED, RECORD, REGRESS, TOOL, TOP, Unproved, commit, locate
+from pdsuite.programs.places import PACKED, RECORD, REGRESS, TOOL, TOP, Unproved, commit, locate
 from pdsuite.show.octets import shown, shown_path, shown_text
 
 _KEPT = TOP / "tools/kept_programs.py"
@@ -42,10 +42,10 @@ class Sender:
 def sender_of(word: str, option: str, place: Path) -> Sender:
     """The sender that a word names: a folder of programs, or a commit, whose tree is put into a new folder."""
     folder = Path(word)
-    if (folder / EXPLAIN).is_file():
+    if (folder / REGRESS).is_file():
         return Sender(shown_path(folder), _programs_in(folder, option))
     if folder.is_dir():
-        raise Fault(f"{option}: {shown_path(folder)}: no folder of programs: it has no {EXPLAIN}")
+        raise Fault(f"{option}: {shown_path(folder)}: no folder of programs: it has no {REGRESS}")
     if not TOOL.is_file():
         raise Fault(f"{option}: {shown_text(word)}: no folder, and here is no tree with commits")
     place.mkdir()
@@ -55,7 +55,7 @@ def sender_of(word: str, option: str, place: Path) -> Sender:
 def standing() -> Sender:
     """The tree as it stands, or the programs of a package or of PDSUITE_PROGRAMS."""
     try:
-        programs = {name: locate(name) for name in (REGRESS, EXPLAIN, RECORD)}
+        programs = {name: locate(name) for name in (REGRESS, RECORD)}
     except Unproved:
         if not TOOL.is_file():
             raise
@@ -80,11 +80,10 @@ def last_proved() -> Sender:
 
 def _programs_in(folder: Path, option: str) -> dict[str, Path]:
     """The programs of a folder; pdrecord may be missing."""
-    programs = {name: (folder / name).absolute() for name in (REGRESS, EXPLAIN, RECORD)}
+    programs = {name: (folder / name).absolute() for name in (REGRESS, RECORD)}
     there = {name: it for name, it in programs.items() if it.is_file() and os.access(it, os.X_OK)}
-    for name in (REGRESS, EXPLAIN):
-        if name not in there:
-            raise Fault(f"{option}: {shown_path(folder)} has no program {name}")
+    if REGRESS not in there:
+        raise Fault(f"{option}: {shown_path(folder)} has no program {REGRESS}")
     return there
 
 

@@ -9,7 +9,7 @@ from pathlib import Path
 
 from pdsuite.compare.comparison import Results
 from pdsuite.compare.senders import Sender
-from pdsuite.programs.places import EXPLAIN, RECORD, REGRESS
+from pdsuite.programs.places import RECORD, REGRESS
 from pdsuite.programs.program import Program
 from pdsuite.programs.protocol import Cause
 from pdsuite.programs.recorder import Recorder, Recording
@@ -20,7 +20,7 @@ from pdsuite.run.local_mapper import local_mapper
 from pdsuite.run.outcomes import Outcome
 from pdsuite.run.runs import Run, Script
 from pdsuite.run.settling import SettledPiece, start_with
-from pdsuite.run.unproved_run import Plan, plan_of, results_of
+from pdsuite.run.unproved_run import Plan, explaining, plan_of, results_of
 from pdsuite.scripts.settings import Settings, settings_text
 from pdsuite.scripts.suite import Claim
 from pdsuite.scripts.text import Text
@@ -73,8 +73,8 @@ def run_both(
 
 
 def _builds(sender: Sender, plan: Plan, records: bool) -> list[PlacedBuild]:
-    """What has to be built: pdexplain, and what records."""
-    first = PlacedBuild(Build(sender.tree, EXPLAIN, (), tuple(plan.cases())), ())
+    """What has to be built: what runs and explains, and what records."""
+    first = PlacedBuild(explaining(sender.tree, plan.cases()), ())
     scripts = [(script, text) for piece in plan.pieces for script, text in piece if isinstance(text, Text)]
     return [first, *(recording_builds(sender, scripts) if records else [])]
 
@@ -138,17 +138,17 @@ def _results(
 def _run_proved(sender: Sender, task: Task, workers: int, stop: Stop, note: Callable[[str], None]) -> Results:
     """The results of proved programs."""
     programs = sender.programs or {}
-    regress, explain = programs[REGRESS], programs[EXPLAIN]
-    if lines := refusals(task.claims, lambda: Program([regress], stop)):
+    program = programs[REGRESS]
+    if lines := refusals(task.claims, lambda: Program([program], stop)):
         raise SettingsRefused(sender, lines)
-    mapper = local_mapper(start_with(regress, workers, 1, stop), Explainer(explain, stop, note))
+    mapper = local_mapper(start_with(program, workers, 1, stop), Explainer(program, stop, note))
     settled: list[SettledPiece] = []
     for step in mapper(task.runs):
         if isinstance(step, SettledPiece):
             settled.append(step)
         else:
             note(str(step))
-    asker = Asker(explain, CAUSES, stop, lambda line: None)
+    asker = Asker(program, CAUSES, stop, lambda line: None)
     causes = [asker.told(it) for it in settled] if task.wants_causes else []
     recordings = _record(programs[RECORD], settled, stop, note) if task.records else {}
     return _results(settled, recordings, dict(ChainMap(*causes)))

@@ -10,7 +10,7 @@ from pdsuite.page.folder import TABLE, sweep
 from pdsuite.page.links import FOLDER
 from pdsuite.page.render import script_page, table_page
 from pdsuite.page.sheets import Entry, Row, sheet_of
-from pdsuite.programs.places import EXPLAIN, locate
+from pdsuite.programs.places import REGRESS, locate
 from pdsuite.programs.protocol import Cause
 from pdsuite.programs.recorder import Recorder
 from pdsuite.run.explainer import CAUSES, Asker
@@ -41,7 +41,7 @@ def carry_out(job: Job, stop: Stop, done: Callable[[int], None]) -> None:
         sweep(job.folder, (it.file for it in job.rows), job.plots)
     scripts = [Script(place, it.outcome.path, it.outcome.settings) for place, it in enumerate(job.entries)]
     # Where it tells nothing of a script, that has been said when its row was shown.
-    asker = None if job.is_unproved else Asker(locate(EXPLAIN), CAUSES, stop, lambda line: None)
+    asker = None if job.is_unproved else Asker(locate(REGRESS), CAUSES, stop, lambda line: None)
     recorder = Recorder(stop, lambda line: None)
     for run in runs_of(scripts):
         for piece in run.pieces:

@@ -4,7 +4,7 @@ import re
 from dataclasses import dataclass
 from enum import Enum
 
-# A packet as pdexplain writes it: the last `>` before flags and octets ends the time.
+# A packet as `pdregress --explain` writes it: the last `>` before flags and octets ends the time.
 _PACKET = re.compile(
     r"(?P<time>.*?)\s*> (?P<flags>[A-Z.-]+)\s+(?P<seq>\d+:\d+\(\d+\))"
     r"(?:\s+ack (?P<ack>\d+))?(?:\s+win (?P<win>\d+))?(?:\s+<(?P<options>[^<>]*)>)?(?:\s+// (?P<moment>[\d.]+))?\s*"

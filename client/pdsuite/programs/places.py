@@ -14,7 +14,6 @@ PACKED = TOP / "version"
 # In a tree: what runs its programs as they stand, without proofs.
 TOOL = TOP / "tools/try_cases.py"
 REGRESS = "pdregress"
-EXPLAIN = "pdexplain"
 RECORD = "pdrecord"
 
 

@@ -22,6 +22,8 @@ _MOST = 4
 _GRACE = 15.0
 # The statuses of a program that has read all of its input.
 _REGULAR = ("0", "1")
+# Begins what a program says that refuses its words, and ends with where help is.
+_REFUSES = b"error: "
 
 
 class Untried(Fault):
@@ -71,7 +73,9 @@ def answer_of(output: bytes, errors: bytes, status: str) -> Answer:
     said = [line for line in errors.split(b"\n") if line.strip()]
     if not status.isdecimal():
         return Answer(b"", b"", status)
-    return Answer(b"", b"", shown(said[-1]) if said else f"ended with status {status}")
+    if not said:
+        return Answer(b"", b"", f"ended with status {status}")
+    return Answer(b"", b"", shown(said[0] if said[0].startswith(_REFUSES) else said[-1]))
 
 
 def _tried(build: Build, stop: Stop) -> list[Answer]:

@@ -24,7 +24,7 @@ from distributed.scheduler import KilledWorker
 import pdsuite
 from pdsuite.faults import Cut, Fault
 from pdsuite.run import parcels
-from pdsuite.run.parcels import Parcel, Programs
+from pdsuite.run.parcels import Parcel, WantedProgram
 from pdsuite.run.runs import Run, cut
 from pdsuite.run.settling import Mapper, Step, unrun
 from pdsuite.show.octets import shown_text
@@ -53,12 +53,12 @@ class _Task:
 
 
 @contextmanager
-def cluster(address: str, programs: Programs, stop: Stop, note: Callable[[str], None]) -> Iterator[Mapper]:
-    """Has runs settled by the workers of a scheduler that have the same programs as this machine."""
+def cluster(address: str, wanted: WantedProgram, stop: Stop, note: Callable[[str], None]) -> Iterator[Mapper]:
+    """Has runs settled by the workers of a scheduler that have the same program as this machine."""
     client = _connected(address)
     stop.check()
     try:
-        workers = _Cluster(client, address, programs, stop, note)
+        workers = _Cluster(client, address, wanted, stop, note)
         workers.wait_for_one()
         yield workers.settle
     finally:
@@ -91,11 +91,11 @@ class _Cluster:
     """The workers that may be used, and the runs that they have."""
 
     def __init__(
-        self, client: Client, address: str, programs: Programs, stop: Stop, note: Callable[[str], None]
+        self, client: Client, address: str, wanted: WantedProgram, stop: Stop, note: Callable[[str], None]
     ) -> None:
         self._client = client
         self._address = _shown(address)
-        self._programs = programs
+        self._wanted = wanted
         self._stop = stop
         self._note = note
         self._near, self._far = socket.socketpair()
@@ -165,7 +165,7 @@ class _Cluster:
         if task.workers and task.sendings < _SENDINGS:
             task.sendings += 1
             task.future = self._client.submit(
-                parcels.work, task.parcel, self._programs, workers=list(task.workers), pure=False
+                parcels.work, task.parcel, self._wanted, workers=list(task.workers), pure=False
             )
             task.future.add_done_callback(self._ring)
 
@@ -206,7 +206,7 @@ class _Cluster:
             if tuple(python[:2]) != here:
                 self._refuse(worker, f"has Python {'.'.join(python)}")
         same = [it for it in pythons if it not in self._faults]
-        for worker, fault in self._answers(same, parcels.fault_of, self._programs).items():
+        for worker, fault in self._answers(same, parcels.fault_of, self._wanted).items():
             self._faults[worker] = ""
             if fault:
                 self._refuse(worker, _shown(fault))

@@ -1,4 +1,4 @@
-"""Asks pdexplain why scripts don't pass."""
+"""Asks the program why scripts don't pass: `pdregress --explain`."""
 
 import re
 from collections.abc import Callable, Iterable, Iterator, Mapping, Sequence
@@ -18,6 +18,9 @@ from pdsuite.scripts.text import Text
 from pdsuite.show.octets import shown, shown_path
 from pdsuite.signals import Stop, Stopped
 
+# What has it tell why scripts don't pass, and that as JSON.
+EXPLAIN = "--explain"
+JSON = "--json"
 # What the program has made safe to print already.
 _PLAIN = re.compile(rb"[ -~]*")
 
@@ -29,19 +32,19 @@ T = TypeVar("T")
 
 @dataclass(frozen=True)
 class Speech(Generic[T]):
-    """How pdexplain is to speak: by which words, how much of a script at most, and how that is read."""
+    """How the program is to speak: by which words, how much of a script at most, and how that is read."""
 
     words: tuple[str, ...]
     longest: int
     read: Callable[[bytes], Mapping[tuple[bytes, int], T]]
 
 
-BLOCKS: Speech[list[bytes]] = Speech((), LONGEST_BLOCK, blocks_in)
-CAUSES: Speech[Cause] = Speech(("--json",), LONGEST_CAUSE, causes_in)
+BLOCKS: Speech[list[bytes]] = Speech((EXPLAIN,), LONGEST_BLOCK, blocks_in)
+CAUSES: Speech[Cause] = Speech((EXPLAIN, JSON), LONGEST_CAUSE, causes_in)
 
 
 class Asker(Generic[T]):
-    """Has pdexplain speak of scripts that don't pass; `note` is told of a script on which it ends."""
+    """Has the program speak of scripts that don't pass; `note` is told of a script on which it ends."""
 
     def __init__(self, program: Path, speech: Speech[T], stop: Stop, note: Callable[[str], None]) -> None:
         self._program = program
@@ -82,7 +85,7 @@ class Asker(Generic[T]):
 
 
 class Explainer:
-    """Has pdexplain tell why scripts don't pass, in lines for people; of those that are known not to if it is asked."""
+    """Has the program tell why scripts don't pass, in lines for people; of those that are known not to if asked."""
 
     def __init__(self, program: Path, stop: Stop, note: Callable[[str], None], of_known: bool = True) -> None:
         self._asker = Asker(program, BLOCKS, stop, note)

@@ -6,7 +6,7 @@ from itertools import chain, islice
 from pathlib import Path
 
 from pdsuite.faults import Fault, why
-from pdsuite.programs.places import EXPLAIN, FOLDER, REGRESS, digest
+from pdsuite.programs.places import FOLDER, REGRESS, digest
 from pdsuite.programs.rows import Row, Verdict
 from pdsuite.run.explainer import Explainer, explained_steps
 from pdsuite.run.outcomes import Outcome
@@ -20,8 +20,8 @@ from pdsuite.signals import Stop
 
 # The settings, and pieces of scripts: of each its path and its text, or why it can't be run.
 Parcel = tuple[Settings, list[list[tuple[str, bytes | str]]]]
-# Each program with its path on the machine that asks, and its SHA-256.
-Programs = dict[str, tuple[str, str]]
+# The program: its path on the machine that asks, and its SHA-256.
+WantedProgram = tuple[str, str]
 # A verdict with its number and word, the line that it names, what it means and what stands below it.
 PlainRow = tuple[str, int, str, bytes | None, str, tuple[str, ...]]
 # The rows of each piece, and before them what is said on the way; or why nothing was run.
@@ -35,26 +35,26 @@ def packed(run: Run) -> Parcel:
     return run.settings, [[(script.path, _plain_text(script)) for script in piece] for piece in run.pieces]
 
 
-def fault_of(programs: Programs) -> str:
-    """Why this machine can't be used, by its programs; empty if it can."""
+def fault_of(wanted: WantedProgram) -> str:
+    """Why this machine can't be used, by its program; empty if it can."""
     try:
-        _find(programs)
+        _find(*wanted)
     except Fault as fault:
         return str(fault)
     return ""
 
 
-def work(parcel: Parcel, programs: Programs) -> Answer:
-    """Settles and explains a run on the machine where this is called, if its programs are those."""
+def work(parcel: Parcel, wanted: WantedProgram) -> Answer:
+    """Settles and explains a run on the machine where this is called, if its program is that one."""
     try:
-        found = _find(programs)
+        program = _find(*wanted)
     except Fault as fault:
         return str(fault)
     run, texts = _unpacked(parcel)
     answer: list[str | list[PlainRow]] = []
     with Stop(signals=()) as stop:
-        explainer = Explainer(found[EXPLAIN], stop, answer.append)
-        start = start_with(found[REGRESS], 0, 1, stop)
+        explainer = Explainer(program, stop, answer.append)
+        start = start_with(program, 0, 1, stop)
         for step in explained_steps(settle(run, start, lambda it: texts[it.index]), explainer):
             answer.append(_plain_step(step))
     return answer
@@ -109,14 +109,10 @@ def _outcome(script: Script, plain: PlainRow) -> Outcome:
     return outcome_of(script, Row(Verdict(verdict), number, word), line, meaning, told)
 
 
-def _find(programs: Programs) -> dict[str, Path]:
-    """The programs of this machine, where each is the one that is asked for."""
-    return {name: _find_one(name, path, wanted) for name, (path, wanted) in programs.items()}
-
-
-def _find_one(name: str, path: str, wanted: str) -> Path:
+def _find(path: str, wanted: str) -> Path:
+    """The program of this machine, where it is the one that is asked for."""
     folder = os.environ.get(FOLDER)
-    places = [Path(folder, name)] if folder else [Path(path), _INSTALLED / name]
+    places = [Path(folder, REGRESS)] if folder else [Path(path), _INSTALLED / REGRESS]
     there = [it for it in places if it.is_file() and os.access(it, os.X_OK)]
     if not there:
         raise Fault(f"no program {' or '.join(map(shown_path, places))}")

@@ -7,14 +7,14 @@ from dataclasses import dataclass, field
 from pathlib import Path
 
 from pdsuite.faults import Fault
-from pdsuite.programs.places import EXPLAIN, TOP
+from pdsuite.programs.places import REGRESS, TOP
 from pdsuite.programs.program import Ended
 from pdsuite.programs.protocol import Cause, Unexpected
 from pdsuite.programs.protocol import add, blocks_in, causes_in, name_of, rows_in, set_and_show, set_key
 from pdsuite.programs.refusals import questions, refusals_at_once
 from pdsuite.programs.rows import Row, Verdict
 from pdsuite.programs.tree import Answer, Build, Case, try_all
-from pdsuite.run.explainer import with_block
+from pdsuite.run.explainer import EXPLAIN, JSON, with_block
 from pdsuite.run.outcomes import Outcome
 from pdsuite.run.runs import Run, Script, outcome_of
 from pdsuite.run.settling import SettledPiece, Step, load
@@ -24,16 +24,15 @@ from pdsuite.scripts.text import Text
 from pdsuite.show.octets import shown_path
 from pdsuite.signals import Stop
 
-# A start of pdexplain is expected to say so much at most, far less than `rt try` takes; and so much of a script, beside
-# as many octets as its text has.
+# A start of the program is expected to say so much at most, far less than `rt try` takes; and so much of a script,
+# beside as many octets as its text has.
 _ROOM = 1 << 19
 _TOLD = 4_096
-_JSON = ("--json",)
 
 
 @dataclass(frozen=True)
 class Batch:
-    """Scripts with equal settings for one start of pdexplain."""
+    """Scripts with equal settings for one start of the program."""
 
     settings: Settings
     scripts: tuple[tuple[Script, Text], ...]
@@ -68,7 +67,7 @@ def first_line() -> str:
 
 @dataclass(frozen=True)
 class Plan:
-    """What pdexplain is started on: the claims that it is asked about, and the batches of all pieces, once or twice."""
+    """What the program is started on: claims that it is asked about, and the batches of all pieces, once or twice."""
 
     claims: Sequence[Claim]
     pieces: Sequence[Sequence[tuple[Script, Text | str]]]
@@ -81,7 +80,7 @@ class Plan:
     def cases(self) -> list[Case]:
         """The starts: one asks about the claims, the others run the batches, a second time for what is told by keys."""
         asking = Case((), b"".join(set_and_show(*it) for it in questions(self.claims)))
-        told = [Case(_JSON, it.given()) for it in self.batches] if self.wants_causes else []
+        told = [Case((JSON,), it.given()) for it in self.batches] if self.wants_causes else []
         return [asking, *cases_of(self.batches), *told]
 
 
@@ -89,6 +88,11 @@ def plan_of(runs: Iterable[Run], claims: Iterable[Claim], wants_causes: bool) ->
     """What is to be run of these runs, whose scripts are read."""
     pieces = [[(script, load(script)) for script in piece] for run in runs for piece in run.pieces]
     return Plan(list(claims), pieces, wants_causes)
+
+
+def explaining(tree: Path, cases: Sequence[Case]) -> Build:
+    """The build of a tree's program that explains, and what it is started on."""
+    return Build(tree, REGRESS, (EXPLAIN,), tuple(cases))
 
 
 def run_unproved(plan: Plan, tree: Path, stop: Stop, note: Callable[[str], None]) -> UnprovedResults:
@@ -145,7 +149,7 @@ def read_answers(
         try:
             outcomes |= outcomes_of(batch, answer)
         except Unexpected as unexpected:
-            unheard.append((batch, f"{EXPLAIN}: {unexpected}"))
+            unheard.append((batch, f"{REGRESS}: {unexpected}"))
     return outcomes, unheard
 
 
@@ -178,7 +182,7 @@ def _heard(answer: Answer) -> Answer:
 
 
 def _answers(tree: Path, cases: Sequence[Case], stop: Stop) -> list[Answer]:
-    return try_all([Build(tree, EXPLAIN, (), tuple(cases))], stop)[0]
+    return try_all([explaining(tree, cases)], stop)[0]
 
 
 def _refused(claims: Iterable[Claim], answer: Answer) -> list[str]:
