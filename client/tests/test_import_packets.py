@@ -3,9 +3,9 @@
 import pytest
 
 from pdsuite.imports.assertions import Assertion, asserted, assertion_in, comment
-from pdsuite.imports.items import Packet
 from pdsuite.imports.packets import CUT, PUSH, WINDOW, Sending, Write, as_sent, moments_of, smss_of, writes_of
-from pdsuite.imports.reading import read
+from pdsuite.packetdrill.items import Packet
+from pdsuite.packetdrill.reader import read
 
 MS = 1_000
 # 2,500 octets at 0.1 s and 500 more at 0.2 s.

@@ -8,8 +8,9 @@ import socket
 from collections.abc import Callable
 from dataclasses import dataclass, field
 
-from kernel.script import Call, Refused
+from kernel.script import Refused
 from kernel.wire import LOCAL, PORT
+from pdsuite.packetdrill.items import Call
 
 LISTENER, CONNECTION = 3, 4
 OPTIONS = {
@@ -97,7 +98,7 @@ def set_option(sockets: Sockets, arguments: tuple[str, ...]) -> int:
     if (arguments[1], arguments[2]) not in OPTIONS:
         raise Refused(0, f"{arguments[2]} isn't run")
     level, name = OPTIONS[arguments[1], arguments[2]]
-    value = arguments[3].strip("[]")
+    value = arguments[3].strip("[] ")
     target.setsockopt(level, name, int(value) if value.isdigit() else 1)
     return 0
 

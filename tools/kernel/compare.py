@@ -5,8 +5,8 @@ from __future__ import annotations
 from collections.abc import Set
 from dataclasses import dataclass
 
-from kernel.script import Packet
 from kernel.wire import Seen
+from pdsuite.packetdrill.items import Packet
 
 FIELDS = ("time", "flags", "push", "seq", "ack", "win", "options")
 LEAST_TOLERANCE = 0.010
@@ -45,24 +45,24 @@ def is_told(expected: Packet, seen: Seen) -> bool:
     """Whether a packet is the expected one, so that the run can go on where other fields differ."""
     kinds = frozenset("SFR")
     same_numbers = (expected.start, expected.length) == (seen.start, seen.length)
-    return same_numbers and expected.flags & kinds == seen.flags & kinds
+    return same_numbers and kinds & set(expected.flags) == kinds & seen.flags
 
 
 def differing(expected: Packet, seen: Seen, span: Span | None, ignored: Set[str]) -> list[str]:
     """The fields in which a packet differs, in the order in which the program compares; `push` stands for the flag P.
 
     >>> seen = Seen(0.0, frozenset("P."), 1, 1000, 1, 502, ())
-    >>> differing(Packet(False, frozenset("."), 1, 1000, 1, 257), seen, None, {"win"})
+    >>> differing(Packet(False, ".", 1, 1001, 1, 257), seen, None, {"win"})
     ['push']
     """
-    other = expected.flags ^ seen.flags
+    other = seen.flags ^ set(expected.flags)
     found = {
         "time": span is not None and not span.holds(seen.at),
         "flags": bool(other - {"P"}),
         "push": "P" in other,
         "seq": (expected.start, expected.length) != (seen.start, seen.length),
         "ack": expected.ack not in (None, seen.ack),
-        "win": expected.window not in (None, seen.window),
-        "options": expected.options not in (None, seen.options),
+        "win": expected.win not in (None, seen.window),
+        "options": not expected.takes_any_options and expected.options != seen.options,
     }
     return [it for it in FIELDS if found[it] and it not in ignored]

@@ -12,9 +12,9 @@ import time
 from collections import deque
 from dataclasses import dataclass, field
 
-from kernel.script import Packet
 from kernel.settings import Tuning, sysctl_file
 from kernel.wire import LOCAL, Seen, decode, encode
+from pdsuite.packetdrill.items import Packet
 
 NEW_NET = 0x40000000
 SET_INTERFACE = 0x400454CA

@@ -9,9 +9,10 @@ from dataclasses import dataclass, field
 from kernel.calls import Sockets
 from kernel.compare import Difference, Span, differing, is_told, tolerance_of
 from kernel.device import Device, open_device
-from kernel.script import Base, Call, Event, Packet, Refused
+from kernel.script import Event, Refused
 from kernel.settings import Tuning
 from kernel.wire import Seen
+from pdsuite.packetdrill.items import Call, Packet
 
 LONGEST_WAIT = 65.0
 LATE = 0.005
@@ -45,9 +46,8 @@ class Run:
 
     def step(self, event: Event) -> None:
         """Does what an event says, or awaits what it expects."""
-        origin = self.base if event.when.base is Base.EVENT else 0.0
-        first, last = origin + event.when.first, origin + event.when.last
-        if isinstance(event.action, Packet) and not event.action.inbound:
+        first, last = event.span(self.base)
+        if isinstance(event.action, Packet) and not event.action.is_inbound:
             self.expect(event, event.action, first, last)
             return
         self.device.wait(first)
@@ -69,7 +69,7 @@ class Run:
 
     def expect(self, event: Event, packet: Packet, first: float, last: float) -> None:
         """Takes the next packet of the kernel and compares it."""
-        is_any = event.when.base is Base.NONE
+        is_any = event.time.first is None
         slack = tolerance_of(last - self.base)
         limit = self.base + LONGEST_WAIT if is_any else last + slack
         seen = self.device.take(limit)

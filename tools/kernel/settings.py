@@ -8,7 +8,8 @@ from dataclasses import dataclass, fields, replace
 from pathlib import Path
 from typing import Any
 
-from kernel.script import Event, Packet
+from kernel.script import Event
+from pdsuite.packetdrill.items import Packet
 
 NO_MSS = 536
 
@@ -97,8 +98,8 @@ def tables_of(path: Path) -> Iterator[dict[str, Any]]:
 def segment_size(events: tuple[Event, ...], settings: Settings) -> int:
     """The longest segment of a connection: the lesser of both sides' MSS."""
     for event in events:
-        if isinstance(event.action, Packet) and "S" in event.action.flags and event.action.inbound:
-            told = [it.values[0] for it in event.action.options or () if it.name == "mss"]
+        if isinstance(event.action, Packet) and "S" in event.action.flags and event.action.is_inbound:
+            told = [it.numbers[0] for it in event.action.options if it.name == "mss"]
             return min(settings.mss, told[0] if told else NO_MSS)
     return settings.mss
 

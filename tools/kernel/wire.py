@@ -6,7 +6,7 @@ import socket
 import struct
 from dataclasses import dataclass
 
-from kernel.script import Option, Packet
+from pdsuite.packetdrill.items import Packet, TcpOption
 
 LOCAL, REMOTE = "192.168.0.1", "192.0.2.1"
 PORT, PEER_PORT = 8080, 40000
@@ -26,7 +26,7 @@ class Seen:
     length: int
     ack: int
     window: int
-    options: tuple[Option, ...]
+    options: tuple[TcpOption, ...]
 
     def __str__(self) -> str:
         letters = "".join(sorted(self.flags, key="SFRPUEW.".index)) or "-"
@@ -36,18 +36,18 @@ class Seen:
         return text + (f" <{','.join(map(shown, self.options))}>" if self.options else "")
 
 
-def shown(option: Option) -> str:
+def shown(option: TcpOption) -> str:
     """An option as scripts write it.
 
-    >>> shown(Option("sack", (1, 5, 7, 9)))
+    >>> shown(TcpOption("sack", (1, 5, 7, 9)))
     'sack 1:5 7:9'
     """
     if option.name == "sack":
-        pairs = zip(option.values[::2], option.values[1::2])
+        pairs = zip(option.numbers[::2], option.numbers[1::2])
         return "sack " + " ".join(f"{left}:{right}" for left, right in pairs)
     if option.name == "TS":
-        return f"TS val {option.values[0]} ecr {option.values[1]}"
-    return " ".join([option.name, *map(str, option.values)])
+        return f"TS val {option.numbers[0]} ecr {option.numbers[1]}"
+    return " ".join([option.name, *map(str, option.numbers)])
 
 
 def checksum(data: bytes) -> int:
@@ -63,9 +63,9 @@ def checksum(data: bytes) -> int:
     return ~total & 0xFFFF
 
 
-def encode_option(option: Option, isn: int) -> bytes:
+def encode_option(option: TcpOption, isn: int) -> bytes:
     """An option's octets; the edges of SACK blocks count from the kernel's first number."""
-    values = option.values
+    values = option.numbers
     if option.name == "mss":
         return struct.pack("!BBH", 2, 4, values[0])
     if option.name == "wscale":
@@ -78,17 +78,17 @@ def encode_option(option: Option, isn: int) -> bytes:
     return {"sackOK": b"\4\2", "nop": b"\1", "eol": b"\0"}[option.name]
 
 
-def decode_options(octets: bytes) -> tuple[Option, ...]:
+def decode_options(octets: bytes) -> tuple[TcpOption, ...]:
     """The options of a packet of the kernel, up to the end of its header.
 
     >>> decode_options(bytes([2, 4, 5, 180, 1, 3, 3, 7]))[1:]
-    (Option(name='nop', values=()), Option(name='wscale', values=(7,)))
+    (TcpOption(name='nop', numbers=()), TcpOption(name='wscale', numbers=(7,)))
     """
     found, place = [], 0
     while place < len(octets):
         kind = octets[place]
         if kind < 2:
-            found.append(Option("nop" if kind else "eol"))
+            found.append(TcpOption("nop" if kind else "eol"))
             place += 1
             continue
         size = octets[place + 1]
@@ -97,31 +97,31 @@ def decode_options(octets: bytes) -> tuple[Option, ...]:
     return tuple(found)
 
 
-def decode_option(kind: int, body: bytes) -> Option:
+def decode_option(kind: int, body: bytes) -> TcpOption:
     if kind == 2:
-        return Option("mss", struct.unpack("!H", body))
+        return TcpOption("mss", struct.unpack("!H", body))
     if kind == 3:
-        return Option("wscale", (body[0],))
+        return TcpOption("wscale", (body[0],))
     if kind == 4:
-        return Option("sackOK")
+        return TcpOption("sackOK")
     if kind == 5:
         edges = struct.unpack(f"!{len(body) // 4}I", body)
-        return Option("sack", tuple((edge - PEER_ISN) % MODULUS for edge in edges))
+        return TcpOption("sack", tuple((edge - PEER_ISN) % MODULUS for edge in edges))
     if kind == 8:
-        return Option("TS", struct.unpack("!II", body))
-    return Option(f"kind{kind}", tuple(body))
+        return TcpOption("TS", struct.unpack("!II", body))
+    return TcpOption(f"kind{kind}", tuple(body))
 
 
 def encode(packet: Packet, isn: int) -> bytes:
     """The octets of a packet that arrives at the kernel, whose first number is `isn`."""
-    options = b"".join(encode_option(it, isn) for it in packet.options or ())
+    options = b"".join(encode_option(it, isn) for it in packet.options)
     options += b"\0" * (-len(options) % 4)
     has_ack = "." in packet.flags
     ack = (isn + (packet.ack or 0)) % MODULUS if has_ack else packet.ack or 0
     bits = sum(FLAGS[it] for it in packet.flags)
     numbers = (PEER_PORT, PORT, (PEER_ISN + packet.start) % MODULUS, ack)
     head = (5 + len(options) // 4) << 12 | bits
-    tcp = struct.pack("!HHIIHHHH", *numbers, head, packet.window or 0, 0, 0)
+    tcp = struct.pack("!HHIIHHHH", *numbers, head, packet.win or 0, 0, 0)
     tcp += options + b"x" * packet.length
     ends = socket.inet_aton(REMOTE) + socket.inet_aton(LOCAL)
     total = checksum(ends + struct.pack("!BBH", 0, TCP, len(tcp)) + tcp)

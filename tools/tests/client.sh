@@ -69,9 +69,10 @@ tests() { # [--unproved]
 
 unproved=
 [ "${1:-}" != --unproved ] || { unproved=$1; shift; }
-tools=$(cd "$top/client" && ls -d ../tools/*prove*.py ../tools/crate_graph.py ../tools/kept_programs.py ../tools/lanes.py ../tools/stopping.py \
-    ../tools/try*.py ../tools/tests/a*.py ../tools/tests/cases ../tools/tests/recordings.py ../tools/tests/runs.py \
-    ../tools/tests/tell.py ../tools/tests/documents ../tools/walk_tutorial.py ../tools/long_sentences.py)
+tools=$(cd "$top/client" && ls -d ../tools/*prove*.py ../tools/crate_graph.py ../tools/kept_programs.py ../tools/kernel \
+    ../tools/lanes.py ../tools/stopping.py ../tools/try*.py ../tools/tests/a*.py ../tools/tests/cases \
+    ../tools/tests/recordings.py ../tools/tests/runs.py ../tools/tests/tell.py ../tools/tests/documents \
+    ../tools/walk_tutorial.py ../tools/long_sentences.py)
 lost=$(missing)
 [ -z "$lost" ] || install "$@"
 if [ -n "$lost" ]; then

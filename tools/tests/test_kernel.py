@@ -17,9 +17,10 @@ from kernel.device import NoDevice
 from kernel.main import Job, choice_of, run_once, runners, sorted_files
 from kernel.report import places_of, row_of
 from kernel.run import Outcome
-from kernel.script import Base, Call, Option, Packet, Refused, When, read_script
+from kernel.script import Refused, read_script
 from kernel.settings import Settings, Tuning, settings_of, tuning_of
 from kernel.wire import PEER_ISN, Seen, decode, encode
+from pdsuite.packetdrill.items import Call, Packet, TcpOption, Time
 
 OPENING = """0 socket(..., SOCK_STREAM, IPPROTO_TCP) = 3
 +0 bind(3, {sa_family = AF_INET, port = htons(8080)}, [16]) = 0
@@ -41,20 +42,20 @@ def load_tests(_: unittest.TestLoader, tests: unittest.TestSuite, __: str | None
 class Reading(unittest.TestCase):
     def test_a_packet_with_all_its_parts(self) -> None:
         (event,) = read_script("\n+.5~+1 > P. 1:11(10) ack 2 win 3 <nop,sack 1:2 3:4> // why\n")
-        options = (Option("nop"), Option("sack", (1, 2, 3, 4)))
+        options = (TcpOption("nop"), TcpOption("sack", (1, 2, 3, 4)))
         self.assertEqual(event.line, 2)
-        self.assertEqual(event.when, When(Base.EVENT, 0.5, 1.0, True))
-        self.assertEqual(event.action, Packet(False, frozenset("P."), 1, 10, 2, 3, options))
+        self.assertEqual(event.time, Time(500_000, 1_000_000))
+        self.assertEqual(event.action, Packet(False, "P.", 1, 11, 2, 3, options, "<nop,sack 1:2 3:4>"))
 
     def test_dots_stand_for_any_options_and_a_star_for_any_time(self) -> None:
         (event,) = read_script("* > S. 0:0(0) ack 1 <...>")
-        self.assertEqual(event.when.base, Base.NONE)
+        self.assertIsNone(event.time.first)
         assert isinstance(event.action, Packet)
-        self.assertIsNone(event.action.options)
+        self.assertTrue(event.action.takes_any_options)
 
     def test_a_call_with_brackets_an_error_and_a_note(self) -> None:
         (event,) = read_script("1 connect(3, {a, (b)}, [1]) = -1 EBADF (Bad descriptor)")
-        self.assertEqual(event.action, Call("connect", ("3", "{a,(b)}", "[1]"), -1, "EBADF"))
+        self.assertEqual(event.action, Call("connect", ("3", "{a, (b)}", "[1]"), -1, "EBADF"))
 
     def test_what_is_not_run_is_refused_at_its_line(self) -> None:
         for text in (
@@ -70,35 +71,35 @@ class Reading(unittest.TestCase):
 
 class Wire(unittest.TestCase):
     def test_numbers_count_from_both_first_numbers(self) -> None:
-        packet = Packet(True, frozenset("P."), 5, 3, 7, 100, (Option("sack", (7, 9)), Option("nop"), Option("nop")))
+        packet = Packet(True, "P.", 5, 8, 7, 100, (TcpOption("sack", (7, 9)), TcpOption("nop"), TcpOption("nop")))
         octets = encode(packet, isn=2**32 - 1)
         self.assertEqual(octets[24:32], (PEER_ISN + 5).to_bytes(4, "big") + (6).to_bytes(4, "big"))
         self.assertEqual(octets[40:50], bytes([5, 10, 0, 0, 0, 6, 0, 0, 0, 8]))
 
     def test_a_packet_of_the_kernel_is_read_back(self) -> None:
-        there = encode(Packet(True, frozenset("S."), 9, 0, 0, 500, (Option("mss", (1460,)),)), isn=77)
+        there = encode(Packet(True, "S.", 9, 9, 0, 500, (TcpOption("mss", (1460,)),)), isn=77)
         back = there[:20] + there[22:24] + there[20:22] + there[24:]
         found = decode(back, 1.5, None)
         assert found is not None
         seen, first = found
         self.assertEqual(first, PEER_ISN + 9)
-        self.assertEqual((seen.start, seen.window, seen.options), (0, 500, (Option("mss", (1460,)),)))
+        self.assertEqual((seen.start, seen.window, seen.options), (0, 500, (TcpOption("mss", (1460,)),)))
 
     def test_another_port_is_none_of_the_run(self) -> None:
-        self.assertIsNone(decode(encode(Packet(True, frozenset("."), 1, 0, 1, 1), 0), 0.0, 0))
+        self.assertIsNone(decode(encode(Packet(True, ".", 1, 1, 1, 1), 0), 0.0, 0))
 
 
 class Comparing(unittest.TestCase):
     seen = Seen(1.2, frozenset("."), 1, 1000, 1, 502, ())
 
     def test_each_field_is_named(self) -> None:
-        expected = Packet(False, frozenset("P"), 1, 500, 2, 257, (Option("nop"),))
+        expected = Packet(False, "P", 1, 501, 2, 257, (TcpOption("nop"),))
         fields = differing(expected, self.seen, Span(0.0, 1.0), frozenset())
         self.assertEqual(fields, ["time", "flags", "push", "seq", "ack", "win", "options"])
         self.assertFalse(is_told(expected, self.seen))
 
     def test_what_is_ignored_or_not_written_does_not_differ(self) -> None:
-        expected = Packet(False, frozenset("P."), 1, 1000)
+        expected = Packet(False, "P.", 1, 1001)
         self.assertEqual(differing(expected, self.seen, None, {"push"}), [])
 
 

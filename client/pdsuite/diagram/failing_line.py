@@ -2,8 +2,8 @@
 
 from dataclasses import dataclass
 
-from pdsuite.imports.items import Call, Item, Packet
-from pdsuite.imports.reading import read
+from pdsuite.packetdrill.items import Call, Item, Packet
+from pdsuite.packetdrill.reader import read
 from pdsuite.programs.protocol import Cause
 
 

@@ -6,7 +6,7 @@ from dataclasses import dataclass
 from pdsuite.diagram.failing_line import FailingLine
 from pdsuite.diagram.values import Arrival, Block, Expected, Failure, Flag, Kind
 from pdsuite.diagram.values import Note, Segment, Span, Step, Strokes
-from pdsuite.imports.items import Packet
+from pdsuite.packetdrill.items import Packet
 from pdsuite.programs.trace import Event
 
 # The initial slow start threshold, as high as can be (RFC 5681, section 3.1); it says nothing.

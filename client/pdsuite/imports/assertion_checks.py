@@ -6,7 +6,7 @@ from dataclasses import dataclass
 
 from pdsuite.imports.assertions import Assertion, assertion_in
 from pdsuite.imports.packets import LEAST_SMSS, smss_of
-from pdsuite.imports.reading import read
+from pdsuite.packetdrill.reader import read
 from pdsuite.programs.trace import Event, events_in
 
 _LINE = re.compile(r"^.*$", re.MULTILINE)

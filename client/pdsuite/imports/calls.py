@@ -2,7 +2,7 @@
 
 import re
 
-from pdsuite.imports.items import Call
+from pdsuite.packetdrill.items import Call
 
 _WHOLE = re.compile(r"[0-9]+")
 _SWITCH = re.compile(r"\[ ?0*[01] ?\]")

@@ -7,13 +7,13 @@ from dataclasses import dataclass
 from pdsuite.imports.assertions import asserted, comment
 from pdsuite.imports.calls import is_buffer, written
 from pdsuite.imports.findings import Finding, Heading, Reason
-from pdsuite.imports.items import Call, Code, Command, HeaderOption, Item, Packet, Time
 from pdsuite.imports.packets import Sending, as_sent, count_of_pieces, moments_of, smss_of, writes_of
 from pdsuite.imports.profile import is_place, tolerance_of, unrun
-from pdsuite.imports.reading import read
 from pdsuite.imports.rewrite import Rewrite, kept, rewritten
 from pdsuite.imports.setup import RUN, Load, Looked, Place, look_at, setup_of
-from pdsuite.imports.tokens import line_of
+from pdsuite.packetdrill.items import Call, Code, Command, HeaderOption, Item, Packet, Time
+from pdsuite.packetdrill.reader import read
+from pdsuite.packetdrill.tokens import line_of
 from pdsuite.scripts.defaults import DEFAULTS
 from pdsuite.scripts.settings import Settings, Value, settings_of
 from pdsuite.scripts.text import LINES, Unfit, text_of

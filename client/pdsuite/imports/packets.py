@@ -4,7 +4,7 @@ from collections.abc import Iterable, Sequence
 from dataclasses import dataclass, replace
 
 from pdsuite.imports.calls import written
-from pdsuite.imports.items import Call, Item, Packet
+from pdsuite.packetdrill.items import Call, Item, Packet
 
 NO_MSS = 536
 # The least MSS of a peer that the sender takes (docs/SENDER.md).

@@ -5,8 +5,8 @@ from collections.abc import Iterable, Iterator, Sequence
 
 from pdsuite.imports.calls import about, is_buffer, is_run, written
 from pdsuite.imports.findings import Reason
-from pdsuite.imports.items import SECOND, Call, HeaderOption, Item, Packet, Time
 from pdsuite.imports.packets import LEAST_SMSS, peer_mss
+from pdsuite.packetdrill.items import SECOND, Call, HeaderOption, Item, Packet, Time
 
 MOST_TOLERANCE = 1_000_000
 _LATEST = 3_600 * SECOND

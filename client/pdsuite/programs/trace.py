@@ -4,8 +4,8 @@ import re
 from collections.abc import Mapping
 from dataclasses import dataclass
 
-from pdsuite.imports.items import SECOND, Call, Packet
-from pdsuite.imports.reading import read
+from pdsuite.packetdrill.items import SECOND, Call, Packet
+from pdsuite.packetdrill.reader import read
 
 _STATE = re.compile(r"^//= at ([0-9]+)\.([0-9]{6}) ([A-Z0-9-]+)((?: [A-Za-z]+:[A-Za-z0-9.]+)+)$", re.MULTILINE)
 

@@ -5,9 +5,9 @@ from pathlib import Path
 
 import pytest
 
-from pdsuite.imports.items import Call, Code, Command, HeaderOption, Packet, TcpOption, Time
-from pdsuite.imports.reading import read
-from pdsuite.imports.tokens import Kind, Unread, tokens_of
+from pdsuite.packetdrill.items import Call, Code, Command, HeaderOption, Packet, TcpOption, Time
+from pdsuite.packetdrill.reader import read
+from pdsuite.packetdrill.tokens import Kind, Unread, tokens_of
 
 TOKENS = [
     ("0 12 0x1F 0xg a_1", "number number hexadecimal word word"),
@@ -73,7 +73,7 @@ def test_a_call_has_its_arguments_and_its_result() -> None:
     text = "0...0.2 f(3, {a = [(1), 2], b=...}, [1], /* c */ O_A|O_B ) = -1 EAGAIN (Try (again))\n+0 g() = 0x10 (g)"
     first, second = read(text).items
     assert first.is_blocking
-    assert first.what == Call("f", ("3", "{a = [(1), 2], b=...}", "[1]", "O_A|O_B"), -1)
+    assert first.what == Call("f", ("3", "{a = [(1), 2], b=...}", "[1]", "O_A|O_B"), -1, "EAGAIN")
     assert second.what == Call("g", (), 16)
 
 

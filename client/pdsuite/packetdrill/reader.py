@@ -4,8 +4,8 @@ import re
 from collections.abc import Sequence
 from dataclasses import dataclass
 
-from pdsuite.imports.items import SECOND, Call, Code, Command, HeaderOption, Item, Packet, TcpOption, Time
-from pdsuite.imports.tokens import Kind, Token, Unread, line_of, tokens_of
+from pdsuite.packetdrill.items import SECOND, Call, Code, Command, HeaderOption, Item, Packet, TcpOption, Time
+from pdsuite.packetdrill.tokens import Kind, Token, Unread, line_of, tokens_of
 
 MOST_NUMBER = (1 << 32) - 1
 MOST_PAIRS = 16
@@ -225,11 +225,11 @@ class _Reader:
         self._expect("(")
         arguments = self._arguments()
         self._expect("=")
-        result = self._result()
+        result, error = self._result()
         if self._takes("("):
             self._balanced(MOST_PAIRS - 1, parted=False)
             self._expect(")")
-        return Call(token.text, arguments, result)
+        return Call(token.text, arguments, result, error)
 
     def _arguments(self) -> tuple[str, ...]:
         if self._takes(")"):
@@ -267,13 +267,16 @@ class _Reader:
             if not closing or closing.pop() != token.text:
                 raise self._unread(token)
 
-    def _result(self) -> int:
+    def _result(self) -> tuple[int, str | None]:
+        """A result, and where it is negative the error that it may be told with."""
         if not self._takes("-"):
-            return self._int(also=Kind.HEX)
+            return self._int(also=Kind.HEX), None
         number = self._int()
-        if self._peek().kind is Kind.WORD:
-            self._at += 1
-        return -number
+        error = self._peek()
+        if error.kind is not Kind.WORD:
+            return -number, None
+        self._at += 1
+        return -number, error.text
 
     # ---- tokens
 

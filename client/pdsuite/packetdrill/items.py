@@ -52,6 +52,11 @@ class Packet:
     def length(self) -> int:
         return self.end - self.start
 
+    @property
+    def takes_any_options(self) -> bool:
+        """Whether its options stand for any: `<...>`."""
+        return "..." in self.options_text
+
     def __str__(self) -> str:
         """The packet as a script has it."""
         arrow = "<" if self.is_inbound else ">"
@@ -64,11 +69,12 @@ class Packet:
 
 @dataclass(frozen=True, slots=True)
 class Call:
-    """A system call: its name, its arguments as they are written, and its result."""
+    """A system call: its name, its arguments as they are written, its result, and the error that is named with it."""
 
     name: str
     arguments: tuple[str, ...]
     result: int
+    error: str | None = None
 
 
 @dataclass(frozen=True, slots=True)
