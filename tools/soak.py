@@ -1,4 +1,4 @@
-"""Runs programs on random input of several kinds and says how they fared; tools/soak.sh calls it."""
+"""Runs the program on random input of several kinds and says how it fared; tools/soak.sh calls it."""
 
 import json
 import os
@@ -228,15 +228,15 @@ def run_beside(program, text, figures):
     return None
 
 
-def run_explaining(program, explain, text, figures):
-    """One stream with each of both programs; what the one that explains says otherwise, if something."""
+def run_explaining(program, text, figures):
+    """One stream without and with reasons; what the second says otherwise, if something."""
     plain = subprocess.run([program], input=text, capture_output=True, timeout=SECONDS)
     with open("/dev/full", "wb") as full:
-        unheard = subprocess.run([explain], input=text, stdout=subprocess.PIPE, stderr=full, timeout=SECONDS)
+        unheard = subprocess.run([program, "--explain"], input=text, stdout=subprocess.PIPE, stderr=full, timeout=SECONDS)
     if (unheard.returncode, unheard.stdout) != (plain.returncode, plain.stdout):
         return "another report or status where nobody hears"
     for words in ([], ["--only", "a"], ["--json"]):
-        ended = timed([explain, *words], text, figures)
+        ended = timed([program, "--explain", *words], text, figures)
         if ended is None:
             return "no end within %d s with %s" % (SECONDS, words)
         if figures.last_kib > MOST_KIB:
@@ -295,12 +295,12 @@ def soak_beside(program, rounds, seed):
     return wrong
 
 
-def soak_explaining(program, explain, rounds, seed):
+def soak_explaining(program, rounds, seed):
     """Streams that are explained; prints a line and gives how many were wrong."""
     figures, wrong = Figures(), 0
     for number in range(seed, seed + rounds):
         dice = random.Random(f"explaining {number}")
-        for fault in filter(None, (run_explaining(program, explain, stream(dice), figures) for _ in range(STREAMS))):
+        for fault in filter(None, (run_explaining(program, stream(dice), figures) for _ in range(STREAMS))):
             wrong += 1
             print(f"explaining, seed {number}: {fault}")
     print(
@@ -323,7 +323,7 @@ def fault_of(status, said, told, kib):
 
 
 def main():
-    program, explain, rounds, seed = sys.argv[1], sys.argv[2], int(sys.argv[3]), int(sys.argv[4])
+    program, rounds, seed = sys.argv[1], int(sys.argv[2]), int(sys.argv[3])
     wrong = 0
     for kind, make in KINDS.items():
         figures = Figures()
@@ -336,7 +336,7 @@ def main():
         ends = ", ".join(f"{count} with status {status}" for status, count in sorted(figures.ends.items()))
         print(f"{kind}: {figures.runs} runs, {ends}; {figures.seconds:.2f} s at most, {figures.kib} KiB at most")
     wrong += soak_beside(program, rounds, seed)
-    wrong += soak_explaining(program, explain, rounds, seed)
+    wrong += soak_explaining(program, rounds, seed)
     print(f"{wrong} wrong, bound {MOST_KIB} KiB and {SECONDS} s a run")
     sys.exit(1 if wrong else 0)
 

@@ -1,5 +1,5 @@
 #!/usr/bin/env python3
-"""Tells the built programs the tables of cases in crates/pd_cases/data; `cases.py --help` says how."""
+"""Tells the built program the tables of cases in crates/pd_cases/data; `cases.py --help` says how."""
 import sys
 
 from cases.main import main

@@ -22,7 +22,7 @@ from cases.tables import Unread, all_tables
 from recordings import check, chosen_scripts
 from runs import TRIALS, runs, stories
 
-PROGRAMS = ("pdregress", "pdsteps", "pdexplain", "pdrecord")
+PROGRAMS = ("pdregress", "pdrecord")
 # As the gate takes them: each eighth of the scripts of the tables and of so many random ones.
 EVERY = 8
 RANDOM = 2_000

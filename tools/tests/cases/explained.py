@@ -1,14 +1,14 @@
-"""Tables of what the program that explains says of scripts: by which rule they stop, and where they are refused."""
+"""Tables of how scripts are explained: by which rule they stop, and where they are refused."""
 
 import json
 from collections.abc import Mapping
 from dataclasses import replace
 
 from asking import Asking, Call
-from cases.programs import EXPLAINS, Script, Tally, batches, input_of
+from cases.programs import RUNS, Script, Tally, batches, input_of
 from cases.tables import Table, Unread, octets, reading
 
-
+EXPLAINING = (b"--explain", b"--json")
 Explained = list[tuple[Script, str, Mapping[str, object]]]
 
 
@@ -16,7 +16,7 @@ def explain(scripts: list[Script]) -> Asking[Explained]:
     """Each script with its verdict, and with its block or an empty one."""
     told = list(batches(scripts))
     found: Explained = []
-    for batch, said in zip(told, (yield [Call(EXPLAINS, (b"--json",), input_of(batch)) for batch in told])):
+    for batch, said in zip(told, (yield [Call(RUNS, EXPLAINING, input_of(batch)) for batch in told])):
         assert said is not None
         rows = dict(row.split(" ", 1) for row in said.output.decode().splitlines()[:-1])
         objects = [json.loads(line) for line in said.errors.split(b"\n") if line.startswith(b"{")]

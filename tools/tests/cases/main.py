@@ -1,4 +1,4 @@
-"""Tells the built programs the tables of cases in crates/pd_cases/data, and compares what they say with what is wanted.
+"""Tells the built program the tables of cases in crates/pd_cases/data, and compares what they say with what is wanted.
 
 How a row of each kind is written stands in README.md there. Scripts that are compared by their verdicts alone are told
 many in a run, and where the run says something else, each in one of its own. Prints a line for each table with its rows
@@ -12,7 +12,7 @@ from pathlib import Path
 from answering import ask_built
 from asking import Asking, Outcome, run
 from cases.explained import beginnings, explained
-from cases.programs import EXPLAINS, RUNS, Tally
+from cases.programs import RUNS, Tally
 from cases.runs import bad_commands, bad_words, ends, settings, stories
 from cases.tables import Table, Unread, all_tables
 from cases.verdicts import cuts, places, scripts
@@ -52,9 +52,8 @@ def main(words: list[str]) -> int:
     parser = argparse.ArgumentParser(description=__doc__, formatter_class=argparse.RawDescriptionHelpFormatter)
     parser.add_argument("--data", type=Path, default=DATA, metavar="FOLDER", help="the folder of the files of cases")
     parser.add_argument("pdregress", type=Path, help="the path of the built pdregress")
-    parser.add_argument("pdexplain", type=Path, help="the path of the built pdexplain")
     chosen = parser.parse_args(words)
-    ask = ask_built({RUNS: [chosen.pdregress], EXPLAINS: [chosen.pdexplain]})
+    ask = ask_built({RUNS: [chosen.pdregress]})
     passed = failed = 0
     tallies: list[Tally] = []
     try:

@@ -1,4 +1,4 @@
-"""What the programs are told, what they are to say, and where they say something else."""
+"""What the program is told, what it is to say, and where it says something else."""
 
 from collections.abc import Iterator, Mapping
 from dataclasses import dataclass, field, replace
@@ -10,12 +10,11 @@ CLASSES = ("pass", "fail", "syntax", "unsupported", "limit", "pending")
 MAX_SCRIPTS = 500
 MAX_SHOWN = 300
 RUNS = "pdregress"
-EXPLAINS = "pdexplain"
 
 
 @dataclass(frozen=True)
 class Run:
-    """What a program is told, and what it is to say."""
+    """What the program is told, and what it is to say."""
 
     row: Row
     words: tuple[bytes, ...]

@@ -1,6 +1,6 @@
-# A tree of crates that stand on each other, four programs among them, with ./prove and what starts the programs, and an `rt`
+# A tree of crates that stand on each other, two programs among them, with ./prove and what starts the programs, and an `rt`
 # that stands in. It is read by the tests that need it.
-programs='pdregress pdsteps pdexplain pdrecord'
+programs='pdregress pdrecord'
 build=$work/build
 export NOTES="$work/notes" XDG_CACHE_HOME="$work/cache"
 

@@ -2,7 +2,7 @@
 
 # Each program says the same line of words that can't be read.
 test_words() {
-    for program in pdregress pdsteps pdexplain pdrecord; do
+    for program in pdregress pdrecord; do
         expect "$program-words-that-are-no-text" "$(printf "! pdregress: the arguments can't be read as text\nstatus 2")" "$("$top/tools/built.sh" "$program")" "$(printf '\377')"
     done
 }

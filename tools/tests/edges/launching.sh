@@ -1,4 +1,4 @@
-# Tests of the four programs by their names in a tree: proved, unproved, half built, edited, and where nothing can be run; with
+# Tests of the two programs by their names in a tree: proved, unproved, half built, edited, and where nothing can be run; with
 # words, pipes, closed streams and signals.
 . "$top/tools/tests/edges/crates.sh"
 
@@ -167,8 +167,8 @@ test_proved() {
     quietly_proved pdregress
     rm "$NOTES/edit"
     expect edited-while-it-was-proved "$(launched "pdregress a")" launch pdregress a
-    chmod -x "$build/crates/pdsteps/out/pdsteps"
-    expect half-built "$(launched "pdsteps a")" launch pdsteps a
+    chmod -x "$build/crates/pdrecord/out/pdrecord"
+    expect half-built "$(launched "pdrecord a")" launch pdrecord a
 }
 
 many() { # what is answered to cases: `try_cases.py` WORD..
@@ -193,16 +193,16 @@ many_of_another_tree() { # PROGRAM
 }
 
 test_cases() {
-    expect cases "$(printf '%s\n' 'a.errors: said' 'a.output: pdsteps x y octets=2' 'a.status: 0' 'b.errors: ' 'b.output: ' 'b.status: 3' \
-        'c.errors: said' 'c.output: pdsteps  octets=2' 'c.status: 0' 'd.errors: ' 'd.output: ' "d.status: TooSlow: the program didn't end within 7 seconds"; echo status 0)" many --seconds 7 pdsteps
-    expect cases-with-words-before-their-own "$(printf '%s\n' 'a.output: pdsteps one x y octets=2' 'c.output: pdsteps one octets=2'; echo status 0)" many_with_a_word pdsteps
+    expect cases "$(printf '%s\n' 'a.errors: said' 'a.output: pdrecord x y octets=2' 'a.status: 0' 'b.errors: ' 'b.output: ' 'b.status: 3' \
+        'c.errors: said' 'c.output: pdrecord  octets=2' 'c.status: 0' 'd.errors: ' 'd.output: ' "d.status: TooSlow: the program didn't end within 7 seconds"; echo status 0)" many --seconds 7 pdrecord
+    expect cases-with-words-before-their-own "$(printf '%s\n' 'a.output: pdrecord one x y octets=2' 'c.output: pdrecord one octets=2'; echo status 0)" many_with_a_word pdrecord
     mkdir "$work/other"
     cp -R "$build/tools" "$work/other"
-    expect cases-of-another-tree "$(printf '%s\n' 'a.output: pdsteps x y octets=2' 'c.output: pdsteps  octets=2'; echo status 0)" many_of_another_tree pdsteps
+    expect cases-of-another-tree "$(printf '%s\n' 'a.output: pdrecord x y octets=2' 'c.output: pdrecord  octets=2'; echo status 0)" many_of_another_tree pdrecord
     echo wrong >>"$build/crates/low/src/lib.rt"
-    expect cases-of-what-does-not-compile "$(printf '! %s\n' "pdsteps: unproved: NotCompiled: the program doesn't compile" "$build/crates/pdsteps/src/lib.rt:1:2: error[mismatched-types]: wrong"; echo status 2)" many pdsteps
+    expect cases-of-what-does-not-compile "$(printf '! %s\n' "pdrecord: unproved: NotCompiled: the program doesn't compile" "$build/crates/pdrecord/src/lib.rt:1:2: error[mismatched-types]: wrong"; echo status 2)" many pdrecord
     sed -i /wrong/d "$build/crates/low/src/lib.rt"
-    expect cases-where-the-tool-stops "$(printf '! %s\n' 'pdsteps: unproved: ToolFailed: `rt try` ended with status 2'; echo status 2)" env STOPS=1 sh -c "PATH='$top/tools/tests/edges/stand_in:$PATH' python3 -B '$build/tools/try_cases.py' pdsteps '$work/cases' '$work/answers'"
+    expect cases-where-the-tool-stops "$(printf '! %s\n' 'pdrecord: unproved: ToolFailed: `rt try` ended with status 2'; echo status 2)" env STOPS=1 sh -c "PATH='$top/tools/tests/edges/stand_in:$PATH' python3 -B '$build/tools/try_cases.py' pdrecord '$work/cases' '$work/answers'"
 }
 
 test_unproved

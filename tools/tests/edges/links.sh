@@ -1,11 +1,11 @@
 # Tests of the programs called through links, in a copy whose programs say their names.
-# A copy of the four names, whose programs are newer than their sources and say which they are.
+# A copy of the two names, whose programs are newer than their sources and say which they are.
 make_tree() {
     mkdir -p "$work/tree/tools" "$work/bin" "$work/far/tree"
     cp "$top/pdregress" "$work/tree/pdregress"
     cp "$top/tools/built.sh" "$top/tools/crates_below.sh" "$work/tree/tools"
-    printf '%s:\n' pdregress pdsteps pdexplain pdrecord >"$work/tree/crates.txt"
-    for program in pdregress pdsteps pdexplain pdrecord; do
+    printf '%s:\n' pdregress pdrecord >"$work/tree/crates.txt"
+    for program in pdregress pdrecord; do
         [ "$program" = pdregress ] || ln -s pdregress "$work/tree/$program"
         mkdir -p "$work/tree/crates/$program/src" "$work/tree/crates/$program/out"
         echo 'fn main() {}' >"$work/tree/crates/$program/src/main.rt"
@@ -16,27 +16,25 @@ make_tree() {
 
 test_links() {
     make_tree
-    for program in pdregress pdsteps pdexplain pdrecord; do
+    for program in pdregress pdrecord; do
         ln -s "$work/tree/$program" "$work/bin/$program"
     done
-    ln -s ../tree/pdsteps "$work/bin/relative"
+    ln -s ../tree/pdrecord "$work/bin/relative"
     ln -s relative "$work/bin/twice"
     ln -s ../tree/pdregress "$work/bin/runner"
     ln -s "$work/bin" "$work/far/away"
     for folder in /tmp "$work/bin" "$work/far"; do
-        for program in pdregress pdsteps pdexplain pdrecord; do
+        for program in pdregress pdrecord; do
             expect "$program-by-link-from-${folder##*/}" "$(printf '%s a b\nstatus 0' "$program")" in_folder "$folder" env PATH="$work/bin:$PATH" "$program" a b
         done
     done
     expect own-names "$(printf 'pdregress \nstatus 0')" in_folder "$work/tree" ./pdregress
-    expect own-link "$(printf 'pdsteps \nstatus 0')" in_folder "$work/tree" ./pdsteps
-    expect another-own-link "$(printf 'pdexplain \nstatus 0')" in_folder "$work/tree" ./pdexplain
-    expect recorders-own-link "$(printf 'pdrecord \nstatus 0')" in_folder "$work/tree" ./pdrecord
-    expect relative-link "$(printf 'pdsteps \nstatus 0')" in_folder "$work/bin" ./relative
-    expect link-to-a-link "$(printf 'pdsteps \nstatus 0')" in_folder "$work" bin/twice
+    expect own-link "$(printf 'pdrecord \nstatus 0')" in_folder "$work/tree" ./pdrecord
+    expect relative-link "$(printf 'pdrecord \nstatus 0')" in_folder "$work/bin" ./relative
+    expect link-to-a-link "$(printf 'pdrecord \nstatus 0')" in_folder "$work" bin/twice
     expect link-of-another-name "$(printf 'pdregress \nstatus 0')" in_folder "$work/far" ../bin/runner
-    expect folder-that-is-a-link "$(printf 'pdsteps \nstatus 0')" in_folder "$work/far" away/relative
-    expect relative-path "$(printf 'pdsteps \nstatus 0')" in_folder "$work" env PATH="far/away:$PATH" pdsteps
+    expect folder-that-is-a-link "$(printf 'pdrecord \nstatus 0')" in_folder "$work/far" away/relative
+    expect relative-path "$(printf 'pdrecord \nstatus 0')" in_folder "$work" env PATH="far/away:$PATH" pdrecord
     expect folders-to-search "$(printf 'pdregress \nstatus 0')" in_folder "$work" env CDPATH="$work/far:/" tree/pdregress
 }
 

@@ -66,7 +66,7 @@ test_lanes() {
     expect two-lanes "$(printf 'prove: %s\n' 'proved and built: pdregress'; printf 'prove: proving %s\n' high left low pdregress right; echo status 0)" begun --lanes 2 pdregress
     expect both-lanes-are-used "$(kept high left low; echo pdregress/out/build.log; printf 'pdregress/out/%s\n' incremental pdregress pdregress.sums rlib; kept right; printf '2\nstatus 0')" proved
     expect nothing-is-left "$(printf '! prove: proved and built: pdregress\nstatus 0')" prove pdregress
-    expect all-programs "$(printf 'prove: %s\n' 'proved and built: pdregress, pdsteps, pdexplain, pdrecord'; printf 'prove: proving %s\n' high left low pdexplain pdrecord pdsteps right; echo status 0)" begun
+    expect all-programs "$(printf 'prove: %s\n' 'proved and built: pdregress, pdrecord'; printf 'prove: proving %s\n' high left low pdrecord right; echo status 0)" begun
     expect no-such-program "$(printf 'prove: error: there is no program low\nstatus 2')" refused_words low
     expect no-such-word "$(printf 'prove: error: unrecognized arguments: --quick\nstatus 2')" refused_words --quick
     anew
