@@ -1,12 +1,10 @@
 #!/bin/sh
-# Measures what explaining costs: the instructions of pdexplain for generated scripts that transfer data, over those of
-# pdregress for the same. Where all scripts fail at their last event they may be 3 times as many, where none fails 1.02
-# times; the status tells whether they are no more. Needs valgrind.
+# Measures what explaining costs: the instructions of pdregress with --explain for generated scripts that transfer data, over
+# those without that word. Where all scripts fail at their last event they may be 3 times as many, where none fails 1.02 times;
+# the status tells whether they are no more. Needs valgrind.
 #
-#   bench/explain.sh [SCRIPTS]      1,000 scripts of 60 events if nothing is said. EXPLAIN names another build of pdexplain
+#   bench/explain.sh [SCRIPTS]      1,000 scripts of 60 events if nothing is said
 . "$(dirname "$0")/program.sh"
-explain=${EXPLAIN:-$top/crates/pdexplain/out/pdexplain}
-[ -n "${EXPLAIN:-}" ] || "$top/prove" pdexplain
 scripts=${1:-1000}
 
 # The same scripts with another end: the last acknowledgment once more, a write, and another packet than the one it sends.
@@ -24,7 +22,7 @@ fail_last() {
 
 compare() { # WHAT INPUT MOST
     plain=$(instructions "$2")
-    explained=$(program=$explain && instructions "$2")
+    explained=$(instructions "$2" --explain)
     awk -v what="$1" -v plain="$plain" -v explained="$explained" -v most="$3" 'BEGIN {
         printf "%s: %.0f instructions, %.0f to explain: %.3f times, at most %s\n", what, plain, explained, explained / plain, most
         exit explained > most * plain

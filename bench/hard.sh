@@ -1,15 +1,13 @@
 #!/bin/sh
-# Measures how the time of pdregress, pdexplain and pdrecord grows with scripts that are made to be hard to read, to explain or
-# to lay out: strings, comments, code and notes full of what could open, close or answer, and 65,536 octets of each kind of
-# token. Prints for each the milliseconds at 16,384, 32,768 and 65,536 octets. No program may take more than 2 seconds, and one
-# that takes more than 50 ms at the greatest size no more than 6 times as long as at a quarter of it. The status tells whether
-# that is so. EXPLAIN and RECORD name other builds of pdexplain and pdrecord.
+# Measures how the time of pdregress, without and with --explain, and of pdrecord grows with scripts that are made to be hard
+# to read, to explain or to lay out: strings, comments, code and notes full of what could open, close or answer, and 65,536
+# octets of each kind of token. Prints for each the milliseconds at 16,384, 32,768 and 65,536 octets. No program may take more
+# than 2 seconds, and one that takes more than 50 ms at the greatest size no more than 6 times as long as at a quarter of it.
+# The status tells whether that is so. RECORD names another build of pdrecord.
 #
 #   bench/hard.sh [KIND..]      the kinds of scripts that are named, all if nothing is said
 . "$(dirname "$0")/program.sh"
-explain=${EXPLAIN:-$top/crates/pdexplain/out/pdexplain}
 record=${RECORD:-$top/crates/pdrecord/out/pdrecord}
-[ -n "${EXPLAIN:-}" ] || "$top/pdexplain" </dev/null >/dev/null
 [ -n "${RECORD:-}" ] || "$top/pdrecord" </dev/null >/dev/null
 
 # The name of each kind; what its script begins with, what is repeated, and what it ends with, between `|`. In these `\n` ends a
@@ -95,16 +93,30 @@ script() { # BEFORE|PART|AFTER OCTETS
     ' "$1" | sed '$ { /^$/d }'
 }
 
-milliseconds() { # the least of three runs of a program
+milliseconds() { # the least of three runs: the input, and a program with its words
+    input=$1
+    shift
     least=
     for run in 1 2 3; do
         begin=$(date +%s%N)
-        timeout 60 "$1" <"$2" >/dev/null 2>&1 || [ $? -le 2 ] || echo "bench/hard.sh: $1 came to no end" >&2
+        timeout 60 "$@" <"$input" >/dev/null 2>&1 || [ $? -le 2 ] || echo "bench/hard.sh: $* came to no end" >&2
         took=$((($(date +%s%N) - begin) / 1000000))
         [ -n "$least" ] && [ "$least" -le "$took" ] || least=$took
         [ "$took" -lt 1000 ] || break
     done
     echo "$least"
+}
+
+measure() { # WHAT, the ending of the inputs, and a program with its words
+    what=$1
+    ending=$2
+    shift 2
+    quarter=$(milliseconds "$work/16384$ending" "$@")
+    half=$(milliseconds "$work/32768$ending" "$@")
+    whole=$(milliseconds "$work/65536$ending" "$@")
+    echo "$kind $what $quarter $half $whole"
+    [ "$whole" -le 2000 ] || bad=1
+    [ "$whole" -le 50 ] || [ "$whole" -le $((6 * quarter)) ] || bad=1
 }
 
 bad=0
@@ -116,18 +128,8 @@ while IFS= read -r line; do
         script "${line#*|}" "$octets" >"$work/$octets.pkt"
         { echo "add hard $(wc -l <"$work/$octets.pkt")" && cat "$work/$octets.pkt"; } >"$work/$octets"
     done
-    for name in pdregress pdexplain pdrecord; do
-        case $name in
-            pdregress) run=$program input= ;;
-            pdexplain) run=$explain input= ;;
-            pdrecord) run=$record input=.pkt ;;
-        esac
-        quarter=$(milliseconds "$run" "$work/16384$input")
-        half=$(milliseconds "$run" "$work/32768$input")
-        whole=$(milliseconds "$run" "$work/65536$input")
-        echo "$kind $name $quarter $half $whole"
-        [ "$whole" -le 2000 ] || bad=1
-        [ "$whole" -le 50 ] || [ "$whole" -le $((6 * quarter)) ] || bad=1
-    done
+    measure run '' "$program"
+    measure explain '' "$program" --explain
+    measure record .pkt "$record"
 done <"$work/kinds"
 exit $bad

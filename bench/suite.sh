@@ -7,7 +7,7 @@
 # time over 50,000 scripts of which each tenth fails with that failure expected, beside the time without: 1.1 times is the most.
 #
 #   bench/suite.sh [SCRIPTS [EVENTS]]      100,000 scripts of 20 events if nothing is said. PDSUITE_PROGRAMS names the folder
-#                                          of another build, or PROGRAM that of pdregress and EXPLAIN that of pdexplain
+#                                          of another build, or PROGRAM that of pdregress
 #   bench/suite.sh watch [SAVES]
 #   bench/suite.sh idle [SECONDS [SCRIPTS]]
 #   bench/suite.sh known [SCRIPTS [EVENTS]]
@@ -16,7 +16,6 @@
 #   bench/suite.sh all [SCRIPTS [EVENTS]]       the first, and then the cluster over the same scripts
 if [ -n "${PDSUITE_PROGRAMS:-}" ]; then
     PROGRAM=${PROGRAM:-$PDSUITE_PROGRAMS/pdregress}
-    EXPLAIN=${EXPLAIN:-$PDSUITE_PROGRAMS/pdexplain}
 fi
 . "$(dirname "$0")/program.sh"
 mode=run
@@ -42,11 +41,8 @@ case ${1:-} in
 esac
 scripts=${1:-100000}
 events=${2:-20}
-explain=${EXPLAIN:-$top/crates/pdexplain/out/pdexplain}
-[ -n "${EXPLAIN:-}" ] || "$top/prove" pdexplain
 mkdir "$work/programs"
 ln -s "$(realpath "$program")" "$work/programs/pdregress"
-ln -s "$(realpath "$explain")" "$work/programs/pdexplain"
 export PDSUITE_PROGRAMS="$work/programs" XDG_CACHE_HOME="$work/cache"
 
 # A file for each script, 1,000 to a folder.
