@@ -6,9 +6,8 @@ ghost use Rattle.pd_cli.specs.Blocks.{is_looked_into};
 
 use crate::listening::Listener;
 use crate::rendering::Class;
-use pd_blocks::{block_json, block_text};
 use pd_book::Done;
-use pd_explain::explain;
+use pd_explain::{block_json, block_text, explain};
 use pd_text::Name;
 use pd_words::say;
 use std::alloc::{AllocError, Global};

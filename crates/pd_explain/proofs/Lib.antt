@@ -1,2 +1,8 @@
--- Lemmas on explanations.
+-- Lemmas on rules, reasons, what is shown, explanations, and the lines of a block.
+pub mod RuleLemmas
+pub mod ShownLemmas
+pub mod InputLemmas
+pub mod PastedLemmas
+pub mod WindowLemmas
 pub mod StopIsThere
+pub mod BlockLemmas

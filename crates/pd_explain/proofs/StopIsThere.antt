@@ -17,8 +17,8 @@ use Rattle.pd_run.specs.declared.stops.Stopped.{Stopped}
 use Rattle.pd_run.specs.declared.verdicts.Verdict.{Verdict}
 use Rattle.pd_run.specs.declared.verdicts.Verdict.TheVariants as verdict
 use Rattle.pd_run.specs.declared.whys.Why.{Why}
-use Rattle.pd_causes.specs.Causes.{IsCauseOf}
-use Rattle.pd_causes.specs.declared.causes.Cause.{Cause}
+use Rattle.pd_explain.specs.Causes.{IsCauseOf}
+use Rattle.pd_explain.specs.declared.causes.Cause.{Cause}
 use Rattle.pd_explain.specs.Explained.{row_line, not_run, StopsAt, IsCauseIn, IsCause}
 
 -- where a stop is found among so many events after n others

@@ -11,10 +11,10 @@ use Rattle.pd_run.specs.Why.{verdict_at}
 use Rattle.pd_run.specs.declared.stops.Stopped.{Stopped}
 use Rattle.pd_run.specs.declared.verdicts.Verdict.{Verdict}
 use Rattle.pd_run.specs.declared.verdicts.Verdict.TheVariants as verdict
-use Rattle.pd_causes.specs.Causes.{IsCauseOf}
-use Rattle.pd_causes.specs.Rules.{header_rule}
-use Rattle.pd_causes.specs.declared.causes.Cause.{Cause}
-use Rattle.pd_causes.specs.declared.causes.Cause.TheVariants as cause
+use Rattle.pd_explain.specs.Causes.{IsCauseOf}
+use Rattle.pd_explain.specs.Rules.{header_rule}
+use Rattle.pd_explain.specs.declared.causes.Cause.{Cause}
+use Rattle.pd_explain.specs.declared.causes.Cause.TheVariants as cause
 
 -- the line of a row that isn't a pass
 abbrev pub row_line : Verdict → Option ℕ

@@ -5,8 +5,10 @@ ghost use Rattle.pd_run.specs.Stops.{line_of};
 ghost use Rattle.pd_script.specs.Script.{script_of};
 ghost use Rattle.pd_explain.specs.Explained.{row_line, not_run, IsCauseIn, IsCause};
 
+use crate::causes::{Cause, cause_at};
 use crate::explanations::Explanation;
-use pd_causes::{Cause, cause_at, find_refusal, header_rule};
+use crate::refusals::find_refusal;
+use crate::rules::header_rule;
 use pd_run::{Verdict, find_stop, verdicts_have_reasons};
 use pd_script::{Header, HeaderItem, HeaderKind, parse};
 use pd_settings::Settings;

@@ -1,5 +1,5 @@
 //! What is told of a row that isn't `pass`.
-use pd_causes::Cause;
+use crate::causes::Cause;
 use pd_run::Verdict;
 
 /// Why a row isn't `pass`.

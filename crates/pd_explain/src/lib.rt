@@ -1,8 +1,27 @@
-//! Why a script's row isn't `pass`: the run is looked into where it stopped.
+//! Why a script's row isn't `pass`, in words.
+//!
+//! `explain` looks into the run where it stopped, or into the text where the grammar refuses it. `causes`, `refusals` and
+//! `rules` find what is wrong; `blocks` writes it as lines and as a JSON object.
 #![tactic(auto)]
 
+mod blocks;
+mod causes;
+mod event_ends;
 mod explaining;
 mod explanations;
+mod refusals;
+mod rules;
+mod shown;
+mod shown_laws;
 
+pub use blocks::{block_json, block_text, cause_text, write_standing};
+pub use causes::{
+    Awaited, Cause, Comparison, Failed, Failure, Reason, Reply, Setback, Standing, Untaken, Wait,
+    actual_packets_pass, cause_at, named_windows_hold,
+};
 pub use explaining::explain;
 pub use explanations::Explanation;
+pub use refusals::{Refusal, find_refusal};
+pub use rules::{Input, Number, Rule, Shape, event_rule, header_rule, rules_are_lawful};
+pub use shown::{as_shown, cut_around, cut_line, put_shown};
+pub use shown_laws::shown_is_printable;

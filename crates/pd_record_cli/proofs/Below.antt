@@ -1,6 +1,6 @@
 -- What is said below the line of a refusal.
 use Rattle.std.proofs.Common.{◌≡◌, ℕ, List, [], ◌++◌, refl}
-use Rattle.pd_blocks.specs.Lines.{AreIndented}
+use Rattle.pd_explain.specs.BlockLines.{AreIndented}
 use Rattle.pd_record.specs.declared.refusals.NotRecorded.{NotRecorded}
 use Rattle.pd_record.specs.declared.refusals.NotRecorded.TheVariants as unrecorded
 use Rattle.pd_record_cli.specs.RecordProgram.{Explains, IsRefused, Tells, refusal_line}

@@ -8,7 +8,7 @@ use Rattle.pd_record.specs.Recording.{recording_of}
 use Rattle.pd_record.specs.Answered.{IsRecording, Refuses}
 use Rattle.pd_record.specs.declared.refusals.NotRecorded.{NotRecorded}
 use Rattle.pd_record.specs.declared.refusals.NotRecorded.TheVariants as unrecorded
-use Rattle.pd_blocks.specs.Lines.{AreIndented}
+use Rattle.pd_explain.specs.BlockLines.{AreIndented}
 use Rattle.pd_words.specs.SettingsText.{settings_in}
 use Rattle.pd_words.specs.Said.{Says}
 use Rattle.pd_words.specs.ProgramFaults.{fault_line}

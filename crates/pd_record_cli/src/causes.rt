@@ -1,6 +1,5 @@
 //! Why recording a script stops, as the cause that a block tells.
-use pd_causes::{Cause, Failed, cause_at};
-use pd_explain::explain;
+use pd_explain::{Cause, Failed, cause_at, explain};
 use pd_host::Halt;
 use pd_record::{RecordingStop, find_recording_stop};
 use pd_run::{Stopped, Verdict, Why, run_all};

@@ -1,12 +1,12 @@
 //! What comes of a script.
 ghost use Rattle.std.specs.Prelude.{◌≡◌, ℕ, List, IfOk, IfErr, codes};
-ghost use Rattle.pd_blocks.specs.Lines.{AreIndented};
+ghost use Rattle.pd_explain.specs.BlockLines.{AreIndented};
 ghost use Rattle.pd_words.specs.Verdicts.{verdict_text};
 ghost use Rattle.pd_record_cli.specs.RecordProgram.{Explains, Tells, IsRefused, IsStop, at_line, refusal_line};
 
 use crate::causes::cause_of;
 use crate::script_input::ScriptInput;
-use pd_blocks::cause_text;
+use pd_explain::cause_text;
 use pd_record::NotRecorded;
 use pd_run::Verdict;
 use pd_settings::Settings;

@@ -6,7 +6,7 @@ ghost use Rattle.pd_record_cli.specs.Written.{IsWritten};
 ghost use Rattle.pd_record_cli.specs.Inner.{GoesOn};
 
 use crate::script_input::is_dropped;
-use pd_blocks::write_standing;
+use pd_explain::write_standing;
 use pd_print::write_moment;
 use pd_record::{Mark, Recording};
 use pd_words::ServeFault;
@@ -94,7 +94,7 @@ fn add_line(out: &mut Vec<u8>, line: &[u8]) -> Result<(), AllocError>
 
 /// The line of an event in a trace.
 fn trace_line(alloc: Global, mark: &Mark) -> Result<Vec<u8>, AllocError> {
-    let standing = pd_causes::Standing {
+    let standing = pd_explain::Standing {
         state: mark.standing.state,
         figures: mark.standing.figures,
         expiry: mark.standing.expiry,

@@ -1,6 +1,0 @@
--- Lines so far.
-use Rattle.pd_blocks.specs.Inner.{AddsLines}
-use Rattle.pd_blocks.proofs.text_blocks.put_untaken.Given as goal
-
-abbrev pub invariant-loop-packet : goal.invariant-loop-packet
-invariant-loop-packet l = AddsLines l.initial.out.items l.out.items

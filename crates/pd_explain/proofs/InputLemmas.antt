@@ -1,0 +1,50 @@
+-- The rule that is given for what a sender doesn't run is right of it.
+use Rattle.std.proofs.Common.{◌≡◌, ◌==◌, Bool, true, false, not, ◌&&◌, ◌||◌, if◌then◌else◌, Some, None, is_some, nat_lt, refl, sym, ap, ◌∙◌, true≢false}
+use Rattle.pd_seg.specs.declared.segments.Segment.{Segment}
+use Rattle.pd_host.specs.Arrivals.{is_stray_fin}
+use Rattle.pd_host.specs.ControlBlock.{ControlBlock}
+use Rattle.pd_host.specs.Handshake.{is_listening, is_syn_alone, is_mss_run, length_of, offered_mss}
+use Rattle.pd_host.specs.declared.listeners.Listener.{Listener}
+use Rattle.pd_explain.specs.Rules.{HoldsOfFirst, OpeningsHaveRules, is_closed_by, HoldsOn, ContentsHaveRules}
+use Rattle.pd_explain.specs.declared.rules.inputs.Input.TheVariants.{NotListening, NotSyn, SmallMss, Payload, SecondSyn, StrayFin, AfterReset, AfterFins}
+
+-- a first segment, by its tests
+opening : (l : Listener) (s : Segment) (listens alone at_start empty large : Bool)
+    → is_listening l ≡ listens
+    → is_syn_alone s.flags ≡ alone
+    → (s.start == 0) ≡ at_start
+    → (length_of s == 0) ≡ empty
+    → is_mss_run (offered_mss s.options) ≡ large
+    → (listens && (alone && (at_start && (empty && large)))) ≡ false
+    → HoldsOfFirst l s (if not listens then NotListening else (if alone && (at_start && empty) then SmallMss else NotSyn))
+opening l s false a b c m hl ha hb hc hm e = hl
+opening l s true false b c m hl ha hb hc hm e = ap (λ v. v && ((s.start == 0) && (length_of s == 0))) ha
+opening l s true true false c m hl ha hb hc hm e =
+    ap (λ v. v && ((s.start == 0) && (length_of s == 0))) ha ∙ ap (λ v. v && (length_of s == 0)) hb
+opening l s true true true false m hl ha hb hc hm e =
+    ap (λ v. v && ((s.start == 0) && (length_of s == 0))) ha ∙ ap (λ v. v && (length_of s == 0)) hb ∙ hc
+opening l s true true true true m hl ha hb hc hm e = hm ∙ e
+
+pub openings_have_rules : OpeningsHaveRules
+openings_have_rules l s e =
+    opening l s (is_listening l) (is_syn_alone s.flags) (s.start == 0) (length_of s == 0) (is_mss_run (offered_mss s.options)) refl refl refl refl refl e
+
+-- a segment on a connection, by its tests
+contents : {X : Type 0} (x : X) (c : ControlBlock) (s : Segment) (filled syn stray closed reset : Bool)
+    → nat_lt 0 (length_of s) ≡ filled
+    → s.flags.syn ≡ syn
+    → is_stray_fin c s ≡ stray
+    → is_closed_by c ≡ closed
+    → c.reset ≡ reset
+    → is_some (if filled || (syn || (stray || closed)) then Some x else None) ≡ true
+    → HoldsOn c s (if filled then Payload else (if syn then SecondSyn else (if not closed then StrayFin else (if reset then AfterReset else AfterFins))))
+contents x c s true syn stray closed reset hd hs ht hc hr e = hd
+contents x c s false true stray closed reset hd hs ht hc hr e = hs
+contents x c s false false stray true true hd hs ht hc hr e = hr
+contents x c s false false stray true false hd hs ht hc hr e = (hc, hr)
+contents x c s false false true false reset hd hs ht hc hr e = ht
+contents x c s false false false false reset hd hs ht hc hr e = absurd (true≢false (sym e))
+
+pub contents_have_rules : ContentsHaveRules
+contents_have_rules c s e =
+    contents _ c s (nat_lt 0 (length_of s)) s.flags.syn (is_stray_fin c s) (is_closed_by c) c.reset refl refl refl refl refl e

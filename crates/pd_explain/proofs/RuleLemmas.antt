@@ -1,0 +1,118 @@
+-- A rule is named exactly where one applies.
+use Rattle.std.proofs.Common.{◌≡◌, length, Bool, true, false, not, ◌&&◌, ◌||◌, if◌then◌else◌, List, [], ◌∷◌, Option, Some, None, is_some, is_none, nat_lt, refl, ap, ◌∙◌, ℕ}
+use Rattle.std.specs.List.{list_any}
+use Rattle.std.specs.Option.{option_or}
+use Rattle.pd_script.specs.declared.packets.Options.{Options}
+use Rattle.pd_script.specs.declared.packets.Options.TheVariants.{Absent, Any, Listed}
+use Rattle.pd_script.specs.declared.packets.Packet.{Packet}
+use Rattle.pd_script.specs.declared.packets.PacketOption.{PacketOption}
+use Rattle.pd_script.specs.declared.packets.PacketOption.TheVariants.{Mss, Wscale, SackOk, Nop, Eol, Timestamp, Sack}
+use Rattle.pd_script.specs.declared.script_events.Action.{Action}
+use Rattle.pd_script.specs.declared.script_events.Action.TheVariants as action
+use Rattle.pd_script.specs.declared.timing.Time.{Time}
+use Rattle.pd_script.specs.declared.timing.Until.{Until}
+use Rattle.pd_host.specs.Requests.{request_of}
+use Rattle.pd_host.specs.declared.requests.Request.{Request}
+use Rattle.pd_run.specs.Limits.{is_high, is_some_over, is_block_over, is_option_over, are_options_over, is_packet_over, is_action_over}
+use Rattle.pd_run.specs.Shapes.{is_action_run}
+use Rattle.pd_run.specs.Times.{is_single}
+use Rattle.pd_explain.specs.Rules.{limit_of, where_so, above, some_above, is_some_long, option_over, first_option_over, options_over, packet_over, action_over, LimitsHaveNumbers, is_known, call_shape, packet_shape, action_shape, ShapesHaveRules}
+use Rattle.pd_explain.specs.declared.rules.numbers.Number.{Number}
+use Rattle.pd_explain.specs.declared.rules.numbers.Number.TheVariants as number
+use Rattle.pd_explain.specs.declared.rules.shapes.Shape.{Shape}
+use Rattle.pd_explain.specs.declared.rules.shapes.Shape.TheVariants as shape
+
+where_it_is : (b : Bool) (n : Number) → is_some (where_so b n) ≡ b
+where_it_is true n = refl
+where_it_is false n = refl
+
+one_of : (a b : Option Number) → is_some (option_or a b) ≡ (is_some a || is_some b)
+one_of None b = refl
+one_of (Some n) b = refl
+
+-- two tests, the first before the second
+both : (a b : Option Number) (x y : Bool) → is_some a ≡ x → is_some b ≡ y → is_some (option_or a b) ≡ (x || y)
+both a b x y h k = one_of a b ∙ ap (λ v. v || is_some b) h ∙ ap (λ v. x || v) k
+
+before : (b : Bool) (n : Number) (o : Option Number) (x : Bool) → is_some o ≡ x → is_some (if b then Some n else o) ≡ (b || x)
+before true n o x h = refl
+before false n o x h = h
+
+written : (n : Number) (most : ℕ) (value : Option ℕ) → limit_of n ≡ most → is_some (some_above n value) ≡ is_some_over most value
+written n most None h = refl
+written n most (Some v) h = where_it_is (nat_lt (limit_of n) v) n ∙ ap (λ m. nat_lt m v) h
+
+of_option : (o : PacketOption) → is_some (option_over o) ≡ is_option_over o
+of_option (Mss v) = where_it_is (nat_lt 65535 v) number.Mss
+of_option (Wscale v) = where_it_is (nat_lt 255 v) number.Shift
+of_option SackOk = refl
+of_option Nop = refl
+of_option Eol = refl
+of_option (Timestamp v e) = refl
+of_option (Sack blocks) =
+    both (above number.Blocks (length blocks)) (where_so (list_any is_block_over blocks) number.Edge) (nat_lt 4 (length blocks)) (list_any is_block_over blocks)
+    (where_it_is (nat_lt 4 (length blocks)) number.Blocks) (where_it_is (list_any is_block_over blocks) number.Edge)
+
+of_list : (os : List PacketOption) → is_some (first_option_over os) ≡ list_any is_option_over os
+of_list [] = refl
+of_list (o ∷ os) = both (option_over o) (first_option_over os) (is_option_over o) (list_any is_option_over os) (of_option o) (of_list os)
+
+of_options : (os : Options) → is_some (options_over os) ≡ are_options_over os
+of_options Absent = refl
+of_options Any = refl
+of_options (Listed os) =
+    both (above number.Options (length os)) (first_option_over os) (nat_lt 16 (length os)) (list_any is_option_over os)
+    (where_it_is (nat_lt 16 (length os)) number.Options) (of_list os)
+
+of_packet : (p : Packet) → is_some (packet_over p) ≡ is_packet_over p
+of_packet p =
+    both (option_or (option_or (option_or (above number.Start p.start) (above number.End p.end)) (some_above number.Ack p.ack)) (some_above number.Window p.win))
+    (options_over p.options)
+    (is_high p.start || is_high p.end || is_some_over 2147483647 p.ack || is_some_over 65535 p.win) (are_options_over p.options)
+    (both (option_or (option_or (above number.Start p.start) (above number.End p.end)) (some_above number.Ack p.ack)) (some_above number.Window p.win)
+    (is_high p.start || is_high p.end || is_some_over 2147483647 p.ack) (is_some_over 65535 p.win)
+    (both (option_or (above number.Start p.start) (above number.End p.end)) (some_above number.Ack p.ack)
+    (is_high p.start || is_high p.end) (is_some_over 2147483647 p.ack)
+    (both (above number.Start p.start) (above number.End p.end) (is_high p.start) (is_high p.end)
+    (where_it_is (is_high p.start) number.Start) (where_it_is (is_high p.end) number.End))
+    (written number.Ack 2147483647 p.ack refl))
+    (written number.Window 65535 p.win refl))
+    (of_options p.options)
+
+of_action : (a : Action) → is_some (action_over a) ≡ is_action_over a
+of_action (action.Inbound p) = of_packet p
+of_action (action.Outbound p) = of_packet p
+of_action (action.Call call) = where_it_is (is_action_over (action.Call call)) number.Write
+of_action action.Command = refl
+of_action action.Code = refl
+
+pub limits_have_numbers : LimitsHaveNumbers
+limits_have_numbers e =
+    before (is_some_long e.time e.until) number.Time (action_over e.action) (is_action_over e.action) (of_action e.action)
+
+unsingle : (s : Bool) (r : Shape) (o : Option Shape) (x : Bool) → is_some o ≡ not x → is_some (if not s then Some r else o) ≡ not (s && x)
+unsingle true r o x h = h
+unsingle false r o x h = refl
+
+flagged : (b : Bool) → is_some (if b then Some shape.Flag else None) ≡ not (not b)
+flagged true = refl
+flagged false = refl
+
+unrun : (r : Option Request) (known : Bool) → is_some (if is_some r then None else Some (if known then shape.CallShape else shape.CallName)) ≡ not (is_some r)
+unrun None known = refl
+unrun (Some r) known = refl
+
+shaped : (time : Time) (a : Action) → is_some (action_shape time a) ≡ not (is_action_run time a)
+shaped time (action.Inbound p) = unsingle (is_single time) shape.InboundTime (packet_shape p) (not p.flags.other) (flagged p.flags.other)
+shaped time (action.Outbound p) = flagged p.flags.other
+shaped time (action.Call call) =
+    unsingle (is_single time) shape.CallTime (call_shape call) (is_some (request_of call)) (unrun (request_of call) (is_known call.function))
+shaped time action.Command = refl
+shaped time action.Code = refl
+
+blocked : (until : Option Until) (o : Option Shape) (x : Bool) → is_some o ≡ not x → is_some (if is_some until then Some shape.Blocking else o) ≡ not (is_none until && x)
+blocked None o x h = h
+blocked (Some u) o x h = refl
+
+pub shapes_have_rules : ShapesHaveRules
+shapes_have_rules e = blocked e.until (action_shape e.time e.action) (is_action_run e.time e.action) (shaped e.time e.action)

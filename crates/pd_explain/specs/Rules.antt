@@ -1,0 +1,246 @@
+-- Which rule stops a script with `limit` or `unsupported`: the first that applies, in the order in which the step and the
+-- sender look.
+use Rattle.std.specs.Prelude.{◌≡◌, ℕ, ◌==◌, nat_lt, not, Bool, true, false, ◌&&◌, ◌||◌, List, [], ◌∷◌, length, Option, Some, None, is_some, if◌then◌else◌}
+use Rattle.std.specs.List.{list_any}
+use Rattle.std.specs.Option.{option_or}
+use Rattle.pd_script.specs.declared.calls.Call.{Call}
+use Rattle.pd_script.specs.declared.calls.Function.{Function}
+use Rattle.pd_script.specs.declared.calls.Function.TheVariants as function
+use Rattle.pd_script.specs.declared.packets.Options.{Options}
+use Rattle.pd_script.specs.declared.packets.Options.TheVariants.{Listed}
+use Rattle.pd_script.specs.declared.packets.Packet.{Packet}
+use Rattle.pd_script.specs.declared.packets.PacketOption.{PacketOption}
+use Rattle.pd_script.specs.declared.packets.PacketOption.TheVariants.{Mss, Wscale, Sack}
+use Rattle.pd_script.specs.declared.script_events.Action.{Action}
+use Rattle.pd_script.specs.declared.script_events.Action.TheVariants as action
+use Rattle.pd_script.specs.declared.script_events.Event.{Event}
+use Rattle.pd_script.specs.declared.script_header.HeaderKind.{HeaderKind}
+use Rattle.pd_script.specs.declared.script_header.HeaderKind.TheVariants as header
+use Rattle.pd_script.specs.declared.timing.Time.{Time}
+use Rattle.pd_script.specs.declared.timing.Until.{Until}
+use Rattle.pd_seg.specs.declared.segments.Segment.{Segment}
+use Rattle.pd_host.specs.ConnStates.{state_of, is_closed}
+use Rattle.pd_host.specs.Arrivals.{is_stray_fin, check_contents}
+use Rattle.pd_host.specs.ControlBlock.{ControlBlock}
+use Rattle.pd_host.specs.Handshake.{is_listening, is_syn_alone, is_mss_run, is_opening, length_of, offered_mss}
+use Rattle.pd_host.specs.Requests.{request_of}
+use Rattle.pd_host.specs.declared.halts.Halt.TheVariants as halt
+use Rattle.pd_host.specs.declared.listeners.Listener.{Listener}
+use Rattle.pd_host.specs.declared.sender_state.State.{State}
+use Rattle.pd_run.specs.Inbound.{segment_in}
+use Rattle.pd_run.specs.Limits.{written_times, written_until, is_long, is_block_over, is_action_over, is_over_limit}
+use Rattle.pd_run.specs.Shapes.{is_run}
+use Rattle.pd_run.specs.Times.{is_single}
+use Rattle.pd_run.specs.declared.stops.Stopped.{Stopped}
+use Rattle.pd_run.specs.declared.whys.Why.{Why}
+use Rattle.pd_run.specs.declared.whys.Why.TheVariants.{Halted}
+use Rattle.pd_explain.specs.declared.rules.Rule.{Rule}
+use Rattle.pd_explain.specs.declared.rules.Rule.TheVariants.{Over, NotRun, NotTaken}
+use Rattle.pd_explain.specs.declared.rules.inputs.Input.{Input}
+use Rattle.pd_explain.specs.declared.rules.inputs.Input.TheVariants.{SecondSocket, ListenerClose, NotListening, NotSyn, SmallMss, Payload, SecondSyn, StrayFin, AfterReset, AfterFins}
+use Rattle.pd_explain.specs.declared.rules.numbers.Number.{Number}
+use Rattle.pd_explain.specs.declared.rules.numbers.Number.TheVariants as number
+use Rattle.pd_explain.specs.declared.rules.shapes.Shape.{Shape}
+use Rattle.pd_explain.specs.declared.rules.shapes.Shape.TheVariants as shape
+
+-- of a header item that isn't run
+abbrev pub header_rule : HeaderKind → Rule
+header_rule header.Command = NotRun shape.HeaderCommand
+header_rule _ = NotRun shape.HeaderOption
+
+-- Numbers over their limits
+
+-- the limit of a number; of a time in seconds
+abbrev pub limit_of : Number → ℕ
+limit_of number.Time = 3600
+limit_of number.Start = 2147483647
+limit_of number.End = 2147483647
+limit_of number.Ack = 2147483647
+limit_of number.Window = 65535
+limit_of number.Options = 16
+limit_of number.Mss = 65535
+limit_of number.Shift = 255
+limit_of number.Blocks = 4
+limit_of number.Edge = 2147483647
+limit_of number.Write = 262144
+limit_of number.Outbox = 1024
+
+-- a number, where a test holds of it
+abbrev pub where_so : Bool → Number → Option Number
+where_so b n = if b then Some n else None
+
+-- a number that is above its limit
+abbrev pub above : Number → ℕ → Option Number
+above n value = where_so (nat_lt (limit_of n) value) n
+
+-- the same of one that is written
+abbrev pub some_above : Number → Option ℕ → Option Number
+some_above n None = None
+some_above n (Some value) = above n value
+
+-- some written time of an event is over its limit
+abbrev pub is_some_long : Time → Option Until → Bool
+is_some_long time until = list_any is_long (written_times time) || list_any is_long (written_until until)
+
+-- of an option: its value, the number of its blocks, or an edge of one
+abbrev pub option_over : PacketOption → Option Number
+option_over (Mss octets) = above number.Mss octets
+option_over (Wscale count) = above number.Shift count
+option_over (Sack blocks) = option_or (above number.Blocks (length blocks)) (where_so (list_any is_block_over blocks) number.Edge)
+option_over _ = None
+
+-- of the first option that has one
+abbrev pub first_option_over : List PacketOption → Option Number
+first_option_over [] = None
+first_option_over (option ∷ options) = option_or (option_over option) (first_option_over options)
+
+-- of a packet's options: how many they are, before each in order
+abbrev pub options_over : Options → Option Number
+options_over (Listed options) = option_or (above number.Options (length options)) (first_option_over options)
+options_over _ = None
+
+-- of a packet
+abbrev pub packet_over : Packet → Option Number
+packet_over p =
+    option_or (option_or (option_or (option_or (above number.Start p.start)
+    (above number.End p.end))
+    (some_above number.Ack p.ack))
+    (some_above number.Window p.win))
+    (options_over p.options)
+
+-- of an action
+abbrev pub action_over : Action → Option Number
+action_over (action.Inbound p) = packet_over p
+action_over (action.Outbound p) = packet_over p
+action_over (action.Call call) = where_so (is_action_over (action.Call call)) number.Write
+action_over _ = None
+
+-- the first number of an event that is over its limit
+abbrev pub number_over : Event → Option Number
+number_over e = if is_some_long e.time e.until then Some number.Time else action_over e.action
+
+-- a law: there is such a number exactly where one is over its limit
+abbrev pub LimitsHaveNumbers : Type 0
+LimitsHaveNumbers = (e : Event) → is_some (number_over e) ≡ is_over_limit e
+
+-- Shapes that aren't run
+
+-- the name of the call is one that is run
+abbrev pub is_known : Function → Bool
+is_known function.Unknown = false
+is_known _ = true
+
+-- of a call
+abbrev pub call_shape : Call → Option Shape
+call_shape call =
+    if is_some (request_of call) then None
+    else Some (if is_known call.function then shape.CallShape else shape.CallName)
+
+-- of a packet
+abbrev pub packet_shape : Packet → Option Shape
+packet_shape p = if p.flags.other then Some shape.Flag else None
+
+-- of an action at a time
+abbrev pub action_shape : Time → Action → Option Shape
+action_shape time (action.Inbound p) = if not (is_single time) then Some shape.InboundTime else packet_shape p
+action_shape time (action.Outbound p) = packet_shape p
+action_shape time (action.Call call) = if not (is_single time) then Some shape.CallTime else call_shape call
+action_shape time action.Command = Some shape.Command
+action_shape time action.Code = Some shape.Code
+
+-- the first rule by which an event isn't run, whatever the sender's state
+abbrev pub shape_rule : Event → Option Shape
+shape_rule e = if is_some e.until then Some shape.Blocking else action_shape e.time e.action
+
+-- a law: there is such a rule exactly where an event isn't run
+abbrev pub ShapesHaveRules : Type 0
+ShapesHaveRules = (e : Event) → is_some (shape_rule e) ≡ not (is_run e)
+
+-- What a sender that halts doesn't run in its state
+
+-- exactly a SYN: no other flag, start 0, no data
+abbrev pub is_exactly_syn : Segment → Bool
+is_exactly_syn segment = is_syn_alone segment.flags && (segment.start == 0 && length_of segment == 0)
+
+-- of a first segment
+abbrev pub opening_rule : Listener → Segment → Input
+opening_rule listener segment =
+    if not (is_listening listener) then NotListening
+    else (if is_exactly_syn segment then SmallMss else NotSyn)
+
+-- a rule that names a first segment is right of it
+abbrev pub HoldsOfFirst : Listener → Segment → Input → Type 0
+HoldsOfFirst listener _ NotListening = is_listening listener ≡ false
+HoldsOfFirst _ segment NotSyn = is_exactly_syn segment ≡ false
+HoldsOfFirst _ segment SmallMss = is_mss_run (offered_mss segment.options) ≡ false
+HoldsOfFirst _ _ _ = ⊥
+
+-- a law: so is the one that is given for a first segment that begins no connection
+abbrev pub OpeningsHaveRules : Type 0
+OpeningsHaveRules =
+    (listener : Listener) (segment : Segment)
+    → is_opening listener segment ≡ false
+    → HoldsOfFirst listener segment (opening_rule listener segment)
+
+-- a connection is closed
+abbrev pub is_closed_by : ControlBlock → Bool
+is_closed_by c = is_closed (state_of c)
+
+-- of a segment on a connection: where it has neither data nor a SYN, and the connection goes on, its FIN is out of place
+abbrev pub contents_rule : ControlBlock → Segment → Input
+contents_rule c segment =
+    if nat_lt 0 (length_of segment) then Payload
+    else (if segment.flags.syn then SecondSyn
+    else (if not (is_closed_by c) then StrayFin
+    else (if c.reset then AfterReset else AfterFins)))
+
+-- a rule that names a segment on a connection is right of it
+abbrev pub HoldsOn : ControlBlock → Segment → Input → Type 0
+HoldsOn _ segment Payload = nat_lt 0 (length_of segment) ≡ true
+HoldsOn _ segment SecondSyn = segment.flags.syn ≡ true
+HoldsOn c segment StrayFin = is_stray_fin c segment ≡ true
+HoldsOn c _ AfterReset = c.reset ≡ true
+HoldsOn c _ AfterFins = (is_closed_by c ≡ true) × (c.reset ≡ false)
+HoldsOn _ _ _ = ⊥
+
+-- a law: so is the one that is given for a segment whose contents aren't run
+abbrev pub ContentsHaveRules : Type 0
+ContentsHaveRules =
+    (c : ControlBlock) (segment : Segment)
+    → is_some (check_contents c segment) ≡ true
+    → HoldsOn c segment (contents_rule c segment)
+
+-- of a segment, by whether a connection was begun
+abbrev pub arrival_rule : State → Segment → Input
+arrival_rule s segment = by s.endpoint.connection
+  where
+    by : Option ControlBlock → Input
+    by None = opening_rule s.endpoint.listener segment
+    by (Some c) = contents_rule c segment
+
+-- of a call: the others answer
+abbrev pub refused_call : Function → Input
+refused_call function.Socket = SecondSocket
+refused_call _ = ListenerClose
+
+-- of an action
+abbrev pub input_rule : Action → State → Option Input
+input_rule (action.Inbound p) s = Some (arrival_rule s (segment_in p))
+input_rule (action.Call call) s = Some (refused_call call.function)
+input_rule _ s = None
+
+-- All of them
+
+-- by what the sender halted; an outbox that is full is the only other reason
+abbrev pub halt_rule : Why → Option Input → Rule
+halt_rule (Halted halt.Unsupported) (Some input) = NotTaken input
+halt_rule _ _ = Over number.Outbox
+
+-- of an event that stops a run
+abbrev pub event_rule : Event → Stopped → Rule
+event_rule e stop = by (number_over e) (shape_rule e)
+  where
+    by : Option Number → Option Shape → Rule
+    by (Some n) _ = Over n
+    by None (Some s) = NotRun s
+    by None None = halt_rule stop.why (input_rule e.action stop.before.host.state)

@@ -1,0 +1,8 @@
+//! Explanations in words: as lines, and as JSON objects.
+mod facts;
+mod headings;
+mod json_blocks;
+mod text_blocks;
+
+pub use self::json_blocks::block_json;
+pub use self::text_blocks::{block_text, cause_text, write_standing};

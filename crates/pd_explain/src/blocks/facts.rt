@@ -1,0 +1,253 @@
+//! The facts of an explanation, each with its name in text and in JSON.
+ghost use Rattle.std.specs.Prelude.{◌≡◌};
+ghost use Rattle.pd_explain.specs.States.{state_word};
+
+use crate::causes::{Awaited, Cause, Comparison, Failed, Reply, Setback, Standing, Wait};
+use crate::rules::Rule;
+use pd_host::{ConnState, Figures, Recovery, Windows};
+use std::alloc::{AllocError, Global};
+
+/// A fact that is told.
+#[derive(Clone, Copy)]
+pub struct Fact<'a> {
+    /// Its name in text; one without a name stands only in JSON.
+    pub label: &'static str,
+    /// Its key in JSON.
+    pub key: &'static str,
+    /// What is told.
+    pub value: Told<'a>,
+}
+
+/// What is told.
+#[derive(Clone, Copy)]
+pub enum Told<'a> {
+    /// Octets, as a script has them.
+    Octets(&'a [u8]),
+    /// Words of this program.
+    Words(&'static str),
+    /// Microseconds; in text they are seconds.
+    Moment(u64),
+    /// A number.
+    Number(u64),
+    /// Nothing, in words; in JSON null.
+    Nothing(&'static str),
+}
+
+use Told::{Moment, Nothing, Number, Octets, Words};
+
+/// Facts in the order in which they are told.
+pub type Facts<'a> = Vec<Fact<'a>>;
+
+/// A fact with its name in text and its key in JSON.
+pub fn named<'a>(label: &'static str, key: &'static str, value: Told<'a>) -> Fact<'a> {
+    Fact { label, key, value }
+}
+
+/// A number of a sender.
+fn figure<'a>(label: &'static str, key: &'static str, number: u32) -> Fact<'a> {
+    named(label, key, Number(u64::from(number)))
+}
+
+/// What is told of a cause, but for a refusal of the grammar.
+///
+/// # Errors
+/// `AllocError` where a growth is refused.
+pub fn facts_of<'a>(alloc: Global, cause: &'a Cause) -> Result<Facts<'a>, AllocError> {
+    let mut facts = Vec::new(alloc);
+    match cause {
+        Cause::Syntax(_) => {}
+        Cause::Rule(rule) => put_rule(&mut facts, *rule)?,
+        Cause::Failed(failure) => put_failed(&mut facts, &failure.failed)?,
+    }
+    Ok(facts)
+}
+
+fn put_failed<'a>(facts: &mut Facts<'a>, failed: &'a Failed) -> Result<(), AllocError> {
+    match failed {
+        Failed::Packet(packets) => put_packets(facts, packets),
+        Failed::Missing(wait) => put_wait(facts, wait),
+        Failed::Result(reply) => put_reply(facts, reply),
+        Failed::Backwards(setback) => put_setback(facts, setback),
+    }
+}
+
+fn put_rule<'a>(facts: &mut Facts<'a>, rule: Rule) -> Result<(), AllocError> {
+    facts.extend_from_slice(&[
+        named("rule", "rule_words", Words(rule.words())),
+        named("", "rule", Words(rule.key())),
+    ])?;
+    match rule.limit() {
+        None => Ok(()),
+        Some(limit) => facts.extend_from_slice(&[named("limit", "limit", Number(limit))]),
+    }
+}
+
+fn put_packets<'a>(facts: &mut Facts<'a>, packets: &'a Comparison) -> Result<(), AllocError> {
+    facts.extend_from_slice(&[
+        named("script packet", "script_packet", Octets(&packets.script)),
+        named("actual packet", "actual_packet", Octets(&packets.actual)),
+        named("", "sent_us", Moment(packets.at)),
+    ])?;
+    match packets.awaited {
+        None => Ok(()),
+        Some(awaited) => put_distance(facts, awaited, packets.at),
+    }
+}
+
+/// Adds when a packet was awaited, and how long before that it was sent. None is sent too late: the clock is never further past
+/// the base than the tolerance, and no expiry is performed that comes later than the event's last moment and the tolerance.
+fn put_distance<'a>(facts: &mut Facts<'a>, awaited: Awaited, at: u64) -> Result<(), AllocError> {
+    put_awaited(facts, awaited)?;
+    let early = awaited.first.saturating_sub(at);
+    facts.extend_from_slice(&[named("early by", "early_us", Moment(early))])
+}
+
+fn put_awaited<'a>(facts: &mut Facts<'a>, awaited: Awaited) -> Result<(), AllocError> {
+    facts.extend_from_slice(&[
+        named("awaited from", "awaited_from_us", Moment(awaited.first)),
+        named("awaited until", "awaited_until_us", Moment(awaited.last)),
+        named("tolerance", "tolerance_us", Moment(awaited.tolerance)),
+    ])
+}
+
+fn put_wait<'a>(facts: &mut Facts<'a>, wait: &'a Wait) -> Result<(), AllocError> {
+    facts.extend_from_slice(&[named("script packet", "script_packet", Octets(&wait.script))])?;
+    match wait.awaited {
+        None => facts.extend_from_slice(&[named(
+            "awaited until",
+            "awaited_until_us",
+            Nothing("any time"),
+        )])?,
+        Some(awaited) => put_awaited(facts, awaited)?,
+    }
+    facts.extend_from_slice(&[
+        named(
+            "timer expires",
+            "timer_us",
+            at_or(wait.expiry, "never, it doesn't run"),
+        ),
+        named("reason", "reason_words", Octets(&wait.words)),
+        named("", "reason", Words(wait.reason.key())),
+    ])
+}
+
+fn put_reply<'a>(facts: &mut Facts<'a>, reply: &'a Reply) -> Result<(), AllocError> {
+    facts.extend_from_slice(&[
+        named("call", "call", Octets(&reply.call)),
+        named(
+            "expected result",
+            "expected_result",
+            Octets(&reply.expected),
+        ),
+        named("actual result", "actual_result", Octets(&reply.answer)),
+    ])
+}
+
+fn put_setback<'a>(facts: &mut Facts<'a>, setback: &'a Setback) -> Result<(), AllocError> {
+    facts.extend_from_slice(&[
+        named("event", "event", Octets(&setback.event)),
+        named("its moment", "moment_us", Moment(setback.moment)),
+        named("lies before", "before_us", Moment(setback.base)),
+    ])
+}
+
+/// A moment, or nothing in these words.
+fn at_or<'a>(moment: Option<u64>, nothing: &'static str) -> Told<'a> {
+    match moment {
+        Some(moment) => Moment(moment),
+        None => Nothing(nothing),
+    }
+}
+
+/// How a sender stands, but for the name of its state.
+///
+/// # Errors
+/// `AllocError` where a growth is refused.
+pub fn facts_of_sender<'a>(alloc: Global, standing: &Standing) -> Result<Facts<'a>, AllocError> {
+    let mut facts = Vec::new(alloc);
+    put_sender(&mut facts, standing)?;
+    Ok(facts)
+}
+
+fn put_sender<'a>(facts: &mut Facts<'a>, standing: &Standing) -> Result<(), AllocError> {
+    let Some(figures) = standing.figures else {
+        return facts.extend_from_slice(&[named("connection", "connection", Words("none"))]);
+    };
+    if figures.reset {
+        facts.extend_from_slice(&[named("connection", "connection", Words("reset"))])?;
+    }
+    put_octets(facts, figures)?;
+    match figures.windows {
+        None => put_timer(facts, figures, standing.expiry),
+        Some(windows) => {
+            put_acks(facts, windows)?;
+            put_timer(facts, figures, standing.expiry)?;
+            let recovery = Words(recovery_name(windows.recovery));
+            facts.extend_from_slice(&[named("recovery", "recovery", recovery)])
+        }
+    }
+}
+
+/// Adds the numbers of octets, the windows among them where there are any.
+fn put_octets<'a>(facts: &mut Facts<'a>, figures: Figures) -> Result<(), AllocError> {
+    facts.extend_from_slice(&[
+        figure("una", "una", figures.una),
+        figure("next", "next", figures.next),
+        figure("top", "top", figures.top),
+        figure("end", "end", figures.end),
+    ])?;
+    if let Some(windows) = figures.windows {
+        facts.extend_from_slice(&[
+            figure("cwnd", "cwnd", windows.cwnd),
+            figure("ssthresh", "ssthresh", windows.ssthresh),
+            figure("rwnd", "rwnd", windows.rwnd),
+        ])?;
+    }
+    let flight = figures.top.saturating_sub(figures.una);
+    facts.extend_from_slice(&[figure("FlightSize", "flight_size", flight)])
+}
+
+/// Adds what recovery counts.
+fn put_acks<'a>(facts: &mut Facts<'a>, windows: Windows) -> Result<(), AllocError> {
+    if let Recovery::WithSack(pipe) = windows.recovery {
+        facts.extend_from_slice(&[figure("pipe", "pipe", pipe)])?;
+    }
+    facts.extend_from_slice(&[figure("DupAcks", "dup_acks", windows.dup_acks)])
+}
+
+fn put_timer<'a>(
+    facts: &mut Facts<'a>,
+    figures: Figures,
+    expiry: Option<u64>,
+) -> Result<(), AllocError> {
+    facts.extend_from_slice(&[
+        named("RTO", "rto_us", Moment(figures.rto_us)),
+        named("expiry", "expiry_us", at_or(expiry, "none")),
+    ])
+}
+
+fn recovery_name(recovery: Recovery) -> &'static str {
+    match recovery {
+        Recovery::Idle => "none",
+        Recovery::WithSack(_) => "RFC6675",
+        Recovery::WithoutSack => "RFC5681",
+    }
+}
+
+/// The name of a state (RFC 9293, section 3.3.2).
+pub fn state_name(state: ConnState) -> &'static str
+    ensures { result.now ≡ state_word state }
+{
+    match state {
+        ConnState::Closed => "CLOSED",
+        ConnState::Listen => "LISTEN",
+        ConnState::SynReceived => "SYN-RECEIVED",
+        ConnState::Established => "ESTABLISHED",
+        ConnState::FinWait1 => "FIN-WAIT-1",
+        ConnState::FinWait2 => "FIN-WAIT-2",
+        ConnState::CloseWait => "CLOSE-WAIT",
+        ConnState::Closing => "CLOSING",
+        ConnState::LastAck => "LAST-ACK",
+        ConnState::TimeWait => "TIME-WAIT",
+    }
+}

@@ -1,0 +1,156 @@
+//! The block of an explanation as a JSON object.
+use crate::blocks::facts::{Fact, Told, facts_of, facts_of_sender, named, state_name};
+use crate::blocks::headings::{kind_name, verdict_name, verdict_words};
+use crate::causes::{Cause, Failure, Standing};
+use crate::explanations::Explanation;
+use crate::refusals::Refusal;
+use crate::shown::as_shown;
+use pd_run::Verdict;
+use pd_text::Name;
+use serde_json::{Map, Value, put};
+use std::alloc::{AllocError, Global};
+
+/// The members of an object.
+type Members = Map<String, Value>;
+
+/// The same as one JSON object, ended by a newline.
+///
+/// # Errors
+/// `AllocError` where a growth is refused.
+pub fn block_json(
+    alloc: Global,
+    name: &Name,
+    explanation: &Explanation,
+) -> Result<Vec<u8>, AllocError> {
+    let mut object = Map::new(alloc);
+    put_heading(alloc, &mut object, name, explanation)?;
+    put_cause(alloc, &mut object, &explanation.cause)?;
+    line_of(alloc, object)
+}
+
+/// The line of an object.
+fn line_of(alloc: Global, object: Members) -> Result<Vec<u8>, AllocError> {
+    let mut out = Value::Object(object).to_vec(alloc)?;
+    out.push(b'\n')?;
+    Ok(out)
+}
+
+/// Adds what stands in the first line of a text.
+fn put_heading(
+    alloc: Global,
+    object: &mut Members,
+    name: &Name,
+    explanation: &Explanation,
+) -> Result<(), AllocError> {
+    let verdict = explanation.verdict;
+    put_facts(
+        alloc,
+        object,
+        &[
+            named("", "name", Told::Octets(name.as_slice())),
+            named("", "line", Told::Number(explanation.line as u64)),
+            named("", "verdict", Told::Words(verdict_name(verdict))),
+            named("", "what", Told::Words(verdict_words(verdict))),
+        ],
+    )?;
+    match verdict {
+        Verdict::Fail(_, kind) => put_facts(
+            alloc,
+            object,
+            &[named("", "kind", Told::Words(kind_name(kind)))],
+        ),
+        _ => Ok(()),
+    }
+}
+
+/// Adds what is told of a cause.
+fn put_cause(alloc: Global, object: &mut Members, cause: &Cause) -> Result<(), AllocError> {
+    put_facts(alloc, object, &facts_of(alloc, cause)?)?;
+    match cause {
+        Cause::Syntax(refusal) => put_refusal(alloc, object, refusal),
+        Cause::Rule(_) => Ok(()),
+        Cause::Failed(failure) => put_failure(alloc, object, failure),
+    }
+}
+
+fn put_facts(alloc: Global, object: &mut Members, facts: &[Fact<'_>]) -> Result<(), AllocError> {
+    for fact in facts {
+        put(object, alloc, fact.key, value_of(alloc, fact.value)?)?;
+    }
+    Ok(())
+}
+
+fn value_of(alloc: Global, told: Told<'_>) -> Result<Value, AllocError> {
+    match told {
+        Told::Octets(octets) => shown(alloc, octets),
+        Told::Words(text) => Value::try_from_str(alloc, text),
+        Told::Moment(number) | Told::Number(number) => Ok(Value::from(number)),
+        Told::Nothing(_) => Ok(Value::Null),
+    }
+}
+
+/// Octets as shown, as a string.
+fn shown(alloc: Global, octets: &[u8]) -> Result<Value, AllocError> {
+    letters(alloc, &as_shown(alloc, octets)?)
+}
+
+/// Octets that are shown already, as a string.
+fn letters(alloc: Global, text: &[u8]) -> Result<Value, AllocError> {
+    let mut string = String::new(alloc);
+    for octet in text {
+        string.push(char::from(*octet))?;
+    }
+    Ok(Value::String(string))
+}
+
+/// Adds the packets that were put out and not taken, and how the sender stands.
+fn put_failure(alloc: Global, object: &mut Members, failure: &Failure) -> Result<(), AllocError> {
+    let packets = packets_of(alloc, &failure.untaken.packets)?;
+    put(object, alloc, "untaken_packets", packets)?;
+    let more = Told::Number(failure.untaken.more as u64);
+    put_facts(alloc, object, &[named("", "more_untaken_packets", more)])?;
+    put(object, alloc, "state", state_of(alloc, &failure.standing)?)
+}
+
+/// Packets as a list.
+fn packets_of(alloc: Global, packets: &[Vec<u8>]) -> Result<Value, AllocError> {
+    let mut list = Vec::new(alloc);
+    for packet in packets {
+        list.push(shown(alloc, packet)?)?;
+    }
+    Ok(Value::Array(list))
+}
+
+/// How a sender stands as an object.
+fn state_of(alloc: Global, standing: &Standing) -> Result<Value, AllocError> {
+    let mut state = Map::new(alloc);
+    let name = Told::Words(state_name(standing.state));
+    put_facts(alloc, &mut state, &[named("", "name", name)])?;
+    put_facts(alloc, &mut state, &facts_of_sender(alloc, standing)?)?;
+    Ok(Value::Object(state))
+}
+
+/// Adds the line at which no script goes on, the column of its token, and what could stand there.
+fn put_refusal(alloc: Global, object: &mut Members, refusal: &Refusal) -> Result<(), AllocError> {
+    put(object, alloc, "text", letters(alloc, &refusal.text)?)?;
+    let column = match refusal.mark {
+        Some(column) => Told::Number(column as u64),
+        None => Told::Nothing(""),
+    };
+    put_facts(alloc, object, &[named("", "column", column)])?;
+    put(
+        object,
+        alloc,
+        "expected",
+        words_of(alloc, &refusal.expected)?,
+    )
+}
+
+/// Words as a list.
+fn words_of(alloc: Global, words: &[&'static str]) -> Result<Value, AllocError> {
+    let mut list = Vec::new(alloc);
+    for each in words {
+        list.push(Value::try_from_str(alloc, each)?)?;
+    }
+    Ok(Value::Array(list))
+}

@@ -1,0 +1,275 @@
+//! The block of an explanation as lines.
+ghost use Rattle.std.specs.Prelude.{◌≡◌, true, IfOk, OnOk};
+ghost use Rattle.pd_explain.specs.Shown.{are_printable};
+ghost use Rattle.pd_explain.specs.BlockLines.{AreIndented, IsBlock};
+ghost use Rattle.pd_explain.specs.Inner.{AddsLines};
+
+use crate::blocks::facts::{Fact, Told, facts_of, facts_of_sender, state_name};
+use crate::blocks::headings::{kind_name, verdict_name, verdict_words};
+use crate::causes::{Cause, Failure, Standing, Untaken};
+use crate::explanations::Explanation;
+use crate::refusals::Refusal;
+use crate::shown::{as_shown, cut_around, cut_line};
+use crate::shown_laws::shown_is_printable;
+use pd_print::write_moment;
+use pd_run::Verdict;
+use pd_text::Name;
+use std::alloc::{AllocError, Global};
+
+/// The lines of a block, each ended by a newline: `NAME:LINE: ` and what it is, then lines indented by two spaces.
+///
+/// # Errors
+/// `AllocError` where a growth is refused.
+#[tactic(auto, using(crate::proofs::BlockLemmas::is_block))]
+pub fn block_text(
+    alloc: Global,
+    name: &Name,
+    explanation: &Explanation,
+) -> Result<Vec<u8>, AllocError>
+    ensures { IfOk result (λ block. IsBlock block.items) }
+{
+    let mut block = heading(alloc, name, explanation)?;
+    block.extend_from_slice(b"\n")?;
+    block.extend_from_slice(&cause_text(alloc, &explanation.cause)?)?;
+    Ok(block)
+}
+
+/// The lines of a block below its first one, which tell the cause.
+///
+/// # Errors
+/// `AllocError` where a growth is refused.
+#[tactic(auto, using(crate::proofs::BlockLemmas::all_added))]
+pub fn cause_text(alloc: Global, cause: &Cause) -> Result<Vec<u8>, AllocError>
+    ensures { IfOk result (λ lines. AreIndented lines.items) }
+{
+    let mut out = Vec::new(alloc);
+    put_cause(alloc, &mut out, cause)?;
+    Ok(out)
+}
+
+/// The first line.
+fn heading(alloc: Global, name: &Name, explanation: &Explanation) -> Result<Vec<u8>, AllocError>
+    ensures { IfOk result (λ line. are_printable line.items ≡ true) }
+{
+    shown_is_printable();
+    let mut line = Vec::from_slice(alloc, name.as_slice())?;
+    put_words(&mut line, ":")?;
+    put_number(alloc, &mut line, explanation.line as u64)?;
+    put_words(&mut line, ": ")?;
+    put_words(&mut line, verdict_name(explanation.verdict))?;
+    if let Verdict::Fail(_, kind) = explanation.verdict {
+        put_words(&mut line, " ")?;
+        put_words(&mut line, kind_name(kind))?;
+    }
+    put_words(&mut line, ": ")?;
+    put_words(&mut line, verdict_words(explanation.verdict))?;
+    as_shown(alloc, &line)
+}
+
+/// Adds what is told of a cause.
+#[tactic(auto, using(crate::proofs::BlockLemmas::then_lines))]
+fn put_cause(alloc: Global, out: &mut Vec<u8>, cause: &Cause) -> Result<(), AllocError>
+    ensures { OnOk result (AddsLines out.old.items out.new.items) }
+{
+    put_facts(alloc, out, &facts_of(alloc, cause)?)?;
+    match cause {
+        Cause::Syntax(refusal) => put_refusal(alloc, out, refusal),
+        Cause::Rule(_) => Ok(()),
+        Cause::Failed(failure) => put_failure(alloc, out, failure),
+    }
+}
+
+fn put_words(out: &mut Vec<u8>, words: &str) -> Result<(), AllocError> {
+    out.extend_from_slice(words.as_bytes())
+}
+
+fn put_number(alloc: Global, out: &mut Vec<u8>, number: u64) -> Result<(), AllocError> {
+    out.extend_from_slice(number.to_string(alloc)?.as_bytes())
+}
+
+/// Adds a line as it is shown, indented and cut.
+fn put_line(alloc: Global, out: &mut Vec<u8>, line: &[u8]) -> Result<(), AllocError>
+    ensures { OnOk result (AddsLines out.old.items out.new.items) }
+{
+    shown_is_printable();
+    let line = cut_line(alloc, &as_shown(alloc, line)?)?;
+    add_line(out, &line)
+}
+
+/// Adds a line that is shown and cut already, indented.
+#[tactic(auto, using(crate::proofs::BlockLemmas::one_line))]
+fn add_line(out: &mut Vec<u8>, line: &[u8]) -> Result<(), AllocError>
+    requires { are_printable line.now ≡ true }
+    ensures { OnOk result (AddsLines out.old.items out.new.items) }
+{
+    out.extend_from_slice(b"  ")?;
+    out.extend_from_slice(line)?;
+    out.extend_from_slice(b"\n")
+}
+
+/// Adds the lines of facts; one without a name in text has none.
+#[tactic(auto, using(crate::proofs::BlockLemmas::no_lines, crate::proofs::BlockLemmas::then_lines))]
+fn put_facts(alloc: Global, out: &mut Vec<u8>, facts: &[Fact<'_>]) -> Result<(), AllocError>
+    ensures { OnOk result (AddsLines out.old.items out.new.items) }
+{
+    for fact in facts {
+        if !fact.label.is_empty() {
+            put_fact(alloc, out, fact.label, fact.value)?;
+        }
+    }
+    Ok(())
+}
+
+/// Adds the line of a fact.
+fn put_fact(alloc: Global, out: &mut Vec<u8>, label: &str, told: Told<'_>) -> Result<(), AllocError>
+    ensures { OnOk result (AddsLines out.old.items out.new.items) }
+{
+    let mut line = Vec::new(alloc);
+    put_words(&mut line, label)?;
+    put_words(&mut line, ": ")?;
+    put_told(alloc, &mut line, told)?;
+    put_line(alloc, out, &line)
+}
+
+/// Adds what is told; octets as they are.
+fn put_told(alloc: Global, out: &mut Vec<u8>, told: Told<'_>) -> Result<(), AllocError> {
+    match told {
+        Told::Octets(octets) => out.extend_from_slice(octets),
+        Told::Words(words) | Told::Nothing(words) => put_words(out, words),
+        Told::Moment(moment) => out.extend_from_slice(&write_moment(alloc, moment)?),
+        Told::Number(number) => put_number(alloc, out, number),
+    }
+}
+
+/// Adds the packets that were put out and not taken, and how the sender stands.
+#[tactic(auto, using(crate::proofs::BlockLemmas::then_lines))]
+fn put_failure(alloc: Global, out: &mut Vec<u8>, failure: &Failure) -> Result<(), AllocError>
+    ensures { OnOk result (AddsLines out.old.items out.new.items) }
+{
+    put_untaken(alloc, out, &failure.untaken)?;
+    put_standing(alloc, out, &failure.standing)
+}
+
+/// Adds the packets that were put out and not taken.
+#[tactic(auto, using(crate::proofs::BlockLemmas::no_lines, crate::proofs::BlockLemmas::then_lines))]
+fn put_untaken(alloc: Global, out: &mut Vec<u8>, untaken: &Untaken) -> Result<(), AllocError>
+    ensures { OnOk result (AddsLines out.old.items out.new.items) }
+{
+    for packet in &untaken.packets {
+        put_fact(alloc, out, "untaken packet", Told::Octets(packet))?;
+    }
+    if untaken.more > 0 {
+        let more = Told::Number(untaken.more as u64);
+        put_fact(alloc, out, "more untaken packets", more)?;
+    }
+    Ok(())
+}
+
+/// Adds how the sender stands, in one line.
+fn put_standing(alloc: Global, out: &mut Vec<u8>, standing: &Standing) -> Result<(), AllocError>
+    ensures { OnOk result (AddsLines out.old.items out.new.items) }
+{
+    let mut line = Vec::new(alloc);
+    put_words(&mut line, "state: ")?;
+    put_state(alloc, &mut line, standing)?;
+    put_line(alloc, out, &line)
+}
+
+/// How a sender stands: the name of its state, and its numbers, each after its name and a colon, with a blank before each.
+///
+/// # Errors
+/// `AllocError` where a growth is refused.
+pub fn write_standing(alloc: Global, standing: &Standing) -> Result<Vec<u8>, AllocError> {
+    let mut out = Vec::new(alloc);
+    put_state(alloc, &mut out, standing)?;
+    Ok(out)
+}
+
+fn put_state(alloc: Global, out: &mut Vec<u8>, standing: &Standing) -> Result<(), AllocError> {
+    put_words(out, state_name(standing.state))?;
+    for fact in &facts_of_sender(alloc, standing)? {
+        put_figure(alloc, out, fact)?;
+    }
+    Ok(())
+}
+
+fn put_figure(alloc: Global, out: &mut Vec<u8>, fact: &Fact<'_>) -> Result<(), AllocError> {
+    put_words(out, " ")?;
+    put_words(out, fact.label)?;
+    put_words(out, ":")?;
+    put_told(alloc, out, fact.value)
+}
+
+/// Adds the line at which no script goes on, its token marked, and what could stand there.
+#[tactic(auto, using(crate::proofs::BlockLemmas::then_lines))]
+fn put_refusal(alloc: Global, out: &mut Vec<u8>, refusal: &Refusal) -> Result<(), AllocError>
+    ensures { OnOk result (AddsLines out.old.items out.new.items) }
+{
+    match refusal.mark {
+        Some(mark) => put_marked(alloc, out, &refusal.text, mark)?,
+        None => put_end(alloc, out, &refusal.text)?,
+    }
+    put_expected(alloc, out, &refusal.expected)
+}
+
+/// Adds a line, and that it is the end of the text that is refused.
+#[tactic(auto, using(crate::proofs::BlockLemmas::then_lines))]
+fn put_end(alloc: Global, out: &mut Vec<u8>, text: &[u8]) -> Result<(), AllocError>
+    ensures { OnOk result (AddsLines out.old.items out.new.items) }
+{
+    put_line(alloc, out, text)?;
+    put_line(alloc, out, b"at the end of the text")
+}
+
+/// Adds a line, and one that marks a column of it.
+#[tactic(auto, using(crate::proofs::BlockLemmas::then_lines))]
+fn put_marked(
+    alloc: Global,
+    out: &mut Vec<u8>,
+    text: &[u8],
+    column: usize,
+) -> Result<(), AllocError>
+    ensures { OnOk result (AddsLines out.old.items out.new.items) }
+{
+    let (line, column) = cut_around(alloc, text, column)?;
+    put_line(alloc, out, &line)?;
+    put_mark(alloc, out, column)
+}
+
+/// Adds a line that marks a column.
+fn put_mark(alloc: Global, out: &mut Vec<u8>, column: usize) -> Result<(), AllocError>
+    ensures { OnOk result (AddsLines out.old.items out.new.items) }
+{
+    let mut line = Vec::new(alloc);
+    line.resize(column, b' ')?;
+    line.push(b'^')?;
+    put_line(alloc, out, &line)
+}
+
+/// Adds what could stand there, as a list in a sentence.
+fn put_expected(
+    alloc: Global,
+    out: &mut Vec<u8>,
+    expected: &[&'static str],
+) -> Result<(), AllocError>
+    ensures { OnOk result (AddsLines out.old.items out.new.items) }
+{
+    let mut line = Vec::new(alloc);
+    put_words(&mut line, "expected:")?;
+    for (place, words) in expected.iter().enumerate() {
+        put_words(&mut line, before_item(place, expected.len()))?;
+        put_words(&mut line, words)?;
+    }
+    put_line(alloc, out, &line)
+}
+
+/// What stands before an item of a list of so many.
+fn before_item(place: usize, count: usize) -> &'static str {
+    if place == 0 {
+        " "
+    } else if place.saturating_add(1) == count {
+        " or "
+    } else {
+        ", "
+    }
+}

@@ -1,0 +1,85 @@
+//! Which rule makes a header item or an event `unsupported` or `limit`: the first that applies.
+ghost use Rattle.std.specs.Prelude.{◌≡◌};
+ghost use Rattle.pd_explain.specs.Rules.{header_rule, event_rule};
+
+mod inputs;
+mod laws;
+mod numbers;
+mod shapes;
+
+pub use self::inputs::Input;
+use self::inputs::input_rule;
+pub use self::laws::rules_are_lawful;
+pub use self::numbers::Number;
+use self::numbers::number_over;
+pub use self::shapes::Shape;
+use self::shapes::shape_rule;
+use pd_host::Halt;
+use pd_run::{Stopped, Why};
+use pd_script::{Event, HeaderItem, HeaderKind};
+
+/// A rule by which a script stops with `limit` or `unsupported`.
+#[derive(Clone, Copy)]
+pub enum Rule {
+    /// A number is over its limit: `limit`.
+    Over(Number),
+    /// What is written isn't run, whatever the sender's state: `unsupported`.
+    NotRun(Shape),
+    /// The sender doesn't run this in its state: `unsupported`.
+    NotTaken(Input),
+}
+
+impl Rule {
+    /// The rule in the words of the documents.
+    pub fn words(self) -> &'static str {
+        match self {
+            Rule::Over(number) => number.words(),
+            Rule::NotRun(shape) => shape.words(),
+            Rule::NotTaken(input) => input.words(),
+        }
+    }
+
+    /// The rule's name in JSON.
+    pub fn key(self) -> &'static str {
+        match self {
+            Rule::Over(number) => number.key(),
+            Rule::NotRun(shape) => shape.key(),
+            Rule::NotTaken(input) => input.key(),
+        }
+    }
+
+    /// The limit that a number is over; of a time in seconds.
+    pub fn limit(self) -> Option<u64> {
+        match self {
+            Rule::Over(number) => Some(number.limit()),
+            Rule::NotRun(_) | Rule::NotTaken(_) => None,
+        }
+    }
+}
+
+/// The rule by which a header item isn't run.
+pub fn header_rule(item: &HeaderItem) -> Rule
+    ensures { result ≡ header_rule item.now.kind }
+{
+    match item.kind {
+        HeaderKind::Command => Rule::NotRun(Shape::HeaderCommand),
+        HeaderKind::OtherOption | HeaderKind::Tolerance(_) => Rule::NotRun(Shape::HeaderOption),
+    }
+}
+
+/// The rule by which an event stops a run with `limit` or `unsupported`: the first that applies, in the order in which the
+/// step and the sender look.
+pub fn event_rule(event: &Event, stop: &Stopped) -> Rule
+    ensures { result ≡ event_rule event.now stop.now }
+{
+    if let Some(number) = number_over(event) {
+        return Rule::Over(number);
+    }
+    if let Some(shape) = shape_rule(event) {
+        return Rule::NotRun(shape);
+    }
+    match (&stop.why, input_rule(&event.action, stop.before.host())) {
+        (Why::Halted(Halt::Unsupported), Some(input)) => Rule::NotTaken(input),
+        _ => Rule::Over(Number::Outbox),
+    }
+}
