@@ -17,8 +17,8 @@ CRATES = Path(__file__).resolve().parent.parent / "crates"
 DEFINED = re.compile(r"^(?:abbrev pub|unfoldable pub|pub (?:record|data|struct|enum|trait)) ([^\s<({:;]+)", re.M)
 FUNCTION = re.compile(r"^ *pub fn (\w+).*?(?=\n *\{)", re.M | re.S)
 OWNER = re.compile(r"^impl\b.*?(\w+)(?:<[^<>]*>)? \{$", re.M)
-IMPORT = re.compile(r"(pd_\w+)\.specs\.(declared\.)?[a-z_.]*(\w+?)(?:\.TheVariants)?(?: as (\w+)|\.\{(.*?)\});?$", re.M)
-RUST_IMPORT = re.compile(r"^use (pd_\w+|crate|super)::(.*?);$", re.M | re.S)
+IMPORT = re.compile(r"(pd\w+)\.specs\.(declared\.)?[a-z_.]*(\w+?)(?:\.TheVariants)?(?: as (\w+)|\.\{(.*?)\});?$", re.M)
+RUST_IMPORT = re.compile(r"^use (pd\w+|crate|super)::(.*?);$", re.M | re.S)
 WORD = re.compile(r">>=|\w+(?:\.\w+)*")
 Name = tuple[str, str]  # a file or a crate, and a word there
 Index = dict[Name, "Place | Name"]  # where that is defined, or the name that it stands for
@@ -54,7 +54,7 @@ def imports_of(file: str, crate: str, text: str) -> Iterator[tuple[Name, Name]]:
             defined = (f"{library}/specs/{head}.antt", "" if alias else old.strip("◌"))
             yield (file, (new or old).strip("◌")), (library, head) if declared else defined
     for library, names in RUST_IMPORT.findall(text):
-        scope = library if library.startswith("pd_") else crate
+        scope = library if library.startswith("pd") else crate
         yield from (((file, name), (scope, name)) for name in re.findall(r"\b[A-Z]\w+", names))
 
 

@@ -1,8 +1,15 @@
-//! The program that records: hands the real words and streams to it in `pd_record_cli`.
+//! The program that records scripts: hands the real words and streams to `record_program`.
 #![tactic(auto)]
 
-use pd_record_cli::run_recording;
+mod causes;
+mod outcomes;
+mod record_program;
+mod record_words;
+mod recorded_text;
+mod script_input;
+
 use pd_words::{arguments, refuse_arguments};
+use record_program::run_recording;
 use std::process::ExitCode;
 
 fn main(rt: HostRuntime) -> ExitCode {

@@ -1,0 +1,26 @@
+-- What is said below the line of a refusal.
+use Rattle.std.proofs.Common.{◌≡◌, ℕ, List, [], ◌++◌, refl}
+use Rattle.pd_explain.specs.BlockLines.{AreIndented}
+use Rattle.pd_record.specs.declared.refusals.NotRecorded.{NotRecorded}
+use Rattle.pd_record.specs.declared.refusals.NotRecorded.TheVariants as unrecorded
+use Rattle.pdrecord.specs.RecordProgram.{Explains, IsRefused, Tells, refusal_line}
+use Rattle.pdrecord.specs.declared.outcomes.Outcome.TheVariants.{Refused}
+use Rattle.std.specs.declared.vec.Vec.{Vec}
+use Rattle.std.specs.declared.alloc.Global.{Global}
+
+-- no lines are indented
+pub no_lines : (below : List ℕ) → below ≡ [] → AreIndented below
+no_lines below e = ([], refl, e)
+
+-- no lines explain any refusal
+pub explains_none : (refusal : NotRecorded) (below : List ℕ) → below ≡ [] → Explains refusal below
+explains_none (unrecorded.Stopped verdict) below e = no_lines below e
+explains_none unrecorded.TooLarge below e = e
+explains_none unrecorded.TooManyEvents below e = e
+explains_none unrecorded.TooLongGap below e = e
+explains_none unrecorded.Differs below e = e
+explains_none unrecorded.OutOfMemory below e = e
+
+-- a line with what explains it
+pub is_refused : (refusal : NotRecorded) (why below : List ℕ) (said : Vec ℕ Global) → Tells refusal why → Explains refusal below → said.items ≡ refusal_line why ++ below → IsRefused refusal (Refused said)
+is_refused refusal why below said t x e = (why, below, t, x, e)

@@ -1,0 +1,21 @@
+use Rattle.std.proofs.Common.{Err, map, ◌≡◌}
+use Rattle.clap.specs.Words.{kind_of}
+use Rattle.clap.specs.declared.error.kind.ErrorKind.TheVariants as kind
+use Rattle.pd_words.specs.SettingsText.{settings_in}
+use Rattle.pd_words.specs.ProgramWords.{settings_text, word_faults}
+use Rattle.pd_words.specs.declared.faults.ServeFault.TheVariants.{OutOfMemory}
+use Rattle.pd_words.specs.declared.program_faults.ProgramFault.TheVariants.{Serving}
+use Rattle.pd_words.proofs.Saying.{wanted}
+use Rattle.pd_words.proofs.Known.{appends_none}
+use Rattle.pdrecord.specs.RecordWords.{pdrecord, asks_trace}
+use Rattle.pdrecord.proofs.Memory.{memory_comes}
+use Rattle.pdrecord.proofs.record_program.run_recording.Goals as goal
+
+pub returns-in-Err-clause-taken : goal.returns-in-Err-clause-taken
+returns-in-Err-clause-taken g c = λ free.
+    let words = map g.S.AsStr.text c.args.words.now in
+    let memory = wanted (word_faults pdrecord words) (kind_of c.in-Err.error ≡ kind.OutOfMemory) c.in-Err.ensures.refused free in (
+      Err (Serving OutOfMemory),
+      memory_comes (settings_in (settings_text pdrecord words)) (asks_trace words) (g.R.Read.remaining c.args.reader.now),
+      (c.refuse.ensures.status, c.refuse.ensures.memory memory, appends_none (g.W.Write.contents c.args.out.now)),
+    )

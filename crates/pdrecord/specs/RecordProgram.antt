@@ -1,0 +1,95 @@
+-- What the program that records writes, and its status.
+use Rattle.std.specs.Prelude.{◌≡◌, ℕ, Bool, true, ◌⊎◌, List, [], ◌++◌, take, codes, Option, Some, None, Result, Ok, Err, IfSome}
+use Rattle.std.specs.Io.KnownBytes.{Appends}
+use Rattle.pd_settings.specs.declared.fields.Settings.{Settings}
+use Rattle.pd_run.specs.declared.verdicts.Verdict.{Verdict}
+use Rattle.pd_run.specs.declared.verdicts.Verdict.TheVariants.{Pass, Fail, Syntax, Unsupported, Limit}
+use Rattle.pd_record.specs.Recording.{recording_of}
+use Rattle.pd_record.specs.Answered.{IsRecording, Refuses}
+use Rattle.pd_record.specs.declared.refusals.NotRecorded.{NotRecorded}
+use Rattle.pd_record.specs.declared.refusals.NotRecorded.TheVariants as unrecorded
+use Rattle.pd_explain.specs.BlockLines.{AreIndented}
+use Rattle.pd_words.specs.SettingsText.{settings_in}
+use Rattle.pd_words.specs.Said.{Says}
+use Rattle.pd_words.specs.ProgramFaults.{fault_line}
+use Rattle.pd_words.specs.Verdicts.{verdict_text}
+use Rattle.pd_words.specs.declared.exits.Exit.{Exit}
+use Rattle.pd_words.specs.declared.faults.ServeFault.{ServeFault}
+use Rattle.pd_words.specs.declared.faults.ServeFault.TheVariants.{Differs, Read, Write, OutOfMemory}
+use Rattle.pd_words.specs.declared.program_faults.ProgramFault.{ProgramFault}
+use Rattle.pd_words.specs.declared.program_faults.ProgramFault.TheVariants.{Serving}
+use Rattle.pdrecord.specs.ScriptInput.{script_in}
+use Rattle.pdrecord.specs.Written.{IsWritten}
+use Rattle.pdrecord.specs.declared.outcomes.Outcome.{Outcome}
+use Rattle.pdrecord.specs.declared.outcomes.Outcome.TheVariants.{Recorded, Refused}
+
+-- the line that says why a script isn't recorded
+abbrev pub refusal_line : List ℕ → List ℕ
+refusal_line why = codes "pdrecord: " ++ why ++ codes "\n"
+
+-- a verdict at another line
+abbrev pub at_line : ℕ → Verdict → Verdict
+at_line line (Pass events) = Pass events
+at_line line (Fail old kind) = Fail line kind
+at_line line (Syntax old) = Syntax line
+at_line line (Unsupported old) = Unsupported line
+at_line line (Limit old) = Limit line
+
+-- these words tell a refusal, a verdict with some line
+abbrev pub Tells : NotRecorded → List ℕ → Type 0
+Tells (unrecorded.Stopped verdict) why = (line : ℕ) × (why ≡ verdict_text (at_line line verdict))
+Tells unrecorded.TooLarge why = why ≡ codes "2 TooLarge"
+Tells unrecorded.TooManyEvents why = why ≡ codes "21 TooManyEvents"
+Tells unrecorded.TooLongGap why = why ≡ codes "22 TooLongGap"
+Tells unrecorded.Differs why = ⊥
+Tells unrecorded.OutOfMemory why = ⊥
+
+-- these octets explain a refusal: the lines of a block below its first one where the script is why, else none
+abbrev pub Explains : NotRecorded → List ℕ → Type 0
+Explains (unrecorded.Stopped verdict) below = AreIndented below
+Explains refusal below = below ≡ []
+
+-- this comes of a refusal: the line that tells it, and what explains it below that
+abbrev pub IsRefused : NotRecorded → Outcome → Type 0
+IsRefused refusal (Recorded octets) = ⊥
+IsRefused refusal (Refused said) =
+    (why : List ℕ) × (below : List ℕ) × Tells refusal why × Explains refusal below × (said.items ≡ refusal_line why ++ below)
+
+-- this comes of a script under settings: the octets of its recording, or the lines that tell why there is none; it is too large
+-- where its lines are over the limits of a text
+abbrev pub IsOutcome : Settings → Bool → Option (List (List ℕ)) → Outcome → Type 0
+IsOutcome settings trace None outcome = IsRefused unrecorded.TooLarge outcome
+IsOutcome settings trace (Some text) (Recorded octets) =
+    (recording : List (List ℕ)) × (count : ℕ) × IsRecording text settings recording count × IsWritten trace recording octets.items
+IsOutcome settings trace (Some text) (Refused said) =
+    (refusal : NotRecorded) × Refuses (recording_of text settings) refusal × IsRefused refusal (Refused said)
+
+-- recording stops for a read, for memory, or since a recording isn't what was recorded
+abbrev pub IsStop : ServeFault → Type 0
+IsStop Read = Unit {0}
+IsStop OutOfMemory = Unit {0}
+IsStop Differs = Unit {0}
+IsStop fault = ⊥
+
+-- this comes of an input, with a trace or without; settings that are no good end it with their fault or for want of memory
+abbrev pub Comes : Result Settings ProgramFault → Bool → Result Outcome ProgramFault → List ℕ → Type 0
+Comes (Ok settings) trace (Ok outcome) input = IsOutcome settings trace (script_in input) outcome
+Comes (Ok settings) trace (Err (Serving fault)) input = IsStop fault
+Comes (Ok settings) trace (Err fault) input = ⊥
+Comes (Err fault) trace end input = (end ≡ Err fault) ⊎ (end ≡ Err (Serving OutOfMemory))
+
+-- a recording is written whole with status 0, or some of its first octets with that of a failed write; without one nothing is
+-- written, and the lines that tell why are said, with status 1 for a refusal and 2 for a fault
+abbrev pub Ends : Result Outcome ProgramFault → Exit → Option (List ℕ) → Option (List ℕ) → Option (List ℕ) → Option (List ℕ) → Type 0
+Ends (Ok (Recorded whole)) exit out_before out_after err_before err_after =
+    ((exit.status ≡ 0) × (exit.told ≡ true) × Appends out_before out_after whole.items × Appends err_before err_after [])
+    ⊎ ((exit.status ≡ 2) × Says exit.told err_before err_after (fault_line (Serving Write)) × ((n : ℕ) × Appends out_before out_after (take n whole.items)))
+Ends (Ok (Refused said)) exit out_before out_after err_before err_after =
+    (exit.status ≡ 1) × Says exit.told err_before err_after said.items × Appends out_before out_after []
+Ends (Err fault) exit out_before out_after err_before err_after =
+    (exit.status ≡ 2) × Says exit.told err_before err_after (fault_line fault) × Appends out_before out_after []
+
+-- a run with this settings text, with a trace or without, came to an end with what belongs to its input
+abbrev pub FinishesRecording : Exit → List ℕ → Bool → Option (List ℕ) → Option (List ℕ) → Option (List ℕ) → Option (List ℕ) → Option (List ℕ) → Type 0
+FinishesRecording exit text trace input out_before out_after err_before err_after =
+    (end : Result Outcome ProgramFault) × IfSome input (Comes (settings_in text) trace end) × Ends end exit out_before out_after err_before err_after

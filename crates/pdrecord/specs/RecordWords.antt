@@ -1,0 +1,25 @@
+-- The words of the program that records, in the definitions of `clap`.
+use Rattle.std.specs.Prelude.{◌≡◌, Bool, List, bytes_eq, codes, Some}
+use Rattle.clap.specs.Words.{App, Rule, Text, new_app, new_rule, with_rule}
+use Rattle.clap.specs.declared.builder.ArgAction.TheVariants.{SetTrue}
+use Rattle.pd_words.specs.ProgramWords.{settings_rule, settings_text, option_text}
+use Rattle.pdrecord.specs.declared.record_words.RecordOptions.{RecordOptions}
+
+-- `--trace`
+abbrev pub trace_rule : Rule
+trace_rule = record (new_rule (codes "trace")) {
+  long = Some (codes "trace");
+  action = Some SetTrue;
+}
+
+-- the program that records
+abbrev pub pdrecord : App
+pdrecord = with_rule (with_rule (new_app (codes "pdrecord")) settings_rule) trace_rule
+
+-- words ask for a trace
+abbrev pub asks_trace : List Text → Bool
+asks_trace words = bytes_eq (option_text pdrecord (codes "trace") words) (codes "true")
+
+-- these are chosen by words, of which the first is the program's own name
+abbrev pub HasChosenToRecord : List Text → RecordOptions → Type 0
+HasChosenToRecord words options = (options.settings.now ≡ settings_text pdrecord words) × (options.trace ≡ asks_trace words)

@@ -1,0 +1,133 @@
+//! What comes of a script.
+ghost use Rattle.std.specs.Prelude.{◌≡◌, ℕ, List, IfOk, IfErr, codes};
+ghost use Rattle.pd_explain.specs.BlockLines.{AreIndented};
+ghost use Rattle.pd_words.specs.Verdicts.{verdict_text};
+ghost use Rattle.pdrecord.specs.RecordProgram.{Explains, Tells, IsRefused, IsStop, at_line, refusal_line};
+
+use crate::causes::cause_of;
+use crate::script_input::ScriptInput;
+use pd_explain::cause_text;
+use pd_record::NotRecorded;
+use pd_run::Verdict;
+use pd_settings::Settings;
+use pd_text::Lines;
+use pd_words::{ServeFault, put_verdict};
+use std::alloc::{AllocError, Global};
+
+/// What comes of a script.
+#[derive(Drop)]
+pub enum Outcome {
+    /// The octets of its recording.
+    Recorded(Vec<u8>),
+    /// The line that says why it isn't recorded, and those that explain it.
+    Refused(Vec<u8>),
+}
+
+/// What comes of a script that isn't recorded.
+///
+/// # Errors
+/// `Differs` where its recording wasn't what was recorded; `OutOfMemory`.
+#[tactic(auto, using(crate::proofs::Below::is_refused))]
+pub fn refusal_of(
+    alloc: Global,
+    refusal: NotRecorded,
+    input: &ScriptInput,
+    settings: &Settings,
+) -> Result<Outcome, ServeFault>
+    ensures refused { IfOk result (λ outcome. IsRefused refusal outcome) }
+    ensures only { IfErr result IsStop }
+{
+    let why = why_of(alloc, refusal, input)?;
+    let mut said = refusal_line(alloc, why.as_slice())?;
+    let below = lines_below(alloc, refusal, input, settings)?;
+    said.extend_from_slice(below.as_slice())?;
+    Ok(Outcome::Refused(said))
+}
+
+/// The lines below the one that says why a script isn't recorded: those of a block where the script is why, else none.
+#[tactic(auto, using(crate::proofs::Below::explains_none))]
+fn lines_below(
+    alloc: Global,
+    refusal: NotRecorded,
+    input: &ScriptInput,
+    settings: &Settings,
+) -> Result<Vec<u8>, AllocError>
+    ensures { IfOk result (λ below. Explains refusal below.items) }
+{
+    match (refusal, &input.lines) {
+        (NotRecorded::Stopped(verdict), Some(lines)) => {
+            block_below(alloc, lines, settings, verdict)
+        }
+        _ => Ok(Vec::new(alloc)),
+    }
+}
+
+/// The lines of the block of a verdict with which recording a text stops, below its first one.
+#[tactic(auto, using(crate::proofs::Below::no_lines))]
+fn block_below(
+    alloc: Global,
+    lines: &Lines,
+    settings: &Settings,
+    verdict: Verdict,
+) -> Result<Vec<u8>, AllocError>
+    ensures { IfOk result (λ below. AreIndented below.items) }
+{
+    match cause_of(alloc, lines, settings, verdict)? {
+        Some(cause) => cause_text(alloc, &cause),
+        None => Ok(Vec::new(alloc)),
+    }
+}
+
+/// Why a script isn't recorded, in words.
+fn why_of(alloc: Global, refusal: NotRecorded, input: &ScriptInput) -> Result<Vec<u8>, ServeFault>
+    ensures told { IfOk result (λ why. Tells refusal why.items) }
+    ensures only { IfErr result IsStop }
+{
+    match refusal {
+        NotRecorded::Stopped(verdict) => {
+            let mut row = Vec::new(alloc);
+            let line = input.line_of(line_in(verdict));
+            put_verdict(&mut row, at_line(verdict, line))?;
+            Ok(row)
+        }
+        NotRecorded::TooLarge => Ok(Vec::from_slice(alloc, b"2 TooLarge")?),
+        NotRecorded::TooManyEvents => Ok(Vec::from_slice(alloc, b"21 TooManyEvents")?),
+        NotRecorded::TooLongGap => Ok(Vec::from_slice(alloc, b"22 TooLongGap")?),
+        NotRecorded::Differs => Err(ServeFault::Differs),
+        NotRecorded::OutOfMemory => Err(ServeFault::OutOfMemory),
+    }
+}
+
+/// The line that a verdict names; 0 where it names none.
+fn line_in(verdict: Verdict) -> usize {
+    match verdict {
+        Verdict::Pass(_) => 0,
+        Verdict::Fail(line, _)
+        | Verdict::Syntax(line)
+        | Verdict::Unsupported(line)
+        | Verdict::Limit(line) => line,
+    }
+}
+
+/// A verdict at another line.
+fn at_line(verdict: Verdict, line: usize) -> Verdict
+    ensures { result ≡ at_line line verdict }
+{
+    match verdict {
+        Verdict::Pass(events) => Verdict::Pass(events),
+        Verdict::Fail(_, kind) => Verdict::Fail(line, kind),
+        Verdict::Syntax(_) => Verdict::Syntax(line),
+        Verdict::Unsupported(_) => Verdict::Unsupported(line),
+        Verdict::Limit(_) => Verdict::Limit(line),
+    }
+}
+
+/// The line that says why a script isn't recorded.
+fn refusal_line(alloc: Global, why: &[u8]) -> Result<Vec<u8>, AllocError>
+    ensures { IfOk result (λ line. line.items ≡ refusal_line why.now) }
+{
+    let mut line = Vec::from_slice(alloc, b"pdrecord: ")?;
+    line.extend_from_slice(why)?;
+    line.extend_from_slice(b"\n")?;
+    Ok(line)
+}

@@ -1,0 +1,111 @@
+//! The program that records: one script in, its recording out.
+ghost use Rattle.std.specs.Prelude.{◌≡◌, ◌≢◌, ◌⊎◌, ℕ, List, [], Some, IfOk, IfErr, IfSome, map, take, true};
+ghost use Rattle.std.specs.Io.KnownBytes.{Appends};
+ghost use Rattle.pd_words.specs.SettingsText.{settings_in};
+ghost use Rattle.pd_words.specs.Said.{Refuses, Says};
+ghost use Rattle.pd_words.specs.ProgramFaults.{fault_line};
+ghost use Rattle.pd_words.specs.ProgramWords.{settings_text, word_faults};
+ghost use Rattle.pdrecord.specs.RecordProgram.{Comes, Ends, FinishesRecording, IsOutcome, IsStop};
+ghost use Rattle.pdrecord.specs.RecordWords.{pdrecord, asks_trace};
+
+use crate::outcomes::{Outcome, refusal_of};
+use crate::record_words::{RecordOptions, record_options};
+use crate::recorded_text::octets_of;
+use crate::script_input::ScriptInput;
+use pd_record::{NotRecorded, record};
+use pd_settings::Settings;
+use pd_words::{Exit, ProgramFault, ServeFault, fail, put_all, refuse, say, settings_of};
+use std::alloc::Global;
+use std::convert::AsStr;
+use std::io::{Read, Write};
+
+/// The status where the script isn't recorded.
+const NOT_RECORDED: u8 = 1;
+
+/// Runs the program that records on its words, of which the first is its own name. Words that `clap` refuses, and `--help`,
+/// print its own text on `err`, with the status 2.
+pub fn run_recording<S: AsStr, R: Read, W: Write, E: Write>(
+    alloc: Global,
+    words: &[S],
+    reader: &mut R,
+    out: &mut W,
+    err: &mut E,
+) -> Exit
+    ensures taken { let words = map S.text words.now in
+        let input = R.remaining reader.old in
+        word_faults pdrecord words ≡ [] → FinishesRecording result (settings_text pdrecord words) (asks_trace words) input (W.contents out.old) (W.contents out.new) (E.contents err.old) (E.contents err.new) }
+    ensures refused { word_faults pdrecord (map S.text words.now) ≢ [] → Refuses result (W.contents out.old) (W.contents out.new) }
+{
+    match record_options(alloc, words) {
+        Ok(options) => run_chosen(alloc, &options, reader, out, err),
+        Err(error) => refuse(alloc, &error, err),
+    }
+}
+
+/// Records the input and writes the recording, or says why there is none.
+fn run_chosen<R: Read, W: Write, E: Write>(
+    alloc: Global,
+    options: &RecordOptions<'_>,
+    reader: &mut R,
+    out: &mut W,
+    err: &mut E,
+) -> Exit
+    ensures { let input = R.remaining reader.old in
+        FinishesRecording result options.now.settings.now options.now.trace input (W.contents out.old) (W.contents out.new) (E.contents err.old) (E.contents err.new) }
+{
+    let end = record_input(alloc, options, reader);
+    finish(end, out, err)
+}
+
+/// Ends a run: writes a recording, or says why there is none.
+fn finish<W: Write, E: Write>(end: Result<Outcome, ProgramFault>, out: &mut W, err: &mut E) -> Exit
+    ensures { Ends end result (W.contents out.old) (W.contents out.new) (E.contents err.old) (E.contents err.new) }
+{
+    match end {
+        Ok(Outcome::Recorded(octets)) => match put_all(out, octets.as_slice()) {
+            Ok(()) => Exit {
+                status: 0,
+                told: true,
+            },
+            Err(fault) => fail(err, ProgramFault::Serving(fault)),
+        },
+        Ok(Outcome::Refused(line)) => Exit {
+            status: NOT_RECORDED,
+            told: say(err, line.as_slice()),
+        },
+        Err(fault) => fail(err, fault),
+    }
+}
+
+/// Records the input.
+fn record_input<R: Read>(
+    alloc: Global,
+    options: &RecordOptions<'_>,
+    reader: &mut R,
+) -> Result<Outcome, ProgramFault>
+    ensures { IfSome (R.remaining reader.old) (Comes (settings_in options.now.settings.now) options.now.trace result) }
+{
+    let settings = settings_of(alloc, options.settings)?;
+    let input = ScriptInput::read(alloc, reader)?;
+    let outcome = outcome_of(alloc, &input, &settings, options.trace)?;
+    Ok(outcome)
+}
+
+/// What comes of a script that was read.
+fn outcome_of(
+    alloc: Global,
+    input: &ScriptInput,
+    settings: &Settings,
+    with_trace: bool,
+) -> Result<Outcome, ServeFault>
+    ensures outcome { IfOk result (λ outcome. IsOutcome settings.now with_trace input.now.lines outcome) }
+    ensures only { IfErr result IsStop }
+{
+    let Some(lines) = &input.lines else {
+        return refusal_of(alloc, NotRecorded::TooLarge, input, settings);
+    };
+    match record(alloc, lines, settings, with_trace) {
+        Ok(recording) => Ok(Outcome::Recorded(octets_of(alloc, &recording, with_trace)?)),
+        Err(refusal) => refusal_of(alloc, refusal, input, settings),
+    }
+}

@@ -1,0 +1,107 @@
+//! The octets of a recording.
+ghost use Rattle.std.specs.Prelude.{◌≡◌, ◌++◌, ◌∷◌, [], true, false, IfOk, IfErr, OnOk};
+ghost use Rattle.pdrecord.specs.RecordProgram.{IsStop};
+ghost use Rattle.pdrecord.specs.ScriptInput.{is_dropped};
+ghost use Rattle.pdrecord.specs.Written.{IsWritten};
+ghost use Rattle.pdrecord.specs.Inner.{GoesOn};
+
+use crate::script_input::is_dropped;
+use pd_explain::write_standing;
+use pd_print::write_moment;
+use pd_record::{Mark, Recording};
+use pd_words::ServeFault;
+use std::alloc::{AllocError, Global};
+
+/// The octets of a recording, each line ended by a newline; with a trace each event has a line of its own after it.
+///
+/// # Errors
+/// `Differs` where a line of the recording would be taken for one of a trace, or one of the trace for none, which is a fault of
+/// this program; `OutOfMemory`.
+pub fn octets_of(
+    alloc: Global,
+    recording: &Recording,
+    with_trace: bool,
+) -> Result<Vec<u8>, ServeFault>
+    ensures written { IfOk result (λ octets. IsWritten with_trace recording.now.lines octets.items) }
+    ensures only { IfErr result IsStop }
+{
+    let mut out = Vec::new(alloc);
+    let mut marked = 0usize;
+    for done in 0..recording.lines.len() {
+        put_line(&mut out, recording.lines.line(done + 1).unwrap_or(&[]))?;
+        let mark = recording.marks.get(marked);
+        if put_mark(alloc, &mut out, mark, done + 1, with_trace)? {
+            marked = marked.saturating_add(1);
+        }
+    }
+    Ok(out)
+}
+
+/// Adds a line of the recording.
+fn put_line(out: &mut Vec<u8>, line: &[u8]) -> Result<(), ServeFault>
+    ensures line { OnOk result ((is_dropped line.now ≡ false) × (out.new.items ≡ out.old.items ++ (line.now ++ 10 ∷ []))) }
+    ensures only { IfErr result IsStop }
+{
+    if is_dropped(line) {
+        return Err(ServeFault::Differs);
+    }
+    add_line(out, line)?;
+    Ok(())
+}
+
+/// Adds the line of an event behind its last line, if a trace is written; whether an event ends there.
+fn put_mark(
+    alloc: Global,
+    out: &mut Vec<u8>,
+    mark: Option<&Mark>,
+    number: usize,
+    with_trace: bool,
+) -> Result<bool, ServeFault>
+    ensures line { OnOk result (GoesOn with_trace out.old.items out.new.items) }
+    ensures only { IfErr result IsStop }
+{
+    match mark {
+        Some(mark) if mark.lines == number => {
+            if with_trace {
+                put_trace(alloc, out, mark)?;
+            }
+            Ok(true)
+        }
+        _ => Ok(false),
+    }
+}
+
+/// Adds the line of an event: its moment, and how the sender stands.
+fn put_trace(alloc: Global, out: &mut Vec<u8>, mark: &Mark) -> Result<(), ServeFault>
+    ensures line { OnOk result (GoesOn true out.old.items out.new.items) }
+    ensures only { IfErr result IsStop }
+{
+    let line = trace_line(alloc, mark)?;
+    if !is_dropped(line.as_slice()) {
+        return Err(ServeFault::Differs);
+    }
+    add_line(out, line.as_slice())?;
+    Ok(())
+}
+
+/// Adds a line with its newline.
+fn add_line(out: &mut Vec<u8>, line: &[u8]) -> Result<(), AllocError>
+    ensures { OnOk result (out.new.items ≡ out.old.items ++ (line.now ++ 10 ∷ [])) }
+{
+    out.extend_from_slice(line)?;
+    out.extend_from_slice(b"\n")
+}
+
+/// The line of an event in a trace.
+fn trace_line(alloc: Global, mark: &Mark) -> Result<Vec<u8>, AllocError> {
+    let standing = pd_explain::Standing {
+        state: mark.standing.state,
+        figures: mark.standing.figures,
+        expiry: mark.standing.expiry,
+    };
+    let mut line = Vec::from_slice(alloc, b"//= at ")?;
+    line.extend_from_slice(write_moment(alloc, mark.at)?.as_slice())?;
+    line.extend_from_slice(b" ")?;
+    line.extend_from_slice(write_standing(alloc, &standing)?.as_slice())?;
+    Ok(line)
+}
