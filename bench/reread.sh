@@ -11,13 +11,13 @@ work=$(mktemp -d)
 trap 'rm -rf "$work"' EXIT
 mkdir -p "$work/.git" "$work/crates/reread/src" "$work/crates/reread/proofs/read_again"
 cp -R "$top/HANDLES" "$work"
-for crate in pd_text pd_shared pd_lex pd_script pd_reparse; do
+for crate in pd_text pd_lex pd_script pd_reparse; do
     cp -R "$top/crates/$crate" "$work/crates"
 done
 cp "$top/bench/reread.txt" "$work/crates/reread/src/main.rt"
 sed 's/pd_slow_reader.proofs.rereading/reread.proofs/' "$top/crates/pd_slow_reader/proofs/rereading/read_again/Answers.antt" >"$work/crates/reread/proofs/read_again/Answers.antt"
 echo '-- There are no lemmas.' >"$work/crates/reread/proofs/Lib.antt"
-grep -E '^(pd_text|pd_shared|pd_lex|pd_script|pd_reparse):' "$top/crates.txt" >"$work/crates.txt"
+grep -E '^(pd_text|pd_lex|pd_script|pd_reparse):' "$top/crates.txt" >"$work/crates.txt"
 echo 'reread: pd_text pd_lex pd_script pd_reparse' >>"$work/crates.txt"
 cd "$work/crates/reread"
 rt run </dev/null >"$work/log" 2>&1 || { tail -n 20 "$work/log" >&2; exit 2; }

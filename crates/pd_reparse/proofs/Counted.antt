@@ -3,8 +3,8 @@ use Rattle.std.proofs.Common.{◌≡◌, ◌∙◌, Bool, cond, count_by, ℕ, �
 use Rattle.std.proofs.lemmas.List.{length-append, take_more}
 use Rattle.std.proofs.lemmas.List.Folds.{length-flat_map-take}
 use Rattle.std.proofs.lemmas.List.Sums.{sum_by-append, count_by-le-length}
-use Rattle.pd_shared.specs.Blocks.{items_in}
-use Rattle.pd_shared.proofs.Blocks.{items_more}
+use Rattle.pd_reparse.specs.Blocks.{items_in}
+use Rattle.pd_reparse.proofs.Blocks.{items_more}
 
 pub counted_more : {X : Type 0} (p : X → Bool) (i : ℕ) (bs : List (List X)) (b : List X) → i < length bs → b ≡ get_or bs i b → count_by p (items_in (take (i + 1) bs)) ≡ count_by p (items_in (take i bs)) + count_by p b
 counted_more p i bs b k eb =

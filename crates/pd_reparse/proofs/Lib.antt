@@ -8,3 +8,4 @@ pub mod Taken
 pub mod ReadOn
 pub mod Counted
 pub mod Chained
+pub mod Blocks

@@ -1,4 +1,5 @@
--- The definitions of readings.
+-- The definitions of readings, and of the lists that they are kept in.
 pub mod Reading
 pub mod Steps
 pub mod Laws
+pub mod Blocks

@@ -3,9 +3,9 @@ ghost use Rattle.std.specs.Prelude.{◌≡◌, ◌≤◌, length, count_by, IfOk
 ghost use Rattle.pd_reparse.specs.Reading.{is_within};
 ghost use Rattle.pd_reparse.specs.declared.decided.Decided.{Decided};
 
+use crate::shared_list::{Copied, SharedList};
 use pd_lex::Place;
 use pd_script::Event;
-use pd_shared::{Copied, SharedList};
 use std::alloc::AllocError;
 
 /// An event of a script, and what follows it in the text.

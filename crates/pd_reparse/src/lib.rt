@@ -6,6 +6,7 @@ mod kept;
 mod laws;
 mod reading;
 mod rereading;
+mod shared_list;
 mod steps;
 
 pub use decided::Decided;
@@ -13,3 +14,4 @@ pub use kept::Reread;
 pub use laws::{events_are_chained, first_events, readings};
 pub use reading::Reading;
 pub use rereading::{read, reread};
+pub use shared_list::{Block, Copied, SharedList};

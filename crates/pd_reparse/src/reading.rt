@@ -4,9 +4,9 @@ ghost use Rattle.pd_lex.specs.declared.token.Place.{Place};
 ghost use Rattle.pd_reparse.specs.Reading.{kept_of, last_place};
 
 use crate::decided::{Decided, count_within};
+use crate::shared_list::SharedList;
 use pd_lex::Place;
 use pd_script::Header;
-use pd_shared::SharedList;
 use std::alloc::AllocError;
 use std::marker::Model;
 

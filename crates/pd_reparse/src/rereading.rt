@@ -7,10 +7,10 @@ ghost use Rattle.pd_reparse.specs.Steps.{IsReadOn, IsStep};
 use crate::decided::Decided;
 use crate::kept::Reread;
 use crate::reading::Reading;
+use crate::shared_list::SharedList;
 use crate::steps::Step;
 use pd_lex::{Place, first_lines};
 use pd_script::{EventReader, Header, MAX_EVENTS, NextEvent, items_stand_there, read_header};
-use pd_shared::SharedList;
 use pd_text::{Lines, have_lines};
 use std::alloc::{AllocError, Global};
 

@@ -1,8 +1,8 @@
 //! States that runs can be taken up in.
 ghost use Rattle.std.specs.Prelude.{◌≡◌, IfOk};
 
+use pd_reparse::Copied;
 use pd_run::RunState;
-use pd_shared::Copied;
 use std::alloc::AllocError;
 use std::marker::Model;
 

@@ -6,10 +6,9 @@ ghost use Rattle.pd_run.specs.Run.{verdict_from, stepped_from, states_from};
 ghost use Rattle.pd_track.specs.Reuse.{fourths};
 
 use crate::checkpoint::Checkpoint;
-use pd_reparse::Decided;
+use pd_reparse::{Decided, SharedList};
 use pd_run::{RunState, StepEnd, Stepper, Verdict, runs_are_bounded};
 use pd_settings::Settings;
-use pd_shared::SharedList;
 use std::alloc::{AllocError, Global};
 
 /// How far a run has come: its state after so many events, and those after each fourth of them.

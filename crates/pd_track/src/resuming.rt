@@ -12,10 +12,9 @@ use crate::checkpoint::Checkpoint;
 use crate::job::Job;
 use crate::progress::Progress;
 use crate::track::Track;
-use pd_reparse::{Reread, first_events, read, reread};
+use pd_reparse::{Reread, SharedList, first_events, read, reread};
 use pd_run::{RunState, runs_are_bounded, runs_only_use};
 use pd_settings::{Settings, UseSet};
-use pd_shared::SharedList;
 use pd_text::Text;
 use std::alloc::{AllocError, Global};
 

@@ -11,9 +11,8 @@ use crate::progress::Progress;
 use crate::resuming::{begin, read_job};
 use crate::task::Task;
 use crate::track::Track;
-use pd_reparse::{Reading, Reread, readings};
+use pd_reparse::{Reading, Reread, SharedList, readings};
 use pd_run::{RunState, Stepper, Verdict, runs_only_use};
-use pd_shared::SharedList;
 use std::alloc::{AllocError, Global};
 
 /// What a run came to, what was read, and the states on its way.

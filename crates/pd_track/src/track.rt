@@ -8,9 +8,8 @@ ghost use Rattle.pd_track.specs.Reuse.{AreHeld, fourths, uses};
 
 use crate::checkpoint::Checkpoint;
 use crate::trail::Trail;
-use pd_reparse::Reading;
+use pd_reparse::{Reading, SharedList};
 use pd_settings::Settings;
-use pd_shared::SharedList;
 use pd_text::Text;
 use std::alloc::{AllocError, Global};
 use std::marker::Model;

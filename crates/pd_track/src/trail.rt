@@ -6,9 +6,8 @@ ghost use Rattle.pd_run.specs.Run.{states_of};
 ghost use Rattle.pd_track.specs.Reuse.{AreHeld, fourths};
 
 use crate::checkpoint::Checkpoint;
-use pd_reparse::Reading;
+use pd_reparse::{Reading, SharedList};
 use pd_settings::Settings;
-use pd_shared::SharedList;
 use pd_text::Text;
 use std::alloc::{AllocError, Global};
 use std::marker::Model;

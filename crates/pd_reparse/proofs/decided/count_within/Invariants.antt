@@ -1,6 +1,6 @@
 -- Those in the blocks so far.
 use Rattle.std.proofs.Common.{◌≡◌, take, count_by}
-use Rattle.pd_shared.specs.Blocks.{items_in}
+use Rattle.pd_reparse.specs.Blocks.{items_in}
 use Rattle.pd_reparse.specs.Reading.{is_within}
 use Rattle.pd_reparse.specs.declared.decided.Decided.{Decided}
 use Rattle.pd_reparse.proofs.decided.count_within.Given as goal

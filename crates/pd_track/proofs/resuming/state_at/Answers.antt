@@ -2,7 +2,7 @@
 use Rattle.std.proofs.Common.{◌-◌, ◌<◌, ◌∙◌, ap, sym, length, slice_get, option_map, Some, arith}
 use Rattle.std.proofs.lemmas.Option.{slice_get-map}
 use Rattle.std.proofs.lemmas.List.{length-map}
-use Rattle.pd_shared.proofs.Blocks.{found_at}
+use Rattle.pd_reparse.proofs.Blocks.{found_at}
 use Rattle.pd_run.specs.Consulted.{rebound_run}
 use Rattle.pd_track.proofs.resuming.state_at.Goals as goal
 

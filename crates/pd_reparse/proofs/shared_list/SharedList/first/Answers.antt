@@ -1,9 +1,9 @@
 -- Whole blocks, and the first of what stands behind them.
 use Rattle.std.proofs.Common.{◌≡◌, ◌∙◌, ◌+◌, ◌-◌, ◌++◌, ◌<◌, ◌≤◌, [], length, take, get_or, sym, ap, arith}
-use Rattle.pd_shared.specs.Blocks.{items_in}
-use Rattle.pd_shared.proofs.Blocks.{default_other, first_in_block, first_behind}
-use Rattle.pd_shared.proofs.shared_list.SharedList.first.Goals.{then-whole-len+in_ok-rest, else-whole-len+in_ok-rest-2}
-use Rattle.pd_shared.proofs.shared_list.SharedList.first.Goals as goal
+use Rattle.pd_reparse.specs.Blocks.{items_in}
+use Rattle.pd_reparse.proofs.Blocks.{default_other, first_in_block, first_behind}
+use Rattle.pd_reparse.proofs.shared_list.SharedList.first.Goals.{then-whole-len+in_ok-rest, else-whole-len+in_ok-rest-2}
+use Rattle.pd_reparse.proofs.shared_list.SharedList.first.Goals as goal
 
 pub returns : goal.returns
 returns g c =

@@ -1,7 +1,7 @@
 -- An item stands at each index below their number.
 use Rattle.std.proofs.Common.{sym, arith}
-use Rattle.pd_shared.proofs.Blocks.{found_at, none_behind}
-use Rattle.pd_shared.proofs.shared_list.SharedList.get.Goals as goal
+use Rattle.pd_reparse.proofs.Blocks.{found_at, none_behind}
+use Rattle.pd_reparse.proofs.shared_list.SharedList.get.Goals as goal
 
 pub returns-then-index-len : goal.returns-then-index-len
 returns-then-index-len g c = sym (found_at c.args.index c.args.self.now c.at.result.now (omega (arith, c.len.ensures, c.if-index-len.true)) c.at.ensures)

@@ -1,8 +1,8 @@
 -- The item stands in its block.
 use Rattle.std.proofs.Common.{◌≡◌, ◌∙◌, ◌+◌, ◌++◌, ◌<◌, [], length, take, get_or, sym, ap, arith}
-use Rattle.pd_shared.specs.Blocks.{items_in}
-use Rattle.pd_shared.proofs.Blocks.{at_in_block, default_other}
-use Rattle.pd_shared.proofs.shared_list.SharedList.at.Goals as goal
+use Rattle.pd_reparse.specs.Blocks.{items_in}
+use Rattle.pd_reparse.proofs.Blocks.{at_in_block, default_other}
+use Rattle.pd_reparse.proofs.shared_list.SharedList.at.Goals as goal
 
 pub returns-then-block-len : goal.returns-then-block-len
 returns-then-block-len g c =

@@ -3,7 +3,7 @@ use Rattle.std.proofs.Common.{◌≡◌, ◌∙◌, ℕ, zero, suc, ◌+◌, ◌
 use Rattle.std.proofs.lemmas.List.{get_or_append_left, get_or-append-add, take-append-le, append-nil}
 use Rattle.std.proofs.lemmas.List.Concat.{flat_map-append}
 use Rattle.std.proofs.Math.Seq.{take-append-add, take-length}
-use Rattle.pd_shared.specs.Blocks.{items_in}
+use Rattle.pd_reparse.specs.Blocks.{items_in}
 
 -- what stands at an index is the same, whatever else would be given behind the end
 pub default_other : {X : Type 0} (i : ℕ) (xs : List X) (d x : X) → i < length xs → x ≡ get_or xs i x → get_or xs i d ≡ x

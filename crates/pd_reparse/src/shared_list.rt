@@ -1,10 +1,16 @@
-//! Lists that share their first items.
+//! Lists whose first items other lists may keep too.
+//!
+//! A list holds its items in blocks. A list of the first items of another shares the blocks that it keeps, so that it costs
+//! little however many they are.
 ghost use Rattle.std.specs.Prelude.{◌≡◌, ◌≤◌, ◌<◌, ◌++◌, ◌∷◌, ◌+◌, [], length, take, get_or, slice_get, IfOk, OnOk, OnErr};
 ghost use Rattle.std.specs.Option.{option_copied};
-ghost use Rattle.pd_shared.specs.Blocks.{items_in};
+ghost use Rattle.pd_reparse.specs.Blocks.{items_in};
 
-use crate::block::Block;
-use crate::copied::Copied;
+mod block;
+mod copied;
+
+pub use self::block::Block;
+pub use self::copied::Copied;
 use std::alloc::{AllocError, Global};
 use std::marker::Model;
 use std::mem;
@@ -28,7 +34,7 @@ pub struct SharedList<T> {
 
 impl<T> Model for SharedList<T> {
     ghost use Rattle.std.specs.Prelude.{List, ◌≡◌, ◌++◌, length};
-    ghost use Rattle.pd_shared.specs.Blocks.{items_in};
+    ghost use Rattle.pd_reparse.specs.Blocks.{items_in};
 
     ghost Value = { List T };
 

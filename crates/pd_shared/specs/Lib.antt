@@ -1,2 +1,0 @@
--- The definitions of lists in blocks.
-pub mod Blocks
