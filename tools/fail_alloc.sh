@@ -5,29 +5,29 @@
 #     with a settings text that is taken and one that is refused, each without workers, with one and with two. It says so
 #     by status 2 and the fault 19 (beside workers also 12, where they all left), and what it wrote is a prefix of what it
 #     writes with memory; or the refusal made no difference.
-#   - the calls below it, table by table of crates/pd_book_trials/memory.txt, and those of a desk and of its workers, and
-#     a run of the program over memory, of crates/pd_desk_trials/memory.txt: a call that is refused is made again, and it
+#   - the calls below it, table by table of crates/test_book/memory.txt, and those of a desk and of its workers, and
+#     a run of the program over memory, of crates/test_desk/memory.txt: a call that is refused is made again, and it
 #     and all calls after it are to answer as with memory, or as a row says of a worker that left. Where what tells the
 #     rows found no memory, no call did.
 #   - the built pdrecord, with no input, with a script that is recorded, with a trace too, and with one that isn't. It says so
 #     by status 2 and the fault 19 and writes nothing, or the refusal made no difference.
-#   - the program pd_book_trials, with its word `memory`, which lets a first want of memory pass and makes the call again.
-# No run may take longer than ten seconds. Outside the gate: needs a C compiler, and pd_book_trials and pd_desk_trials as
-# `rt run` leaves them in out/. PROGRAM, RECORD, TRIALS and DESK name other builds of the four.
+#   - the program test_book, with its word `memory`, which lets a first want of memory pass and makes the call again.
+# No run may take longer than ten seconds. Outside the gate: needs a C compiler, and test_book and test_desk as
+# `rt run` leaves them in out/. PROGRAM, RECORD, BOOK and DESK name other builds of the four.
 #
 #   tools/fail_alloc.sh [INPUT..]
 set -eu
 top=$(cd "$(dirname "$0")/.." && pwd)
 program=${PROGRAM:-$top/crates/pdregress/out/pdregress}
 record=${RECORD:-$top/crates/pdrecord/out/pdrecord}
-trials=${TRIALS:-$top/crates/pd_book_trials/out/pd_book_trials}
-desk=${DESK:-$top/crates/pd_desk_trials/out/pd_desk_trials}
+book=${BOOK:-$top/crates/test_book/out/test_book}
+desk=${DESK:-$top/crates/test_desk/out/test_desk}
 work=$(mktemp -d)
 trap 'rm -rf "$work"' EXIT
 cc -O2 -shared -fPIC -o "$work/fail_alloc.so" "$top/tools/fail_alloc.c" -ldl
 [ -n "${PROGRAM:-}" ] || "$top/prove" pdregress
 [ -n "${RECORD:-}" ] || "$top/prove" pdrecord
-for built in "$program" "$record" "$trials" "$desk"; do
+for built in "$program" "$record" "$book" "$desk"; do
     [ -x "$built" ] || { echo "$built: not built"; exit 2; }
 done
 bad=0
@@ -131,11 +131,11 @@ try_tables() { # FILE PROGRAM: each table of rows of the file
     done
 }
 
-try_tables "$top/crates/pd_book_trials/memory.txt" "$trials"
-try_tables "$top/crates/pd_desk_trials/memory.txt" "$desk"
+try_tables "$top/crates/test_book/memory.txt" "$book"
+try_tables "$top/crates/test_desk/memory.txt" "$desk"
 
 input=/dev/null
-try_test "pd_book_trials memory" "$trials" memory
+try_test "test_book memory" "$book" memory
 
 cd "$top"
 [ $# -gt 0 ] || set -- examples/*.txt

@@ -2,7 +2,7 @@
 """Plants the bugs of crates/*/bugs, which no contract refuses, one at a time, and tells whether its test sees each.
 
 A bug is a file `NAME.edit`. Its line `fails:` names the test that has to see it: `story TITLE`, a story of
-crates/pd_desk_trials/stdin, or `run NAME`, a run of crates/pdregress/runs.txt. Then come a line `file:` and lines
+crates/test_desk/stdin, or `run NAME`, a run of crates/pdregress/runs.txt. Then come a line `file:` and lines
 `old:` and `new:`, as in an edit that must fail; but there may be several of these pairs, and blanks and newlines count
 alike.
 
@@ -25,7 +25,7 @@ from dataclasses import dataclass
 from pathlib import Path
 
 TOP = Path(__file__).resolve().parents[1]
-STORIES = TOP / "crates" / "pd_desk_trials" / "stdin"
+STORIES = TOP / "crates" / "test_desk" / "stdin"
 RUNS = TOP / "crates" / "pdregress" / "runs.txt"
 # The line with which `rt try` ends what it says of a case.
 END = re.compile(r"^case=(case\d+) (.*)$", re.MULTILINE)
@@ -122,7 +122,7 @@ def stories() -> "dict[str, Test]":
 
 def story(lines: "list[str]") -> Test:
     wanted = f"{len(lines)} rows, 0 differ\nstatus 0\n"
-    return Test("pd_desk_trials", (Case(("stories",), "".join(f"{line}\n" for line in lines), wanted),))
+    return Test("test_desk", (Case(("stories",), "".join(f"{line}\n" for line in lines), wanted),))
 
 
 def runs() -> "dict[str, Test]":

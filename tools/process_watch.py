@@ -81,8 +81,8 @@ def told_work(words: list[str], folder: str) -> Work | None:
     Work(crate='pd_lex', kind='proof')
     >>> told_work(["rattle", "check", "--crate-name", "pd_lex"], "/tmp/rt-edit-x1")
     Work(crate='pd_lex', kind='edits')
-    >>> told_work(["/tmp/rt-run-x1/bin/pd_desk_trials"], "/tmp/rt-run-x1/data")
-    Work(crate='pd_desk_trials', kind='run')
+    >>> told_work(["/tmp/rt-run-x1/bin/test_desk"], "/tmp/rt-run-x1/data")
+    Work(crate='test_desk', kind='run')
     >>> told_work(["python3", "rt", "ci"], "/tmp/x")
     """
     ran = next((it for it in words if re.match(r".*/rt-run-[^/]+/bin/", it)), "")

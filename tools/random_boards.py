@@ -1,11 +1,11 @@
 #!/usr/bin/env python3
 """Prints random lists of calls on a scoreboard and on congestion control, each with its answers, for
-crates/pd_sender_trials.
+crates/test_sender.
 
     tools/random_boards.py [--seed N]
 
 The answers come from a plain model of docs/SENDER.md, which keeps each SACKed octet by itself and looks through all
-octets at each question. With no words it prints crates/pd_sender_trials/data/random_boards.txt.
+octets at each question. With no words it prints crates/test_sender/data/random_boards.txt.
 """
 
 import argparse

@@ -1,10 +1,10 @@
 #!/usr/bin/env python3
-"""Prints random lists of calls on a book, each with its answer, as rows for crates/pd_book_trials.
+"""Prints random lists of calls on a book, each with its answer, as rows for crates/test_book.
 
     tools/random_lists.py [--lists N] [--calls N] [--seed N]
 
 The answers come from a plain model: it keeps the accepted calls in a list, and looks through it at each question. With
-no words it prints crates/pd_book_trials/data/random_lists.txt.
+no words it prints crates/test_book/data/random_lists.txt.
 """
 
 import argparse

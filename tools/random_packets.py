@@ -1,9 +1,9 @@
 #!/usr/bin/env python3
-"""Prints random packets, each as a row of numbers and as it is written in a script, for crates/pd_sender_trials.
+"""Prints random packets, each as a row of numbers and as it is written in a script, for crates/test_sender.
 
     tools/random_packets.py [--seed N]
 
-With no words it prints crates/pd_sender_trials/data/random_packets.txt.
+With no words it prints crates/test_sender/data/random_packets.txt.
 """
 
 import argparse

@@ -1,4 +1,4 @@
-"""The runs of crates/*/runs*.txt and the stories of crates/pd_desk_trials/stdin, each with what it is to say.
+"""The runs of crates/*/runs*.txt and the stories of crates/test_desk/stdin, each with what it is to say.
 
 A run is a line `run NAME` and those below it. `$ WORD` is a word of the program, `< LINE` a line of its input, `> LINE`
 or `! LINE` one that it writes, those on standard output first, and `= STATUS` its status. With `* N ..` there are
@@ -24,7 +24,7 @@ from pathlib import Path
 from asking import Asking, Call, Outcome, Said
 
 TOP = Path(__file__).resolve().parents[2]
-TRIALS = "pd_desk_trials"
+DESK = "test_desk"
 BLOCK_LINE = re.compile(rb"  ")
 OBJECT = re.compile(rb"[{].*[}]")
 BLOCK = re.compile(rb"([A-Za-z0-9_.-]+:[0-9]+:) .")
@@ -128,7 +128,7 @@ def rows_of(program: str) -> list[Row]:
 def story_rows() -> Iterator[Row]:
     """Each story as a run, named by its title: the texts up to its end, and its rows, none of which is to differ."""
     texts: list[bytes] = []
-    whole = (TOP / "crates" / TRIALS / "stdin").read_bytes()
+    whole = (TOP / "crates" / DESK / "stdin").read_bytes()
     for story in re.split(rb"^# ", whole, flags=re.MULTILINE)[1:]:
         title, *lines = filter(bytes.strip, story.split(b"\n"))
         texts += [line for line in lines if line.startswith(b"text ")]
@@ -187,4 +187,4 @@ def runs(program: str) -> Asking[Outcome]:
 
 def stories() -> Asking[Outcome]:
     """The stories of a desk, a run each, so that one that hangs has its name."""
-    return tell(TRIALS, list(story_rows()))
+    return tell(DESK, list(story_rows()))

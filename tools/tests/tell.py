@@ -20,7 +20,7 @@ from cases.main import DATA, check_table
 from cases.programs import Tally
 from cases.tables import Unread, all_tables
 from recordings import check, chosen_scripts
-from runs import TRIALS, runs, stories
+from runs import DESK, runs, stories
 
 PROGRAMS = ("pdregress", "pdrecord")
 # As the gate takes them: each eighth of the scripts of the tables and of so many random ones.
@@ -58,7 +58,7 @@ def told(chosen: argparse.Namespace) -> Iterator[Outcome]:
         waiting = [later(it) for it in (runs(PROGRAMS[0]), *tables())]
         yield from run_in_step([*tests, *waiting], ask_unproved)
         return
-    which = {TRIALS: stories()} if chosen.what == "stories" else {it: runs(it) for it in PROGRAMS}
+    which = {DESK: stories()} if chosen.what == "stories" else {it: runs(it) for it in PROGRAMS}
     commands = {program: command(program) for program in which}
     unbuilt = [program for program in which if not commands[program]]
     for program in (it for it in which if commands[it]):

@@ -30,7 +30,7 @@ LIMITS: dict[tuple[str, ...], int] = {
 }
 ALL = 33_000
 # Pages that stand beside what they are about.
-APART = frozenset({"crates/pd_cases/data/README.md", "crates/pd_rows/README.md", "crates/pd_sender_trials/README.md"})
+APART = frozenset({"crates/pd_cases/data/README.md", "crates/test_rows/README.md", "crates/test_sender/README.md"})
 # The pages that are read first, and how many words a sentence has there at most.
 SHORT = ("README.md", "docs/TUTORIAL.md")
 SENTENCE = 30

@@ -1,0 +1,248 @@
+//! Who gives the turns: one player at a time goes on, and the next once nothing moves any more.
+use crate::chairs::{Sits, free, say_shown};
+use crate::hand::{Hand, make_again, say_scratch};
+use crate::orders::choices::Choices;
+use crate::orders::stage::{Spot, Stage, Standing};
+use crate::orders::{CALLERS, PLAYERS, WORKERS};
+use crate::progress::TURNS;
+use pd_book::Act;
+use std::alloc::{AllocError, Global};
+use std::sync::Wait;
+use std::thread;
+use test_rows::{Calls, Form, Said};
+
+/// The most turns of an order.
+const MOVES: usize = 200;
+
+/// A caller: the calls that it has left, and of a settling whose answer it hasn't told how many calls were made before it.
+#[derive(Clone, Copy)]
+struct Caller<'a> {
+    left: &'a str,
+    settling: Option<usize>,
+}
+
+/// Gives the turns of players at a desk, and makes the same calls by hand.
+#[derive(Drop)]
+pub struct Director<'a> {
+    alloc: Global,
+    pub choices: Choices,
+    callers: Vec<Caller<'a>>,
+    /// The calls that were made, in the order of the turns.
+    made: Vec<&'a str>,
+    /// How many workers have a job.
+    busy: usize,
+    /// Whether all answers were right.
+    is_right: bool,
+    /// What was answered by hand to the last call, the report that is wanted, and the one that is shown.
+    answer: Said,
+    wanted: Said,
+    shown: Said,
+}
+
+impl<'a> Director<'a> {
+    pub fn new(alloc: Global) -> Result<Director<'a>, AllocError> {
+        Ok(Director {
+            answer: Said::new(alloc, Form::Short)?,
+            wanted: Said::new(alloc, Form::Short)?,
+            shown: Said::new(alloc, Form::Short)?,
+            alloc,
+            choices: Choices::new(alloc),
+            callers: Vec::new(alloc),
+            made: Vec::new(alloc),
+            busy: 0,
+            is_right: false,
+        })
+    }
+
+    /// Begins with these calls of the two callers.
+    pub fn begin(&mut self, lists: (&'a str, &'a str)) {
+        self.callers.clear();
+        for left in [lists.0, lists.1] {
+            let settling = None;
+            let _ = self.callers.push(Caller { left, settling });
+        }
+        self.made.clear();
+        self.busy = 0;
+        self.is_right = false;
+    }
+
+    /// Gives turns until all has come to rest, and shuts the desk. All is right where all answers are, and the last report is
+    /// the one from scratch of all calls.
+    pub fn direct<R: Wait>(
+        &mut self,
+        rt: &R,
+        stage: &Stage,
+        chair: &mut impl Sits,
+        hand: &mut Hand,
+    ) {
+        self.is_right = self.give_turns(rt, stage, chair, hand);
+        if !self.is_right {
+            stage.give_up(rt);
+            free(chair, self.alloc);
+        }
+        chair.shut();
+        let count = self.made.len();
+        self.say_scratch(count);
+        self.is_right = self.is_shown(chair) && self.is_right;
+    }
+
+    /// Whether all was right, and a history, made again, has the report that is wanted.
+    pub fn is_right_history(&mut self, acts: &[Act]) -> bool {
+        let are_made = make_again(self.alloc, acts, &mut self.shown);
+        self.is_right && are_made && self.wanted.as_str() == self.shown.as_str()
+    }
+
+    fn give_turns<R: Wait>(
+        &mut self,
+        rt: &R,
+        stage: &Stage,
+        chair: &mut impl Calls,
+        hand: &mut Hand,
+    ) -> bool {
+        for _move in 0..MOVES {
+            if !self.await_rest(rt, stage, chair, hand) || !self.are_right(rt, stage) {
+                return false;
+            }
+            let standing = stage.look(rt);
+            let (count, options) = standing.options();
+            if count == 0 {
+                return true;
+            }
+            match options.get(self.choices.choose(count)) {
+                Some(who) => self.let_go_on(rt, stage, *who, standing, hand),
+                None => return false,
+            }
+        }
+        false
+    }
+
+    /// Lets a player go on, and does the same by hand: makes a caller's next call, or hands in a worker's result; then starts
+    /// what workers that are free start now.
+    fn let_go_on<R: Wait>(
+        &mut self,
+        rt: &R,
+        stage: &Stage,
+        who: usize,
+        standing: Standing,
+        hand: &mut Hand,
+    ) {
+        let place = standing.place(who);
+        if who < CALLERS {
+            self.let_call(who, hand);
+        } else if matches!(place.spot, Spot::Done) {
+            hand.finish(place.job);
+            self.busy = self.busy.wrapping_sub(1);
+        }
+        stage.grant(rt, who);
+        for _worker in self.busy..WORKERS {
+            if hand.start(&mut self.shown) {
+                self.busy = self.busy.wrapping_add(1);
+            }
+        }
+    }
+
+    /// Makes a caller's next call by hand, and notes it.
+    fn let_call(&mut self, who: usize, hand: &mut Hand) {
+        if let Some(caller) = self.callers.get_mut(who) {
+            let (call, left) = caller.left.split_once("; ").unwrap_or((caller.left, ""));
+            caller.left = left;
+            caller.settling = if call == "settle" {
+                Some(self.made.len())
+            } else {
+                None
+            };
+            hand.call(call, &mut self.answer);
+            let _ = self.made.push(call);
+        }
+    }
+
+    /// Waits until whoever goes on waits for a turn or for verdicts, and the report is that of the calls made by hand;
+    /// whether it is so within the turns.
+    fn await_rest<R: Wait>(
+        &mut self,
+        rt: &R,
+        stage: &Stage,
+        chair: &mut impl Calls,
+        hand: &mut Hand,
+    ) -> bool {
+        hand.call("show", &mut self.wanted);
+        let is_owed = self.wanted.as_str().contains("pending");
+        for _turn in 0..TURNS {
+            if self.is_at_rest(stage.look(rt), is_owed) && self.is_shown(chair) {
+                return true;
+            }
+            thread::yield_now();
+        }
+        false
+    }
+
+    /// Whether the report is the one that is wanted.
+    fn is_shown(&mut self, chair: &mut impl Calls) -> bool {
+        self.shown.clear();
+        say_shown(&mut self.shown, chair.show());
+        self.wanted.as_str() == self.shown.as_str()
+    }
+
+    /// Whether the turn was taken, as many workers wait for one as have jobs, and all callers but those that settle while a
+    /// verdict is owed.
+    fn is_at_rest(&self, standing: Standing, is_owed: bool) -> bool {
+        let mut workers = 0usize;
+        let mut are_heard = true;
+        for who in 0..PLAYERS {
+            let is_away = standing.is_away(who);
+            match self.callers.get(who) {
+                Some(caller) => {
+                    are_heard = are_heard && (!is_away || (is_owed && caller.settling.is_some()));
+                }
+                None => workers = workers.wrapping_add(usize::from(!is_away)),
+            }
+        }
+        are_heard && workers == self.busy && standing.turn.is_none()
+    }
+
+    /// Whether what callers were answered is right: to a call what was answered by hand, and to a settling the report from
+    /// scratch of the calls before it and some of those since, in the order of their turns.
+    fn are_right<R: Wait>(&mut self, rt: &R, stage: &Stage) -> bool {
+        let standing = stage.look(rt);
+        let mut are_right = true;
+        for who in 0..CALLERS {
+            if !standing.is_away(who)
+                && let Some(answer) = stage.answers.get(who)
+            {
+                let mut said = answer.lock(rt);
+                are_right = self.is_right(who, said.as_str()) && are_right;
+                said.clear();
+            }
+        }
+        are_right
+    }
+
+    /// Whether what was said, if anything was, is right as the answer to a caller's last call.
+    fn is_right(&mut self, who: usize, said: &str) -> bool {
+        let settling = match self.callers.get_mut(who) {
+            Some(caller) => caller.settling.take(),
+            None => None,
+        };
+        match settling {
+            Some(before) => self.is_report(before, said),
+            None => said.is_empty() || said == self.answer.as_str(),
+        }
+    }
+
+    /// Whether what was said is the report from scratch of so many calls or more.
+    fn is_report(&mut self, before: usize, said: &str) -> bool {
+        for count in before..=self.made.len() {
+            self.say_scratch(count);
+            if self.wanted.as_str() == said {
+                return true;
+            }
+        }
+        false
+    }
+
+    /// Notes the report from scratch of the first so many calls as the one that is wanted.
+    fn say_scratch(&mut self, count: usize) {
+        let made = self.made.get(..count).unwrap_or(&[]);
+        say_scratch(self.alloc, made, &mut self.wanted);
+    }
+}

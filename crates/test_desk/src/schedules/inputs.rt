@@ -1,0 +1,93 @@
+//! Commands, as they come at random.
+use crate::schedules::dice::Dice;
+use std::alloc::{AllocError, Global};
+use test_rows::{Form, Said};
+
+/// Commands, as they are served beside workers and without.
+#[derive(Drop)]
+pub struct Input {
+    pub written: Said,
+    /// The same, but that each `show` is a `settle`.
+    pub settled: Said,
+    /// Of each report that is printed, also the last, whether it is settled.
+    pub are_settled: Vec<bool>,
+}
+
+const SCRIPTS: [&str; 5] = ["a", "b", "c", "d", "e"];
+
+/// How a script begins.
+const BEGINNING: &str = " 4
+0 socket(..., SOCK_STREAM, IPPROTO_TCP) = 3
++0 bind(3, ..., ...) = 0
++0 listen(3, 1) = 0
+";
+
+/// Lines that pass, fail, are unsupported and can't be read.
+const LINES: [&str; 5] = [
+    "+0 bind(9, ..., ...) = -1 EBADF",
+    "+0 bind(9, ..., ...) = 0",
+    "+0 poll(3, ..., ...) = 0",
+    "+0.2 > . 1:1(0) ack 1",
+    ",",
+];
+
+const SETTINGS: [&str; 4] = [
+    "tolerance_us 1000",
+    "tolerance_us 4000",
+    "mss 10",
+    "nagle true",
+];
+
+impl Input {
+    pub fn new(alloc: Global) -> Result<Input, AllocError> {
+        Ok(Input {
+            written: Said::new(alloc, Form::Short)?,
+            settled: Said::new(alloc, Form::Short)?,
+            are_settled: Vec::new(alloc),
+        })
+    }
+
+    /// So many commands in place of those before.
+    pub fn throw(&mut self, dice: &mut Dice, commands: u64) {
+        self.written.clear();
+        self.settled.clear();
+        self.are_settled.clear();
+        for _command in 0..commands {
+            self.add_command(dice);
+        }
+        self.note_report(true);
+    }
+
+    fn add_command(&mut self, dice: &mut Dice) {
+        let script = dice.pick(&SCRIPTS);
+        let line = dice.pick(&LINES);
+        match dice.below(16) {
+            0..=4 => self.put(&["add ", script, BEGINNING, line, "\n"]),
+            5..=9 => self.put(&["edit ", script, " 4 1 1\n", line, "\n"]),
+            10 => self.put(&["remove ", script, "\n"]),
+            11 => self.put(&["set ", dice.pick(&SETTINGS), "\n"]),
+            12..=14 => self.report("show\n", false),
+            _ => self.report("settle\n", true),
+        }
+    }
+
+    /// Adds these pieces to both.
+    fn put(&mut self, pieces: &[&str]) {
+        for piece in pieces {
+            self.written.say(piece);
+            self.settled.say(piece);
+        }
+    }
+
+    fn report(&mut self, word: &str, is_settled: bool) {
+        self.written.say(word);
+        self.settled.say("settle\n");
+        self.note_report(is_settled);
+    }
+
+    fn note_report(&mut self, is_settled: bool) {
+        if self.are_settled.push(is_settled).is_err() {
+            self.written.is_whole = false;
+        }
+    }
+}
