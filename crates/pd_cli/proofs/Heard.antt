@@ -1,5 +1,5 @@
 -- What a listener is told while serving.
-use Rattle.std.proofs.Common.{◌≡◌, ℕ, ◌+◌, List, [], ◌∷◌, ◌++◌, length, true, false, Option, Some, None, option_map, Result, Ok, Err, OnOk, IfOk, IsErrAnd, refl, sym, ap, subst, ◌∙◌, arith}
+use Rattle.std.proofs.Common.{◌≡◌, inl, inr, ℕ, ◌+◌, Bool, List, [], ◌∷◌, ◌++◌, length, true, false, Option, Some, None, option_map, Result, Ok, Err, OnOk, IfOk, IfErr, IsErrAnd, refl, sym, ap, subst, ◌∙◌, arith}
 use Rattle.pd_settings.specs.declared.fields.Settings.{Settings}
 use Rattle.pd_settings.specs.declared.keys.Key.{Key}
 use Rattle.pd_settings.specs.Keys.{key_named}
@@ -12,15 +12,19 @@ use Rattle.pd_book.specs.Acts.{Named, next, started}
 use Rattle.pd_book.specs.Story.{Story, Handed, handed_task, told}
 use Rattle.pd_book.specs.Refusals.{next_job, add_refusal, edit_refusal, remove_refusal, set_refusal}
 use Rattle.pd_book.specs.Turns.{after_turn}
+use Rattle.pd_words.specs.Commands.{Item, does, stops}
 use Rattle.pd_words.specs.declared.command.Command.{Command}
 use Rattle.pd_words.specs.declared.command.Command.TheVariants.{Add, Edit, Remove, Set, Show, Settle}
 use Rattle.pd_words.specs.declared.faults.ServeFault.{ServeFault}
+use Rattle.pd_words.specs.declared.faults.ServeFault.TheVariants.{OutOfMemory}
 use Rattle.pd_cli.specs.Report.{rendered}
 use Rattle.pd_cli.specs.Output.{acted, effect, report}
 use Rattle.pd_cli.specs.Steps.{Turns}
 use Rattle.pd_cli.specs.StepLines.{Counted, AreNumbered}
 use Rattle.pd_cli.specs.Hearing.{IsOfTurn, AreOfTurns, HearsAll, HearsTurn, HearsSettling, HearsNumbered}
-use Rattle.pd_cli.proofs.Written.{ok_same}
+use Rattle.pd_cli.specs.Sessions.{PrintsAll, HasAnswered, ServesBy}
+use Rattle.pd_cli.specs.Steps.{IsQuiet, Fails}
+use Rattle.pd_cli.proofs.Written.{ok_same, StartsNone, quiet_after}
 
 -- ---- one turn
 
@@ -122,11 +126,6 @@ started_set story new (Some fault) None value octets e = ap (λ (p : List ℕ ×
 started_set story new None None value octets e = ap (λ (p : List ℕ × Story). started p.1.past) (sym e)
 started_set story new refusal (Some k) value octets e = started_acted story new refusal (act.Set k value) octets refl e
 
--- a command other than a settle
-abbrev pub StartsNone : Command → Type 0
-StartsNone Settle = ⊥
-StartsNone command = Unit {0}
-
 pub started_after : (story new : Story) (command : Command) (octets : List ℕ) → StartsNone command → effect story command ≡ Ok (octets, new) → started new.past ≡ started story.past
 started_after story new (Add name None) octets n e = ap (λ (p : List ℕ × Story). started p.1.past) (sym (ok_same _ _ e))
 started_after story new (Add name (Some text)) octets n e = started_acted story new (add_refusal story name) (act.Add name text) octets refl (ok_same _ _ e)
@@ -137,12 +136,31 @@ started_after story new (Set key value) octets n e = started_set story new (set_
 started_after story new Show octets n e = ap (λ (p : List ℕ × Story). started p.1.past) (sym (ok_same (rendered (report story), story) (octets, new) e))
 started_after story new Settle octets n e = absurd n
 
-pub none_heard : {S V : Type 0} (hears : S → S → Counted → Type 0) (r : Result V ServeFault) (octets : V → List ℕ) (story after : Story) (command : Command) (old : S) → StartsNone command → IfOk r (λ v. effect story command ≡ Ok (octets v, after)) → HearsNumbered hears r story after old old
-none_heard hears (Ok v) octets story after command old n e = let same = started_after story after command (octets v) n e in ([], tt, refl, omega (arith, same))
-none_heard hears (Err x) octets story after command old n e = ([], tt, refl, tt)
+-- what a command that starts no job prints, and how quiet it is then
+pub act_printed : {S V : Type 0} (hears : S → S → Counted → Type 0) (r : Result V ServeFault) (octets : V → List ℕ) (story after : Story) (command : Command) (old : S) → StartsNone command → IfOk r (λ v. effect story command ≡ Ok (octets v, after))
+    → IfOk r (λ v. (effect story command ≡ Ok (octets v, after)) × HearsNumbered {V = Unit {0}} hears (Ok tt) story after old old)
+act_printed hears (Ok v) octets story after command old n e = let same = started_after story after command (octets v) n e in (e, ([], tt, refl, omega (arith, same)))
+act_printed hears (Err x) octets story after command old n e = tt
 
-pub same_heard : {S V : Type 0} (hears : S → S → Counted → Type 0) (r : Result V ServeFault) (story : Story) (old : S) → HearsNumbered hears r story story old old
-same_heard hears r story old = ([], tt, refl, on_ok r _ (omega arith))
+pub act_ready : {V : Type 0} (r : Result V ServeFault) (octets : V → List ℕ) (story after : Story) (command : Command) → StartsNone command → IsQuiet story → IfOk r (λ v. effect story command ≡ Ok (octets v, after)) → IfOk r (λ v. IsQuiet after)
+act_ready (Ok v) octets story after command n q e = quiet_after story after command (octets v) n q e
+act_ready (Err x) octets story after command n q e = tt
+
+pub act_failed : {S V : Type 0} (hears : S → S → Counted → Type 0) (r : Result V ServeFault) (story after : Story) (command : Command) (old : S) → IfErr r (λ fault. fault ≡ OutOfMemory)
+    → IfErr r (λ fault. Fails fault story command × HearsNumbered {V = Unit {0}} hears (Err fault) story after old old)
+act_failed hears (Ok v) story after command old e = tt
+act_failed hears (Err x) story after command old e = rw e (tt, ([], tt, refl, tt))
+
+-- what a settle prints, or why it has no reply
+pub settle_printed : {S V : Type 0} (hears : S → S → Counted → Type 0) (r : Result V ServeFault) (octets : V → List ℕ) (story after : Story) (old new : S) → IfOk r (λ v. effect story Settle ≡ Ok (octets v, after)) → HearsNumbered hears r story after old new
+    → IfOk r (λ v. (effect story Settle ≡ Ok (octets v, after)) × HearsNumbered {V = Unit {0}} hears (Ok tt) story after old new)
+settle_printed hears (Ok v) octets story after old new e h = (e, h)
+settle_printed hears (Err x) octets story after old new e h = tt
+
+pub settle_failed : {S V : Type 0} (hears : S → S → Counted → Type 0) (r : Result V ServeFault) (story after : Story) (old new : S) → IfErr r (λ fault. Fails fault story Settle) → HearsNumbered hears r story after old new
+    → IfErr r (λ fault. Fails fault story Settle × HearsNumbered {V = Unit {0}} hears (Err fault) story after old new)
+settle_failed hears (Ok v) story after old new e h = tt
+settle_failed hears (Err x) story after old new e h = (e, h)
 
 -- ---- the whole of serving
 
@@ -173,3 +191,29 @@ pub all_last : {S V : Type 0} (hears : S → S → Counted → Type 0) (r : Resu
 all_last hears r story next old now new h k =
     let same = h.3 in
     (h.0 ++ k.0, numbered_then 0 (started story.past) h.0 k.0 h.1 (omega (arith, same)) k.1, hears_then hears old now new h.0 k.0 h.2 k.2)
+
+-- whoever answers tells its listener of the jobs of each command
+abbrev pub TellsOf : {S L : Type 0} → (S → Command → List ℕ → S → Type 0) → (S → Story) → (S → L) → (L → L → Counted → Type 0) → Type 0
+TellsOf {S = S} prints story listener hears = (a b : S) → (command : Command) → (octets : List ℕ) → prints a command octets b → HearsNumbered {V = Unit {0}} hears (Ok tt) (story a) (story b) (listener a) (listener b)
+
+abbrev pub TellsAtFault : {S L : Type 0} → (ServeFault → S → Command → S → Type 0) → (S → Story) → (S → L) → (L → L → Counted → Type 0) → Type 0
+TellsAtFault {S = S} fails story listener hears = (fault : ServeFault) → (a b : S) → (command : Command) → fails fault a command b → HearsNumbered {V = Unit {0}} hears (Err fault) (story a) (story b) (listener a) (listener b)
+
+printed_heard : {S L : Type 0} (prints : S → Command → List ℕ → S → Type 0) (story : S → Story) (listener : S → L) (hears : L → L → Counted → Type 0) → TellsOf prints story listener hears
+    → (a b : S) (items : List Item) (octets : List ℕ) (old : L) → PrintsAll prints a items octets b → HeardAll hears (story a) old (listener a) → HeardAll hears (story b) old (listener b)
+printed_heard prints story listener hears tells a b [] octets old h k = subst (λ x. HeardAll hears (story x) old (listener x)) (sym h.1) k
+printed_heard prints story listener hears tells a b (stops fault ∷ items) octets old h k = absurd h
+printed_heard prints story listener hears tells a b (does command ∷ items) octets old h k =
+    let (printed, rest, next, p, q, e) = h in
+    printed_heard prints story listener hears tells next b items rest old q (all_more {V = Unit {0}} hears tt (story a) (story next) old (listener a) (listener next) k (tells a next command printed p))
+
+-- a listener of a session was told of jobs that are numbered from 1 on
+pub session_heard : {S L : Type 0} (prints : S → Command → List ℕ → S → Type 0) (fails : ServeFault → S → Command → S → Type 0) (passes : S → Bool) (r : Result Bool ServeFault) (a last : S) (input before after : Option (List ℕ)) → ServesBy prints fails passes r input before after a last → HasAnswered prints fails a last
+    → (story : S → Story) (listener : S → L) (hears : L → L → Counted → Type 0) → TellsOf prints story listener hears → TellsAtFault fails story listener hears → (settings : Settings) → story a ≡ record { opening = settings; past = [] }
+    → (jobs : List Counted) × AreNumbered 0 jobs × HearsAll hears (listener a) (listener last) jobs
+session_heard prints fails passes r a last input before after s (items, octets, now, p, inl same) story listener hears tells at_fault settings e =
+    let heard = printed_heard prints story listener hears tells a now items octets (listener a) p (all_first hears settings (story a) (listener a) e) in
+    all_told hears (story last) (listener a) (listener last) (subst (λ x. HeardAll hears (story x) (listener a) (listener x)) (sym same) heard)
+session_heard prints fails passes r a last input before after s (items, octets, now, p, inr (fault, command, f)) story listener hears tells at_fault settings e =
+    let heard = printed_heard prints story listener hears tells a now items octets (listener a) p (all_first hears settings (story a) (listener a) e) in
+    all_last {V = Unit {0}} hears (Err fault) (story now) (story last) (listener a) (listener now) (listener last) heard (at_fault fault now last command f)

@@ -2,12 +2,12 @@
 pub mod Beside
 pub mod Chains
 mod Rows
+pub mod Sessions
 pub mod Ending
 pub mod Heard
-pub mod Looking
 pub mod Written
 pub mod Settled
-pub mod Telling
+pub mod Told
 pub mod Passage
 pub mod Possible
 pub mod Counting

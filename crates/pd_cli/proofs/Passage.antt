@@ -19,7 +19,7 @@ use Rattle.pd_book.specs.Story.{Story, told}
 use Rattle.pd_book.specs.Turns.{settled, IsAtRest, IsSettled, SettlesAll}
 use Rattle.pd_book.specs.Refusals.{add_refusal, edit_refusal, remove_refusal, set_refusal}
 use Rattle.pd_words.specs.Requests.{request_of}
-use Rattle.pd_words.specs.Commands.{Item, does, stops, fitted, edit_of, with_lines, items_at, items}
+use Rattle.pd_words.specs.Commands.{Item, does, stops, fitted, edit_of, with_lines, items_at, items, commands}
 use Rattle.pd_words.specs.declared.requests.Request.{Request}
 use Rattle.pd_words.specs.declared.requests.Request.TheVariants as asks
 use Rattle.pd_words.specs.declared.command.Command.{Command}
@@ -27,9 +27,10 @@ use Rattle.pd_words.specs.declared.command.Command.TheVariants.{Add, Edit, Remov
 use Rattle.pd_words.specs.declared.faults.ServeFault.{ServeFault}
 use Rattle.pd_words.specs.declared.faults.ServeFault.TheVariants.{Truncated}
 use Rattle.pd_cli.specs.Report.{rendered}
-use Rattle.pd_cli.specs.Output.{report, acted, reported, effect, ahead, follow, outcome}
-use Rattle.pd_cli.specs.Laws.{behind, then_done, done_by, OutputGoesOn, StoriesAreLegal, SettlesPrintScratch}
-use Rattle.pd_cli.proofs.Written.{ok_same, ahead_ahead, quiet_reported}
+use Rattle.pd_cli.specs.Output.{report, acted, reported, effect, PrintsAlone}
+use Rattle.pd_cli.specs.Sessions.{PrintsAll}
+use Rattle.pd_cli.specs.Laws.{OutputGoesOn, StoriesAreLegal, SettlesPrintScratch}
+use Rattle.pd_cli.proofs.Written.{ok_same, quiet_reported, first_outcome}
 
 -- ---- the lines of an input hold no newline
 
@@ -216,50 +217,23 @@ rest_after laws story next Settle octets q f e = (settled_rest laws story next q
 
 -- ---- items one after another
 
-behind_ok : (octets all : List ℕ) (r : Result (List ℕ × Story) ServeFault) (next : Story) → behind octets r ≡ Ok (all, next) → (more : List ℕ) × (r ≡ Ok (more, next)) × (octets ++ more ≡ all)
-behind_ok octets all (Err fault) next e = absurd cc
-behind_ok octets all (Ok done) next e =
-    let pair = ok_same (octets ++ done.0, done.1) (all, next) e in
-    (done.0, ap (λ (s : Story). Ok (done.0, s)) (ap (λ (p : List ℕ × Story). p.1) pair), ap (λ (p : List ℕ × Story). p.0) pair)
-
-rest_by : (laws : BookLaws) (first : List Item) (story next : Story) (octets : List ℕ) → AllFit first → IsAtRest story → done_by story first ≡ Ok (octets, next) → IsAtRest next
-rest_by laws [] story next octets f q e = subst IsAtRest (ap (λ (p : List ℕ × Story). p.1) (ok_same ([], story) (octets, next) e)) q
-rest_by laws (stops fault ∷ first) story next octets f q e = absurd cc
-rest_by laws (does command ∷ first) story next octets f q e = go (effect story command) refl e (λ after more r k. rest_by laws first after next more f.1 r k)
-  where
-    go : (r : Result (List ℕ × Story) ServeFault) → effect story command ≡ r → then_done r (λ after. done_by after first) ≡ Ok (octets, next)
-        → ((after : Story) (more : List ℕ) → IsAtRest after → done_by after first ≡ Ok (more, next) → IsAtRest next) → IsAtRest next
-    go (Err fault) d k then = absurd cc
-    go (Ok done) d k then =
-        let b = behind_ok done.0 octets (done_by done.1 first) next k in
-        then done.1 b.0 (rest_after laws story done.1 command done.0 q f.0 d) b.1
-
-outcome_by : (first rest : List Item) (story next : Story) (octets : List ℕ) → done_by story first ≡ Ok (octets, next) → outcome story (first ++ rest) ≡ ahead octets (outcome next rest)
-outcome_by [] rest story next octets e =
-    let pair = ok_same ([], story) (octets, next) e in
-    rw (sym (ap (λ (p : List ℕ × Story). p.0) pair), sym (ap (λ (p : List ℕ × Story). p.1) pair)) refl
-outcome_by (stops fault ∷ first) rest story next octets e = absurd cc
-outcome_by (does command ∷ first) rest story next octets e = go (effect story command) e (λ after more k. outcome_by first rest after next more k)
-  where
-    go : (r : Result (List ℕ × Story) ServeFault) → then_done r (λ after. done_by after first) ≡ Ok (octets, next)
-        → ((after : Story) (more : List ℕ) → done_by after first ≡ Ok (more, next) → outcome after (first ++ rest) ≡ ahead more (outcome next rest))
-        → follow r (λ after. outcome after (first ++ rest)) ≡ ahead octets (outcome next rest)
-    go (Err fault) k then = absurd cc
-    go (Ok done) k then =
-        let b = behind_ok done.0 octets (done_by done.1 first) next k in
-        ap (ahead done.0) (then done.1 b.0 b.1) ∙ (ahead_ahead done.0 b.0 (outcome next rest) ∙ ap (λ (o : List ℕ). ahead o (outcome next rest)) b.2)
+rest_by : (laws : BookLaws) (first : List Item) (story next : Story) (octets : List ℕ) → AllFit first → IsAtRest story → PrintsAll PrintsAlone story first octets next → IsAtRest next
+rest_by laws [] story next octets f q h = subst IsAtRest (sym h.1) q
+rest_by laws (stops fault ∷ first) story next octets f q h = absurd h
+rest_by laws (does command ∷ first) story next octets f q h =
+    let (printed, more, after, e, k, same) = h in
+    rest_by laws first after next more f.1 (rest_after laws story after command printed q f.0 e) k
 
 -- ---- the laws
 
 pub output_goes_on : OutputGoesOn
 output_goes_on settings input octets story rest reaches =
-    let opened : Story = record { opening = settings; past = [] } in
-    ap (outcome opened) reaches.split ∙ outcome_by reaches.first rest opened story octets reaches.done
+    first_outcome PrintsAlone (λ story. story) (λ a b command printed e. e) (record { opening = settings; past = [] }) story (commands input) rest octets reaches
 
 pub stories_legal : BookLaws → StoriesAreLegal
 stories_legal laws settings input octets story rest reaches =
-    let fit : AllFit (reaches.first ++ rest) = subst AllFit reaches.split (items_fit (lines input) 0 (lines_are_lines input)) in
-    rest_by laws reaches.first (record { opening = settings; past = [] }) story octets (fit_front reaches.first rest fit) (record { legal = tt; none = refl }) reaches.done
+    let fit : AllFit (reaches.0 ++ rest) = subst AllFit reaches.1 (items_fit (lines input) 0 (lines_are_lines input)) in
+    rest_by laws reaches.0 (record { opening = settings; past = [] }) story octets (fit_front reaches.0 rest fit) (record { legal = tt; none = refl }) reaches.2
 
 reported_ok : (r : Result Story BookFault) (printed : List ℕ) (after : Story) → reported r ≡ Ok (printed, after) → (r ≡ Ok after) × (printed ≡ rendered (report after))
 reported_ok (Err fault) printed after e = absurd cc

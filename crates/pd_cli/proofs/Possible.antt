@@ -1,5 +1,5 @@
 -- What is printed without workers may be printed beside them.
-use Rattle.std.proofs.Common.{◌≡◌, inl, inr, ℕ, ◌+◌, nat_le, Bool, true, false, not, cond, List, [], ◌∷◌, ◌++◌, map, filter, Option, Some, None, option_map, is_some, Ok, refl, sym, ap, subst, ◌∙◌}
+use Rattle.std.proofs.Common.{◌≡◌, inl, inr, ℕ, ◌+◌, nat_le, Bool, true, false, not, cond, List, [], ◌∷◌, ◌++◌, map, filter, Option, Some, None, option_map, is_some, Ok, refl, sym, ap, subst, ◌∙◌, append_assoc}
 use Rattle.std.specs.Str.{bytes_eq}
 use Rattle.pd_settings.specs.declared.fields.Settings.{Settings}
 use Rattle.pd_settings.specs.declared.keys.Key.{Key}
@@ -14,13 +14,15 @@ use Rattle.pd_book.specs.Headline.{RowsAreOfScratch}
 use Rattle.pd_book.specs.Refusals.{full, taken_room, or_else, name_refusal, text_refusal, absence, value_refusal}
 use Rattle.pd_book.specs.Report.{shown, scratch}
 use Rattle.pd_book.specs.Story.{Story, told}
-use Rattle.pd_words.specs.Commands.{does}
+use Rattle.pd_words.specs.Commands.{Item, does, stops, commands}
 use Rattle.pd_words.specs.declared.command.Command.{Command}
 use Rattle.pd_words.specs.declared.command.Command.TheVariants.{Add, Edit, Remove, Set, Show, Settle}
 use Rattle.pd_cli.specs.Report.{rendered}
-use Rattle.pd_cli.specs.Output.{refused, report, acted, effect}
+use Rattle.pd_cli.specs.Output.{refused, report, acted, effect, PrintsAlone}
+use Rattle.pd_cli.specs.Sessions.{PrintsAll}
 use Rattle.pd_cli.specs.Beside.{IsPartOf, MayAct, MayPrint}
-use Rattle.pd_cli.specs.Laws.{Reaches, HaveSame, SettlesPrintScratch, AloneIsPossibleBeside}
+use Rattle.pd_cli.specs.Laws.{Reaches, HaveSame, SettlesPrintScratch, AloneIsPossibleBeside, SessionsArePossibleBeside}
+use Rattle.pd_cli.proofs.Sessions.{prints_then}
 use Rattle.pd_cli.proofs.Written.{ok_same}
 
 abbrev Possible : Story → Command → List ℕ → Story → Type 0
@@ -101,3 +103,20 @@ alone_possible rows settles settings input octets story rest command reaches pri
     settled c =
         let s = settles settings input octets story rest (subst (λ (x : Command). Reaches settings input octets story (does x ∷ rest)) c reaches) printed after (subst (λ (x : Command). effect story x ≡ Ok (printed, after)) c e) in
         (s.1, (s.0.same_texts, s.0.same_settings))
+
+-- the law of items one after another
+sessions_from : AloneIsPossibleBeside → (settings : Settings) (input octets : List ℕ) (before items rest : List Item) (done : List ℕ) (story now : Story) (accepted : Story) → commands input ≡ before ++ (items ++ rest)
+    → PrintsAll PrintsAlone (record { opening = settings; past = [] }) before done now → HaveSame now accepted → PrintsAll PrintsAlone now items octets story → (next : Story) × PrintsAll MayPrint accepted items octets next × HaveSame story next
+sessions_from law settings input octets before [] rest done story now accepted split d same h = (accepted, (h.0, refl), rw h.1 same)
+sessions_from law settings input octets before (stops fault ∷ items) rest done story now accepted split d same h = absurd h
+sessions_from law settings input octets before (does command ∷ items) rest done story now accepted split d same h =
+    let (printed, more, after, e, k, is) = h in
+    let one = law settings input done now (items ++ rest) command (before, split, d) printed after e accepted same in
+    let others = sessions_from law settings input more (before ++ does command ∷ []) items rest (done ++ printed) story after one.0 (split ∙ sym (append_assoc before (does command ∷ []) (items ++ rest))) (prints_then PrintsAlone (record { opening = settings; past = [] }) now after before command done printed d e) one.2 k in
+    (others.0, (printed, more, one.0, one.1, others.1, is), others.2)
+
+pub sessions_possible : AloneIsPossibleBeside → SessionsArePossibleBeside
+sessions_possible law settings input octets story rest reaches =
+    let opened : Story = record { opening = settings; past = [] } in
+    let all = sessions_from law settings input octets [] reaches.0 rest [] story opened opened reaches.1 (refl, refl) (refl, refl) reaches.2 in
+    (all.0, (reaches.0, reaches.1, all.1), all.2)

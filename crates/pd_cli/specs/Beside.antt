@@ -20,6 +20,7 @@ use Rattle.pd_words.specs.declared.faults.ServeFault.{ServeFault}
 use Rattle.pd_words.specs.declared.faults.ServeFault.TheVariants.{NoWorkers, Differs, BadCommand, Truncated, Read, Write, OutOfMemory}
 use Rattle.pd_cli.specs.Report.{rendered}
 use Rattle.pd_cli.specs.Output.{refused, all_pass}
+use Rattle.pd_cli.specs.Sessions.{PrintsAll}
 
 -- the report from scratch of the scripts and the settings as they stand
 abbrev pub from_scratch : Story → Shown
@@ -51,10 +52,7 @@ MayPrint story Settle octets next = (octets ≡ rendered (from_scratch story)) �
 
 -- what items may print, one after another, and the story after them
 abbrev pub MayPrintAll : Story → List Item → List ℕ → Story → Type 0
-MayPrintAll story [] octets after = (octets ≡ []) × (after ≡ story)
-MayPrintAll story (stops fault ∷ items) octets after = ⊥
-MayPrintAll story (does command ∷ items) octets after =
-    (printed rest : List ℕ) × (next : Story) × MayPrint story command printed next × MayPrintAll next items rest after × (octets ≡ printed ++ rest)
+MayPrintAll = PrintsAll MayPrint
 
 -- these octets are what the first of some items may print, and P holds of the others
 abbrev pub StopsBefore : (List Item → Type 0) → Story → List Item → List ℕ → Type 0

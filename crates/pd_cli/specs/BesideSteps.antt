@@ -1,17 +1,15 @@
 -- The steps of serving beside workers; cited by private contracts alone.
-use Rattle.std.specs.Prelude.{◌≡◌, ℕ, Bool, List, [], ◌++◌, map, Option, unwrap_or, Result, Ok, Err}
+use Rattle.std.specs.Prelude.{◌≡◌, ℕ, List, map, Option, unwrap_or}
 use Rattle.pd_book.specs.declared.faults.BookFault.{BookFault}
 use Rattle.pd_book.specs.declared.faults.BookFault.TheVariants as book
 use Rattle.pd_book.specs.declared.row.Row.{Row}
 use Rattle.pd_book.specs.Acts.{Named}
 use Rattle.pd_book.specs.Report.{Shown}
-use Rattle.pd_book.specs.Story.{Story}
 use Rattle.pd_words.specs.declared.command.Command.{Command}
 use Rattle.pd_words.specs.declared.command.Command.TheVariants.{Settle}
 use Rattle.pd_words.specs.declared.faults.ServeFault.{ServeFault}
-use Rattle.pd_words.specs.declared.faults.ServeFault.TheVariants.{NoWorkers, Differs, Write, OutOfMemory}
-use Rattle.pd_cli.specs.Output.{refused, all_pass}
-use Rattle.pd_cli.specs.Beside.{from_scratch, MayPrint}
+use Rattle.pd_words.specs.declared.faults.ServeFault.TheVariants.{NoWorkers, Differs, OutOfMemory}
+use Rattle.pd_cli.specs.Output.{refused}
 
 -- the line of a refusal for this reason, or where there is none for a full history
 abbrev pub Declines : Option BookFault → List ℕ → Type 0
@@ -24,20 +22,6 @@ scripts_of rows = map (λ (row : Row). (row.name, row.text)) rows
 -- both reports are of the same scripts under the same settings
 abbrev pub IsOfSame : Shown → Shown → Type 0
 IsOfSame report other = (report.settings ≡ other.settings) × (scripts_of report.rows ≡ scripts_of other.rows)
-
--- what doing one command wrote, and the story of the accepted commands then
-abbrev pub DoesBeside : Result (Unit {0}) ServeFault → Story → Command → Story → List ℕ → Type 0
-DoesBeside (Ok u) old command new octets = MayPrint old command octets new
-DoesBeside (Err NoWorkers) old command new octets = (command ≡ Settle) × (octets ≡ [])
-DoesBeside (Err Differs) old command new octets = octets ≡ []
-DoesBeside (Err OutOfMemory) old command new octets = octets ≡ []
-DoesBeside (Err Write) old command new octets = (more : List ℕ) × MayPrint old command (octets ++ more) new
-DoesBeside (Err fault) old command new octets = ⊥
-
--- the same of the settling at the end, which tells whether each row passes
-abbrev pub EndsBeside : Result Bool ServeFault → Story → List ℕ → Type 0
-EndsBeside (Ok passed) story octets = MayPrint story Settle octets story × (passed ≡ all_pass (from_scratch story))
-EndsBeside (Err fault) story octets = DoesBeside (Err fault) story Settle story octets
 
 -- why a command beside workers has no reply
 abbrev pub FailsBeside : ServeFault → Command → Type 0

@@ -1,39 +1,21 @@
 -- What holds of each story that serving goes through, and of each report that it prints.
-use Rattle.std.specs.Prelude.{◌≡◌, ℕ, List, [], ◌∷◌, ◌++◌, Result, Ok, Err}
+use Rattle.std.specs.Prelude.{◌≡◌, ℕ, List, [], ◌∷◌, Ok}
 use Rattle.pd_settings.specs.declared.fields.Settings.{Settings}
 use Rattle.pd_book.specs.Acts.{texts, now}
 use Rattle.pd_book.specs.Story.{Story}
 use Rattle.pd_book.specs.Turns.{IsAtRest, IsSettled}
 use Rattle.pd_book.specs.Headline.{RowsAreOfScratch}
-use Rattle.pd_words.specs.Commands.{Item, does, stops, commands}
+use Rattle.pd_words.specs.Commands.{Item, does, commands}
 use Rattle.pd_words.specs.declared.command.Command.{Command}
 use Rattle.pd_words.specs.declared.command.Command.TheVariants.{Show, Settle}
-use Rattle.pd_words.specs.declared.faults.ServeFault.{ServeFault}
 use Rattle.pd_cli.specs.Report.{rendered}
-use Rattle.pd_cli.specs.Output.{report, effect, ahead, outcome, output}
+use Rattle.pd_cli.specs.Output.{report, effect, PrintsAlone, ahead, outcome, output}
+use Rattle.pd_cli.specs.Sessions.{PrintsFirst}
 use Rattle.pd_cli.specs.Beside.{from_scratch, MayPrint}
 
--- octets that were written, with those of an effect behind them
-abbrev pub behind : List ℕ → Result (List ℕ × Story) ServeFault → Result (List ℕ × Story) ServeFault
-behind octets (Ok done) = Ok (octets ++ done.0, done.1)
-behind octets (Err fault) = Err fault
-
--- an effect, then another on the story after it
-abbrev pub then_done : Result (List ℕ × Story) ServeFault → (Story → Result (List ℕ × Story) ServeFault) → Result (List ℕ × Story) ServeFault
-then_done (Ok done) rest = behind done.0 (rest done.1)
-then_done (Err fault) rest = Err fault
-
--- what all of these items print, and the story after them, or the fault that ends the run
-abbrev pub done_by : Story → List Item → Result (List ℕ × Story) ServeFault
-done_by story [] = Ok ([], story)
-done_by story (stops fault ∷ items) = Err fault
-done_by story (does command ∷ items) = then_done (effect story command) (λ next. done_by next items)
-
 -- serving this input comes to a story, with these octets written and these items still to come
-pub record Reaches (settings : Settings) (input octets : List ℕ) (story : Story) (rest : List Item) : Type 0 where
-  pub first : List Item
-  pub split : commands input ≡ first ++ rest
-  pub done : done_by (record { opening = settings; past = [] }) first ≡ Ok (octets, story)
+abbrev pub Reaches : Settings → List ℕ → List ℕ → Story → List Item → Type 0
+Reaches settings input octets story rest = PrintsFirst PrintsAlone (record { opening = settings; past = [] }) (commands input) octets story rest
 
 -- the output is what was written up to a story, then the outcome of what is still to come
 abbrev pub OutputGoesOn : Type 0
@@ -71,3 +53,9 @@ AloneIsPossibleBeside =
     (settings : Settings) → (input octets : List ℕ) → (story : Story) → (rest : List Item) → (command : Command) → Reaches settings input octets story (does command ∷ rest)
     → (printed : List ℕ) → (after : Story) → effect story command ≡ Ok (printed, after)
     → (accepted : Story) → HaveSame story accepted → (next : Story) × MayPrint accepted command printed next × HaveSame after next
+
+-- what the first items of an input print without workers they may print beside them, one after another
+abbrev pub SessionsArePossibleBeside : Type 0
+SessionsArePossibleBeside =
+    (settings : Settings) → (input octets : List ℕ) → (story : Story) → (rest : List Item) → Reaches settings input octets story rest
+    → (accepted : Story) × PrintsFirst MayPrint (record { opening = settings; past = [] }) (commands input) octets accepted rest × HaveSame story accepted

@@ -3,12 +3,12 @@ pub mod Beside
 pub mod BesideSteps
 pub mod Blocks
 pub mod DeskFaults
-pub mod ExplainProgram
 pub mod Laws
 pub mod Output
 pub mod Program
 pub mod Report
+pub mod Sessions
 pub mod StepLines
-pub mod StepProgram
 pub mod Steps
+pub mod Telling
 pub mod Hearing

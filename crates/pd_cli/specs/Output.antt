@@ -57,6 +57,10 @@ effect story (Set key value) = Ok (acted story (set_refusal story key value) (op
 effect story Show = Ok (rendered (report story), story)
 effect story Settle = reported (settled story)
 
+-- what a command prints, and the story after it, where no fault ends the run
+abbrev pub PrintsAlone : Story → Command → List ℕ → Story → Type 0
+PrintsAlone story command octets next = effect story command ≡ Ok (octets, next)
+
 -- all that is written, and how it ends: whether each row of the last report passes, or the fault
 pub record Session : Type 0 where
   pub written : List ℕ

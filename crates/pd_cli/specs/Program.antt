@@ -1,7 +1,8 @@
 -- What the program writes, and its status.
-use Rattle.std.specs.Prelude.{◌≡◌, ℕ, suc, zero, Bool, true, false, ◌⊎◌, List, [], Option, Result, Ok, Err, IfSome}
+use Rattle.std.specs.Prelude.{◌≡◌, ℕ, suc, zero, Bool, true, false, ◌⊎◌, List, [], ◌++◌, Option, Result, Ok, Err, IfSome}
 use Rattle.std.specs.Io.KnownBytes.{Appends}
 use Rattle.pd_settings.specs.declared.fields.Settings.{Settings}
+use Rattle.pd_words.specs.Chosen.{Asked}
 use Rattle.pd_words.specs.Commands.{commands}
 use Rattle.pd_words.specs.ProgramFaults.{fault_line}
 use Rattle.pd_words.specs.Said.{Says}
@@ -13,6 +14,8 @@ use Rattle.pd_words.specs.declared.program_faults.ProgramFault.{ProgramFault}
 use Rattle.pd_words.specs.declared.program_faults.ProgramFault.TheVariants.{Serving}
 use Rattle.pd_cli.specs.Beside.{MayAnswer}
 use Rattle.pd_cli.specs.Output.{output, Answers}
+use Rattle.pd_cli.specs.StepLines.{Counted, AreNumbered}
+use Rattle.pd_cli.specs.Telling.{AreTold}
 
 -- what serving writes, and how it ends: without workers the output of the input, else what may be written beside them
 abbrev pub Served : ℕ → Settings → Result Bool ServeFault → List ℕ → List ℕ → Type 0
@@ -27,6 +30,11 @@ Runs workers (Ok settings) (Err (Serving fault)) octets input = Served workers s
 Runs workers (Ok settings) (Err fault) octets input = ⊥
 Runs workers (Err fault) end octets input = (octets ≡ []) × ((end ≡ Err fault) ⊎ (end ≡ Err (Serving OutOfMemory)))
 
+-- how serving ended, as the end of a run
+abbrev pub end_of : Result Bool ServeFault → Result Bool ProgramFault
+end_of (Ok passed) = Ok passed
+end_of (Err fault) = Err (Serving fault)
+
 -- the status: 0 where each row of the last report passes, 1 where one does not, 2 at a fault
 abbrev pub status_of : Result Bool ProgramFault → ℕ
 status_of (Ok true) = 0
@@ -38,9 +46,10 @@ abbrev pub said_of : Result Bool ProgramFault → List ℕ
 said_of (Ok passed) = []
 said_of (Err fault) = fault_line fault
 
--- a run with so many workers and this settings text came to an end with its status, said what that has to say, and wrote
--- what belongs to it
-abbrev pub Finishes : Exit → ℕ → List ℕ → Option (List ℕ) → Option (List ℕ) → Option (List ℕ) → Option (List ℕ) → Option (List ℕ) → Type 0
-Finishes exit workers text input out_before out_after err_before err_after =
-    (end : Result Bool ProgramFault) × (exit.status ≡ status_of end) × Says exit.told err_before err_after (said_of end)
+-- a run with so many workers and this settings text came to an end with its status, told what was asked of some jobs, which
+-- are numbered from 1 on, then said what the end has to say, and wrote what belongs to it
+abbrev pub Finishes : Exit → ℕ → Asked → List ℕ → Option (List ℕ) → Option (List ℕ) → Option (List ℕ) → Option (List ℕ) → Option (List ℕ) → Type 0
+Finishes exit workers asked text input out_before out_after err_before err_after =
+    (end : Result Bool ProgramFault) × (exit.status ≡ status_of end)
+    × ((jobs : List Counted) × (told : List ℕ) × AreNumbered 0 jobs × AreTold asked jobs told × Says exit.told err_before err_after (told ++ said_of end))
     × ((octets : List ℕ) × Appends out_before out_after octets × IfSome input (Runs workers (settings_in text) end octets))

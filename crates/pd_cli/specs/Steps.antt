@@ -1,5 +1,5 @@
 -- The steps of serving; cited by private contracts alone.
-use Rattle.std.specs.Prelude.{◌≡◌, ◌≢◌, ◌+◌, ◌<◌, ℕ, Bool, true, false, List, [], ◌++◌, Some, None, Result, Ok, Err}
+use Rattle.std.specs.Prelude.{◌≡◌, ◌≢◌, ◌+◌, ◌<◌, ℕ, Bool, true, false, List, [], Some, None, Result, Ok, Err}
 use Rattle.pd_book.specs.declared.faults.BookFault.{BookFault}
 use Rattle.pd_book.specs.declared.faults.BookFault.TheVariants as book
 use Rattle.pd_track.specs.declared.task.Task.{Task}
@@ -9,10 +9,9 @@ use Rattle.pd_book.specs.Story.{Story}
 use Rattle.pd_book.specs.Refusals.{next_job, start_refusal}
 use Rattle.pd_book.specs.Turns.{after_turn, settled}
 use Rattle.pd_words.specs.declared.command.Command.{Command}
-use Rattle.pd_words.specs.declared.command.Command.TheVariants.{Settle}
 use Rattle.pd_words.specs.declared.faults.ServeFault.{ServeFault}
-use Rattle.pd_words.specs.declared.faults.ServeFault.TheVariants.{HistoryFull, Write, OutOfMemory}
-use Rattle.pd_cli.specs.Output.{refused, effect, report, all_pass}
+use Rattle.pd_words.specs.declared.faults.ServeFault.TheVariants.{HistoryFull, OutOfMemory}
+use Rattle.pd_cli.specs.Output.{refused, effect}
 
 -- what an answer of a book prints
 abbrev pub RepliesTo : Result (Unit {0}) BookFault → List ℕ → Type 0
@@ -46,16 +45,3 @@ abbrev pub Fails : ServeFault → Story → Command → Type 0
 Fails HistoryFull story command = effect story command ≡ Err HistoryFull
 Fails OutOfMemory story command = Unit {0}
 Fails fault story command = ⊥
-
--- what doing one command wrote, and the story then
-abbrev pub Does : Result (Unit {0}) ServeFault → Story → Command → Story → List ℕ → Type 0
-Does (Ok u) old command new octets = effect old command ≡ Ok (octets, new)
-Does (Err HistoryFull) old command new octets = (effect old command ≡ Err HistoryFull) × (octets ≡ [])
-Does (Err Write) old command new octets = (more : List ℕ) × (effect old command ≡ Ok (octets ++ more, new))
-Does (Err OutOfMemory) old command new octets = octets ≡ []
-Does (Err fault) old command new octets = ⊥
-
--- the same of the settling at the end, which tells whether each row passes
-abbrev pub Ends : Result Bool ServeFault → Story → Story → List ℕ → Type 0
-Ends (Ok passed) old new octets = (effect old Settle ≡ Ok (octets, new)) × (passed ≡ all_pass (report new))
-Ends (Err fault) old new octets = Does (Err fault) old Settle new octets

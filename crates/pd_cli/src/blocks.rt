@@ -1,61 +1,35 @@
-//! A listener that says why a job came to another verdict than pass.
+//! Why a job came to another verdict than pass, as a block of lines.
 ghost use Rattle.std.specs.Prelude.{◌≡◌, bytes_eq, false, [], IfOk};
 ghost use Rattle.std.specs.List.{list_any};
 ghost use Rattle.pd_words.specs.Chosen.{names_of};
 ghost use Rattle.pd_cli.specs.Blocks.{is_looked_into};
 
-use crate::listening::Listener;
 use crate::rendering::Class;
 use pd_book::Done;
 use pd_explain::{block_json, block_text, explain};
 use pd_text::Name;
-use pd_words::say;
+use pd_words::Explaining;
 use std::alloc::{AllocError, Global};
-use std::io::Write;
-
-/// A writer that gets a block for each job that doesn't pass.
-#[derive(Drop)]
-pub(crate) struct Blocks<'a, 'b, E> {
-    /// What blocks are allocated by.
-    pub alloc: Global,
-    /// Where the blocks are written.
-    pub err: &'a mut E,
-    /// The names of the scripts that are looked into; where there are none, all are.
-    pub only: &'b [&'b str],
-    /// Whether blocks are JSON.
-    pub json: bool,
-    /// Whether all blocks so far stand on it. After one that couldn't be written no script is looked into.
-    pub told: bool,
-}
-
-impl<'a, 'b, E: Write> Listener for Blocks<'a, 'b, E> {
-    ghost use Rattle.std.specs.Prelude.{◌≡◌, ℕ, List};
-    ghost use Rattle.pd_words.specs.Chosen.{names_of};
-    ghost use Rattle.pd_cli.specs.Blocks.{MaySay};
-    ghost use Rattle.pd_cli.specs.Hearing.{SaysMore};
-
-    ghost hears = { λ old new job. (new.err.ghost_name ≡ old.err.ghost_name) × (names_of new.only.now ≡ names_of old.only.now) × (block : List ℕ) × MaySay (names_of old.only.now) job block × SaysMore old.told new.told (E.contents old.err.now) (E.contents new.err.now) block };
-
-    fn finished(&mut self, done: &Done, _steps: u64) -> Result<(), AllocError> {
-        if !self.told {
-            return Ok(());
-        }
-        let block = block_of(self.alloc, self.only, self.json, done)?;
-        self.told = say(self.err, block.as_slice());
-        Ok(())
-    }
-}
 
 /// What is said of a job: nothing where it passes, or where its script isn't among those that are looked into.
-fn block_of(alloc: Global, only: &[&str], json: bool, done: &Done) -> Result<Vec<u8>, AllocError>
-    ensures { IfOk result (λ block. is_looked_into (names_of only.now) done.now.name ≡ false → block.items ≡ []) }
+///
+/// # Errors
+/// `AllocError` where a growth is refused.
+pub(crate) fn block_of(
+    alloc: Global,
+    explaining: &Explaining<'_>,
+    done: &Done,
+) -> Result<Vec<u8>, AllocError>
+    ensures { IfOk result (λ block. is_looked_into (names_of explaining.now.only.items) done.now.name ≡ false → block.items ≡ []) }
 {
     let verdict = done.verdict();
-    if Class::Pass.holds(Some(verdict)) || !is_looked_into(only, done.name()) {
+    if Class::Pass.holds(Some(verdict))
+        || !is_looked_into(explaining.only.as_slice(), done.name())
+    {
         return Ok(Vec::new(alloc));
     }
     match explain(alloc, done.text().lines(), &done.settings(), verdict)? {
-        Some(explanation) if json => block_json(alloc, done.name(), &explanation),
+        Some(explanation) if explaining.json => block_json(alloc, done.name(), &explanation),
         Some(explanation) => block_text(alloc, done.name(), &explanation),
         None => Ok(Vec::new(alloc)),
     }

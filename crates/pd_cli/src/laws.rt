@@ -1,20 +1,30 @@
-//! What the definitions say of each story that serving goes through and of each report that it prints; the function
-//! does nothing.
-ghost use Rattle.pd_cli.specs.Laws.{OutputGoesOn, StoriesAreLegal, SettlesPrintScratch, ShowsPrintPart, AloneIsPossibleBeside};
+//! What the definitions say of each story that serving goes through and of each report that it prints; the functions
+//! do nothing.
+ghost use Rattle.pd_cli.specs.Telling.{NothingIsTold, StepsAreTold, BlocksAreTold};
+ghost use Rattle.pd_cli.specs.Laws.{OutputGoesOn, StoriesAreLegal, SettlesPrintScratch, ShowsPrintPart, AloneIsPossibleBeside, SessionsArePossibleBeside};
 
 use pd_book::{accepting, headline, settling};
 
 /// Each story that serving comes to is legal. A settle leaves nothing pending and the same scripts and settings, and
-/// prints their report from scratch; in a report that a show prints each row is pending or that from scratch. What a
-/// command prints it may print beside workers too.
+/// prints their report from scratch; in a report that a show prints each row is pending or that from scratch. What
+/// commands print they may print beside workers too.
 pub fn reports()
     ensures output { OutputGoesOn }
     ensures legal { StoriesAreLegal }
     ensures settles { SettlesPrintScratch }
     ensures shows { ShowsPrintPart }
     ensures beside { AloneIsPossibleBeside }
+    ensures sessions { SessionsArePossibleBeside }
 {
     headline();
     accepting();
     settling();
 }
+
+/// Of jobs nothing is told where nothing is asked for, a line of steps each where steps alone are, and a block each where
+/// explanations alone are.
+pub fn tellings()
+    ensures nothing { NothingIsTold }
+    ensures steps { StepsAreTold }
+    ensures blocks { BlocksAreTold }
+{}

@@ -1,19 +1,22 @@
 //! Serving the commands of a reader to a writer.
-ghost use Rattle.std.specs.Prelude.{◌≡◌, ◌≤◌, ℕ, List, [], Ok, IfOk, IfErr, IfSome};
+ghost use Rattle.std.specs.Prelude.{◌≤◌, ℕ, List, IfOk, IfErr, OnOk};
 ghost use Rattle.std.specs.Io.KnownBytes.{Appends};
-ghost use Rattle.pd_cli.specs.Output.{effect, Serves};
-ghost use Rattle.pd_cli.specs.Steps.{IsQuiet, Fails, Does, Ends};
-ghost use Rattle.pd_cli.specs.StepLines.{Counted, AreNumbered};
-ghost use Rattle.pd_cli.specs.Hearing.{HearsAll, HearsNumbered};
+ghost use Rattle.pd_cli.specs.Output.{Serves};
+ghost use Rattle.pd_cli.specs.Beside.{ServesBeside};
+ghost use Rattle.pd_cli.specs.Sessions.{ServesBy, HasAnswered, DoesBy, SettlesBy};
 
-use crate::acts::{add, edit, remove, set};
-use crate::listening::{Listener, Silent};
-use crate::settling::{at_rest, settle_and_show, show};
+use crate::answering::Answerer;
+use crate::at_book::AtBook;
+use crate::at_desk::AtDesk;
+use crate::listening::Silent;
 use pd_book::Book;
+use pd_desk::Desk;
+use pd_seat::Seat;
 use pd_settings::Settings;
 use pd_words::{Command, Intake, ServeFault, next_command, put_all};
 use std::alloc::Global;
 use std::io::{Read, Write};
+use std::sync::Wait;
 
 /// Serves the commands of a reader, to its end, with a book that begins with these settings and keeps at most `cache`
 /// tracks: 1 to 1,024.
@@ -34,103 +37,107 @@ pub fn serve_alone<R: Read, W: Write>(
     requires few { cache ≤ 1024 }
     ensures { Serves result settings (R.remaining reader.old) (W.contents writer.old) (W.contents writer.new) }
 {
-    serve_heard(alloc, settings, cache, reader, writer, &mut Silent)
+    let mut at = AtBook {
+        alloc,
+        book: Book::new(alloc, cache, settings),
+        listener: Silent,
+    };
+    serve_all(&mut at, reader, writer)
 }
 
-/// Serves as `serve_alone` does; a listener is told of each job as it is finished.
-pub(crate) fn serve_heard<R: Read, W: Write, L: Listener>(
+/// Serves the commands of a reader, to its end, at a seat of a new desk that was opened with these settings. A `settle`
+/// waits until nothing is owed. It tells whether each row of the last report passes.
+///
+/// It keeps a copy of the scripts and the settings, as the accepted commands make them, and compares it with each reply of
+/// the desk (a full history and want of memory apart) and with each report.
+///
+/// # Errors
+/// `BadCommand` and `Truncated` where they stand in the input, `NoWorkers` where a script is owed its verdict and all
+/// workers have left, `Differs` where the desk isn't as the own copy, `Read`, `OutOfMemory`: what the commands before print
+/// is written. `Write`: a prefix of it is.
+pub fn serve_seat<H: Wait, R: Read, W: Write>(
+    rt: &H,
     alloc: Global,
+    desk: &Desk,
+    seat: &mut Seat,
     settings: Settings,
-    cache: usize,
     reader: &mut R,
     writer: &mut W,
-    listener: &mut L,
 ) -> Result<bool, ServeFault>
-    requires some { 1 ≤ cache }
-    requires few { cache ≤ 1024 }
-    ensures serves { Serves result settings (R.remaining reader.old) (W.contents writer.old) (W.contents writer.new) }
-    ensures heard { (jobs : List Counted) × AreNumbered 0 jobs × HearsAll L.hears listener.old listener.new jobs }
+    ensures { ServesBeside result settings (R.remaining reader.old) (W.contents writer.old) (W.contents writer.new) }
 {
-    let mut intake = Intake::new(alloc);
-    let mut book = Book::new(alloc, cache, settings);
-    serve_all(alloc, &mut book, &mut intake, reader, writer, listener)
+    let mut at = AtDesk {
+        rt,
+        alloc,
+        desk,
+        seat,
+        own: Book::new(alloc, 1, settings),
+    };
+    serve_all(&mut at, reader, writer)
 }
 
-/// Serves to the end of the input, with a new book and nothing read.
-fn serve_all<R: Read, W: Write, L: Listener>(
-    alloc: Global,
-    book: &mut Book,
-    intake: &mut Intake,
+/// Serves to the end of the input: takes a command, asks for its reply, writes it.
+///
+/// # Errors
+/// What the input, the answerer or the writer stops at. What was written before stays.
+pub(crate) fn serve_all<A: Answerer, R: Read, W: Write>(
+    answerer: &mut A,
     reader: &mut R,
     writer: &mut W,
-    listener: &mut L,
 ) -> Result<bool, ServeFault>
-    requires new { book.old.story ≡ record { opening = book.old.story.opening; past = [] } }
-    requires unread { intake.old ≡ ([], 1048576) }
-    ensures serves { Serves result book.old.story.opening (R.remaining reader.old) (W.contents writer.old) (W.contents writer.new) }
-    ensures heard { (jobs : List Counted) × AreNumbered 0 jobs × HearsAll L.hears listener.old listener.new jobs }
+    requires { A.is_ready answerer.old }
+    ensures serves { ServesBy A.prints A.fails A.passes result (R.remaining reader.old) (W.contents writer.old) (W.contents writer.new) answerer.old answerer.new }
+    ensures answered { HasAnswered A.prints A.fails answerer.old answerer.new }
 {
+    let alloc = answerer.alloc();
+    let mut intake = Intake::new(alloc);
     loop {
-        at_rest(book);
-        match next_command(alloc, intake, reader)? {
-            Some(command) => serve_command(alloc, book, command, writer, listener)?,
-            None => return serve_end(alloc, book, writer, listener),
+        match next_command(alloc, &mut intake, reader)? {
+            Some(command) => serve_command(answerer, command, writer)?,
+            None => return serve_end(answerer, writer),
         }
     }
 }
 
 /// Does one command and writes what it prints.
-fn serve_command<W: Write, L: Listener>(
-    alloc: Global,
-    book: &mut Book,
+fn serve_command<A: Answerer, W: Write>(
+    answerer: &mut A,
     command: Command,
     writer: &mut W,
-    listener: &mut L,
 ) -> Result<(), ServeFault>
-    requires { IsQuiet book.old.story }
+    requires { A.is_ready answerer.old }
     ensures does { let before = W.contents writer.old in
-        (octets : List ℕ) × Appends before (W.contents writer.new) octets × Does result book.old.story command book.new.story octets }
-    ensures heard { HearsNumbered L.hears result book.old.story book.new.story listener.old listener.new }
+        (octets : List ℕ) × Appends before (W.contents writer.new) octets × DoesBy A.prints A.fails result answerer.old command answerer.new octets }
+    ensures ready { OnOk result (A.is_ready answerer.new) }
 {
-    let reply = reply_to(alloc, book, command, listener)?;
+    let reply = reply_to(answerer, command)?;
     put_all(writer, reply.as_slice())
 }
 
 /// Settles at the end of the input, and writes the last report.
-fn serve_end<W: Write, L: Listener>(
-    alloc: Global,
-    book: &mut Book,
-    writer: &mut W,
-    listener: &mut L,
-) -> Result<bool, ServeFault>
-    requires { IsQuiet book.old.story }
-    ensures ends { let before = W.contents writer.old in
-        (octets : List ℕ) × Appends before (W.contents writer.new) octets × Ends result book.old.story book.new.story octets }
-    ensures heard { HearsNumbered L.hears result book.old.story book.new.story listener.old listener.new }
+fn serve_end<A: Answerer, W: Write>(answerer: &mut A, writer: &mut W) -> Result<bool, ServeFault>
+    requires { A.is_ready answerer.old }
+    ensures { let before = W.contents writer.old in
+        (octets : List ℕ) × Appends before (W.contents writer.new) octets × SettlesBy A.prints A.fails A.passes result answerer.old answerer.new octets }
 {
-    let (octets, passed) = settle_and_show(alloc, book, listener)?;
+    let (octets, passed) = answerer.settle()?;
     put_all(writer, octets.as_slice())?;
     Ok(passed)
 }
 
 /// Does one command, and gives what it prints.
-fn reply_to<L: Listener>(
-    alloc: Global,
-    book: &mut Book,
-    command: Command,
-    listener: &mut L,
-) -> Result<Vec<u8>, ServeFault>
-    requires { IsQuiet book.old.story }
-    ensures ok { IfOk result (λ reply. effect book.old.story command ≡ Ok (reply.items, book.new.story)) }
-    ensures err { IfErr result (λ fault. Fails fault book.old.story command) }
-    ensures heard { HearsNumbered L.hears result book.old.story book.new.story listener.old listener.new }
+fn reply_to<A: Answerer>(answerer: &mut A, command: Command) -> Result<Vec<u8>, ServeFault>
+    requires { A.is_ready answerer.old }
+    ensures printed { IfOk result (λ reply. A.prints answerer.old command reply.items answerer.new) }
+    ensures ready { IfOk result (λ _. A.is_ready answerer.new) }
+    ensures failed { IfErr result (λ fault. A.fails fault answerer.old command answerer.new) }
 {
     match command {
-        Command::Add(name, text) => add(alloc, book, name, text),
-        Command::Edit(name, change) => edit(alloc, book, &name, change),
-        Command::Remove(name) => remove(alloc, book, &name),
-        Command::Set(key, value) => set(alloc, book, &key, value),
-        Command::Show => Ok(show(alloc, book)?.0),
-        Command::Settle => Ok(settle_and_show(alloc, book, listener)?.0),
+        Command::Add(name, text) => answerer.add(name, text),
+        Command::Edit(name, edit) => answerer.edit(&name, edit),
+        Command::Remove(name) => answerer.remove(&name),
+        Command::Set(key, value) => answerer.set(&key, value),
+        Command::Show => answerer.show(),
+        Command::Settle => Ok(answerer.settle()?.0),
     }
 }

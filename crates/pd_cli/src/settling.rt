@@ -1,6 +1,6 @@
 //! Settling: starts and their finishes by turns, until nothing is owed.
-ghost use Rattle.std.specs.Prelude.{◌≡◌, Ok, IfOk, IfErr};
-ghost use Rattle.pd_book.specs.Turns.{TurnsSettle, StartsAreOutstanding, SettlesAll};
+ghost use Rattle.std.specs.Prelude.{◌≡◌, Ok, IfOk, IfErr, OnOk};
+ghost use Rattle.pd_book.specs.Turns.{TurnsSettle, StartsAreOutstanding};
 ghost use Rattle.pd_cli.specs.Report.{rendered};
 ghost use Rattle.pd_cli.specs.Output.{effect, report, all_pass};
 ghost use Rattle.pd_cli.specs.Steps.{IsQuiet, Turns, SettlesTo, Fails};
@@ -14,11 +14,10 @@ use pd_words::{Command, ServeFault};
 use std::alloc::{AllocError, Global};
 
 /// What the book's laws say of settling it; the function does nothing.
-pub fn at_rest(book: &Book)
+fn at_rest(book: &Book)
     requires { IsQuiet book.now.story }
     ensures turns { TurnsSettle book.now.story.opening book.now.story.past }
     ensures starts { StartsAreOutstanding book.now.story }
-    ensures settles { SettlesAll book.now.story }
 {
     acts_are_legal(book);
     settling();
@@ -52,6 +51,7 @@ fn turn<L: Listener>(alloc: Global, book: &mut Book, listener: &mut L) -> Result
 fn settle<L: Listener>(alloc: Global, book: &mut Book, listener: &mut L) -> Result<(), ServeFault>
     requires { IsQuiet book.old.story }
     ensures settles { SettlesTo result book.old.story book.new.story }
+    ensures quiet { OnOk result (IsQuiet book.new.story) }
     ensures heard { HearsSettling L.hears result book.old.story book.new.story listener.old listener.new }
 {
     while turn(alloc, book, listener)? {}
@@ -84,6 +84,7 @@ pub fn settle_and_show<L: Listener>(
     requires { IsQuiet book.old.story }
     ensures octets { IfOk result (λ shown. effect book.old.story Command.Settle ≡ Ok (shown.0.items, book.new.story)) }
     ensures passed { IfOk result (λ shown. shown.1 ≡ all_pass (report book.new.story)) }
+    ensures quiet { OnOk result (IsQuiet book.new.story) }
     ensures err { IfErr result (λ fault. Fails fault book.old.story Command.Settle) }
     ensures heard { HearsNumbered L.hears result book.old.story book.new.story listener.old listener.new }
 {

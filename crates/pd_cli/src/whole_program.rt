@@ -1,19 +1,24 @@
 //! The whole program, over words, a reader and two writers.
-ghost use Rattle.std.specs.Prelude.{true, ◌≡◌, ◌≢◌, ◌≤◌, ℕ, List, [], Ok, IfSome, map};
-ghost use Rattle.std.specs.Io.KnownBytes.{Appends};
-ghost use Rattle.pd_words.specs.ProgramWords.{pdregress, settings_text, worker_count, word_faults};
-ghost use Rattle.pd_words.specs.SettingsText.{settings_in};
-ghost use Rattle.pd_words.specs.Said.{Refuses};
+ghost use Rattle.std.specs.Prelude.{◌≡◌, ◌≢◌, ◌≤◌, ℕ, List, [], map};
+ghost use Rattle.pd_words.specs.Chosen.{Asked, asked, asked_of};
+ghost use Rattle.pd_words.specs.ProgramWords.{pdregress, settings_text, worker_count, refusals};
+ghost use Rattle.pd_words.specs.Said.{Says, Refuses};
 ghost use Rattle.pd_cli.specs.StepLines.{Counted, AreNumbered};
-ghost use Rattle.pd_cli.specs.Hearing.{HearsAll};
-ghost use Rattle.pd_cli.specs.Program.{Runs, status_of, Finishes};
+ghost use Rattle.pd_cli.specs.Hearing.{SaysMore};
+ghost use Rattle.pd_cli.specs.Telling.{AreTold};
+ghost use Rattle.pd_cli.specs.Output.{Serves};
+ghost use Rattle.pd_cli.specs.Program.{end_of, status_of, said_of, Finishes};
 
-use crate::listening::{Listener, Silent};
-use crate::serving::serve_heard;
+use crate::at_book::AtBook;
+use crate::serving::serve_all;
+use crate::telling::Teller;
 use crate::workers::serve;
+use pd_book::Book;
 use pd_desk::OpenGate;
 use pd_settings::Settings;
-use pd_words::{Exit, Options, ProgramFault, fail, options, refuse, settings_of};
+use pd_words::{
+    Exit, FAULT, Options, ProgramFault, ServeFault, fail, options, refuse, settings_of,
+};
 use std::alloc::Global;
 use std::convert::AsStr;
 use std::io::{Read, Write};
@@ -32,123 +37,114 @@ pub fn run<H: Threads + Wait + Sync, S: AsStr, R: Read, W: Write, E: Write>(
 ) -> Exit
     ensures taken { let words = map S.text words.now in
         let input = R.remaining reader.old in
-        word_faults pdregress words ≡ [] → Finishes result (worker_count pdregress words) (settings_text pdregress words) input (W.contents out.old) (W.contents out.new) (E.contents err.old) (E.contents err.new) }
-    ensures refused { word_faults pdregress (map S.text words.now) ≢ [] → Refuses result (W.contents out.old) (W.contents out.new) }
+        refusals words ≡ [] → Finishes result (worker_count words) (asked words) (settings_text pdregress words) input (W.contents out.old) (W.contents out.new) (E.contents err.old) (E.contents err.new) }
+    ensures refused { refusals (map S.text words.now) ≢ [] → Refuses result (W.contents out.old) (W.contents out.new) }
 {
-    match options(alloc, words) {
-        Ok(options) => run_chosen(rt, alloc, options, reader, out, err),
-        Err(error) => refuse(alloc, &error, err),
+    let chosen = match options(alloc, words) {
+        Ok(options) => options,
+        Err(error) => return refuse(alloc, &error, err),
+    };
+    if chosen.workers == 0 {
+        return run_alone(alloc, &chosen, reader, out, err);
     }
+    run_beside(rt, alloc, &chosen, reader, out, err)
 }
 
-/// Runs the program without workers, with the settings of a TOML text and a book that keeps so many tracks: it serves the
-/// input, or says why it doesn't. It starts no thread.
+/// Runs the program without workers: it serves the input, tells what the options ask for, and says at the end why it doesn't
+/// go on. After what can't be said nothing more is. It starts no thread.
 pub fn run_alone<R: Read, W: Write, E: Write>(
     alloc: Global,
-    text: &str,
-    cache: usize,
+    options: &Options<'_>,
     reader: &mut R,
     out: &mut W,
     err: &mut E,
 ) -> Exit
-    requires some { 1 ≤ cache }
-    requires few { cache ≤ 1024 }
+    requires some { 1 ≤ options.now.cache }
+    requires few { options.now.cache ≤ 1024 }
     ensures { let input = R.remaining reader.old in
-        Finishes result 0 text.now input (W.contents out.old) (W.contents out.new) (E.contents err.old) (E.contents err.new) }
+        Finishes result 0 (asked_of options.now) options.now.settings.now input (W.contents out.old) (W.contents out.new) (E.contents err.old) (E.contents err.new) }
 {
-    match serve_settings(alloc, text, cache, reader, out, &mut Silent) {
-        Ok(passed) => pass(passed),
+    match settings_of(alloc, options.settings) {
+        Ok(settings) => {
+            let (err, told, end) = serve_telling(alloc, options, settings, reader, out, err);
+            ended(told, end, err)
+        }
         Err(fault) => fail(err, fault),
     }
 }
 
-/// Runs the program as the options say: it serves the input, alone or beside workers, or says why it doesn't.
-fn run_chosen<H: Threads + Wait + Sync, R: Read, W: Write, E: Write>(
-    rt: &H,
+/// Serves the input alone and tells on a writer what the options ask for. It hands the writer back, with whether all was
+/// said.
+fn serve_telling<'a, R: Read, W: Write, E: Write>(
     alloc: Global,
-    options: Options<'_>,
+    options: &Options<'_>,
+    settings: Settings,
     reader: &mut R,
     out: &mut W,
-    err: &mut E,
-) -> Exit
-    requires few { options.workers ≤ 64 }
-    requires least { 1 ≤ options.cache }
-    requires most { options.cache ≤ 1024 }
-    ensures { let input = R.remaining reader.old in
-        Finishes result options.entry.workers options.entry.settings.now input (W.contents out.old) (W.contents out.new) (E.contents err.old) (E.contents err.new) }
+    err: &'a mut E,
+) -> (&'a mut E, bool, Result<bool, ServeFault>)
+    requires some { 1 ≤ options.now.cache }
+    requires few { options.now.cache ≤ 1024 }
+    ensures same_reference { result.0.ghost_name ≡ err.entry.ghost_name }
+    ensures said { (jobs : List Counted) × (told : List ℕ) × AreNumbered 0 jobs × AreTold (asked_of options.now) jobs told × Says result.1 (E.contents err.old) (E.contents result.0.now) told }
+    ensures served { Serves result.2 settings (R.remaining reader.old) (W.contents out.old) (W.contents out.new) }
 {
-    if options.workers == 0 {
-        return run_alone(alloc, options.settings, options.cache, reader, out, err);
-    }
-    match serve_beside(rt, alloc, options, reader, out) {
-        Ok(passed) => pass(passed),
-        Err(fault) => fail(err, fault),
-    }
-}
-
-/// Ends a run at the end of the input.
-fn pass(passed: bool) -> Exit
-    ensures status { result.status ≡ status_of (Ok passed) }
-    ensures told { result.told ≡ true }
-{
-    Exit {
-        status: status(passed),
-        told: true,
-    }
-}
-
-/// The status at the end of the input.
-pub(crate) fn status(passed: bool) -> u8
-    ensures { result ≡ status_of (Ok passed) }
-{
-    if passed { 0 } else { 1 }
-}
-
-/// Reads the settings text, then serves the input alone; a listener is told of each job.
-pub(crate) fn serve_settings<R: Read, W: Write, L: Listener>(
-    alloc: Global,
-    text: &str,
-    cache: usize,
-    reader: &mut R,
-    out: &mut W,
-    listener: &mut L,
-) -> Result<bool, ProgramFault>
-    requires some { 1 ≤ cache }
-    requires few { cache ≤ 1024 }
-    ensures served { let before = W.contents out.old in
-        (octets : List ℕ) × Appends before (W.contents out.new) octets × IfSome (R.remaining reader.old) (Runs 0 (settings_in text.now) result octets) }
-    ensures heard { (jobs : List Counted) × AreNumbered 0 jobs × HearsAll L.hears listener.old listener.new jobs }
-{
-    let settings = settings_of(alloc, text)?;
-    let passed = serve_heard(alloc, settings, cache, reader, out, listener)?;
-    Ok(passed)
-}
-
-/// Reads the settings text, then serves the input beside workers.
-fn serve_beside<H: Threads + Wait + Sync, R: Read, W: Write>(
-    rt: &H,
-    alloc: Global,
-    options: Options<'_>,
-    reader: &mut R,
-    out: &mut W,
-) -> Result<bool, ProgramFault>
-    requires some { 1 ≤ options.workers }
-    requires few { options.workers ≤ 64 }
-    requires least { 1 ≤ options.cache }
-    requires most { options.cache ≤ 1024 }
-    ensures { let before = W.contents out.old in
-        (octets : List ℕ) × Appends before (W.contents out.new) octets × IfSome (R.remaining reader.old) (Runs options.entry.workers (settings_in options.entry.settings.now) result octets) }
-{
-    let settings = settings_of(alloc, options.settings)?;
-    let passed = serve(
-        rt,
+    let mut at = AtBook {
         alloc,
-        settings,
-        options.cache,
-        options.workers,
-        reader,
-        out,
-        &OpenGate,
-    )?;
-    Ok(passed)
+        book: Book::new(alloc, options.cache, settings),
+        listener: Teller {
+            alloc,
+            err,
+            options,
+            told: true,
+        },
+    };
+    let end = serve_all(&mut at, reader, out);
+    let AtBook { listener, .. } = at;
+    let Teller { err, told, .. } = listener;
+    (err, told, end)
+}
+
+/// Runs the program beside workers: it serves the input, and says at the end why it doesn't go on.
+fn run_beside<H: Threads + Wait + Sync, R: Read, W: Write, E: Write>(
+    rt: &H,
+    alloc: Global,
+    options: &Options<'_>,
+    reader: &mut R,
+    out: &mut W,
+    err: &mut E,
+) -> Exit
+    requires some { 1 ≤ options.now.workers }
+    requires few { options.now.workers ≤ 64 }
+    requires least { 1 ≤ options.now.cache }
+    requires most { options.now.cache ≤ 1024 }
+    ensures { let input = R.remaining reader.old in
+        (asked : Asked) → Finishes result options.now.workers asked options.now.settings.now input (W.contents out.old) (W.contents out.new) (E.contents err.old) (E.contents err.new) }
+{
+    let (cache, workers) = (options.cache, options.workers);
+    match settings_of(alloc, options.settings) {
+        Ok(settings) => {
+            let end = serve(rt, alloc, settings, cache, workers, reader, out, &OpenGate);
+            ended(true, end, err)
+        }
+        Err(fault) => fail(err, fault),
+    }
+}
+
+/// Ends a run that served its input, with whether all was said so far: says the fault of serving where there is one.
+fn ended<E: Write>(told: bool, end: Result<bool, ServeFault>, err: &mut E) -> Exit
+    ensures status { result.status ≡ status_of (end_of end) }
+    ensures said { SaysMore told result.told (E.contents err.old) (E.contents err.new) (said_of (end_of end)) }
+{
+    match end {
+        Ok(passed) => Exit {
+            status: if passed { 0 } else { 1 },
+            told,
+        },
+        Err(fault) if told => fail(err, ProgramFault::Serving(fault)),
+        Err(_) => Exit {
+            status: FAULT,
+            told: false,
+        },
+    }
 }

@@ -2,8 +2,7 @@
 ghost use Rattle.std.specs.Prelude.{◌≡◌, ◌≤◌};
 ghost use Rattle.pd_cli.specs.Beside.{ServesBeside};
 
-use crate::lending::take_back;
-use crate::seat_serving::serve_seat;
+use crate::serving::serve_seat;
 use pd_desk::{Desk, Gate};
 use pd_seat::Seat;
 use pd_settings::Settings;
@@ -39,38 +38,24 @@ pub fn serve<H: Threads + Wait + Sync, R: Read, W: Write, G: Gate + Sync>(
     let Some(mut seat) = seats.pop() else {
         return Err(ServeFault::OutOfMemory);
     };
-    serve_beside(
-        rt, alloc, &desk, gate, seats, &mut seat, &settings, reader, writer,
-    )
-}
-
-/// Serves at a seat of a desk, beside workers at the other seats.
-fn serve_beside<H: Threads + Wait + Sync, R: Read, W: Write, G: Gate + Sync>(
-    rt: &H,
-    alloc: Global,
-    desk: &Desk,
-    gate: &G,
-    workers: Vec<Seat>,
-    seat: &mut Seat,
-    settings: &Settings,
-    reader: &mut R,
-    writer: &mut W,
-) -> Result<bool, ServeFault>
-    ensures { ServesBeside result settings.now (R.remaining reader.old) (W.contents writer.old) (W.contents writer.new) }
-{
     let task = Serving {
         rt,
         alloc,
-        desk,
-        seat,
+        desk: &desk,
+        seat: &mut seat,
         settings,
         reader,
         writer: &mut *writer,
     };
-    let (writer, answer) = run_beside(rt, alloc, desk, gate, workers, task);
+    let (writer, answer) = run_beside(rt, alloc, &desk, gate, seats, task);
     take_back(writer);
     answer
 }
+
+/// Does nothing: its use ties a reference that comes back to the one that was lent.
+fn take_back<T>(lent: &mut T)
+    ensures { lent.new ≡ lent.old }
+{}
 
 /// What is done beside workers. Of what a closure wrote into its captures a scope says nothing, but it says what is
 /// returned, and so what this gives.
@@ -99,7 +84,7 @@ struct Serving<'a, H, R, W> {
     /// Its seat.
     seat: &'a mut Seat,
     /// The settings that the desk was opened with.
-    settings: &'a Settings,
+    settings: Settings,
     /// Where commands come from.
     reader: &'a mut R,
     /// Where output goes.
@@ -112,7 +97,7 @@ impl<'a, H: Wait, R: Read, W: Write> Task for Serving<'a, H, R, W> {
 
     type Output = (&'a mut W, Result<bool, ServeFault>);
 
-    ghost gives = { λ s r. (r.0.ghost_name ≡ s.writer.ghost_name) × ServesBeside r.1 s.settings.now (R.remaining s.reader.now) (W.contents s.writer.now) (W.contents r.0.now) };
+    ghost gives = { λ s r. (r.0.ghost_name ≡ s.writer.ghost_name) × ServesBeside r.1 s.settings (R.remaining s.reader.now) (W.contents s.writer.now) (W.contents r.0.now) };
 
     fn run(self) -> (&'a mut W, Result<bool, ServeFault>) {
         let Serving {
@@ -124,7 +109,7 @@ impl<'a, H: Wait, R: Read, W: Write> Task for Serving<'a, H, R, W> {
             reader,
             writer,
         } = self;
-        let answer = serve_seat(rt, alloc, desk, seat, *settings, reader, writer);
+        let answer = serve_seat(rt, alloc, desk, seat, settings, reader, writer);
         (writer, answer)
     }
 

@@ -8,3 +8,4 @@ pub mod Known
 pub mod Newlines
 pub mod Saying
 pub mod SettingsText
+pub mod Together

@@ -7,19 +7,11 @@ use Rattle.clap.specs.declared.error.kind.ErrorKind.{ErrorKind}
 use Rattle.clap.specs.declared.error.kind.ErrorKind.TheVariants.{OutOfMemory}
 use Rattle.clap.proofs.OnLiterals.{clap_on_literals}
 use Rattle.clap.proofs.WalkLemmas.{first_value-rows, raw_values-rows}
-use Rattle.pd_words.specs.ProgramWords.{pdregress, pdsteps, pdexplain, option_text}
+use Rattle.pd_words.specs.ProgramWords.{pdregress, option_text}
 
 pub simple_pdregress : is_simple pdregress ≡ true
 unfolding clap_on_literals
 simple_pdregress = refl
-
-pub simple_pdsteps : is_simple pdsteps ≡ true
-unfolding clap_on_literals
-simple_pdsteps = refl
-
-pub simple_pdexplain : is_simple pdexplain ≡ true
-unfolding clap_on_literals
-simple_pdexplain = refl
 
 now_or : (r : Option (Bor (List ℕ))) (d : Bor (List ℕ)) → (unwrap_or r d).now ≡ unwrap_or (option_map (λ (s : Bor (List ℕ)). s.now) r) d.now
 now_or None d = refl
@@ -35,14 +27,6 @@ chosen_text program id m words simple h r d e n =
 pub free_pdregress : is_simple_and_free pdregress ≡ true
 unfolding clap_on_literals
 free_pdregress = refl
-
-pub free_pdsteps : is_simple_and_free pdsteps ≡ true
-unfolding clap_on_literals
-free_pdsteps = refl
-
-pub free_pdexplain : is_simple_and_free pdexplain ≡ true
-unfolding clap_on_literals
-free_pdexplain = refl
 
 -- the values of an option, where one that isn't written has none
 pub chosen_values : (program : App) (id : List ℕ) (m : ArgMatches) (words : List Text) → is_simple program ≡ true → HasMatchesOf program words m → unwrap_or (option_map raw_values (matched_of (found_of m) id)) [] ≡ unwrap_or (all_of id (matches_of program words)) []

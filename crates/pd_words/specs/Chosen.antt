@@ -1,22 +1,31 @@
--- What the words of a program choose.
-use Rattle.std.specs.Prelude.{◌≡◌, ℕ, List, map}
+-- What the words of the program choose.
+use Rattle.std.specs.Prelude.{◌≡◌, ℕ, Bool, List, Option, Some, None, option_map, if◌then◌else◌, map, IfSome}
 use Rattle.std.specs.Borrow.{Bor}
-use Rattle.clap.specs.Words.{App, Text}
-use Rattle.pd_words.specs.ProgramWords.{settings_text, worker_count, cache_size, only_names, asks_json}
-use Rattle.pd_words.specs.declared.chosen.ExplainOptions.{ExplainOptions}
+use Rattle.clap.specs.Words.{Text}
+use Rattle.pd_words.specs.ProgramWords.{pdregress, settings_text, worker_count, cache_size, only_names, asks_steps, asks_explain, asks_json}
+use Rattle.pd_words.specs.declared.chosen.Explaining.{Explaining}
 use Rattle.pd_words.specs.declared.chosen.Options.{Options}
 
 -- the names behind references
 abbrev pub names_of : List (Bor (List ℕ)) → List (List ℕ)
 names_of = map (λ name. name.now)
 
--- these are chosen by words, of which the first is the program's own name
-abbrev pub HasChosen : App → List Text → Options → Type 0
-HasChosen program words options =
-    (options.settings.now ≡ settings_text program words) × (options.workers ≡ worker_count program words) × (options.cache ≡ cache_size program words)
+-- what is asked to be told of each finished job: its steps, and why it doesn't pass, of the scripts of these names alone
+-- where there are some
+pub record Asked : Type 0 where
+  pub steps : Bool
+  pub explain : Option (List (List ℕ))
 
--- the same of the words of the program that explains
-abbrev pub HasChosenToExplain : App → List Text → ExplainOptions → Type 0
-HasChosenToExplain program words options =
-    (options.settings.now ≡ settings_text program words) × (options.cache ≡ cache_size program words)
-    × (names_of options.only.items ≡ only_names program words) × (options.json ≡ asks_json program words)
+-- what words ask to be told
+abbrev pub asked : List Text → Asked
+asked words = record { steps = asks_steps words; explain = if asks_explain words then Some (only_names words) else None }
+
+-- what options ask to be told
+abbrev pub asked_of : Options → Asked
+asked_of options = record { steps = options.steps; explain = option_map (λ (explaining : Explaining). names_of explaining.only.items) options.explain }
+
+-- these are chosen by words, of which the first is the program's own name
+abbrev pub HasChosen : List Text → Options → Type 0
+HasChosen words options =
+    (options.settings.now ≡ settings_text pdregress words) × (options.workers ≡ worker_count words) × (options.cache ≡ cache_size words)
+    × (asked_of options ≡ asked words) × IfSome options.explain (λ (explaining : Explaining). explaining.json ≡ asks_json words)

@@ -1,8 +1,10 @@
 -- The words of the programs, in the definitions of `clap`.
-use Rattle.std.specs.Prelude.{ℕ, nat_le, Bool, ◌==◌, ◌&&◌, ◌||◌, List, [], ◌∷◌, bytes_eq, codes, if◌then◌else◌, Some, unwrap_or, pos}
+use Rattle.std.specs.Prelude.{ℕ, nat_le, Bool, not, ◌==◌, ◌&&◌, ◌||◌, List, [], ◌∷◌, bytes_eq, codes, if◌then◌else◌, Option, Some, is_some, unwrap_or, pos}
+use Rattle.clap.specs.Kinds.{or_else}
 use Rattle.clap.specs.Words.{App, Kinds, Rule, Text, all_of, fault_of, first_of, matches_of, new_app, new_rule, with_rule}
 use Rattle.clap.specs.declared.builder.ArgAction.TheVariants.{Append, Set, SetTrue}
 use Rattle.clap.specs.declared.builder.value_parser.ValueParser.TheVariants as parser
+use Rattle.clap.specs.declared.error.kind.ErrorKind.TheVariants.{ArgumentConflict, MissingRequiredArgument}
 use Rattle.pd_words.specs.Words.{are_digits, number_of}
 
 -- `--settings TEXT`: an empty text where it isn't written
@@ -14,13 +16,12 @@ settings_rule = record (new_rule (codes "settings")) {
   defaults = [] ∷ [];
 }
 
--- `--workers N`: a number from 0 to 64, 0 where it isn't written
+-- `--workers N`: a number from 0 to 64
 abbrev pub workers_rule : Rule
 workers_rule = record (new_rule (codes "workers")) {
   long = Some (codes "workers");
   action = Some Set;
   value_names = 1;
-  defaults = codes "0" ∷ [];
   parser = Some (parser.Signed (pos 0) (pos 64));
 }
 
@@ -32,6 +33,20 @@ cache_rule = record (new_rule (codes "cache")) {
   value_names = 1;
   defaults = codes "64" ∷ [];
   parser = Some (parser.Signed (pos 1) (pos 1024));
+}
+
+-- `--steps`
+abbrev pub steps_rule : Rule
+steps_rule = record (new_rule (codes "steps")) {
+  long = Some (codes "steps");
+  action = Some SetTrue;
+}
+
+-- `--explain`
+abbrev pub explain_rule : Rule
+explain_rule = record (new_rule (codes "explain")) {
+  long = Some (codes "explain");
+  action = Some SetTrue;
 }
 
 -- `--only NAME`, as often as it is wanted
@@ -51,15 +66,9 @@ json_rule = record (new_rule (codes "json")) {
 
 -- the program that runs scripts
 abbrev pub pdregress : App
-pdregress = with_rule (with_rule (with_rule (new_app (codes "pdregress")) settings_rule) cache_rule) workers_rule
-
--- the program that tells steps too: it takes no workers
-abbrev pub pdsteps : App
-pdsteps = with_rule (with_rule (new_app (codes "pdsteps")) settings_rule) cache_rule
-
--- the program that explains rows too: it takes no workers
-abbrev pub pdexplain : App
-pdexplain = with_rule (with_rule (with_rule (with_rule (new_app (codes "pdexplain")) settings_rule) cache_rule) only_rule) json_rule
+pdregress =
+    with_rule (with_rule (with_rule (with_rule (with_rule (with_rule (with_rule (new_app (codes "pdregress"))
+    settings_rule) cache_rule) workers_rule) steps_rule) explain_rule) only_rule) json_rule
 
 -- the text of an option among the words of a program, of which the first is its own name; an empty one where the program
 -- hasn't this option
@@ -69,6 +78,10 @@ option_text program name words = unwrap_or (first_of name (matches_of program wo
 -- the settings text among words
 abbrev pub settings_text : App → List Text → Text
 settings_text program words = option_text program (codes "settings") words
+
+-- why a program refuses words, each by itself, the request for help among it: the kinds of the first fault, or none
+abbrev pub word_faults : App → List Text → Kinds
+word_faults program words = fault_of program words
 
 -- a word without a sign before it
 abbrev pub without_sign : List ℕ → List ℕ
@@ -81,9 +94,9 @@ workers_in word =
     let digits = without_sign word in
     if are_digits digits && nat_le (number_of digits) 64 then number_of digits else 0
 
--- how many workers words ask for
-abbrev pub worker_count : App → List Text → ℕ
-worker_count program words = workers_in (option_text program (codes "workers") words)
+-- how many workers words ask for: none where `--workers` isn't written
+abbrev pub worker_count : List Text → ℕ
+worker_count words = workers_in (option_text pdregress (codes "workers") words)
 
 -- the number that a word writes; 64 where that is no number from 1 to 1,024, which `clap` doesn't let through
 abbrev pub cache_in : List ℕ → ℕ
@@ -93,17 +106,43 @@ cache_in word =
     if are_digits digits && nat_le 1 number && nat_le number 1024 then number else 64
 
 -- how many tracks words ask for
-abbrev pub cache_size : App → List Text → ℕ
-cache_size program words = cache_in (option_text program (codes "cache") words)
+abbrev pub cache_size : List Text → ℕ
+cache_size words = cache_in (option_text pdregress (codes "cache") words)
 
 -- the names of scripts that words single out
-abbrev pub only_names : App → List Text → List Text
-only_names program words = unwrap_or (all_of (codes "only") (matches_of program words)) []
+abbrev pub only_names : List Text → List Text
+only_names words = unwrap_or (all_of (codes "only") (matches_of pdregress words)) []
 
--- words ask for JSON
-abbrev pub asks_json : App → List Text → Bool
-asks_json program words = bytes_eq (option_text program (codes "json") words) (codes "true")
+-- an option without a default value is written
+abbrev pub is_written : List ℕ → List Text → Bool
+is_written name words = is_some (first_of name (matches_of pdregress words))
 
--- why a program refuses words, the request for help among it: the kinds of the first fault, or none
-abbrev pub word_faults : App → List Text → Kinds
-word_faults program words = fault_of program words
+-- a flag is written
+abbrev pub has_flag : List ℕ → List Text → Bool
+has_flag name words = bytes_eq (option_text pdregress name words) (codes "true")
+
+-- words ask for each job's steps, for explanations, and for these as JSON
+abbrev pub asks_steps : List Text → Bool
+asks_steps words = has_flag (codes "steps") words
+
+abbrev pub asks_explain : List Text → Bool
+asks_explain words = has_flag (codes "explain") words
+
+abbrev pub asks_json : List Text → Bool
+asks_json words = has_flag (codes "json") words
+
+-- `--workers`, whatever its number, stands beside `--steps` or `--explain`
+abbrev pub are_in_conflict : List Text → Bool
+are_in_conflict words = is_written (codes "workers") words && (asks_steps words || asks_explain words)
+
+-- `--only` or `--json` stands without `--explain`
+abbrev pub are_lonely : List Text → Bool
+are_lonely words = not (asks_explain words) && (is_written (codes "only") words || asks_json words)
+
+-- why words are refused together of which each may be written
+abbrev pub together_faults : List Text → Kinds
+together_faults words = if are_in_conflict words then ArgumentConflict ∷ [] else (if are_lonely words then MissingRequiredArgument ∷ [] else [])
+
+-- why the program refuses words: the first fault of one by itself, or else of some together
+abbrev pub refusals : List Text → Kinds
+refusals words = or_else (word_faults pdregress words) (together_faults words)

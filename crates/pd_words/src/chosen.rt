@@ -1,7 +1,7 @@
 //! What a program's words choose.
 
 /// What the program's words choose.
-#[derive(Clone, Copy, PartialEq, Eq)]
+#[derive(Drop)]
 pub struct Options<'a> {
     /// A TOML text of settings.
     pub settings: &'a str,
@@ -9,17 +9,17 @@ pub struct Options<'a> {
     pub workers: usize,
     /// How many tracks the book keeps, 1 to 1,024.
     pub cache: usize,
+    /// Whether a line on standard error gives each finished job's number of steps.
+    pub steps: bool,
+    /// Which scripts that don't pass are explained on standard error, and how; where it is `None`, none are.
+    pub explain: Option<Explaining<'a>>,
 }
 
-/// What the words of the program that explains choose.
+/// Which scripts are explained, and how.
 #[derive(Drop)]
-pub struct ExplainOptions<'a> {
-    /// A TOML text of settings.
-    pub settings: &'a str,
-    /// How many tracks the book keeps, 1 to 1,024.
-    pub cache: usize,
-    /// The names of the scripts that are looked into; where there are none, all are.
+pub struct Explaining<'a> {
+    /// The names of the scripts that are explained; where there are none, all are.
     pub only: Vec<&'a str>,
-    /// Whether blocks are JSON.
+    /// Whether explanations are JSON.
     pub json: bool,
 }

@@ -8,7 +8,7 @@ use self::source::{Pace, STEADY, Source};
 use self::stored::{MEMORY_INPUT, MEMORY_OUTPUT};
 use crate::chairs::CACHE;
 use crate::serving::Served;
-use pd_cli::run_alone;
+use pd_cli::{Options, run_alone};
 use std::alloc::{AllocError, Global};
 use test_rows::{REFUSED, Said, Words};
 
@@ -131,5 +131,12 @@ fn run_on(
     output: &mut Served,
     errors: &mut Served,
 ) -> u8 {
-    run_alone(alloc, settings, CACHE, source, output, errors).status
+    let options = Options {
+        settings,
+        workers: 0,
+        cache: CACHE,
+        steps: false,
+        explain: None,
+    };
+    run_alone(alloc, &options, source, output, errors).status
 }

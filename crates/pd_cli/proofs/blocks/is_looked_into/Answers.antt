@@ -1,5 +1,5 @@
 use Rattle.std.proofs.Common.{◌∙◌, sym}
-use Rattle.pd_cli.proofs.Looking.{looked_among}
+use Rattle.pd_cli.proofs.Told.{looked_among}
 use Rattle.pd_cli.proofs.blocks.is_looked_into.Goals as goal
 
 pub returns-else-is_empty : goal.returns-else-is_empty

@@ -1,7 +1,7 @@
 -- The reports of serving are those of the book's laws.
 use Rattle.std.proofs.Common.{refl}
 use Rattle.pd_cli.proofs.Passage.{output_goes_on, stories_legal, settles_scratch}
-use Rattle.pd_cli.proofs.Possible.{alone_possible}
+use Rattle.pd_cli.proofs.Possible.{alone_possible, sessions_possible}
 use Rattle.pd_cli.proofs.laws.reports.Goals as goal
 
 pub returns-clause-output : goal.returns-clause-output
@@ -20,3 +20,6 @@ pub returns-clause-beside : goal.returns-clause-beside
 returns-clause-beside c =
     alone_possible c.headline.ensures.rows
     (settles_scratch (record { adds = c.accepting.ensures.adds; edits = c.accepting.ensures.edits; removes = c.accepting.ensures.removes; sets = c.accepting.ensures.sets; settles = c.settling.ensures.settles }))
+
+pub returns-clause-sessions : goal.returns-clause-sessions
+returns-clause-sessions c = sessions_possible (alone_possible c.headline.ensures.rows (settles_scratch (record { adds = c.accepting.ensures.adds; edits = c.accepting.ensures.edits; removes = c.accepting.ensures.removes; sets = c.accepting.ensures.sets; settles = c.settling.ensures.settles })))

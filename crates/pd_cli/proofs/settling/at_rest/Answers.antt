@@ -5,6 +5,3 @@ returns-clause-turns c = c.settling.ensures.turns c.args.book.now.story.opening 
 
 pub returns-clause-starts : goal.returns-clause-starts
 returns-clause-starts c = c.settling.ensures.starts c.args.book.now.story c.acts_are_legal.ensures
-
-pub returns-clause-settles : goal.returns-clause-settles
-returns-clause-settles c = c.settling.ensures.settles c.args.book.now.story (record { legal = c.acts_are_legal.ensures; none = c.requires })

@@ -1,9 +1,23 @@
-use Rattle.std.proofs.Common.{Err}
-use Rattle.pd_cli.proofs.Ending.{pass_ends}
+use Rattle.std.proofs.Common.{rules}
+use Rattle.pd_words.specs.Chosen.{asked_of}
+use Rattle.pd_words.specs.SettingsText.{settings_in}
+use Rattle.pd_cli.specs.Program.{end_of, Finishes}
+use Rattle.pd_cli.proofs.Ending.{ran_alone}
+use Rattle.pd_cli.proofs.Told.{tells_end, settings_end, tied}
 use Rattle.pd_cli.proofs.whole_program.run_alone.Goals as goal
 
 pub returns-in-Ok : goal.returns-in-Ok
-returns-in-Ok g c = pass_ends c.pass.result c.in-Ok.passed 0 c.args.text.now (g.R.Read.remaining c.args.reader.now) (g.W.Write.contents c.args.out.now) (g.W.Write.contents c.serve_settings.new.out) (g.E.Write.contents c.args.err.now) c.pass.ensures.status c.pass.ensures.told c.in-Ok.ensures.served
+returns-in-Ok g c =
+    let input = g.R.Read.remaining c.args.reader.now in
+    let before = g.W.Write.contents c.args.out.now in
+    let after = g.W.Write.contents c.serve_telling-err.new.out in
+    let text = c.args.options.now.settings.now in
+    let end = c.serve_telling-err.result.2 in
+    let done = tells_end c.ended.result c.serve_telling-err.result.1 (end_of end) (asked_of c.args.options.now) text input before after (g.E.Write.contents c.args.err.now) (g.E.Write.contents c.serve_telling-err.result.0.now) (g.E.Write.contents c.ended.new.err)
+    c.ended.ensures.status c.serve_telling-err.ensures.said c.ended.ensures.said (ran_alone c.in-Ok.settings (settings_in text) end input before after c.in-Ok.ensures.ok c.serve_telling-err.ensures.served) in
+    tied (λ x. Finishes c.ended.result 0 (asked_of c.args.options.now) text input before after (g.E.Write.contents c.args.err.now) (g.E.Write.contents x)) c.ended.new.err _ (search rules) done
 
 pub returns-in-Err : goal.returns-in-Err
-returns-in-Err g c = (Err c.in-Err.fault, c.fail.ensures.status, c.fail.ensures.said, c.in-Err.ensures.served)
+returns-in-Err g c =
+    settings_end c.fail.result c.in-Err.fault 0 (asked_of c.args.options.now) c.args.options.now.settings.now (g.R.Read.remaining c.args.reader.now) (g.W.Write.contents c.args.out.now) (g.E.Write.contents c.args.err.now) (g.E.Write.contents c.fail.new.err)
+    c.fail.ensures.status c.fail.ensures.said c.in-Err.ensures.err

@@ -1,0 +1,20 @@
+use Rattle.std.proofs.Common.{Ok, ap, List, ℕ}
+use Rattle.pd_settings.specs.Keys.{key_named}
+use Rattle.pd_book.specs.Refusals.{set_refusal}
+use Rattle.pd_book.specs.Story.{Story}
+use Rattle.pd_words.specs.declared.command.Command.TheVariants.{Set}
+use Rattle.pd_cli.proofs.Heard.{act_printed, act_ready}
+use Rattle.pd_cli.proofs.Settled.{if_ok_map, acts_set}
+use Rattle.pd_cli.proofs.at_book.AtBookAnswerer.set.Goals as goal
+
+pub returns-clause-printed : goal.returns-clause-printed
+returns-clause-printed g c =
+    let book = c.args.self.now.book in
+    act_printed g.L.Listener.hears c.reply.result (λ v. v.items) book.story c.set.new.self.story (Set c.args.key.now c.args.value) c.args.self.now.listener tt
+    (rw (← c.as_slice.ensures) (if_ok_map c.reply.result _ _ (λ v p. ap (λ (x : List ℕ × Story). Ok x) (acts_set c.set.result book c.set.new.self (set_refusal book.story c.as_slice.result.now c.args.value) (key_named c.as_slice.result.now) c.args.value v.items c.set.ensures.ok c.set.ensures.allowed c.set.ensures.err c.set.ensures.same p)) c.reply.ensures.reply))
+
+pub returns-clause-ready : goal.returns-clause-ready
+returns-clause-ready g c =
+    let book = c.args.self.now.book in
+    act_ready c.reply.result (λ v. v.items) book.story c.set.new.self.story (Set c.args.key.now c.args.value) tt c.requires
+    (rw (← c.as_slice.ensures) (if_ok_map c.reply.result _ _ (λ v p. ap (λ (x : List ℕ × Story). Ok x) (acts_set c.set.result book c.set.new.self (set_refusal book.story c.as_slice.result.now c.args.value) (key_named c.as_slice.result.now) c.args.value v.items c.set.ensures.ok c.set.ensures.allowed c.set.ensures.err c.set.ensures.same p)) c.reply.ensures.reply))
