@@ -53,6 +53,8 @@ class Model:
         self.acts = 0
         self.is_closed = False
         self._most_acts = most_acts
+        self._told: list[tuple[int, bytes]] = []
+        self._jobs = 0
 
     def ask(self, commands: bytes, longest: int) -> bytes:
         """Carries out commands, and answers the report."""
@@ -68,6 +70,12 @@ class Model:
         assert len(answer) <= longest
         return answer
 
+    def said(self) -> bytes:
+        """It says nothing on standard error but how many steps each script took: one a line."""
+        told = [(number, name) for number, name in self._told if name in self.texts]
+        self._told = []
+        return b"".join(b"job %d %s steps %d\n" % (number, name, len(self.texts[name])) for number, name in told)
+
     def check(self) -> None:
         """It never ends by itself."""
 
@@ -81,6 +89,9 @@ class Model:
 
     def _act(self, words: list[bytes], left: bytes) -> bytes:
         self.acts += words[0] != b"settle"
+        if words[0] in (b"add", b"edit"):
+            self._jobs += 1
+            self._told.append((self._jobs, words[1]))
         match words:
             case [b"add", name, count]:
                 assert name not in self.texts and len(self.texts) < MOST

@@ -20,6 +20,8 @@ _READ = 1 << 18
 _KEPT = 4_096
 _SHOWN = 200
 _GRACE = 1.0
+# Begins what a program that counts steps says of a job.
+_JOB = b"job "
 # The statuses of a program that has read all commands.
 _REGULAR = (0, 1)
 
@@ -106,6 +108,12 @@ class Program:
         status = self._kill()
         if status not in _REGULAR:
             raise Ended((self._last_line() if status > 0 else "") or self._end())
+
+    def said(self) -> bytes:
+        """What a program that answered has said on standard error since this was asked last, the last octets of it."""
+        self._work(0)
+        said, self._said = self._said, b""
+        return said
 
     def fileno(self) -> int:
         """What can be read once a program that nobody asks has something to say, or has ended."""
@@ -194,7 +202,7 @@ class Program:
 
     def _last_line(self) -> str:
         """The last line that the program said, if it said one."""
-        lines = [line for line in self._said.split(b"\n") if line.strip()]
+        lines = [line for line in self._said.split(b"\n") if line.strip() and not line.startswith(_JOB)]
         return shown(lines[-1], _SHOWN) if lines else ""
 
     def _end(self) -> str:

@@ -64,6 +64,18 @@ class Fleet:
                 self._begin_again(run, run.contents, str(end))
         return ended
 
+    def renew(self, most: int) -> bool:
+        """Starts a new run for each whose history has more acts than that, before the old one ends; whether any had."""
+        worn = [run for run in self.runs if run.acts > most]
+        for run in worn:
+            place = self._runs.index(run)
+            try:
+                self._begin(run.contents, place)
+            except Ended:
+                continue  # the old one goes on
+            self._end(run)
+        return bool(worn)
+
     def rows(self) -> Iterator[tuple[str, Row]]:
         """The row of each script, as it was said last."""
         for run in self._runs:

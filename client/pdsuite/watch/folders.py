@@ -8,7 +8,7 @@ from time import process_time
 
 from pdsuite.scripts.expectation import Expectation
 from pdsuite.scripts.search import SUFFIX, ScriptFile, find_with_folders
-from pdsuite.scripts.suite import FILE
+from pdsuite.scripts.suite import FILE, Suite
 from pdsuite.signals import Stop
 from pdsuite.watch.run_changes import WantedScript
 from pdsuite.watch.settings_files import SettingsFiles
@@ -58,6 +58,11 @@ class Folders:
         self._busy_since: float | None = None
         self._quiet_at = inf
         self._is_first = True
+
+    @property
+    def suite(self) -> Suite:
+        """What holds for scripts, by the settings files as they are known now."""
+        return self._suite
 
     def due(self) -> float:
         """The moment at which something has to be looked at, whatever is reported."""

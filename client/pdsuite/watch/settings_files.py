@@ -62,7 +62,7 @@ class SettingsFiles:
     def _look(self, path: Path) -> bool:
         """Reads a file, and takes it if it is good; whether it was taken."""
         before = self._read.get(path)
-        now = read_stamped(path, lambda: _octets(path))
+        now = read_stamped(path, lambda: self._octets(path))
         self._read[path] = now
         if before is not None and (now.is_torn or before.value == now.value):
             if now.is_torn:
@@ -71,12 +71,23 @@ class SettingsFiles:
         try:
             layer = self._checked(path, now.value)
         except Fault as fault:
-            stays = "its last good settings stay" if self._good.get(path) else "the file counts for nothing"
-            self._note(f"{fault}; {stays}")
+            self._refuse(path, str(fault))
             self._good.setdefault(path, None)
             return False
         self._good[path] = layer
         return True
+
+    def _refuse(self, path: Path, fault: str) -> None:
+        """Tells of a fault, and what counts in spite of it."""
+        stays = "its last good settings stay" if self._good.get(path) else "the file counts for nothing"
+        self._note(f"{fault}; {stays}")
+
+    def _octets(self, path: Path) -> bytes | str | None:
+        """The octets of a file if it is there, or the line that says why it can't be read."""
+        try:
+            return read_octets(path)
+        except Fault as fault:
+            return str(fault)
 
     def _checked(self, path: Path, octets: bytes | str | None) -> Layer | None:
         if octets is None:
@@ -87,11 +98,3 @@ class SettingsFiles:
         if lines := self._refused(claims_of([layer])):
             raise Fault("; ".join(lines))
         return layer
-
-
-def _octets(path: Path) -> bytes | str | None:
-    """The octets of a file if it is there, or the line that says why it can't be read."""
-    try:
-        return read_octets(path)
-    except Fault as fault:
-        return str(fault)
