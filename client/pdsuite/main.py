@@ -176,6 +176,17 @@ def compare_command(no_color: bool, **words: Any) -> int:
         return compare_senders(CompareOptions(**words), screen)
 
 
+@pdsuite.command(name="lsp")
+@click.option("--settings", default="", metavar="TEXT", help="Settings before all others.")
+@click.option("--stdio", is_flag=True, help="Nothing else is served; some editors say it.")
+def lsp_command(settings: str, stdio: bool) -> int:
+    """Serves an editor on standard input and output, by the Language Server Protocol."""
+    # Only an editor pays for what serves it.
+    from pdsuite.commands.lsp import lsp
+
+    return lsp(settings)
+
+
 @pdsuite.command(name="import")
 @click.option("--keep", is_flag=True, help="Change nothing of packets.")
 @click.option("--no-color", is_flag=True, help="No colours on a terminal.")

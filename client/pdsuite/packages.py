@@ -15,5 +15,5 @@ def missing(module: str) -> str:
     """The words that name the package of a module, where that isn't installed."""
     if find_spec(module) is not None:
         return ""
-    package = f"python3-{module}"
+    package = f"python3-{module.replace('_', '-')}"
     return f"{package} isn't installed: apt-get install --no-install-recommends {package}"

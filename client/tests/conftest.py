@@ -17,7 +17,7 @@ from pdsuite.watch.watcher import Watcher
 from tests.helpers import HANGS, TOP, Call, Called
 from tests.site import Site
 
-pytest_plugins = ["tests.browsing"]
+pytest_plugins = ["tests.browsing", "tests.lsp_client"]
 UNPROVED = "--unproved"
 NEEDS_BUILT = "needs a built program"
 STAND_IN = Path(__file__).with_name("stand_in.py")

@@ -1,0 +1,12 @@
+"""`pdsuite lsp`: a language server on standard input and output."""
+
+from pdsuite.packages import need
+
+
+def lsp(settings: str) -> int:
+    """Serves a client until it ends the server, and answers the exit status."""
+    need("pylsp_jsonrpc")
+    # Only who has it serve pays for what reads messages.
+    from pdsuite.lsp.serving import serve
+
+    return serve(settings)

@@ -1,0 +1,249 @@
+"""What can be done about a script that doesn't pass: new texts for it, by what explanations and recordings say."""
+
+from collections.abc import Iterator, Sequence
+from dataclasses import dataclass
+
+
+from pdsuite.lsp.comments import comments_of
+from pdsuite.lsp.diagnostics import failing_event
+from pdsuite.lsp.documents import text_edit
+from pdsuite.lsp.json_values import Json
+from pdsuite.lsp.layout import Event, Layout
+from pdsuite.lsp.packets_sent import Sent, as_lines, sent_in, sent_of, taken
+from pdsuite.lsp.positions import Extent, Lines
+from pdsuite.lsp.recorded import Recorded, recorded_in, without_trace
+from pdsuite.packetdrill.items import SECOND
+from pdsuite.packetdrill.tokens import Unread, tokens_of
+from pdsuite.programs.protocol import Cause
+from pdsuite.programs.rows import Row, Verdict
+
+QUICK = "quickfix"
+REWRITE = "refactor.rewrite"
+_PACKET_KINDS = ("time", "flags", "seq", "ack", "win", "options")
+
+
+@dataclass(frozen=True, slots=True)
+class Action:
+    """A new text for a script, how many lines come before the line that failed, and what people read."""
+
+    title: str
+    kind: str
+    text: str
+    shift: int = 0
+
+
+@dataclass(frozen=True)
+class Failing:
+    """A script that doesn't pass: its text, its row, and what the program tells of it."""
+
+    lines: Lines
+    layout: Layout
+    row: Row
+    cause: Cause
+
+    @property
+    def event(self) -> Event | None:
+        """The event that the row is about."""
+        return failing_event(self.row, self.cause, self.layout)
+
+    @property
+    def newline(self) -> str:
+        """How the text ends its lines."""
+        return "\r\n" if "\r\n" in self.lines.text else "\n"
+
+
+def leads_past(action: Action, before: Row, after: Row) -> bool:
+    """Whether a script's new row is past the line that failed. A text that was a script stays one."""
+    if after.verdict is Verdict.PASS:
+        return True
+    if after.verdict is Verdict.SYNTAX and before.verdict is not Verdict.SYNTAX:
+        return False
+    return after.line is not None and before.line is not None and after.line > before.line + action.shift
+
+
+def taking(failing: Failing) -> Iterator[Action]:
+    """What takes over what was sent or answered, in place of what the line says, or before it; best first."""
+    event = failing.event
+    if event is None:
+        return
+    sent = sent_of(failing.cause.get("actual_packet"))
+    untaken = sent_in(failing.cause.get("untaken_packets"))
+    if sent is not None and failing.row.word in _PACKET_KINDS:
+        packets = [sent, *untaken]
+        count = _count_before_awaited(failing, event, packets)
+        each = [_inserting(failing, event, packets[:count]), _taking_packet(failing, event, sent)]
+        yield from each if count else reversed(each)
+    result = failing.cause.get("actual_result")
+    if isinstance(result, str) and "result" in event.fields:
+        place = event.fields["result"]
+        yield Action(f"Take the result {result}", QUICK, _put(failing.lines.text, place, result))
+
+
+def _taking_packet(failing: Failing, event: Event, sent: Sent) -> Action:
+    text = failing.lines.text
+    with_time = failing.row.word == "time"
+    packet = taken(text, event, sent, with_time)
+    time = event.fields["time"]
+    is_time_alone = _put(text, time, sent.time)[event.item.start :].startswith(packet)
+    title = "Take the time at which it was sent" if with_time and is_time_alone else "Take the packet that was sent"
+    return Action(title, QUICK, _put(text, event.extent, packet))
+
+
+def _count_before_awaited(failing: Failing, event: Event, packets: Sequence[Sent]) -> int | None:
+    """How many packets come before the one that the line asks for, where that is among them and isn't the first."""
+    text = failing.lines.text
+    asked = text[event.item.start : event.item.end]
+    found = (place for place, it in enumerate(packets) if place and taken(text, event, it, False) == asked)
+    return next(found, None)
+
+
+def _inserting(failing: Failing, event: Event, packets: Sequence[Sent]) -> Action:
+    """Before the line come packets that no line takes."""
+    text = failing.lines.text
+    start = event.item.start
+    indent = text[failing.lines.start(failing.lines.line_of(start)) : start]
+    between = failing.newline + (indent if not indent.strip() else "")
+    put = "".join(line + between for line in as_lines(packets))
+    what = "a packet that was sent" if len(packets) == 1 else f"{len(packets)} packets that were sent"
+    return Action(f"Insert {what} before it", QUICK, text[:start] + put + text[start:], len(packets))
+
+
+def switching_off(failing: Failing) -> Iterator[Action]:
+    """The event as a comment, with all that stands in its lines; one between other events in a comment of its own."""
+    line = failing.row.line
+    if line is None:
+        return
+    lines, event = failing.lines, failing.event
+    first = min(line, lines.count) - 1
+    begun = _begun(failing)
+    if begun < first:
+        yield _as_comment(lines, begun, first - 1, begun - first)
+        yield _as_comment(lines, begun, first)
+    last = first if event is None else max(first, lines.line_of(event.item.end))
+    if event is not None and _has_others(failing, event, first, last):
+        inside = lines.text[event.item.start : event.item.end]
+        yield Action("Switch it off as a comment", QUICK, _put(lines.text, event.extent, f"/* {inside} */"))
+        return
+    yield _as_comment(lines, first, last)
+
+
+def _as_comment(lines: Lines, first: int, last: int, shift: int = 0) -> Action:
+    text = lines.text
+    for number in range(min(last, lines.count - 1), first - 1, -1):
+        start = lines.start(number)
+        text = f"{text[:start]}// {text[start:]}"
+    title = "Switch the line off as a comment" if first == last else "Switch the lines off as comments"
+    return Action(title, QUICK, text, shift)
+
+
+def _begun(failing: Failing) -> int:
+    """The line in which the event begins that the text breaks off in; a large number where it isn't that."""
+    if failing.row.verdict is not Verdict.SYNTAX:
+        return failing.lines.count
+    text = failing.lines.text
+    end = failing.layout.items[-1].item.end if failing.layout.items else 0
+    token = next(_tokens(text, end), None)
+    return failing.lines.count if token is None else failing.lines.line_of(token)
+
+
+def _tokens(text: str, start: int) -> Iterator[int]:
+    """Where the tokens of a text begin from a place on, up to where none does."""
+    try:
+        yield from (start + it.start for it in tokens_of(text[start:]))
+    except Unread:
+        return
+
+
+def _has_others(failing: Failing, event: Event, first: int, last: int) -> bool:
+    """Whether other items begin or end in these lines, and this one can stand in a comment of its own."""
+    lines = failing.lines
+    begin, end = lines.start(first), lines.end(last)
+    others = [it for it in failing.layout.items if it is not event]
+    is_shared = any(it.item.start < end and it.item.end > begin for it in others)
+    has_comment = any(event.item.start <= it.start < event.item.end for it in comments_of(lines.text))
+    return is_shared and not has_comment
+
+
+def recording_all(failing: Failing, recording: str) -> Iterator[Action]:
+    """The whole script as it is recorded."""
+    if recording:
+        yield Action("Record the whole script", REWRITE, _ended(failing, without_trace(recording)))
+
+
+def recording_from_here(failing: Failing, recording: str) -> Iterator[Action]:
+    """What stands before the event, and from it on the recording: by its times, or by moments where those don't fit."""
+    event, events = failing.event, failing.layout.events
+    recorded = recorded_in(recording)
+    if event is None or event not in events or not recorded:
+        return
+    passed = events[: events.index(event)]
+    if not passed:
+        return
+    front = _front(failing, passed[-1])
+    outputs = sum(not it.is_input for it in passed)
+    place = _place_after(recorded, len(passed) - outputs, outputs)
+    untaken = [it for it in recorded[:place] if not it.is_input][outputs:]
+    stars = [f"* {recording[it.action : it.end]}\n" for it in untaken]
+    begin = recorded[place - 1].after if place else 0
+    rests = [recording[begin:]]
+    if place < len(recorded):
+        it = recorded[place]
+        moment = it.moment
+        times = [f"{moment // SECOND}.{moment % SECOND:06}".rstrip("0").rstrip(".")]
+        times += [] if it.is_input else ["*"]
+        rests += [f"{recording[begin : it.start]}{time} {recording[it.action :]}" for time in times]
+    for rest in rests[1:] if untaken and len(rests) > 1 else rests:
+        text = front + _ended(failing, "".join(stars) + without_trace(rest))
+        yield Action("Record from here to the end", QUICK, text)
+
+
+def _place_after(recorded: Sequence[Recorded], inputs: int, outputs: int) -> int:
+    """The place after so many inputs and so many packets that left."""
+    place = 0
+    for it in recorded:
+        if inputs <= 0 and outputs <= 0:
+            break
+        inputs -= it.is_input
+        outputs -= not it.is_input
+        place += 1
+    return place
+
+
+def _front(failing: Failing, last: Event) -> str:
+    """The text up to the end of the line in which the last event that stays ends."""
+    lines = failing.lines
+    line = lines.line_of(last.item.end)
+    end = lines.end(line)
+    following = [it for it in failing.layout.items if it.item.start >= last.item.end]
+    if following and following[0].item.start < end:
+        return lines.text[: last.item.end] + failing.newline
+    return lines.text[:end].removesuffix("\r") + failing.newline
+
+
+def _ended(failing: Failing, text: str) -> str:
+    """A recording with the ends of lines that the script has."""
+    return text.replace("\n", failing.newline)
+
+
+def _put(text: str, place: Extent, put: str) -> str:
+    return text[: place.start] + put + text[place.end :]
+
+
+def edits_to(lines: Lines, text: str) -> list[Json]:
+    """The edit that makes another text: what lies between equal first and equal last characters, in whole lines."""
+    old = lines.text
+    most = min(len(old), len(text))
+    front = next((it for it in range(most) if old[it] != text[it]), most)
+    front = old.rfind("\n", 0, front) + 1
+    most -= front
+    back = next((it for it in range(most) if old[-1 - it] != text[-1 - it]), most)
+    back -= _part_of_line(old, text, len(old) - back)
+    return [text_edit(lines, front, len(old) - back, text[front : len(text) - back])]
+
+
+def _part_of_line(old: str, text: str, end: int) -> int:
+    """How much of what is equal at the end belongs to a line that isn't."""
+    if end == 0 or old[end - 1 : end] == "\n":
+        return 0
+    newline = old.find("\n", end)
+    return (newline + 1 if newline >= 0 else len(old)) - end

@@ -1,0 +1,75 @@
+"""What the server offers a client, and what the client has said that it can do."""
+
+import os
+from dataclasses import dataclass
+from pathlib import Path
+
+from pdsuite.lsp.answers import DRAW
+from pdsuite.lsp.documents import path_of
+from pdsuite.lsp.json_values import Json, optional
+
+_INCREMENTAL = 2
+_WATCHED = "workspace/didChangeWatchedFiles"
+OFFERED: Json = {
+    "positionEncoding": "utf-16",
+    "textDocumentSync": {"openClose": True, "change": _INCREMENTAL, "save": {"includeText": False}},
+    "hoverProvider": True,
+    "codeActionProvider": {"codeActionKinds": ["quickfix", "refactor.rewrite"]},
+    "codeLensProvider": {"resolveProvider": False},
+    "documentSymbolProvider": True,
+    "foldingRangeProvider": True,
+    "completionProvider": {"triggerCharacters": [" ", "<", ">", ",", "("], "resolveProvider": False},
+    "executeCommandProvider": {"commands": [DRAW]},
+    "workspace": {"workspaceFolders": {"supported": True, "changeNotifications": True}},
+}
+REGISTRATION: Json = {
+    "registrations": [
+        {
+            "id": "pdsuite-files",
+            "method": _WATCHED,
+            "registerOptions": {"watchers": [{"globPattern": "**/*.pkt"}, {"globPattern": "**/pdsuite.toml"}]},
+        }
+    ]
+}
+
+
+@dataclass(frozen=True)
+class Client:
+    """What a client can do, and the folders that are open in it."""
+
+    roots: tuple[Path, ...] = ()
+    watches: bool = False
+    has_related: bool = False
+    takes_snippets: bool = False
+    takes_versions: bool = False
+    takes_markdown: bool = True
+    shows_documents: bool = False
+    refreshes_lenses: bool = False
+
+
+def client_of(params: object) -> Client:
+    """The client that initializes the server with these."""
+    can = optional(params, "capabilities")
+    return Client(
+        roots=tuple(_roots(params)),
+        watches=optional(can, "workspace", "didChangeWatchedFiles", "dynamicRegistration") is True,
+        has_related=optional(can, "textDocument", "publishDiagnostics", "relatedInformation") is True,
+        takes_snippets=optional(can, "textDocument", "completion", "completionItem", "snippetSupport") is True,
+        takes_versions=optional(can, "workspace", "workspaceEdit", "documentChanges") is True,
+        takes_markdown="markdown" in (optional(can, "textDocument", "hover", "contentFormat") or ["markdown"]),
+        shows_documents=optional(can, "window", "showDocument", "support") is True,
+        refreshes_lenses=optional(can, "workspace", "codeLens", "refreshSupport") is True,
+    )
+
+
+def _roots(params: object) -> list[Path]:
+    folders = optional(params, "workspaceFolders")
+    uris = [optional(it, "uri") for it in folders] if isinstance(folders, list) else [optional(params, "rootUri")]
+    return folders_of([it for it in uris if isinstance(it, str)])
+
+
+def folders_of(uris: list[str]) -> list[Path]:
+    """The folders that these name, without those in which everything lies."""
+    paths = [Path(path) for it in uris if (path := path_of(it)) is not None]
+    too_wide = ("/", os.path.realpath(os.path.expanduser("~")))
+    return [it for it in dict.fromkeys(paths) if os.path.realpath(it) not in too_wide]

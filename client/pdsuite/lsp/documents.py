@@ -1,0 +1,92 @@
+"""A text that is open in an editor, and what changes make of it."""
+
+import os
+from collections.abc import Iterable
+from dataclasses import dataclass, field
+from urllib.parse import quote, unquote_to_bytes, urlsplit
+
+from pdsuite.lsp.json_values import Json, Malformed, member, number_in, optional, text_in
+from pdsuite.lsp.positions import Lines, Position
+from pdsuite.scripts.text import Text, Unfit, text_of
+
+_FILE = "file"
+_SAFE = "/-._~!$&'()*+,;=:@"
+
+
+@dataclass(frozen=True)
+class Document:
+    """An open text with its version; it counts in place of its file."""
+
+    uri: str
+    version: int
+    text: str
+    lines: Lines = field(init=False, repr=False, compare=False)
+
+    def __post_init__(self) -> None:
+        object.__setattr__(self, "lines", Lines(self.text))
+
+    @property
+    def octets(self) -> bytes:
+        """The text as a file would hold it."""
+        return self.text.encode("utf-8", "surrogatepass")
+
+    def script(self) -> Text | str:
+        """The text as a script, or why it can't be run."""
+        try:
+            return text_of(self.octets)
+        except Unfit as unfit:
+            return str(unfit)
+
+    def changed(self, version: int, changes: Iterable[object]) -> "Document":
+        """The text after changes, each of which counts from what those before it left."""
+        lines = self.lines
+        for change in changes:
+            lines = Lines(_applied(lines, change))
+        return Document(self.uri, version, lines.text)
+
+
+def opened(item: object) -> Document:
+    """The document that a client opens."""
+    version = optional(item, "version")
+    return Document(text_in(item, "uri"), version if isinstance(version, int) else 0, text_in(item, "text"))
+
+
+def position_in(value: object) -> Position:
+    """A position of the protocol."""
+    return Position(number_in(value, "line"), number_in(value, "character"))
+
+
+def _applied(lines: Lines, change: object) -> str:
+    put = text_in(change, "text")
+    span = optional(change, "range")
+    if span is None:
+        return put
+    start, end = (lines.offset(position_in(member(span, name))) for name in ("start", "end"))
+    if end < start:
+        raise Malformed("a range ends before it begins")
+    return lines.text[:start] + put + lines.text[end:]
+
+
+def path_of(uri: str) -> str | None:
+    """The path of a file that a URI names; None where it names something else."""
+    try:
+        parts = urlsplit(uri)
+    except ValueError:
+        return None
+    if parts.scheme != _FILE or parts.netloc not in ("", "localhost"):
+        return None
+    path = os.fsdecode(unquote_to_bytes(parts.path))
+    return path if path.startswith("/") and "\0" not in path else None
+
+
+def uri_of(path: str) -> str:
+    """The URI of a file."""
+    return f"{_FILE}://{quote(os.fsencode(os.path.abspath(path)), safe=_SAFE)}"
+
+
+def text_edit(lines: Lines, start: int, end: int, put: str) -> Json:
+    """An edit of a text as the protocol has it."""
+    return {
+        "range": {"start": lines.position(start).as_json(), "end": lines.position(end).as_json()},
+        "newText": put,
+    }

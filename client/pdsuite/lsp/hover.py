@@ -1,0 +1,82 @@
+"""What is shown of a place in a script: what was sent there, how the sender stands after it, and what documents say."""
+
+import re
+from collections.abc import Iterator, Mapping, Sequence
+
+from pdsuite.packetdrill.items import SECOND, Call, HeaderOption
+from pdsuite.lsp import pages
+from pdsuite.lsp.layout import Event
+from pdsuite.lsp.recorded import Met, Recorded, State
+
+_MARKS = re.compile(r"^```.*\n?|`|\*\*", re.MULTILINE)
+_FIELDS = ("flags", "options", "ack", "win", "seq")
+
+
+def hover_of(event: Event, offset: int, met: Sequence[Met], recording: str) -> str:
+    """What is shown of an event, in Markdown; `met` is what the recording has of the script's events."""
+    parts = [_sent(event, met, recording), _states(event, met), _said(event, offset)]
+    return "\n\n".join(it for it in parts if it)
+
+
+def _of(event: Event, met: Sequence[Met]) -> int | None:
+    return next((place for place, it in enumerate(met) if it.event is event), None)
+
+
+def _sent(event: Event, met: Sequence[Met], recording: str) -> str:
+    """The packet that an expected one met, with its moment."""
+    place = _of(event, met)
+    if place is None or not event.is_expected:
+        return ""
+    recorded = met[place].recorded
+    if recorded is None:
+        return "Nothing was sent for it."
+    return f"`{recording[recorded.action : recorded.end]}` was sent at {seconds(recorded.moment)}"
+
+
+def _states(event: Event, met: Sequence[Met]) -> str:
+    """How the sender stands after an event, with what was otherwise after the event before."""
+    place = _of(event, met)
+    if place is None or (after := met[place].after) is None:
+        return ""
+    before = met[place - 1].after if place else None
+    moment = "" if event.is_expected else f" at {seconds(after.moment)}"
+    facts = "\n".join(_facts(after.state, _state(before)))
+    return f"After it{moment}: {_name(after.state, _state(before))}\n```text\n{facts}\n```"
+
+
+def _state(recorded: Recorded | None) -> State | None:
+    return None if recorded is None else recorded.state
+
+
+def _name(after: State, before: State | None) -> str:
+    was = f", was {before.name}" if before is not None and before.name != after.name else ""
+    return f"{after.name}{was}"
+
+
+def _facts(after: State, before: State | None) -> Iterator[str]:
+    old: Mapping[str, str] = {} if before is None else before.facts
+    width = max(map(len, after.facts), default=0)
+    for name, value in after.facts.items():
+        was = f"  was {old[name]}" if name in old and old[name] != value else ""
+        new = "  new" if before is not None and name not in old else ""
+        yield f"{name:<{width}}  {value}{was}{new}"
+
+
+def _said(event: Event, offset: int) -> str:
+    """What the documents say of what stands at a place."""
+    what = event.item.what
+    if isinstance(what, HeaderOption):
+        return pages.of_field("header")
+    if isinstance(what, Call):
+        return pages.of_call(what.name) if offset in event.fields["call"] else ""
+    return next((pages.of_field(it) for it in _FIELDS if it in event.fields and offset in event.fields[it]), "")
+
+
+def plain(words: str) -> str:
+    """The same without the marks of Markdown."""
+    return _MARKS.sub("", words)
+
+
+def seconds(microseconds: int) -> str:
+    """A moment as the programs show it."""
+    return f"{microseconds // SECOND}.{microseconds % SECOND:06}"

@@ -1,0 +1,122 @@
+"""Which diagnostics a client was told, and what it is told next: none is older than its text."""
+
+from collections.abc import Callable, Iterable, Mapping, Sequence
+from pathlib import Path
+
+from pdsuite.lsp.answers import Running
+from pdsuite.lsp.diagnostics import ERROR, Diagnostic, diagnostics_of
+from pdsuite.lsp.documents import Document, path_of, uri_of
+from pdsuite.lsp.json_values import Json
+from pdsuite.lsp.layout import layout_of
+from pdsuite.lsp.positions import Extent, Lines
+from pdsuite.lsp.settings_places import diagnostic_of
+from pdsuite.lsp.workspace import Result, settings_path
+from pdsuite.scripts.suite import LONGEST
+from pdsuite.scripts.text import Unfit, read_file
+
+_METHOD = "textDocument/publishDiagnostics"
+
+
+class Publisher:
+    """What was published, by URIs; a file without diagnostics isn't among it.
+
+    `documents` has what is open; `has_related` says whether the client shows what belongs to a diagnostic elsewhere.
+    """
+
+    def __init__(self, notify: Callable[[str, object], None], documents: Mapping[str, Document]) -> None:
+        self.has_related = False
+        self._notify = notify
+        self._documents = documents
+        self._published: dict[str, list[Json]] = {}
+        self._uris: dict[str, str] = {}
+        self._faulty: set[str] = set()  # the settings files that have faults
+
+    def publish(self, running: Running, changed: Iterable[str]) -> None:
+        """Tells what came of scripts that changed, and the faults of settings files."""
+        for path in changed:
+            result = running.workspace.results.get(path)
+            uri = running.workspace.uri(path) or _uri(path)
+            before = self._uris.pop(path, uri)
+            if before != uri:
+                self._say(before, [], None)
+            if result is None:
+                self._say(uri, [], None)
+                continue
+            self._uris[path] = uri
+            if uri in self._documents:
+                self._publish_open(running, self._documents[uri], result)
+            else:
+                self._publish_file(uri, result)
+        self._publish_settings(running.workspace.faults(), running.workspace.settings_uris)
+
+    def publish_unproved(self, reason: str) -> None:
+        """Tells of open texts that are no scripts, as far as the client's own reader knows."""
+        for uri, document in self._documents.items():
+            fault = None if settings_path(uri) else layout_of(document.text).fault
+            found = (
+                [] if fault is None else [_unread(document, fault.place, f"{fault.words}; nothing was run: {reason}")]
+            )
+            self._say(uri, [self._json(uri, document.lines, it) for it in found], document.version)
+
+    def close(self, uri: str, has_file: bool) -> None:
+        """Takes back what was told of a text that is closed, unless its file has that URI and is told of next."""
+        path = path_of(uri)
+        if path is None or uri_of(path) != uri or not has_file:
+            self._say(uri, [], None)
+
+    def _publish_open(self, running: Running, document: Document, result: Result) -> None:
+        if result.version != document.version:
+            return  # the next one comes at once
+        found = running.answers.diagnostics(document, result)
+        said = [self._json(document.uri, document.lines, it) for it in found]
+        self._published[document.uri] = said
+        self._notify(_METHOD, {"uri": document.uri, "version": document.version, "diagnostics": said})
+
+    def _publish_file(self, uri: str, result: Result) -> None:
+        octets = b"" if result.text is None else result.text.octets
+        text = octets.decode("utf-8", "surrogateescape")
+        lines = Lines(text)
+        found = diagnostics_of(result.outcome, result.cause, layout_of(text), lines) if result.is_told else ()
+        self._say(uri, [self._json(uri, lines, it) for it in found], None)
+
+    def _publish_settings(self, faults: Mapping[Path, Sequence[str]], places: Mapping[Path, str]) -> None:
+        told = {places.get(path) or uri_of(str(path)): (path, lines) for path, lines in faults.items()}
+        for uri in [*told, *(self._faulty - told.keys())]:
+            path, said = told.get(uri, (Path(), ()))
+            document = self._documents.get(uri)
+            lines = document.lines if document is not None else Lines(_read(path) if said else "")
+            version = None if document is None else document.version
+            self._say(uri, [self._json(uri, lines, diagnostic_of(it, lines)) for it in said], version)
+        self._faulty = set(told)
+
+    def _json(self, uri: str, lines: Lines, it: Diagnostic) -> Json:
+        return it.as_json(uri, lines, self.has_related)
+
+    def _say(self, uri: str, found: list[Json], version: int | None) -> None:
+        """Tells the diagnostics of a text, where they are others."""
+        if self._published.get(uri, []) == found:
+            return
+        if found:
+            self._published[uri] = found
+        else:
+            del self._published[uri]
+        told: Json = {"uri": uri, "diagnostics": found}
+        self._notify(_METHOD, told if version is None else {**told, "version": version})
+
+
+def _uri(path: str) -> str:
+    """The URI of a script's path, which is one itself where the script has no file."""
+    return uri_of(path) if path.startswith("/") else path
+
+
+def _read(path: Path) -> str:
+    try:
+        return read_file(path, LONGEST).decode("utf-8", "replace")
+    except Unfit:
+        return ""
+
+
+def _unread(document: Document, place: int, words: str) -> Diagnostic:
+    line = document.lines.line_of(min(place, len(document.text)))
+    end = max(place, document.lines.end(line))
+    return Diagnostic(Extent(min(place, len(document.text)), end), ERROR, "syntax", words)

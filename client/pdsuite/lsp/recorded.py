@@ -1,0 +1,156 @@
+"""A recording beside its script: which packet each event met, and how the sender stood after it."""
+
+import re
+from collections.abc import Iterator, Mapping, Sequence
+from dataclasses import dataclass
+from math import inf
+
+from pdsuite.packetdrill.items import SECOND, HeaderOption, Time
+from pdsuite.lsp.layout import Event
+
+_TRACE = re.compile(
+    r"^//= at (?P<whole>[0-9]+)\.(?P<part>[0-9]{6}) (?P<name>[A-Z0-9-]+)(?P<facts>(?: [A-Za-z]+:[A-Za-z0-9.]+)*)\n?",
+    re.MULTILINE,
+)
+_BEFORE = re.compile(r"(?:[ \t\r\n]+|//[^\n]*|/\*.*?\*/|--[^ \t\r\n]*)*", re.DOTALL)
+_TIME = re.compile(r"\S+ ")
+# As all packets of a recording are written.
+_PACKET = re.compile(
+    r"\S+ (?P<arrow>[<>]) [A-Z.-]+ \d+:\d+\(\d+\)(?: ack \d+)?(?: win \d+)?(?: <[^<>]*>)?(?=[ \t\r\n/]|$)", re.MULTILINE
+)
+_TOLERANCE = "tolerance_usecs"
+
+
+@dataclass(frozen=True, slots=True)
+class State:
+    """How a sender stands: the name of its state, and facts as they are shown."""
+
+    name: str
+    facts: Mapping[str, str]
+
+
+@dataclass(frozen=True, slots=True)
+class Recorded:
+    """An event of a recording: where it and its action begin, its packet ends, and its lines end with their trace.
+
+    And its moment in microseconds, and the sender after it.
+    """
+
+    start: int
+    action: int
+    end: int
+    after: int
+    is_input: bool  # a packet that arrives, or a call
+    moment: int
+    state: State
+
+
+@dataclass(frozen=True, slots=True)
+class Met:
+    """An event of a script, and what it is in the recording: nothing where nothing was sent for it."""
+
+    event: Event
+    recorded: Recorded | None
+    after: Recorded | None  # what was recorded last when the event was over
+
+
+def recorded_in(recording: str) -> tuple[Recorded, ...]:
+    """The events of a recording that was made with a trace, whose line comes after each."""
+    begin = 0
+    each: list[Recorded] = []
+    for found in _TRACE.finditer(recording):
+        each.append(_recorded(recording, begin, found))
+        begin = found.end()
+    return tuple(each)
+
+
+def without_trace(recording: str) -> str:
+    """A recording without the lines of its trace."""
+    return _TRACE.sub("", recording)
+
+
+def _recorded(recording: str, begin: int, trace: "re.Match[str]") -> Recorded:
+    """The event before a line of the trace; comments and the header may come before it."""
+    gap = _BEFORE.match(recording, begin, trace.start())
+    start = begin if gap is None else gap.end()
+    packet = _PACKET.match(recording, start, trace.start())
+    time = _TIME.match(recording, start, trace.start())
+    facts = dict(it.split(":", 1) for it in trace["facts"].split())
+    return Recorded(
+        start=start,
+        action=start if time is None else time.end(),
+        end=trace.start() if packet is None else packet.end(),
+        after=trace.end(),
+        is_input=packet is None or packet["arrow"] == "<",
+        moment=int(trace["whole"]) * SECOND + int(trace["part"]),
+        state=State(trace["name"], facts),
+    )
+
+
+def tolerance_of(items: Sequence[Event], settings: int) -> int:
+    """The tolerance in microseconds: the last one of the header, else that of the settings."""
+    header = [it.item.what for it in items if isinstance(it.item.what, HeaderOption)]
+    said = [it.value for it in header if it.name == _TOLERANCE and it.value is not None and it.value.isdecimal()]
+    return int(said[-1]) if said else settings
+
+
+def met_by(
+    events: Sequence[Event], recorded: Sequence[Recorded], passed: int, tolerance: int, begin: int = 0
+) -> Iterator[Met]:
+    """What each event is in the recording. The first events, `passed` in number, are known to have passed.
+
+    Packets are met in the order in which they left. Past the events that passed, one is met where it left before the
+    event's last moment, give or take the tolerance.
+    """
+    inputs = [place for place, it in enumerate(recorded) if it.is_input]
+    outputs = [place for place, it in enumerate(recorded) if not it.is_input]
+    base = clock = begin
+    after: Recorded | None = None
+    for number, event in enumerate(events):
+        if event.is_input:
+            found = inputs.pop(0) if inputs else None
+            base = _moment(event.item.time, base)
+        else:
+            until = inputs[0] if inputs else len(recorded)
+            last = inf if number < passed else max(clock, _last(event.item.time, base) + tolerance)
+            found = outputs.pop(0) if outputs and _is_met(recorded, outputs[0], until, last) else None
+            base = _base_after(event.item.time, base, None if found is None else recorded[found].moment)
+        if found is not None:
+            after = recorded[found]
+            clock = max(clock, after.moment)
+        yield Met(event, None if found is None else recorded[found], after)
+
+
+def _is_met(recorded: Sequence[Recorded], place: int, until: int, last: float) -> bool:
+    return place < until and recorded[place].moment <= last
+
+
+def _moment(time: Time | None, base: int) -> int:
+    if time is None or time.first is None:
+        return base
+    return base + time.first if time.is_relative else time.first
+
+
+def _last(time: Time | None, base: int) -> float:
+    if time is None or time.first is None:
+        return inf
+    last = time.first if time.last is None else time.last
+    return base + last if time.is_relative else last
+
+
+def _base_after(time: Time | None, base: int, moment: int | None) -> int:
+    if time is not None and time.is_fixed:
+        return _moment(time, base)
+    return base if moment is None else max(base, moment)
+
+
+def lines_of_untaken(events: Sequence[Event], recorded: Sequence[Recorded], passed: int, count: int) -> list[Event]:
+    """The events after which untaken packets left, the oldest first: `count` packets after those that passed took one.
+
+    Each left after the last call or packet that arrived before it.
+    """
+    inputs = [it for it in events if it.is_input]
+    taken = sum(not it.is_input for it in events[:passed])
+    places = [place for place, it in enumerate(recorded) if not it.is_input][taken : taken + count]
+    before = [sum(it.is_input for it in recorded[:place]) for place in places]
+    return [inputs[it - 1] for it in before if 0 < it <= len(inputs)]

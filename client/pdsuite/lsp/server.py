@@ -1,0 +1,370 @@
+"""The server: it takes what a client says, and tells it what came of its scripts."""
+
+import os
+from collections.abc import Callable, Mapping
+from dataclasses import dataclass, replace
+from pathlib import Path
+from typing import Any
+
+from pdsuite.faults import Fault
+from pdsuite.lsp.answers import DRAW, Running, lenses
+from pdsuite.lsp.capabilities import OFFERED, REGISTRATION, Client, client_of, folders_of
+from pdsuite.lsp.comments import foldings_of, symbols_of
+from pdsuite.lsp.documents import Document, opened, path_of, position_in, uri_of
+from pdsuite.lsp.drawing import Drawn
+from pdsuite.lsp.hover import plain
+from pdsuite.lsp.json_values import Json, Malformed, list_in, member, optional, text_in
+from pdsuite.lsp.positions import Extent
+from pdsuite.lsp.publisher import Publisher
+from pdsuite.lsp.streams import CONTENT_MODIFIED, INTERNAL, INVALID_PARAMS, INVALID_REQUEST, NOT_INITIALIZED
+from pdsuite.lsp.streams import Promise, Refused, Streams
+from pdsuite.programs.program import Ended
+from pdsuite.programs.places import commit
+from pdsuite.signals import Stopped
+from pdsuite.watch.watcher import Event, Kind
+
+_ERROR, _WARNING, _INFO = 1, 2, 3
+_DELETED = 3
+# The statuses of the protocol: after `shutdown`, and without.
+DONE, FAILED = 0, 1
+
+
+@dataclass
+class Request:
+    """A request that waits for its answer."""
+
+    promise: Promise
+    method: str
+    params: object
+    uri: str | None
+
+
+class Server:
+    """What a client has said, and what it waits for. `run` looks for the programs, and answers what runs by them."""
+
+    def __init__(self, run: Callable[["Server"], Running]) -> None:
+        self.client = Client()
+        self.status: int | None = None
+        self.running: Running | None = None
+        self.events: list[Event] = []
+        self.documents: dict[str, Document] = {}
+        self.drawn: dict[str, Drawn] = {}
+        self._run = run
+        self._is_initialized = False
+        self._is_ready = False
+        self._is_shut_down = False
+        self._pending: list[Request] = []
+        self._told = ""
+        self._streams: Streams | None = None
+        self._publisher: Publisher | None = None
+
+    # ---- how it is used
+
+    @property
+    def is_ready(self) -> bool:
+        """Whether a client has begun, and not ended."""
+        return self._is_ready and not self._is_shut_down
+
+    def attach(self, streams: Streams) -> None:
+        """Takes the streams on which it is heard."""
+        self._streams = streams
+        self._publisher = Publisher(streams.notify, self.documents)
+
+    @property
+    def streams(self) -> Streams:
+        """The streams."""
+        assert self._streams is not None
+        return self._streams
+
+    def handlers(self) -> Mapping[str, Callable[[Any], Any]]:
+        """What is done at each message."""
+        requests: dict[str, Callable[[Any], Any]] = {
+            method: self._later(method) for method in (*_ANSWERS, "workspace/executeCommand")
+        }
+        return {
+            **requests,
+            "initialize": self._initialize,
+            "initialized": self._initialized,
+            "shutdown": self._shut_down,
+            "exit": self._exit,
+            "textDocument/didOpen": self._open,
+            "textDocument/didChange": self._change,
+            "textDocument/didSave": self._save,
+            "textDocument/didClose": self._close,
+            "workspace/didChangeWatchedFiles": self._hear_files,
+            "workspace/didChangeWorkspaceFolders": self._change_folders,
+        }
+
+    def begin(self) -> None:
+        """Looks for the programs, and begins with what is open; where they aren't there, says so once."""
+        self.running = None
+        try:
+            self.running = self._run(self)
+        except Fault as fault:
+            if self._told != str(fault):
+                self._told = str(fault)
+                self.show(_ERROR, f"pdsuite: {fault}")
+                self.publish_unproved()
+            return
+        for document in self.documents.values():
+            self.running.workspace.put(document)
+
+    @property
+    def is_behind(self) -> bool:
+        """Whether a text has changed since its results were worked out."""
+        return self.running is not None and self.running.workspace.is_behind
+
+    def settle(self, events: list[Event], now: float) -> None:
+        """Has run again what changed, and tells the client what came of it."""
+        if self.running is None or self._publisher is None:
+            return
+        reported, self.events = [*events, *self.events], []
+        changed = self.running.workspace.settle(reported, now)
+        if changed and self.streams.is_waiting:
+            self.streams.take()
+        self._publisher.publish(self.running, changed)
+        if changed and self.client.refreshes_lenses:
+            self.streams.request("workspace/codeLens/refresh", None)
+
+    def answer(self) -> bool:
+        """Answers the request that waits longest; whether one did."""
+        while self._pending:
+            request = self._pending.pop(0)
+            if not request.promise.done():
+                self._answer(request)
+                return True
+        return False
+
+    def look_at_drawn(self) -> None:
+        """Has pages opened that are drawn."""
+        for uri, it in list(self.drawn.items()):
+            if it.has_ended():
+                del self.drawn[uri]
+                self._show_page(it)
+
+    def log(self, line: str) -> None:
+        """Tells of something that people may look up."""
+        self.streams.notify("window/logMessage", {"type": _WARNING, "message": line})
+
+    def show(self, kind: int, line: str) -> None:
+        """Tells people something at once."""
+        self.streams.notify("window/showMessage", {"type": kind, "message": line})
+
+    def publish_unproved(self) -> None:
+        """Tells of texts that are no scripts, as far as that is known without a program."""
+        if self._publisher is not None:
+            self._publisher.publish_unproved(self._told)
+
+    # ---- the client's life
+
+    def _initialize(self, params: object) -> Json:
+        if self._is_initialized:
+            raise Refused("it is initialized already", INVALID_REQUEST)
+        self._is_initialized = True
+        self.client = client_of(params)
+        if self._publisher is not None:
+            self._publisher.has_related = self.client.has_related
+        return {"capabilities": OFFERED, "serverInfo": {"name": "pdsuite", "version": commit()}}
+
+    def _initialized(self, params: object) -> None:
+        self._is_ready = True
+        if self.client.watches:
+            self.streams.request("client/registerCapability", REGISTRATION)
+
+    def _shut_down(self, params: object) -> None:
+        self._is_shut_down = True
+
+    def _exit(self, params: object) -> None:
+        self.status = DONE if self._is_shut_down else FAILED
+
+    # ---- texts
+
+    def _open(self, params: object) -> None:
+        self._put(opened(member(params, "textDocument")))
+
+    def _change(self, params: object) -> None:
+        item = member(params, "textDocument")
+        document = self._document(text_in(item, "uri"))
+        version = optional(item, "version")
+        changes = list_in(params, "contentChanges")
+        self._put(document.changed(version if isinstance(version, int) else document.version + 1, changes))
+
+    def _put(self, document: Document) -> None:
+        self._give_up(document.uri)
+        self.documents[document.uri] = document
+        if self.running is not None:
+            self.running.workspace.put(document)
+        elif self._told:
+            self.publish_unproved()
+
+    def _save(self, params: object) -> None:
+        if self.running is None and self._is_initialized:
+            self.begin()
+
+    def _close(self, params: object) -> None:
+        uri = text_in(member(params, "textDocument"), "uri")
+        self._give_up(uri)
+        if self.documents.pop(uri, None) is not None and self.running is not None:
+            self.running.workspace.close(uri)
+            self.running.answers.forget(uri)
+        if self._publisher is not None:
+            self._publisher.close(uri, has_file=self.running is not None)
+
+    def _give_up(self, uri: str) -> None:
+        """Gives up requests about a text that is another now."""
+        for request in self._pending:
+            if request.uri == uri:
+                request.promise.refuse(CONTENT_MODIFIED, "the text has changed")
+
+    def _document(self, uri: str) -> Document:
+        if uri not in self.documents:
+            raise Malformed(f"{uri} isn't open")
+        return self.documents[uri]
+
+    def _hear_files(self, params: object) -> None:
+        for change in list_in(params, "changes"):
+            path = path_of(text_in(change, "uri"))
+            if path is not None:
+                folder, name = os.path.split(path)
+                kind = Kind.GONE if optional(change, "type") == _DELETED else Kind.CLOSED
+                self.events.append(Event(kind, os.path.realpath(folder), name))
+
+    def _change_folders(self, params: object) -> None:
+        event = member(params, "event")
+        gone = folders_of([text_in(it, "uri") for it in optional(event, "removed") or []])
+        new = folders_of([text_in(it, "uri") for it in optional(event, "added") or []])
+        roots = dict.fromkeys([*(it for it in self.client.roots if it not in gone), *new])
+        self.client = replace(self.client, roots=tuple(roots))
+        if self.running is not None:
+            self.begin()
+
+    # ---- requests
+
+    def _later(self, method: str) -> Callable[[Any], Any]:
+        def wait(params: object) -> Promise:
+            if not self._is_initialized or self._is_shut_down:
+                code = INVALID_REQUEST if self._is_initialized else NOT_INITIALIZED
+                raise Refused("it isn't initialized, or shut down", code)
+            promise = Promise()
+            uri = optional(params, "textDocument", "uri")
+            self._pending.append(Request(promise, method, params, uri if isinstance(uri, str) else None))
+            return promise
+
+        return wait
+
+    def _answer(self, request: Request) -> None:
+        try:
+            if request.method == "workspace/executeCommand":
+                self._execute(request.params)
+                request.promise.answer(None)
+            else:
+                document = self._document(text_in(member(request.params, "textDocument"), "uri"))
+                request.promise.answer(_ANSWERS[request.method](self, document, request.params))
+        except Malformed as malformed:
+            request.promise.refuse(INVALID_PARAMS, str(malformed))
+        except (Ended, Fault) as fault:
+            request.promise.refuse(INTERNAL, str(fault))
+        except Stopped:
+            raise
+        except Exception as error:
+            request.promise.refuse(INTERNAL, f"{type(error).__name__}: {error}")
+
+    def _hover(self, document: Document, params: object) -> Json | None:
+        if self.running is None:
+            return None
+        result = self.running.workspace.result(document.uri)
+        found = self.running.answers.hover(document, result, position_in(member(params, "position")))
+        if found is None:
+            return None
+        words, extent = found
+        kind = "markdown" if self.client.takes_markdown else "plaintext"
+        shown = words if self.client.takes_markdown else plain(words)
+        return {"contents": {"kind": kind, "value": shown}, "range": document.lines.range(extent)}
+
+    def _actions(self, document: Document, params: object) -> list[Json]:
+        span = member(params, "range")
+        start, end = (document.lines.offset(position_in(member(span, it))) for it in ("start", "end"))
+        if self.running is None or (result := self.running.workspace.result(document.uri)) is None:
+            return []
+        only = optional(params, "context", "only")
+        offers = self.running.answers.actions(document, result, Extent(start, end))
+        found = optional(params, "context", "diagnostics")
+        return [
+            {
+                "title": it.action.title,
+                "kind": it.action.kind,
+                "diagnostics": found if isinstance(found, list) else [],
+                "isPreferred": number == 0,
+                "edit": self._edit(document, it.edits),
+            }
+            for number, it in enumerate(offers)
+            if not isinstance(only, list) or any(_is_kind(it.action.kind, kind) for kind in only)
+        ]
+
+    def _edit(self, document: Document, edits: list[Json]) -> Json:
+        if not self.client.takes_versions:
+            return {"changes": {document.uri: edits}}
+        text = {"uri": document.uri, "version": document.version}
+        return {"documentChanges": [{"textDocument": text, "edits": edits}]}
+
+    def _lenses(self, document: Document, params: object) -> list[Json]:
+        if self.running is None:
+            return []
+        if self.running.workspace.path(document.uri) is None:
+            return []
+        return lenses(document.uri, self.running.workspace.result(document.uri))
+
+    def _symbols(self, document: Document, params: object) -> list[Json]:
+        return symbols_of(document.lines)
+
+    def _foldings(self, document: Document, params: object) -> list[Json]:
+        return foldings_of(document.lines)
+
+    def _completion(self, document: Document, params: object) -> list[Json]:
+        if self.running is None:
+            return []
+        result = self.running.workspace.result(document.uri)
+        position = position_in(member(params, "position"))
+        return self.running.answers.completion(document, result, position, self.client.takes_snippets)
+
+    # ---- drawing
+
+    def _execute(self, params: object) -> None:
+        command, words = text_in(params, "command"), optional(params, "arguments")
+        if command != DRAW or not isinstance(words, list) or len(words) != 1 or not isinstance(words[0], str):
+            raise Malformed(f"{DRAW} takes a URI")
+        document = self._document(words[0])
+        result = None if self.running is None else self.running.workspace.result(document.uri)
+        if result is None or result.text is None:
+            raise Fault("nothing was run that could be drawn")
+        if document.uri in self.drawn:
+            self.drawn.pop(document.uri).close()
+        self.drawn[document.uri] = Drawn(result)
+
+    def _show_page(self, drawn: Drawn) -> None:
+        if drawn.fault:
+            self.show(_WARNING, f"pdsuite: {drawn.fault}")
+        if drawn.page.exists():
+            if self.client.shows_documents:
+                self.streams.request("window/showDocument", {"uri": uri_of(str(drawn.page)), "external": True})
+            else:
+                self.show(_INFO, f"pdsuite: drawn in {drawn.page}")
+
+
+def _is_kind(kind: str, wanted: object) -> bool:
+    return isinstance(wanted, str) and (wanted == "" or kind == wanted or kind.startswith(f"{wanted}."))
+
+
+def home_of(client: Client) -> Path:
+    """The folder in which texts count that have no file."""
+    return client.roots[0] if client.roots else Path.cwd()
+
+
+_ANSWERS: Mapping[str, Callable[[Server, Document, object], Any]] = {
+    "textDocument/hover": Server._hover,
+    "textDocument/codeAction": Server._actions,
+    "textDocument/codeLens": Server._lenses,
+    "textDocument/documentSymbol": Server._symbols,
+    "textDocument/foldingRange": Server._foldings,
+    "textDocument/completion": Server._completion,
+}

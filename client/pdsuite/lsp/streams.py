@@ -1,0 +1,149 @@
+"""The two streams of the protocol, by Debian's python3-pylsp-jsonrpc, and the requests of a client."""
+
+import logging
+import os
+import queue
+import threading
+from collections.abc import Callable, Mapping
+from concurrent.futures import Future
+from contextlib import suppress
+from typing import Any, BinaryIO
+
+from pylsp_jsonrpc.endpoint import Endpoint
+from pylsp_jsonrpc.exceptions import JsonRpcException, JsonRpcRequestCancelled
+from pylsp_jsonrpc.streams import JsonRpcStreamReader, JsonRpcStreamWriter
+
+INVALID_PARAMS = -32602
+INTERNAL = -32603
+NOT_INITIALIZED = -32002
+INVALID_REQUEST = -32600
+CONTENT_MODIFIED = -32801
+_LENGTH = b"content-length:"
+_LONGEST_HEAD = 4_096
+_LONGEST_BODY = 64 << 20
+# Comes after the last message.
+_END = object()
+
+
+class Refused(JsonRpcException):  # type: ignore[misc]
+    """That a request is answered by an error: a text, and one of the codes above."""
+
+
+class Promise(Future[Any]):
+    """The answer to a request, which comes later. One that is cancelled is answered at once, and nothing else then."""
+
+    def cancel(self) -> bool:
+        if not self.done():
+            self.set_exception(JsonRpcRequestCancelled())
+        return True
+
+    def answer(self, result: Any) -> None:
+        """Answers, where nobody has."""
+        if not self.done():
+            self.set_result(result)
+
+    def refuse(self, code: int, message: str) -> None:
+        """Answers by an error, where nobody has answered."""
+        if not self.done():
+            self.set_exception(Refused(message, code))
+
+
+class _Head:
+    """An input in which each message begins with its length.
+
+    The reader of messages takes the first line for the length and reads to the end of the input where it isn't one, so
+    lines are left out here until one says a length.
+    """
+
+    def __init__(self, file: BinaryIO) -> None:
+        self._file = file
+        self._is_in_message = False
+        self.closed = False
+
+    def readline(self) -> bytes:
+        """The line that says the next message's length, then an empty one; nothing at the end."""
+        if self._is_in_message:
+            self._is_in_message = False
+            return b"\r\n"
+        length: int | None = None
+        while line := self._file.readline(_LONGEST_HEAD):
+            if line.lower().startswith(_LENGTH):
+                with suppress(ValueError):
+                    length = int(line[len(_LENGTH) :])
+            elif not line.strip() and length is not None and 0 <= length <= _LONGEST_BODY:
+                self._is_in_message = True
+                return b"Content-Length: %d\r\n" % length
+            elif not line.strip():
+                length = None
+        return b""
+
+    def read(self, size: int) -> bytes:
+        """The octets of a message."""
+        return self._file.read(size)
+
+    def close(self) -> None:
+        """Ends the reading."""
+        self.closed = True
+
+
+class Streams:
+    """Reads messages in a thread of its own and keeps them until they are taken; and writes answers."""
+
+    def __init__(self, source: BinaryIO, target: BinaryIO, handlers: Mapping[str, Callable[[Any], Any]]) -> None:
+        quiet = logging.getLogger("pylsp_jsonrpc")
+        quiet.addHandler(logging.NullHandler())
+        quiet.propagate = False
+        self._reader = JsonRpcStreamReader(_Head(source))
+        self._endpoint = Endpoint(handlers, JsonRpcStreamWriter(target).write)
+        self._messages: "queue.SimpleQueue[object]" = queue.SimpleQueue()
+        self._wake_reader, self._wake_writer = os.pipe2(os.O_NONBLOCK | os.O_CLOEXEC)
+        self.is_at_end = False
+        threading.Thread(target=self._listen, daemon=True).start()
+
+    def fileno(self) -> int:
+        """What can be read once there are messages, or no more come."""
+        return self._wake_reader
+
+    @property
+    def is_waiting(self) -> bool:
+        """Whether there are messages that weren't taken."""
+        return not self._messages.empty()
+
+    def take(self) -> None:
+        """Takes all messages that have come, in their order."""
+        with suppress(BlockingIOError):
+            while os.read(self._wake_reader, 4_096):
+                pass
+        while not self._messages.empty():
+            message = self._messages.get()
+            if message is _END:
+                self.is_at_end = True
+            elif _is_message(message):
+                self._endpoint.consume(message)
+
+    def notify(self, method: str, params: object) -> None:
+        """Tells the client something."""
+        self._endpoint.notify(method, params)
+
+    def request(self, method: str, params: object) -> None:
+        """Asks the client for something, whatever it answers."""
+        self._endpoint.request(method, params)
+
+    def _listen(self) -> None:
+        try:
+            self._reader.listen(self._hear)
+        finally:
+            self._hear(_END)
+
+    def _hear(self, message: object) -> None:
+        self._messages.put(message)
+        with suppress(OSError):
+            os.write(self._wake_writer, b"x")
+
+
+def _is_message(message: object) -> bool:
+    """Whether this is something that can be heard: a request or notification by its name, or an answer to a request."""
+    if not isinstance(message, dict) or not isinstance(message.get("id", ""), str | int | float):
+        return False
+    method = message.get("method")
+    return isinstance(method, str) if "method" in message else "id" in message

@@ -1,0 +1,259 @@
+"""The scripts of a workspace, those in files and those that are open, and what came of them."""
+
+import os
+from collections.abc import Iterator, Mapping, Sequence
+from dataclasses import dataclass, replace
+from pathlib import Path
+
+from pdsuite.lsp.documents import Document, path_of
+from pdsuite.lsp.settings_open import OpenSettings
+from pdsuite.run.explainer import Asker
+from pdsuite.programs.protocol import Cause
+from pdsuite.programs.rows import Row, Verdict
+from pdsuite.run.outcomes import Outcome
+from pdsuite.run.runs import Script, runs_of
+from pdsuite.run.settling import SettledPiece
+from pdsuite.scripts.search import ScriptFile
+from pdsuite.scripts.suite import FILE, ScriptRules
+from pdsuite.scripts.text import Text
+from pdsuite.watch.fleet import Fleet
+from pdsuite.watch.folders import Folders
+from pdsuite.watch.run_changes import WantedScript
+from pdsuite.watch.watcher import Event, Kind
+
+# A run gives way to a new one when its history has so many acts at most, and nothing else is to be done; and always
+# when it has so many. It holds 65,536.
+WORN = 40_000
+SPENT = 60_000
+
+
+@dataclass(frozen=True)
+class Result:
+    """What came of a script, what is told of it, and of which text that is; `version` is that of an open text."""
+
+    file: ScriptFile
+    outcome: Outcome
+    text: Text | None
+    cause: Cause | None = None
+    version: int | None = None
+    steps: int | None = None
+
+    @property
+    def is_told(self) -> bool:
+        """Whether there is anything to tell of it."""
+        return not self.outcome.passes or bool(self.outcome.warnings) or self.outcome.is_known
+
+
+@dataclass(frozen=True)
+class OpenScript:
+    """A script that is open: which file it is, and its text, or why that can't be run."""
+
+    document: Document
+    file: ScriptFile
+    text: Text | str
+
+
+class Workspace:
+    """What is seen in folders and what is open, and the results. Results are by paths, as `pdsuite run` has these."""
+
+    def __init__(self, folders: Folders, settings: OpenSettings, fleet: Fleet, asker: Asker[Cause], home: Path) -> None:
+        self.results: Mapping[str, Result] = {}
+        self._folders = folders
+        self._settings = settings
+        self._fleet = fleet
+        self._asker = asker
+        self._home = home
+        self._documents: dict[str, Document] = {}
+        self._open: dict[str, OpenScript] = {}
+        self._paths: dict[str, str] = {}
+        self._uris: dict[str, str] = {}
+        self._settings_uris: dict[Path, str] = {}
+        self._events: list[Event] = []
+        self._seen: tuple[Mapping[str, WantedScript], Mapping[str, str]] = ({}, {})
+        self._is_dirty = True
+
+    @property
+    def is_behind(self) -> bool:
+        """Whether a text has changed since the results were worked out."""
+        return self._is_dirty
+
+    @property
+    def settings_uris(self) -> Mapping[Path, str]:
+        """The settings files that are open, each with its URI."""
+        return self._settings_uris
+
+    def faults(self) -> Mapping[Path, list[str]]:
+        """The faults of settings files."""
+        return self._settings.faults()
+
+    def put(self, document: Document) -> None:
+        """Takes a text that was opened or changed."""
+        known = self._open.get(document.uri)
+        self._documents[document.uri] = document
+        if path := settings_path(document.uri):
+            self._settings.open(path, document.octets)
+            self._settings_uris[path] = document.uri
+            self._events.append(Event(Kind.CLOSED, str(path.parent), FILE))
+        else:
+            file = self._script_file(document.uri) if known is None else known.file
+            self._open[document.uri] = OpenScript(document, file, document.script())
+            if known is None:
+                self._look_for_tables()
+        self._is_dirty = True
+
+    def close(self, uri: str) -> None:
+        """Takes a text's file again."""
+        if self._documents.pop(uri, None) is None:
+            return
+        self._open.pop(uri, None)
+        self._look_for_tables()
+        if path := settings_path(uri):
+            self._settings.open(path, None)
+            self._settings_uris.pop(path, None)
+            self._events.append(Event(Kind.CLOSED, str(path.parent), FILE))
+        self._is_dirty = True
+
+    def path(self, uri: str) -> str | None:
+        """The path under which an open script stands among the results."""
+        return self._paths.get(uri)
+
+    def uri(self, path: str) -> str | None:
+        """The URI under which a script is open that stands under this path."""
+        return self._uris.get(path)
+
+    def result(self, uri: str) -> Result | None:
+        """What came of an open script, where that is of its present text."""
+        found = self.results.get(self._paths.get(uri, ""))
+        document = self._documents.get(uri)
+        return found if document is not None and found is not None and found.version == document.version else None
+
+    def settle(self, events: Sequence[Event], now: float) -> list[str]:
+        """Looks at what is reported or due, and has run again what that changes: the paths whose results are others."""
+        reported = [*events, *self._events]
+        self._events = []
+        has_changed = self._folders.look(reported, now)
+        if has_changed:
+            self._seen = self._folders.wanted()
+        has_ended = self._fleet.mend()
+        if not (has_changed or has_ended or self._is_dirty):
+            return []
+        self._is_dirty = False
+        files = {path: it.found for path, it in self._folders.files.items()}
+        wanted, unfit = dict(self._seen[0]), dict(self._seen[1])
+        versions = self._lay_open(files, wanted, unfit)
+        self._fleet.renew(SPENT)
+        self._fleet.follow(wanted)
+        return self._take_results(files, wanted, unfit, versions)
+
+    def rest(self) -> None:
+        """Does what can wait: starts new runs in place of those whose histories are long."""
+        self._fleet.renew(WORN)
+
+    def due(self) -> float:
+        """The moment at which something has to be looked at, whatever is reported."""
+        return self._folders.due()
+
+    def filenos(self) -> list[int]:
+        """What can be read once a program has ended by itself."""
+        return [it.program.fileno() for it in self._fleet.runs]
+
+    def _look_for_tables(self) -> None:
+        """Says which scripts tables may be about though no file is there."""
+        self._settings.scripts = {(it.file.folder, it.file.name) for it in self._open.values()}
+
+    def _lay_open(
+        self, files: dict[str, ScriptFile], wanted: dict[str, WantedScript], unfit: dict[str, str]
+    ) -> dict[str, int]:
+        """Puts what is open in place of files; the versions of open scripts, by their paths."""
+        places = {(it.folder, it.name): path for path, it in files.items()}
+        self._paths = {}
+        self._uris = {}
+        versions: dict[str, int] = {}
+        for uri, it in self._open.items():
+            path = places.setdefault((it.file.folder, it.file.name), it.file.path)
+            self._paths[uri] = path
+            self._uris[path] = uri
+            files.setdefault(path, it.file)
+            versions[path] = it.document.version
+            wanted.pop(path, None)
+            unfit.pop(path, None)
+            if isinstance(it.text, str):
+                unfit[path] = it.text
+            else:
+                wanted[path] = WantedScript(self._rules(files[path]).settings, it.text)
+        return versions
+
+    def _script_file(self, uri: str) -> ScriptFile:
+        path = path_of(uri)
+        if path is None:
+            return ScriptFile(uri, str(self._home), uri.rpartition("/")[2])
+        folder, name = os.path.split(os.path.realpath(path))
+        return ScriptFile(path, folder, name)
+
+    def _rules(self, file: ScriptFile) -> ScriptRules:
+        return self._folders.suite.rules(file)
+
+    def _take_results(
+        self,
+        files: Mapping[str, ScriptFile],
+        wanted: Mapping[str, WantedScript],
+        unfit: Mapping[str, str],
+        versions: Mapping[str, int],
+    ) -> list[str]:
+        rows = dict(self._fleet.rows())
+        steps = {path: count for run in self._fleet.runs for path, count in run.steps.items()}
+        before, results, changed = self.results, {}, []
+        for path, file in files.items():
+            row = rows.get(path) if path in wanted else Row(Verdict.ERROR, word=unfit.get(path, ""))
+            if row is None:
+                continue
+            result = self._result(file, row, wanted.get(path), versions.get(path), steps.get(path))
+            old = before.get(path)
+            results[path] = kept = _merged(old, result)
+            if kept is not old:
+                changed.append(path)
+        asked = [path for path in changed if results[path].cause is None and results[path].outcome.row.line is not None]
+        for path, cause in self._causes([results[path] for path in asked]):
+            results[path] = replace(results[path], cause=cause)
+        self.results = results
+        return [*changed, *(path for path in before if path not in results)]
+
+    def _result(
+        self, file: ScriptFile, row: Row, wanted: WantedScript | None, version: int | None, steps: int | None
+    ) -> Result:
+        rules = self._rules(file)
+        text = None if wanted is None else wanted.text
+        line = None if text is None or row.line is None else text.line(row.line)
+        settings = () if wanted is None else wanted.settings
+        outcome = Outcome(file.path, settings, row, line, is_strict=rules.is_strict, expected=rules.expected)
+        return Result(file, outcome, text, None, version, steps)
+
+    def _causes(self, results: Sequence[Result]) -> Iterator[tuple[str, Cause]]:
+        """What the program tells of scripts that don't pass, piece by piece."""
+        scripts = [Script(index, it.file.path, it.outcome.settings) for index, it in enumerate(results)]
+        for run in runs_of(scripts):
+            for piece in run.pieces:
+                texts = {it.index: text for it in piece if (text := results[it.index].text) is not None}
+                settled = SettledPiece([(it, results[it.index].outcome) for it in piece], texts)
+                told = self._asker.told(settled)
+                yield from ((results[index].file.path, cause) for index, cause in told.items())
+
+
+def settings_path(uri: str) -> Path | None:
+    """The file pdsuite.toml that a URI names, without links; None where it names another."""
+    path = path_of(uri)
+    if path is None or os.path.basename(path) != FILE:
+        return None
+    return Path(os.path.realpath(os.path.dirname(path)), FILE)
+
+
+def _merged(old: Result | None, new: Result) -> Result:
+    """The old result where the new one says the same; what was told of it stays where its text and row do."""
+    if old is None or old.text is not new.text and old.text != new.text:
+        return new
+    if old.outcome != new.outcome:
+        return new
+    steps = old.steps if new.steps is None else new.steps
+    if (old.version, old.steps) == (new.version, steps):
+        return old
+    return replace(new, cause=old.cause, steps=steps)

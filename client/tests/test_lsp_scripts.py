@@ -1,0 +1,256 @@
+"""What the language server makes of rows, explanations and recordings, without a program."""
+
+from typing import Any
+
+import pytest
+
+from pdsuite.lsp.actions import Action, Failing, edits_to, leads_past
+from pdsuite.lsp.actions import recording_all, recording_from_here, switching_off, taking
+from pdsuite.lsp.diagnostics import diagnostics_of, unshown
+from pdsuite.lsp.documents import Document
+from pdsuite.lsp.hover import hover_of, plain
+from pdsuite.lsp.layout import layout_of
+from pdsuite.lsp.packets_sent import as_lines, sent_in, sent_of
+from pdsuite.lsp.positions import Lines
+from pdsuite.lsp.recorded import lines_of_untaken, met_by, recorded_in, tolerance_of, without_trace
+from pdsuite.programs.rows import Row, Verdict
+from pdsuite.run.outcomes import Outcome
+from pdsuite.scripts.expectation import Expectation
+
+SCRIPT = """0 write(4, ..., 1500) = 1500 // two
++0 > . 1:1001(1000) ack 1
++0.1 < . 1:1(0) ack 1001 win 257
++0 > P. 1001:1501(500) ack 1
++0.1 > P. 1:2(1) ack 1
++0 close(4) = 0
+"""
+RECORDING = """+0 write(4, ..., 1500) = 1500 // two
+//= at 0.000000 ESTABLISHED una:1 next:1001 cwnd:4000
++0 > . 1:1001(1000) ack 1 win 511
+//= at 0.000000 ESTABLISHED una:1 next:1001 cwnd:4000
++0.1 < . 1:1(0) ack 1001 win 257
+//= at 0.100000 ESTABLISHED una:1001 next:1501 cwnd:5000
++0 > P. 1001:1501(500) ack 1 win 511
+//= at 0.100000 ESTABLISHED una:1001 next:1501 cwnd:5000
++0.1 close(4) = 0
+//= at 0.200000 FIN-WAIT-1 una:1001 next:1502 cwnd:5000 expiry:1.2
++0 > F. 1501:1501(0) ack 1 win 511
+//= at 0.200000 FIN-WAIT-1 una:1001 next:1502 cwnd:5000 expiry:1.2
+"""
+SENT = "+0   > P. 1:1001(1000) ack 1 win 511 // 0.200000"
+
+
+def failing(text: str, row: Row, **cause: Any) -> Failing:
+    """A script that doesn't pass."""
+    return Failing(Lines(text), layout_of(text), row, cause)
+
+
+def test_packets_are_read_as_they_are_shown() -> None:
+    sent = sent_of("+0.1~+0.3 > S. 0:0(0) ack 1 win 65535 <mss 1460,nop> // 1.500000")
+    assert sent is not None and (sent.options, sent.win, sent.moment) == ("<mss 1460,nop>", "win 65535", 1_500_000)
+    assert sent_of("* > - 0:0(0)") is None and sent_of(None) is None and sent_in("x") == []
+    one = sent_of("* > R 1:1(0) // 0.000001")
+    assert one is not None and one.event == "> R 1:1(0)"
+
+
+def test_times_of_packets_count_from_one_another() -> None:
+    shown = ["* > . 1:2(1) // 0.100000", "+0 > . 2:3(1) // 0.300000", "+0.2 > . 3:4(1) // 0.500000"]
+    lines = as_lines(sent_in(shown))
+    assert [it.split(" >")[0] for it in lines] == ["*", "+0", "+0.2"]
+    assert [it.split(" >")[0] for it in as_lines(sent_in(shown[2:]))] == ["+0.2"]
+
+
+@pytest.mark.parametrize(
+    "event, after",
+    [
+        ("+0 > . 1:501(500) ack 1", "+0 > P. 1:1001(1000) ack 1"),
+        ("+0 > P. 1:501(500) ack 2 win 7 <nop>", "+0 > P. 1:1001(1000) ack 1 win 511"),
+        ("+0\t> P. 1:501 ( 500 ) <...>", "+0\t> P. 1:1001(1000) <...>"),
+    ],
+)
+def test_only_written_fields_are_taken(event: str, after: str) -> None:
+    text = f"// x\n{event} // y\n"
+    (action, *_) = taking(failing(text, Row(Verdict.FAIL, 2, "seq"), script_packet=event, actual_packet=SENT))
+    assert action.text == f"// x\n{after} // y\n"
+
+
+def test_options_that_are_lacking_are_added() -> None:
+    sent = "+0 > S. 0:0(0) ack 1 win 9 <mss 1460> // 0.100000"
+    event = "+0 > S. 0:0(0) ack 1"
+    (action, _) = taking(
+        failing(f"{event}\n", Row(Verdict.FAIL, 1, "options"), script_packet=event, actual_packet=sent)
+    )
+    assert action.text == "+0 > S. 0:0(0) ack 1 <mss 1460>\n"
+
+
+def test_the_time_alone_is_offered_where_nothing_else_differs() -> None:
+    row = Row(Verdict.FAIL, 1, "time")
+    for event, title, after in [
+        ("+0.1 > P. 1:1001(1000) ack 1", "Take the time at which it was sent", "+0 > P. 1:1001(1000) ack 1\n"),
+        ("+0.1 > P. 1:501(500) ack 1", "Take the packet that was sent", "+0 > P. 1:1001(1000) ack 1\n"),
+    ]:
+        (action, _) = taking(failing(f"{event}\n", row, script_packet=event, actual_packet=SENT))
+        assert (action.title, action.text) == (title, after)
+
+
+def test_packets_before_the_awaited_one_are_inserted() -> None:
+    event = "+0 > P. 4001:5001(1000) ack 1"
+    untaken = ["* > P. 3001:4001(1000) ack 1 win 5 // 0.200000", "+0 > P. 4001:5001(1000) ack 1 win 5 // 0.300000"]
+    actual = "* > . 2001:3001(1000) ack 1 win 5 // 0.200000"
+    text = f"0 a() = 1\r\n  {event}\r\n"
+    first, _ = taking(
+        failing(text, Row(Verdict.FAIL, 2, "time"), script_packet=event, actual_packet=actual, untaken_packets=untaken)
+    )
+    assert (first.title, first.shift) == ("Insert 2 packets that were sent before it", 2)
+    assert first.text.split("\r\n")[1:3] == [
+        "  * > . 2001:3001(1000) ack 1 win 5",
+        "  * > P. 3001:4001(1000) ack 1 win 5",
+    ]
+
+
+def test_a_result_is_taken() -> None:
+    text = "0 a() = 1 (note)\n"
+    (action,) = taking(failing(text, Row(Verdict.FAIL, 1, "result"), call=text[:-1], actual_result="-1 EINVAL"))
+    assert action.text == "0 a() = -1 EINVAL (note)\n"
+
+
+@pytest.mark.parametrize(
+    "text, line, after",
+    [
+        ("0 a() = 1\n+0 b() = 2\n", 2, "0 a() = 1\n// +0 b() = 2\n"),
+        ("0 a(\n1) = 1\n", 1, "// 0 a(\n// 1) = 1\n"),
+        ("0 a() = 1 +0 b() = 2", 1, "/* 0 a() = 1 */ +0 b() = 2"),
+        ("bad", 1, "// bad"),
+        ("\n", 1, "// \n"),
+    ],
+)
+def test_a_line_is_switched_off(text: str, line: int, after: str) -> None:
+    assert [it.text for it in switching_off(failing(text, Row(Verdict.FAIL, line, "result")))] == [after]
+
+
+def test_an_action_leads_past_its_line() -> None:
+    action, before = Action("", "", "", 2), Row(Verdict.FAIL, 5, "seq")
+    assert leads_past(action, before, Row(Verdict.PASS, 9)) and leads_past(action, before, Row(Verdict.LIMIT, 8))
+    assert not leads_past(action, before, Row(Verdict.SYNTAX, 8))
+    assert leads_past(action, Row(Verdict.SYNTAX, 5), Row(Verdict.SYNTAX, 8))
+    assert not leads_past(action, before, Row(Verdict.FAIL, 7, "seq"))
+    assert not leads_past(action, before, Row(Verdict.ERROR, word="x"))
+
+
+def test_a_recording_beside_its_script() -> None:
+    recorded = recorded_in(RECORDING)
+    events = layout_of(SCRIPT).events
+    met = list(met_by(events, recorded, 4, 4_000))
+    assert [None if it.recorded is None else it.recorded.moment for it in met] == [
+        0,
+        0,
+        100_000,
+        100_000,
+        None,
+        200_000,
+    ]
+    assert [it.after.state.name for it in met if it.after] == ["ESTABLISHED"] * 5 + ["FIN-WAIT-1"]
+    assert recorded_in("0 a() = 1\n") == () and recorded_in("") == ()
+
+
+def test_what_is_unmet_is_told_by_the_time_alone() -> None:
+    events = layout_of(SCRIPT.replace("+0.1 > P. 1:2(1)", "* > P. 1:2(1)")).events
+    met = list(met_by(events, recorded_in(RECORDING), 4, 0))
+    assert met[4].recorded is None  # nothing left before the next input
+    late = "0 a() = 1\n+0.1~+0.3 > . 1:2(1)\n+1 b() = 1\n"
+    trace = "//= at {} CLOSED\n"
+    recording = "+0 a() = 1\n{}+0.304 > . 1:2(1)\n{}+0.7 b() = 1\n{}".format(
+        *(trace.format(it) for it in ("0.000000", "0.304000", "1.000000"))
+    )
+    for tolerance, is_met in [(4_000, True), (3_999, False)]:
+        found = list(met_by(layout_of(late).events, recorded_in(recording), 1, tolerance))
+        assert (found[1].recorded is not None) == is_met
+
+
+def test_the_tolerance_is_the_last_of_the_header() -> None:
+    assert tolerance_of(layout_of("--tolerance_usecs=5\n--tolerance_usecs=7\n").items, 9) == 7
+    assert tolerance_of(layout_of("--other=5\n0 a() = 1").items, 9) == 9
+
+
+def test_untaken_packets_left_after_inputs() -> None:
+    events, recorded = layout_of(SCRIPT).events, recorded_in(RECORDING)
+    assert [it.item.line for it in lines_of_untaken(events, recorded, 1, 9)] == [1, 3, 6]
+    assert [it.item.line for it in lines_of_untaken(events, recorded, 4, 9)] == [6]
+
+
+def test_hover_has_what_changed() -> None:
+    recorded = recorded_in(RECORDING)
+    events = layout_of(SCRIPT).events
+    met = list(met_by(events, recorded, 4, 4_000))
+    words = hover_of(events[2], events[2].item.start, met, RECORDING)
+    assert "After it at 0.100000: ESTABLISHED\n```text\nuna   1001  was 1\nnext  1501  was 1001\n" in words
+    assert "`> P. 1001:1501(500) ack 1 win 511` was sent at 0.100000" in hover_of(events[3], 0, met, RECORDING)
+    assert "Nothing was sent for it." in hover_of(events[4], 0, met, RECORDING)
+    assert "FIN-WAIT-1, was ESTABLISHED" in hover_of(events[5], 0, met, RECORDING)
+    assert "expiry  1.2  new" in hover_of(events[5], 0, met, RECORDING)
+    assert plain("`> P.` was\n```text\nuna  1\n```\n**x**") == "> P. was\nuna  1\nx"
+
+
+def test_a_script_is_recorded_from_a_line_on() -> None:
+    row = Row(Verdict.FAIL, 5, "missing")
+    each = list(recording_from_here(failing(SCRIPT, row, script_packet="+0.1 > P. 1:2(1) ack 1"), RECORDING))
+    front = "".join(SCRIPT.splitlines(keepends=True)[:4])
+    assert each[0].text == front + "+0.1 close(4) = 0\n+0 > F. 1501:1501(0) ack 1 win 511\n"
+    assert each[1].text == front + "0.2 close(4) = 0\n+0 > F. 1501:1501(0) ack 1 win 511\n"
+    (whole,) = recording_all(failing(SCRIPT.replace("\n", "\r\n"), row), RECORDING)
+    assert "//=" not in whole.text and whole.text.count("\r\n") == 6
+    assert without_trace(RECORDING).count("\n") == 6
+
+
+def test_packets_that_wait_come_first_in_a_recording_from_a_line_on() -> None:
+    row = Row(Verdict.FAIL, 2, "result")
+    text = "0 write(4, ..., 1500) = 1500 // two\n+0.1 close(4) = 1\n"
+    recording = RECORDING.replace(
+        "+0.1 < . 1:1(0) ack 1001 win 257\n//= at 0.100000 ESTABLISHED una:1001 next:1501 cwnd:5000\n", ""
+    )
+    each = list(recording_from_here(failing(text, row, call="+0.1 close(4) = 1"), recording))
+    assert each[0].text.startswith("0 write(4, ..., 1500) = 1500 // two\n+0 > . 1:1001(1000)")
+
+
+def test_nothing_is_recorded_from_the_first_event_on() -> None:
+    row = Row(Verdict.FAIL, 1, "result")
+    assert list(recording_from_here(failing(SCRIPT, row), RECORDING)) == []
+    assert list(recording_from_here(failing(SCRIPT, row), "")) == list(recording_all(failing(SCRIPT, row), "")) == []
+
+
+@pytest.mark.parametrize(
+    "old, new",
+    [
+        ("a\nb\nc\n", "a\nx\nc\n"),
+        ("a\n", "a\nb\n"),
+        ("", "a"),
+        ("a", ""),
+        ("a\nb", "a\nb\n"),
+        ("aa\naa\n", "aa\naa\naa\n"),
+        ("\U0001f980\n\U0001f980x\n", "\U0001f980\n\U0001f980y\nz"),
+        ("same", "same"),
+    ],
+)
+def test_an_edit_makes_the_other_text(old: str, new: str) -> None:
+    (edit,) = edits_to(Lines(old), new)
+    assert Document("", 1, old).changed(2, [{"range": edit["range"], "text": edit["newText"]}]).text == new
+    assert edit["range"]["start"]["character"] == 0
+
+
+def test_a_shown_column_is_a_character() -> None:
+    assert unshown("\udcff\ud800x", 16) == 2
+    assert [unshown("\tab\u00e4c", it) for it in (0, 4, 5, 6, 14, 99)] == [0, 1, 2, 3, 4, 5]
+
+
+def test_a_known_failure_is_a_hint_and_an_unexpected_pass_an_error() -> None:
+    text = "0 a() = 1\n"
+    known = Outcome("a", (), Row(Verdict.FAIL, 1, "result"), expected=Expectation("fail", "why"))
+    (hint,) = diagnostics_of(known, None, layout_of(text), Lines(text))
+    assert (hint.severity, hint.message) == (4, "known: fail result (why)")
+    passes = Outcome("a", (), Row(Verdict.PASS, 1), expected=Expectation("fail", "why"))
+    (error,) = diagnostics_of(passes, None, layout_of(text), Lines(text))
+    assert (error.severity, error.code) == (1, "pass")
+    empty = Outcome("a", (), Row(Verdict.PASS, 0), is_strict=True)
+    (warned,) = diagnostics_of(empty, None, layout_of(""), Lines(""))
+    assert (warned.severity, warned.code) == (1, "warning")
+    assert list(diagnostics_of(Outcome("a", (), Row(Verdict.NOT_RUN)), None, layout_of(""), Lines(""))) == []
