@@ -80,6 +80,20 @@ client() {
     _PDSUITE_COMPLETE=bash_source "$top/pdsuite" >"$root/$completions/pdsuite"
 }
 
+# The files for editors, and what makes these find them: Neovim and Vim by :packadd, Emacs at its start.
+editors() {
+    share=usr/share/$name/editors
+    (cd "$top/client/editors/vim" && find . -type f) | while read -r file; do
+        put 644 "$top/client/editors/vim/$file" "$share/vim/$(dirname "$file")"
+    done
+    for pack in nvim/site vim/vimfiles; do
+        mkdir -p "$root/usr/share/$pack/pack/dist-bundle/opt"
+        ln -s "../../../../../$name/editors/vim" "$root/usr/share/$pack/pack/dist-bundle/opt/$name"
+    done
+    put 644 "$top/client/editors/emacs/packetdrill-mode.el" "usr/share/emacs/site-lisp/$name"
+    put 644 "$top/packaging/emacs/50pdregress.el" etc/emacs/site-start.d
+}
+
 page() { # NAME COMMAND..
     mkdir -p "$root/usr/share/man/man1"
     "$top/tools/man_page.sh" "$version" "$@" | gzip -9n >"$root/usr/share/man/man1/$1.1.gz"
@@ -116,6 +130,7 @@ libraries() { # what the programs need of the C library
 control() {
     mkdir "$root/DEBIAN"
     install -m 755 "$top/packaging/postinst" "$top/packaging/prerm" "$root/DEBIAN"
+    (cd "$root" && find etc -type f) | sed 's,^,/,' >"$root/DEBIAN/conffiles"
     (cd "$root" && find usr -type f -exec md5sum {} + | LC_ALL=C sort -k 2) >"$root/DEBIAN/md5sums"
     libraries=$(libraries)
     [ -n "$libraries" ] || die "$(tail -n 1 "$work/said")"
@@ -141,6 +156,7 @@ root=$work/debian/$name
 mkdir -p "$root"
 programs
 client
+editors
 documents
 control
 package=$folder/${name}_${version}_amd64.deb

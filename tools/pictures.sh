@@ -1,6 +1,7 @@
 #!/bin/sh
-# Makes the two pictures of docs/SUITE.md anew, docs/page.png and docs/diagram.png, of examples/scripts. It needs the built
-# programs, the packages in client/packages*.txt and chromium; PDSUITE_PROGRAMS names other builds.
+# Makes the pictures of the documents anew: docs/page.png and docs/diagram.png, of examples/scripts, and docs/neovim.png and
+# docs/emacs.png, of a failing script in these editors. It needs the built programs and the packages in
+# client/packages*.txt; PDSUITE_PROGRAMS names other builds.
 #
 #   tools/pictures.sh
 set -eu
@@ -16,3 +17,9 @@ chromium --headless --no-sandbox --hide-scrollbars --window-size=1100,720 --scre
     "file://$work/page/index.html#verdict=fail&verdict=syntax&verdict=limit" 2>/dev/null
 cp "$work/page.png" docs/page.png
 cp "$work"/page/plots/*.png docs/diagram.png
+[ -n "${PDSUITE_PROGRAMS:-}" ] || {
+    mkdir "$work/programs"
+    for program in pdregress pdrecord; do ln -s "$(tools/built.sh $program)" "$work/programs"; done
+    export PDSUITE_PROGRAMS="$work/programs"
+}
+(cd client && /usr/bin/python3 -m tests.editors ../docs)

@@ -184,6 +184,14 @@ def test_pages_and_completion_are_installed(root: Path) -> None:
         assert "--help" in words and "--settings" in words
 
 
+def test_editors_find_their_files(root: Path) -> None:
+    for place in ("nvim/site", "vim/vimfiles"):
+        linked = root / f"usr/share/{place}/pack/dist-bundle/opt/pdregress"
+        assert (linked / "syntax/packetdrill.vim").is_file() and linked.is_symlink()
+    assert (root / "usr/share/emacs/site-lisp/pdregress/packetdrill-mode.el").is_file()
+    assert (root / "etc/emacs/site-start.d/50pdregress.el").is_file()
+
+
 def test_a_package_that_only_some_commands_need_is_named(root: Path) -> None:
     done = in_root(root, "pdsuite", "run", "--scheduler", "127.0.0.1:1", "/usr/share/doc/pdregress/examples/linux")
     line = "python3-distributed isn't installed: apt-get install --no-install-recommends python3-distributed"

@@ -1,0 +1,2 @@
+" Scripts of packetdrill by their names.
+autocmd BufNewFile,BufRead *.pkt setfiletype packetdrill
