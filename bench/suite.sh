@@ -5,17 +5,21 @@
 # time from the return of a save to its row on standard output, and to all of its report, 100 times. Or measures what
 # `pdsuite watch` over 50,000 scripts takes of a processor in 200 seconds in which nothing happens; 1 % is the most. Or the
 # time over 50,000 scripts of which each tenth fails with that failure expected, beside the time without: 1.1 times is the most.
+# Or measures `pdsuite lsp` with 500 scripts of 60 events open: the time from a change to its diagnostics, 20 ms in the median
+# and 60 ms at most, and to what hover shows, 30 ms at most.
 #
 #   bench/suite.sh [SCRIPTS [EVENTS]]      100,000 scripts of 20 events if nothing is said. PDSUITE_PROGRAMS names the folder
 #                                          of another build, or PROGRAM that of pdregress
 #   bench/suite.sh watch [SAVES]
 #   bench/suite.sh idle [SECONDS [SCRIPTS]]
 #   bench/suite.sh known [SCRIPTS [EVENTS]]
+#   bench/suite.sh lsp [CHANGES]
 #   bench/suite.sh cluster [SCRIPTS [EVENTS]]   the time with 1, 2 and 4 workers of a Dask cluster on this machine, beside a
 #                                               run without a cluster that has as many threads
 #   bench/suite.sh all [SCRIPTS [EVENTS]]       the first, and then the cluster over the same scripts
 if [ -n "${PDSUITE_PROGRAMS:-}" ]; then
     PROGRAM=${PROGRAM:-$PDSUITE_PROGRAMS/pdregress}
+    RECORD=${RECORD:-$PDSUITE_PROGRAMS/pdrecord}
 fi
 . "$(dirname "$0")/program.sh"
 mode=run
@@ -23,6 +27,11 @@ case ${1:-} in
     watch)
         mode=watch
         saves=${2:-100}
+        set -- 500 60
+        ;;
+    lsp)
+        mode=lsp
+        changes=${2:-300}
         set -- 500 60
         ;;
     idle)
@@ -43,6 +52,10 @@ scripts=${1:-100000}
 events=${2:-20}
 mkdir "$work/programs"
 ln -s "$(realpath "$program")" "$work/programs/pdregress"
+if [ "$mode" = lsp ]; then
+    [ -n "${RECORD:-}" ] || "$top/prove" pdrecord
+    ln -s "$(realpath "${RECORD:-$top/crates/pdrecord/out/pdrecord}")" "$work/programs/pdrecord"
+fi
 export PDSUITE_PROGRAMS="$work/programs" XDG_CACHE_HOME="$work/cache"
 
 # A file for each script, 1,000 to a folder.
@@ -58,6 +71,10 @@ generate "$scripts" "$events" | awk -v top="$work/suite" '
 
 if [ "$mode" = watch ]; then
     /usr/bin/python3 -I "$top/bench/watch.py" "$top" "$work/suite" saves "$saves"
+    exit
+fi
+if [ "$mode" = lsp ]; then
+    /usr/bin/python3 -I "$top/bench/lsp.py" "$top" "$work/suite" "$changes"
     exit
 fi
 if [ "$mode" = idle ]; then
