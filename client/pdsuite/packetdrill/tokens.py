@@ -67,6 +67,7 @@ _PIECES = (
     (Kind.DOTS, _DOTS),
     (Kind.WORD, _LETTERS),
 )
+_PIECE = re.compile("|".join(f"(?P<{kind.name}>{piece.pattern})" for kind, piece in _PIECES), re.DOTALL)
 
 
 def tokens_of(text: str) -> Iterator[Token]:
@@ -90,9 +91,9 @@ def _after_gap(text: str, place: int) -> int:
 
 
 def _token_at(text: str, place: int) -> Token:
-    for kind, piece in _PIECES:
-        if found := piece.match(text, place):
-            return Token(_kind_of(found[0]) if kind is Kind.WORD else kind, found[0], place)
+    if found := _PIECE.match(text, place):
+        kind = Kind[found.lastgroup or ""]
+        return Token(_kind_of(found[0]) if kind is Kind.WORD else kind, found[0], place)
     if _OPENING.match(text, place):
         raise Unread(place, "what is opened here is never closed")
     if found := _SYMBOL.match(text, place):
