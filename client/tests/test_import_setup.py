@@ -227,7 +227,7 @@ def test_the_manual_has_the_same_three_tables() -> None:
     dropped = {" ".join(it) for it in DROPPED_COMMANDS}
     refused = {" ".join(it) for it in REFUSED_COMMANDS}
     assert names_below("Names with a setting") == {*SETTINGS, "initcwnd", "rto_min"}
-    assert names_below("Names of what this sender hasn't") == features | dropped
+    assert names_below("Features that this sender lacks") == features | dropped
     assert names_below("All others") == {*ALIKE, *refused}
 
 
