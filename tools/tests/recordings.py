@@ -146,10 +146,12 @@ ENDS = ["\n"] * 8 + [
     "/* d\n e */",
     "\n  \n//= f\n",
     " /*/ g */ // h\n",
+    "\n/* i */ ",
+    "\n  //= at 0.000000 CLOSED connection:none\n",
 ]
 
 # What may stand for the octets that are written: mostly dots.
-TEXTS = ["..."] * 5 + ['"a)=b"', '"= 1 (" /* "i" */', "%{ ) = 1 // }% // j\n", "--k=(/*= "]
+TEXTS = ["..."] * 5 + ['"a)=b"', '"= 1 (" /* "i" */', "%{ ) = 1 // }% // j\n", "--k=(/*= ", "{k = [1]}"]
 
 # What may stand after a result: mostly nothing.
 NOTES = [""] * 5 + [" (l)", " (one /* two */ three)", "  (/*/ m */ (n)) /* o */", ' (")" // p\n)', " (q\n\n)"]
