@@ -36,7 +36,8 @@ is_built() {
     newer=$(find $places \( -type d -o -name '*.rt' -o -name '*.antt' -o -name crates.txt -o -name HANDLES \) \
         -newer "$program" -print -quit 2>/dev/null) || return 1
     [ -n "$newer" ] || return 0
-    [ -f "$program.sums" ] && { sha256sum "$program" && sums; } | cmp -s - "$program.sums"
+    # Where cmp finds a difference it ends, and what writes to it says so.
+    [ -f "$program.sums" ] && { sha256sum "$program" && sums; } 2>/dev/null | cmp -s - "$program.sums"
 }
 
 cd "$top"
