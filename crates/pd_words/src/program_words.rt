@@ -49,16 +49,20 @@ pub(crate) fn free_command<'a>(alloc: Global) -> Result<Command<'a>, Error>
     )
 }
 
-/// What each word may be beside the others.
-pub(crate) fn ruled_command<'a>(alloc: Global) -> Result<Command<'a>, Error> {
+/// What each word may be beside the others. Where `--workers` may stand beside all of them, `clap` asks for `--explain` beside
+/// it too.
+pub(crate) fn ruled_command<'a>(
+    alloc: Global,
+    are_workers_apart: bool,
+) -> Result<Command<'a>, Error> {
+    let mut workers = workers_option(alloc);
+    if are_workers_apart {
+        workers = workers.conflicts_with("steps")?.conflicts_with("explain")?;
+    }
     let command = base_command(alloc)?;
     Ok(
         command
-            .arg(
-                workers_option(alloc)
-                    .conflicts_with("steps")?
-                    .conflicts_with("explain")?,
-            )?
+            .arg(workers)?
             .arg(steps_option(alloc))?
             .arg(explain_option(alloc))?
             .arg(only_option(alloc).requires_arg("explain")?)?

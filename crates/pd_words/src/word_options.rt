@@ -27,19 +27,23 @@ pub fn options<'a, S: AsStr>(alloc: Global, words: &'a [S]) -> Result<Options<'a
     let command = free_command(alloc)?;
     let matches = command.try_get_matches_from(words)?;
     if are_refused_together(&matches) {
-        return refuse_together(alloc, words);
+        return refuse_together(alloc, words, is_in_conflict(&matches));
     }
     Ok(chosen(alloc, &matches)?)
 }
 
-/// Has `clap` refuse words of which it takes each by itself.
+/// Has `clap` refuse words of which it takes each by itself, for `--workers` among them or for a word that is alone.
 ///
 /// # Errors
 /// Always: what `clap` says of the words.
-fn refuse_together<'a, S: AsStr>(alloc: Global, words: &'a [S]) -> Result<Options<'a>, Error>
+fn refuse_together<'a, S: AsStr>(
+    alloc: Global,
+    words: &'a [S],
+    are_workers_apart: bool,
+) -> Result<Options<'a>, Error>
     ensures { IsErr result }
 {
-    let mut command = ruled_command(alloc)?;
+    let mut command = ruled_command(alloc, are_workers_apart)?;
     command.try_get_matches_from_mut(words)?;
     Err(command.error(
         ErrorKind::ArgumentConflict,
