@@ -7,10 +7,10 @@ use Rattle.std.proofs.lemmas.List.Sums.{sum_by-cons}
 use Rattle.std.proofs.lemmas.Bool.Decides.{nat_tests}
 use Rattle.pd_seg.specs.declared.sack_blocks.Span.{Span}
 use Rattle.pd_board.specs.Octets.{contains, interval, octets_where}
-use Rattle.pd_board.specs.Scoreboard.{Scoreboard}
+use Rattle.pd_board.specs.Board.{BoardView}
 use Rattle.pd_board.specs.Runs.{among, Between, AreRuns}
 use Rattle.pd_board.specs.declared.ranges.Ranges.{Ranges}
-use Rattle.pd_board.specs.Ranges.{in_ranges, octets_in, AreRanges, Ahead, Last, behind, raised}
+use Rattle.pd_board.specs.Ranges.{in_ranges, octets_in, AreRanges, Ahead, Last, ranges_after, raised}
 use Rattle.pd_board.proofs.Sets.{lt, ge, contains-octets_where, any-first}
 use Rattle.pd_board.proofs.Counted.{Between-lower, Between-end, none_below}
 
@@ -98,7 +98,7 @@ module _ (from to end : ℕ) (all rest : List Span) (r : Span) (h : Last from to
   last_left l = record {
     low = h.low;
     high = h.high;
-    behind = λ x m u. h.behind x m u ∙ under r.start r.end x (among rest x) (omega arith);
+    after = λ x m u. h.after x m u ∙ under r.start r.end x (among rest x) (omega arith);
     found = h.found;
   }
 
@@ -106,9 +106,9 @@ module _ (from to end : ℕ) (all rest : List Span) (r : Span) (h : Last from to
   last_taken l o = record {
     low = omega (arith, h.low);
     high = omega (arith, h.high);
-    behind = λ x m u. h.behind x (omega arith) u ∙ skip r.start r.end x (among rest x) (omega arith);
+    after = λ x m u. h.after x (omega arith) u ∙ skip r.start r.end x (among rest x) (omega arith);
     found = λ f. elim (nat_lt end (min r.end to)) as (λ t. nat_lt end (min r.end to) ≡ t → among all (max end (min r.end to) - 1) ≡ true) [
-      | true ↦ λ t. let m = lt end (min r.end to) t in h.behind (max end (min r.end to) - 1) (omega arith) (omega arith) ∙ one r.start r.end _ (among rest _) (omega arith) (omega arith)
+      | true ↦ λ t. let m = lt end (min r.end to) t in h.after (max end (min r.end to) - 1) (omega arith) (omega arith) ∙ one r.start r.end _ (among rest _) (omega arith) (omega arith)
       | false ↦ λ t. let m = ge end (min r.end to) t in let same : max end (min r.end to) ≡ end = omega arith in ap (λ (n : ℕ). among all (n - 1)) same ∙ h.found (omega arith)
     ] refl;
   }
@@ -122,10 +122,10 @@ any-some p a y b (suc n) e u h = any-first p a b (omega arith) ∙ ap (λ v. p a
     or_true false = refl
 
 -- what is kept of ranges from start on
-cut : (start a b : ℕ) (rs : List Span) → Between a rs b → start < b → Between start (raised start (behind start rs)) b
+cut : (start a b : ℕ) (rs : List Span) → Between a rs b → start < b → Between start (raised start (ranges_after start rs)) b
 cut start a b [] h u = omega arith
 cut start a b (r ∷ rs) h u =
-    elim (nat_lt start r.end) as (λ t. nat_lt start r.end ≡ t → Between start (raised start (cond t (r ∷ rs) (behind start rs))) b) [
+    elim (nat_lt start r.end) as (λ t. nat_lt start r.end ≡ t → Between start (raised start (cond t (r ∷ rs) (ranges_after start rs))) b) [
       | true ↦ λ t. (omega arith, inside t, h.2)
       | false ↦ λ t. cut start (r.end + 1) b rs h.2 u
     ] refl
@@ -133,7 +133,7 @@ cut start a b (r ∷ rs) h u =
     inside : nat_lt start r.end ≡ true → max r.start start < r.end
     inside t = grind (arith, nat_tests, h.1)
 
-pub cut_ranges : (start a b : ℕ) (rs : List Span) → Between a rs b → start < b → Between start (raised start (behind start rs)) b
+pub cut_ranges : (start a b : ℕ) (rs : List Span) → Between a rs b → start < b → Between start (raised start (ranges_after start rs)) b
 cut_ranges start a b rs h u = cut start a b rs h u
 
 raised_test : (s e start x : ℕ) (t : Bool) → start ≤ x → (nat_le (max s start) x && nat_lt x e || t) ≡ (nat_le s x && nat_lt x e || t)
@@ -142,10 +142,10 @@ raised_test s e start x t l = grind (arith, nat_tests)
 passed_test : (s e start x : ℕ) (t : Bool) → start ≤ x → nat_lt start e ≡ false → t ≡ (nat_le s x && nat_lt x e || t)
 passed_test s e start x t l f = grind (arith, nat_tests)
 
-pub cut_same : (start : ℕ) (rs : List Span) (x : ℕ) → start ≤ x → among (raised start (behind start rs)) x ≡ among rs x
+pub cut_same : (start : ℕ) (rs : List Span) (x : ℕ) → start ≤ x → among (raised start (ranges_after start rs)) x ≡ among rs x
 cut_same start [] x l = refl
 cut_same start (r ∷ rs) x l =
-    elim (nat_lt start r.end) as (λ t. nat_lt start r.end ≡ t → among (raised start (cond t (r ∷ rs) (behind start rs))) x ≡ among (r ∷ rs) x) [
+    elim (nat_lt start r.end) as (λ t. nat_lt start r.end ≡ t → among (raised start (cond t (r ∷ rs) (ranges_after start rs))) x ≡ among (r ∷ rs) x) [
       | true ↦ λ t. raised_test r.start r.end start x (among rs x) l
       | false ↦ λ t. cut_same start rs x l ∙ passed_test r.start r.end start x (among rs x) l t
     ] refl
@@ -166,13 +166,13 @@ within_bounds a b x true h = let k = h refl in let i = k.0 in let j = k.1 in gri
 within_bounds a b x false h = grind (arith, nat_tests)
 
 -- ranges of all SACKed octets are their runs
-pub are_runs : (r : Ranges) (s : Scoreboard) → s.sacked ≡ octets_where (in_ranges r) s.una s.top → AreRanges s.una (s.top + 1) r → AreRuns s r.spans.items
+pub are_runs : (r : Ranges) (s : BoardView) → s.sacked ≡ octets_where (in_ranges r) s.una s.top → AreRanges s.una (s.top + 1) r → AreRuns s r.spans.items
 are_runs r s shown h = record {
   apart = h.apart;
   octets = λ x. ap (λ k. contains k x) shown ∙ contains-octets_where (in_ranges r) s.una s.top x ∙ within_bounds s.una s.top x (in_ranges r x) (among_bounds s.una r.spans.items s.top x h.apart);
 }
 
--- nothing lies behind the end
+-- nothing lies after the end
 pub held_past : (a b : ℕ) (r : Ranges) (x : ℕ) → AreRanges a (b + 1) r → b ≤ x → in_ranges r x ≡ false
 held_past a b r x h l =
     elim (in_ranges r x) as (λ t. in_ranges r x ≡ t → in_ranges r x ≡ false) [

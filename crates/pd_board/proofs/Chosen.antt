@@ -4,7 +4,7 @@ use Rattle.std.specs.Prelude.{nat_le, nat_lt, unwrap_or}
 use Rattle.std.specs.Option.{option_map}
 use Rattle.std.proofs.lemmas.Bool.Decides.{nat_tests}
 use Rattle.pd_board.specs.Octets.{contains, octets_where, least_where, greatest_where}
-use Rattle.pd_board.specs.Scoreboard.{Scoreboard, skipped}
+use Rattle.pd_board.specs.Board.{BoardView, skipped}
 use Rattle.pd_board.specs.Loss.{is_lost, is_free, sacked_above}
 use Rattle.pd_board.specs.Choice.{run_at, most_from, is_hole, next_hole, next_lost, rescue, segment_to, after}
 use Rattle.pd_board.proofs.Sets.{lt, ge, size_where-some, size_where-skip, size_where-none}
@@ -13,16 +13,16 @@ use Rattle.pd_board.proofs.Lost.{lost_below}
 use Rattle.pd_board.proofs.Shown.{within, octets_from}
 
 -- rule 1 is rule 3, where what it gives is lost
-pub next_lost-only : (high_rxt : ℕ) (s : Scoreboard) → next_lost high_rxt s ≡ only_if (λ x. is_lost x s) (next_hole high_rxt s)
+pub next_lost-only : (high_rxt : ℕ) (s : BoardView) → next_lost high_rxt s ≡ only_if (λ x. is_lost x s) (next_hole high_rxt s)
 next_lost-only high_rxt s = least-both (λ x. is_hole high_rxt x s) (λ x. is_lost x s) (lost_below s) s.una (s.top - s.una)
 
-pub lost_hole : (high_rxt x : ℕ) (s : Scoreboard) → next_hole high_rxt s ≡ Some x → is_lost x s ≡ true → next_lost high_rxt s ≡ Some x
+pub lost_hole : (high_rxt x : ℕ) (s : BoardView) → next_hole high_rxt s ≡ Some x → is_lost x s ≡ true → next_lost high_rxt s ≡ Some x
 lost_hole high_rxt x s h l = next_lost-only high_rxt s ∙ ap (only_if (λ y. is_lost y s)) h ∙ rw l refl
 
-pub kept_hole : (high_rxt x : ℕ) (s : Scoreboard) → next_hole high_rxt s ≡ Some x → is_lost x s ≡ false → next_lost high_rxt s ≡ None
+pub kept_hole : (high_rxt x : ℕ) (s : BoardView) → next_hole high_rxt s ≡ Some x → is_lost x s ≡ false → next_lost high_rxt s ≡ None
 kept_hole high_rxt x s h l = next_lost-only high_rxt s ∙ ap (only_if (λ y. is_lost y s)) h ∙ rw l refl
 
-pub no_hole : (high_rxt : ℕ) (s : Scoreboard) → next_hole high_rxt s ≡ None → next_lost high_rxt s ≡ None
+pub no_hole : (high_rxt : ℕ) (s : BoardView) → next_hole high_rxt s ≡ None → next_lost high_rxt s ≡ None
 no_hole high_rxt s h = next_lost-only high_rxt s ∙ ap (only_if (λ y. is_lost y s)) h
 
 held_off : (held from : Bool) (n : ℕ) → held ≡ true → (not held && (from && nat_lt 0 n)) ≡ false
@@ -46,7 +46,7 @@ apart p x y l e f =
       | false ↦ λ t. let same : x ≡ y = let k = ge x y t in omega arith in let bad : false ≡ true = sym e ∙ ap p same ∙ f in absurd cc
     ] refl
 
-module _ (p : ℕ → Bool) (s : Scoreboard) (shown : s.sacked ≡ octets_where p s.una s.top) where
+module _ (p : ℕ → Bool) (s : BoardView) (shown : s.sacked ≡ octets_where p s.una s.top) where
   below_hole : (high x : ℕ) → ((k : ℕ) → max s.una high ≤ k → k < x → p k ≡ true) → x ≤ s.top
       → (y : ℕ) → s.una ≤ y → y < x → is_hole high y s ≡ false
   below_hole high x held u y l m =
@@ -139,34 +139,34 @@ module _ (p : ℕ → Bool) (s : Scoreboard) (shown : s.sacked ≡ octets_where 
       → rescue s ≡ Some record { start = start; end = e + 1 }
   rescue_is e low start l u held free f m v between edge =
       ap (option_map (segment_to s)) (greatest-is (λ k. is_free k s) s.una e s.top l u (λ k i j. free_at k (omega arith) j (held k i j)) (ap not (within p s shown e l u ∙ free)))
-      ∙ ap (λ (n : ℕ). Some record { start = n; end = e + 1 }) (ap (λ n. max n behind) (sym f) ∙ there)
+      ∙ ap (λ (n : ℕ). Some record { start = n; end = e + 1 }) (ap (λ n. max n marks_end) (sym f) ∙ there)
     where
-      behind : ℕ
-      behind = after (greatest_where (contains s.sacked) s.una e)
+      marks_end : ℕ
+      marks_end = after (greatest_where (contains s.sacked) s.una e)
 
       clear : (k : ℕ) → start ≤ k → k < e → contains s.sacked k ≡ false
       clear k i j = within p s shown k (omega arith) (omega arith) ∙ between k i j
 
-      past : low < start → max low behind ≡ start
+      past : low < start → max low marks_end ≡ start
       past k =
           let one : start - 1 + 1 ≡ start = omega arith in
-          let found : behind ≡ start - 1 + 1 =
+          let found : marks_end ≡ start - 1 + 1 =
           ap after (greatest-is (contains s.sacked) s.una (start - 1) e (omega arith) (omega arith) (λ y i j. clear y (omega arith) j) (within p s shown (start - 1) (omega arith) (omega arith) ∙ edge k)) in
           omega arith
 
-      least : start ≤ low → max low behind ≡ start
+      least : start ≤ low → max low marks_end ≡ start
       least k =
           let to : e ≡ low + (e - low) = omega arith in
           let from : low ≡ s.una + (low - s.una) = omega arith in
-          let cut : behind ≡ after (greatest_where (contains s.sacked) s.una low) =
+          let cut : marks_end ≡ after (greatest_where (contains s.sacked) s.una low) =
           ap (λ n. after (greatest_where (contains s.sacked) s.una n)) to ∙ ap after (greatest-below (contains s.sacked) s.una low (e - low) (omega arith) (λ y i j. clear y (omega arith) (omega arith))) in
           let same = ap (λ n. after (greatest_where (contains s.sacked) s.una n)) from in
           let most = greatest-under (contains s.sacked) s.una (low - s.una) in
           omega arith
 
-      there : max low behind ≡ start
+      there : max low marks_end ≡ start
       there =
-          elim (nat_lt low start) as (λ t. nat_lt low start ≡ t → max low behind ≡ start) [
+          elim (nat_lt low start) as (λ t. nat_lt low start ≡ t → max low marks_end ≡ start) [
             | true ↦ λ t. past (lt low start t)
             | false ↦ λ t. least (ge low start t)
           ] refl

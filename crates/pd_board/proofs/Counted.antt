@@ -8,7 +8,7 @@ use Rattle.pd_seg.specs.declared.sack_blocks.Span.{Span}
 use Rattle.pd_board.specs.Octets.{size_where}
 use Rattle.pd_board.specs.Tests.{first_of}
 use Rattle.pd_board.proofs.Sets.{size_where-first, size_where-none, size_where-same}
-use Rattle.pd_board.specs.Scoreboard.{covers}
+use Rattle.pd_board.specs.Board.{covers}
 use Rattle.pd_board.specs.Runs.{among, Between}
 
 pub Between-lower : (a' a : ℕ) (rs : List Span) (b : ℕ) → a' ≤ a → Between a rs b → Between a' rs b

@@ -90,7 +90,7 @@ greatest_step p a b h =
 pub greatest_empty : (p : ℕ → Bool) (a b : ℕ) → b ≤ a → greatest_where p a b ≡ None
 greatest_empty p a b h = let e : b - a ≡ 0 = omega arith in rw e refl
 
--- places behind which nothing passes may be left out
+-- places after which nothing passes may be left out
 pub greatest-below : (p : ℕ → Bool) (a r n : ℕ) → a ≤ r → ((x : ℕ) → r ≤ x → x < r + n → p x ≡ false) → greatest_where p a (r + n) ≡ greatest_where p a r
 greatest-below p a r zero l h = ap (greatest_where p a) (omega arith)
 greatest-below p a r (suc n) l h =

@@ -1,18 +1,18 @@
 -- Losses are downward closed, and the pipe counts each octet twice at most.
 use Rattle.std.proofs.Common.{◌≡◌, ℕ, ◌+◌, ◌-◌, ◌*◌, ◌≤◌, Bool, true, false, not, ◌&&◌, ◌||◌, refl, arith}
-use Rattle.std.specs.Prelude.{nat_le, nat_lt}
+use Rattle.std.specs.Prelude.{nat_lt}
 use Rattle.std.proofs.lemmas.Bool.Decides.{nat_tests}
 use Rattle.pd_board.specs.Laws.{LostIsDownwardClosed, PipeCountsTwiceAtMost}
-use Rattle.pd_board.specs.Loss.{is_lost, is_free}
+use Rattle.pd_board.specs.Loss.{is_lost, is_free, shows_loss}
 use Rattle.pd_board.specs.Octets.{contains, begins_run}
 use Rattle.pd_board.proofs.Sets.{size_where-later, size_where-fewer}
 
-more : (r q n m most : ℕ) → r ≤ q → n ≤ m → (nat_le 3 r || nat_lt most n) ≡ true → (nat_le 3 q || nat_lt most m) ≡ true
-more r q n m most l k h = grind (arith, nat_tests)
+more : (smss r q n m : ℕ) → r ≤ q → n ≤ m → shows_loss smss r n ≡ true → shows_loss smss q m ≡ true
+more smss r q n m l k h = grind (arith, nat_tests)
 
 pub lost_below : LostIsDownwardClosed
 lost_below s x y l h =
-    more _ _ _ _ (2 * s.smss)
+    more s.smss _ _ _ _
     (size_where-later (begins_run s.sacked) (x + 1) (y + 1) s.top (y - x) (omega arith))
     (size_where-later (contains s.sacked) (x + 1) (y + 1) s.top (y - x) (omega arith))
     h

@@ -3,7 +3,7 @@ use Rattle.std.proofs.Common.{◌≡◌, ℕ, ◌+◌, ◌<◌, ◌≤◌, min, 
 use Rattle.std.specs.Prelude.{nat_le, nat_lt}
 use Rattle.std.proofs.lemmas.Bool.Decides.{nat_tests}
 use Rattle.pd_seg.specs.declared.sack_blocks.Span.{Span}
-use Rattle.pd_board.specs.Scoreboard.{covers}
+use Rattle.pd_board.specs.Board.{covers}
 use Rattle.pd_board.specs.Runs.{among}
 use Rattle.pd_board.specs.Ranges.{Merging}
 use Rattle.pd_board.proofs.Counted.{Between-lower, Between-push, Between-end, among-push}

@@ -66,7 +66,7 @@ pub octets_where-none : (p : ℕ → Bool) (a b : ℕ) → ((x : ℕ) → a ≤ 
 unfolding octets_where
 octets_where-none p a b h = filter_none p a (b - a) (λ x l u. h x l (omega arith))
 
--- what passes nowhere behind a place is the set up to there
+-- what passes nowhere after a place is the set up to there
 filter_longer : (p : ℕ → Bool) (a n k : ℕ) → n ≤ k → ((x : ℕ) → a + n ≤ x → x < a + k → p x ≡ false) → filter p (range_with_len a n) ≡ filter p (range_with_len a k)
 filter_longer p a zero k l h = sym (filter_none p a k (λ x m u. h x (omega arith) u))
 filter_longer p a (suc n) zero l h = absurd (omega arith)

@@ -5,8 +5,8 @@ use Rattle.std.specs.List.{list_any}
 use Rattle.std.proofs.lemmas.Bool.Decides.{nat_tests}
 use Rattle.pd_seg.specs.declared.sack_blocks.Span.{Span}
 use Rattle.pd_board.specs.Octets.{contains, interval, octets_where, size_where, begins_run}
-use Rattle.pd_board.specs.Scoreboard.{Scoreboard, IsScoreboard, covers, marked, has_new, sent_to, acknowledged}
-use Rattle.pd_board.specs.Loss.{is_lost, is_free, pipe}
+use Rattle.pd_board.specs.Board.{BoardView, IsBoardView, covers, marked, has_new, sent_to, acknowledged}
+use Rattle.pd_board.specs.Loss.{is_lost, is_free, pipe, shows_loss}
 use Rattle.pd_board.specs.declared.ranges.Ranges.{Ranges}
 use Rattle.pd_board.specs.Ranges.{IsBoard}
 use Rattle.pd_board.specs.Tests.{first_of, lost_from, pipe_from}
@@ -26,8 +26,8 @@ covering una a b f x was e l = grind (arith, nat_tests)
 before : (a b f una x : ℕ) (free : Bool) → f ≡ max una a → una ≤ x → x < f → ((nat_le a x && nat_lt x b) && free) ≡ false
 before a b f una x free e l u = grind (arith, nat_tests)
 
-behind : (a b x : ℕ) (free : Bool) → b ≤ x → ((nat_le a x && nat_lt x b) && free) ≡ false
-behind a b x free l = grind (arith, nat_tests)
+after : (a b x : ℕ) (free : Bool) → b ≤ x → ((nat_le a x && nat_lt x b) && free) ≡ false
+after a b x free l = grind (arith, nat_tests)
 
 inner : (a b f una x : ℕ) (free : Bool) → f ≡ max una a → f ≤ x → x < b → ((nat_le a x && nat_lt x b) && free) ≡ free
 inner a b f una x free e l u = grind (arith, nat_tests)
@@ -35,15 +35,15 @@ inner a b f una x free e l u = grind (arith, nat_tests)
 empty : (a b f una x : ℕ) (free : Bool) → f ≡ max una a → b ≤ f → una ≤ x → ((nat_le a x && nat_lt x b) && free) ≡ false
 empty a b f una x free e l u = grind (arith, nat_tests)
 
-module _ (p : ℕ → Bool) (s : Scoreboard) (shown : s.sacked ≡ octets_where p s.una s.top) where
+module _ (p : ℕ → Bool) (s : BoardView) (shown : s.sacked ≡ octets_where p s.una s.top) where
   pub within : (x : ℕ) → s.una ≤ x → x < s.top → contains s.sacked x ≡ p x
   within x l u = ap (λ k. contains k x) shown ∙ contains_in p s.una s.top x l u
 
   pub under : (x : ℕ) → x < s.una → contains s.sacked x ≡ false
   under x l = ap (λ k. contains k x) shown ∙ contains_below p s.una s.top x l
 
-  pub is_scoreboard : (ranges : Ranges) → IsBoard s.smss s.una s.next s.top s.end ranges → IsScoreboard s
-  is_scoreboard ranges b = record {
+  pub is_board_view : (ranges : Ranges) → IsBoard s.smss s.una s.next s.top s.end ranges → IsBoardView s
+  is_board_view ranges b = record {
     smss_low = b.smss_low;
     smss_high = b.smss_high;
     una_next = b.una_next;
@@ -63,7 +63,7 @@ module _ (p : ℕ → Bool) (s : Scoreboard) (shown : s.sacked ≡ octets_where 
   octets_from first l = size_where-same _ _ first s.top (λ x m u. within x (omega arith) u)
 
   pub lost_at : (x : ℕ) → s.una ≤ x → is_lost x s ≡ lost_from p s.una s.top s.smss (x + 1)
-  lost_at x l = λ i. nat_le 3 (runs_from (x + 1) (omega arith) i) || nat_lt (2 * s.smss) (octets_from (x + 1) (omega arith) i)
+  lost_at x l = λ i. shows_loss s.smss (runs_from (x + 1) (omega arith) i) (octets_from (x + 1) (omega arith) i)
 
   no_begin : (x : ℕ) → x < s.una → begins_run s.sacked x ≡ false
   no_begin x l = ap (λ b. b && (nat_eq x 0 || not (contains s.sacked (x - 1)))) (under x l)
@@ -72,7 +72,7 @@ module _ (p : ℕ → Bool) (s : Scoreboard) (shown : s.sacked ≡ octets_where 
   lost_under x l u =
       let runs = size_where-skip (begins_run s.sacked) (x + 1) s.una s.top (s.una - (x + 1)) (omega arith) u (λ y m v. no_begin y v) ∙ runs_from s.una (omega arith) in
       let octets = size_where-skip (contains s.sacked) (x + 1) s.una s.top (s.una - (x + 1)) (omega arith) u (λ y m v. under y v) ∙ octets_from s.una (omega arith) in
-      λ i. nat_le 3 (runs i) || nat_lt (2 * s.smss) (octets i)
+      λ i. shows_loss s.smss (runs i) (octets i)
 
   pub lost_is : (x first : ℕ) → s.una ≤ s.top → first ≡ max s.una (x + 1) → is_lost x s ≡ lost_from p s.una s.top s.smss first
   lost_is x first l e =
@@ -89,7 +89,7 @@ module _ (p : ℕ → Bool) (s : Scoreboard) (shown : s.sacked ≡ octets_where 
 
   pub never_lost : (x : ℕ) → s.top ≤ x → is_lost x s ≡ false
   never_lost x l =
-      (λ i. nat_le 3 (size_where-none (begins_run s.sacked) (x + 1) s.top (omega arith) i) || nat_lt (2 * s.smss) (size_where-none (contains s.sacked) (x + 1) s.top (omega arith) i))
+      (λ i. shows_loss s.smss (size_where-none (begins_run s.sacked) (x + 1) s.top (omega arith) i) (size_where-none (contains s.sacked) (x + 1) s.top (omega arith) i))
       ∙ grind (arith, nat_tests)
 
   pub pipe_is : (high_rxt : ℕ) → pipe high_rxt s ≡ pipe_from p s.una s.top s.smss high_rxt s.una
@@ -112,7 +112,7 @@ module _ (p : ℕ → Bool) (s : Scoreboard) (shown : s.sacked ≡ octets_where 
   has_new_is block first e l u =
       any-part _ s.una first block.end s.top (omega arith) l u
       (λ x m v. before block.start block.end first s.una x (not (contains s.sacked x)) e m v)
-      (λ x m v. behind block.start block.end x (not (contains s.sacked x)) m)
+      (λ x m v. after block.start block.end x (not (contains s.sacked x)) m)
       ∙ any-same _ _ first block.end (λ x m v.
       inner block.start block.end first s.una x (not (contains s.sacked x)) e m v ∙ ap not (within x (omega arith) (omega arith)))
 

@@ -5,10 +5,11 @@ use Rattle.std.specs.List.{sum_by, count_by}
 use Rattle.std.proofs.lemmas.List.Sums.{sum_by-cons}
 use Rattle.std.proofs.lemmas.Bool.Decides.{nat_tests}
 use Rattle.pd_seg.specs.declared.sack_blocks.Span.{Span}
+use Rattle.pd_board.specs.Loss.{shows_loss}
 use Rattle.pd_board.specs.Octets.{size_where}
 use Rattle.pd_board.specs.Tests.{first_of, lost_from, pipe_from}
 use Rattle.pd_board.proofs.Sets.{size_where-first, size_where-none, size_where-same, size_where-skip, size_where-le}
-use Rattle.pd_board.specs.Scoreboard.{covers}
+use Rattle.pd_board.specs.Board.{covers}
 use Rattle.pd_board.specs.Runs.{among, Between}
 use Rattle.pd_board.specs.Ranges.{octets_in, gap, way}
 use Rattle.pd_board.proofs.Ahead.{rest_in}
@@ -65,8 +66,9 @@ module _ (p : ℕ → Bool) (una top smss high : ℕ) where
       nothing false v e = omega arith
   free i s (suc n) d u h =
       let same : lost_from p una top smss (i + 1) ≡ lost_from p una top smss s =
-      λ k. nat_le 3 (size_where-skip (first_of p una) (i + 1) s top n (omega arith) u (λ x l m. ap (λ b. b && (nat_eq x una || not (p (x - 1)))) (h x (omega arith) m)) k)
-      || nat_lt (2 * smss) (size_where-skip p (i + 1) s top n (omega arith) u (λ x l m. h x (omega arith) m) k) in
+      λ k. shows_loss smss
+      (size_where-skip (first_of p una) (i + 1) s top n (omega arith) u (λ x l m. ap (λ b. b && (nat_eq x una || not (p (x - 1)))) (h x (omega arith) m)) k)
+      (size_where-skip p (i + 1) s top n (omega arith) u (λ x l m. h x (omega arith) m) k) in
       pipe_first i (omega arith)
       ∙ ap (λ b. (cond (not (p i) && not b) 1 0 + cond (not (p i) && nat_lt i high) 1 0) + pipe_from p una top smss high (i + 1)) same
       ∙ step_gap i s (pipe_from p una top smss high s) (pipe_from p una top smss high (i + 1)) (lost_from p una top smss s) (p i) (omega arith) (h i (omega arith) (omega arith))
@@ -81,8 +83,8 @@ pub way_is : (p : ℕ → Bool) (una top smss high i : ℕ) (rs : List Span) →
 way_is p una top smss high i [] l h t same edge =
     let none = size_where-none (λ x. not (p x) && not (lost_from p una top smss (x + 1))) top top (omega arith) in
     let none2 = size_where-none (λ x. not (p x) && nat_lt x high) top top (omega arith) in
-    let not_lost : lost_from p una top smss top ≡ (nat_le 3 0 || nat_lt (2 * smss) 0) =
-    λ k. nat_le 3 (size_where-none (first_of p una) top top (omega arith) k) || nat_lt (2 * smss) (size_where-none p top top (omega arith) k) in
+    let not_lost : lost_from p una top smss top ≡ shows_loss smss 0 0 =
+    λ k. shows_loss smss (size_where-none (first_of p una) top top (omega arith) k) (size_where-none p top top (omega arith) k) in
     free p una top smss high i top (top - i) (omega arith) (omega arith) (λ x m u. same x m)
     ∙ ap (λ b. (cond b 0 (top - i) + (min high top - i)) + pipe_from p una top smss high top) not_lost
     ∙ omega (arith, none, none2)
@@ -95,7 +97,7 @@ way_is p una top smss high i (r ∷ rs) l h t same edge =
     size_where-same (first_of p una) (first_of (among (r ∷ rs)) una) r.start top (λ x m u. first_same una x i _ _ (p (x - 1)) (among (r ∷ rs) (x - 1)) (same x (omega (arith, h.0))) (edge x) (same (x - 1)) (omega (arith, h.0)))
     ∙ runs_of una r.start (r ∷ rs) r.start top (omega (arith, h.0)) (omega (arith, h.0)) b ∙ all_runs r.start (r ∷ rs) (top + 1) b ∙ omega arith in
     free p una top smss high i r.start (r.start - i) (omega (arith, h.0)) (omega (arith, h.1)) (λ x m u. same x m ∙ none_below r.start (r ∷ rs) (top + 1) x b u)
-    ∙ (λ k. (cond (nat_le 3 (runs k) || nat_lt (2 * smss) (octets k)) 0 (r.start - i) + (min high r.start - i)) + pipe_from p una top smss high r.start)
+    ∙ (λ k. (cond (shows_loss smss (runs k) (octets k)) 0 (r.start - i) + (min high r.start - i)) + pipe_from p una top smss high r.start)
     ∙ ap (λ v. gap smss high (length rs + 1) (r.end - r.start + octets_in rs) i r.start + v)
     (held p una top smss high r.start r.end (r.end - r.start) (omega (arith, h.1)) (omega arith) (λ x m u. same x (omega (arith, h.0)) ∙ yes x m u)
     ∙ way_is p una top smss high r.end rs (omega (arith, h.0, h.1)) (Between-lower r.end (r.end + 1) rs (top + 1) (omega arith) h.2) (omega arith)
@@ -127,7 +129,7 @@ pub record Next (n o place m top smss h W : ℕ) (r : Span) (d : List Span) : Ty
   pub order : r.start < r.end
   pub apart : Between (r.end + 1) d (top + 1)
   pub high : r.end ≤ top
-  pub pipe : m + ((cond (nat_le 3 n || nat_lt (2 * smss) o) 0 (r.start - place) + (min h r.start - place)) + way smss h top r.end d) ≡ W
+  pub pipe : m + ((cond (shows_loss smss n o) 0 (r.start - place) + (min h r.start - place)) + way smss h top r.end d) ≡ W
 
 next_of : (runs octets place pipe top smss high W : ℕ) (r : Span) (d : List Span) → runs ≡ length (r ∷ d) → octets ≡ octets_in (r ∷ d) → Between place (r ∷ d) (top + 1) → pipe + way smss high top place (r ∷ d) ≡ W → Next runs octets place pipe top smss high W r d
 next_of runs octets place pipe top smss high W r d e f h w =
@@ -140,7 +142,7 @@ next_of runs octets place pipe top smss high W r d e f h w =
       order = h.1;
       apart = h.2;
       high = omega (arith, Between-end (r.end + 1) d (top + 1) h.2);
-      pipe = (λ k. pipe + ((cond (nat_le 3 (e' k) || nat_lt (2 * smss) (f' k)) 0 (r.start - place) + (min high r.start - place)) + way smss high top r.end d)) ∙ w;
+      pipe = (λ k. pipe + ((cond (shows_loss smss (e' k) (f' k)) 0 (r.start - place) + (min high r.start - place)) + way smss high top r.end d)) ∙ w;
     }
 
 pub next_range : (all v : List Span) (k : ℕ) (none : Span) (runs octets place pipe top smss high W : ℕ) → v ≡ all → k < length v → runs ≡ length (drop k all) → octets ≡ octets_in (drop k all) → Between place (drop k all) (top + 1) → pipe + way smss high top place (drop k all) ≡ W → Next runs octets place pipe top smss high W (get_or v k none) (drop (k + 1) all)

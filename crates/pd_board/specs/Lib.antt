@@ -1,6 +1,6 @@
 -- The definitions that the contracts cite.
 pub mod Octets
-pub mod Scoreboard
+pub mod Board
 pub mod Loss
 pub mod Choice
 pub mod Laws

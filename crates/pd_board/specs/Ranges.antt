@@ -1,8 +1,9 @@
 -- What a board keeps of ranges, and what private contracts say of them.
-use Rattle.std.specs.Prelude.{◌≡◌, ℕ, ◌+◌, ◌-◌, ◌*◌, ◌^◌, ◌<◌, ◌≤◌, min, max, cond, Bool, ◌&&◌, ◌||◌, nat_le, nat_lt, true, List, [], ◌∷◌, length}
+use Rattle.std.specs.Prelude.{◌≡◌, ℕ, ◌+◌, ◌-◌, ◌^◌, ◌<◌, ◌≤◌, min, max, cond, Bool, ◌&&◌, ◌||◌, nat_le, nat_lt, true, List, [], ◌∷◌, length}
 use Rattle.std.specs.List.{sum_by}
 use Rattle.pd_seg.specs.declared.sack_blocks.Span.{Span}
 use Rattle.pd_board.specs.declared.ranges.Ranges.{Ranges}
+use Rattle.pd_board.specs.Loss.{shows_loss}
 use Rattle.pd_board.specs.Runs.{among, Between}
 
 -- x is an octet of the ranges
@@ -45,16 +46,16 @@ pub record Ahead (place b : ℕ) (all rest : List Span) : Type 0 where
   pub apart : Between edge rest b
   pub same : (x : ℕ) → edge ≤ x + 1 → among all x ≡ among rest x
 
--- while the last octet is searched: end is behind the last one so far
+-- while the last octet is searched: end is after the last one so far
 pub record Last (from to end : ℕ) (all rest : List Span) : Type 0 where
   pub low : from ≤ end
   pub high : end ≤ to
-  pub behind : (x : ℕ) → end ≤ x → x < to → among all x ≡ among rest x
+  pub after : (x : ℕ) → end ≤ x → x < to → among all x ≡ among rest x
   pub found : from < end → among all (end - 1) ≡ true
 
 -- what a gap from i to s adds to the pipe, below so many runs and octets
 abbrev pub gap : ℕ → ℕ → ℕ → ℕ → ℕ → ℕ → ℕ
-gap smss high runs octets i s = cond (nat_le 3 runs || nat_lt (2 * smss) octets) 0 (s - i) + (min high s - i)
+gap smss high runs octets i s = cond (shows_loss smss runs octets) 0 (s - i) + (min high s - i)
 
 -- what is on the way from i on, over the ranges there
 abbrev pub way : ℕ → ℕ → ℕ → ℕ → List Span → ℕ
@@ -62,9 +63,9 @@ way smss high top i [] = gap smss high 0 0 i top
 way smss high top i (r ∷ rs) = gap smss high (length rs + 1) (r.end - r.start + octets_in rs) i r.start + way smss high top r.end rs
 
 -- the ranges without those that end at start or below it
-abbrev pub behind : ℕ → List Span → List Span
-behind start [] = []
-behind start (r ∷ rs) = cond (nat_lt start r.end) (r ∷ rs) (behind start rs)
+abbrev pub ranges_after : ℕ → List Span → List Span
+ranges_after start [] = []
+ranges_after start (r ∷ rs) = cond (nat_lt start r.end) (r ∷ rs) (ranges_after start rs)
 
 -- the first range begins at start at least
 abbrev pub raised : ℕ → List Span → List Span

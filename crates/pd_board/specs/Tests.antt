@@ -1,5 +1,6 @@
 -- The same over a test of octet numbers in place of a set: what private contracts say of ranges.
-use Rattle.std.specs.Prelude.{ℕ, ◌+◌, ◌-◌, ◌*◌, Bool, ◌==◌, ◌&&◌, ◌||◌, not, nat_le, nat_lt}
+use Rattle.std.specs.Prelude.{ℕ, ◌+◌, ◌-◌, Bool, ◌==◌, ◌&&◌, ◌||◌, not, nat_lt}
+use Rattle.pd_board.specs.Loss.{shows_loss}
 use Rattle.pd_board.specs.Octets.{size_where}
 
 -- x is the first of a run of those from a on that pass
@@ -8,8 +9,7 @@ first_of p a x = p x && (x == a || not (p (x - 1)))
 
 -- what makes lost, counted from the octet first on
 abbrev pub lost_from : (ℕ → Bool) → ℕ → ℕ → ℕ → ℕ → Bool
-lost_from p una top smss first =
-    nat_le 3 (size_where (first_of p una) first top) || nat_lt (2 * smss) (size_where p first top)
+lost_from p una top smss first = shows_loss smss (size_where (first_of p una) first top) (size_where p first top)
 
 -- what is on the way of the octets from first on
 abbrev pub pipe_from : (ℕ → Bool) → ℕ → ℕ → ℕ → ℕ → ℕ → ℕ

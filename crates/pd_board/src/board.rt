@@ -1,6 +1,6 @@
 //! The scoreboard of a sender.
 ghost use Rattle.std.specs.Prelude.{◌≡◌, ◌+◌, ◌≤◌, ◌<◌, ◌^◌, true, false, IfOk, OnOk, OnErr, IsErr, ◌↔◌};
-ghost use Rattle.pd_board.specs.Scoreboard.{IsScoreboard, opened, written, sent_to, acknowledged, marked, has_new, unmarked, skipped, without_memory};
+ghost use Rattle.pd_board.specs.Board.{IsBoardView, opened, written, sent_to, acknowledged, marked, has_new, unmarked, skipped, without_memory};
 ghost use Rattle.pd_board.specs.Loss.{is_lost, pipe};
 ghost use Rattle.pd_board.specs.Choice.{run_at, next_lost, next_hole, rescue};
 ghost use Rattle.pd_board.specs.Runs.{AreRuns};
@@ -36,11 +36,11 @@ pub struct Board {
 }
 
 impl Model for Board {
-    ghost use Rattle.pd_board.specs.Scoreboard.{Scoreboard};
+    ghost use Rattle.pd_board.specs.Board.{BoardView};
     ghost use Rattle.pd_board.specs.Octets.{octets_where};
     ghost use Rattle.pd_board.specs.Ranges.{in_ranges, IsBoard};
 
-    ghost Value = { Scoreboard };
+    ghost Value = { BoardView };
 
     ghost view = { λ b. record { smss = b.smss; una = b.una; next = b.next; top = b.top; end = b.end; sacked = octets_where (in_ranges b.ranges) b.una b.top; exhausted = b.exhausted } };
 
@@ -65,10 +65,17 @@ impl Board {
         }
     }
 
+    /// What is so of all scoreboards: their numbers are in order and lie in their ranges. It does nothing.
+    pub fn facts(&self)
+        ensures { IsBoardView self.now }
+    {
+        let _smss = self.smss();
+    }
+
     /// SMSS, in octets.
     pub fn smss(&self) -> u16
         ensures value { result ≡ self.now.smss }
-        ensures known { IsScoreboard self.now }
+        ensures known { IsBoardView self.now }
     {
         self.smss
     }
@@ -76,7 +83,7 @@ impl Board {
     /// The oldest octet that isn't acknowledged.
     pub fn una(&self) -> u32
         ensures value { result ≡ self.now.una }
-        ensures known { IsScoreboard self.now }
+        ensures known { IsBoardView self.now }
     {
         self.una
     }
@@ -84,7 +91,7 @@ impl Board {
     /// Where sending goes on.
     pub fn next(&self) -> u32
         ensures value { result ≡ self.now.next }
-        ensures known { IsScoreboard self.now }
+        ensures known { IsBoardView self.now }
     {
         self.next
     }
@@ -92,7 +99,7 @@ impl Board {
     /// The number after the highest octet sent.
     pub fn top(&self) -> u32
         ensures value { result ≡ self.now.top }
-        ensures known { IsScoreboard self.now }
+        ensures known { IsBoardView self.now }
     {
         self.top
     }
@@ -100,7 +107,7 @@ impl Board {
     /// The number after the last octet queued.
     pub fn end(&self) -> u32
         ensures value { result ≡ self.now.end }
-        ensures known { IsScoreboard self.now }
+        ensures known { IsBoardView self.now }
     {
         self.end
     }
@@ -204,7 +211,8 @@ impl Board {
         }
     }
 
-    /// IsLost (RFC 6675, section 4): at least 3 runs of SACKed octets lie above `x`, or more than 2 SMSS of them.
+    /// IsLost (RFC 6675, section 4): DupThresh runs of SACKed octets or more lie above `x`, or more than
+    /// (DupThresh - 1) * SMSS of them.
     pub fn is_lost(&self, x: u32) -> bool
         ensures { result ≡ is_lost x self.now }
     {
@@ -249,7 +257,7 @@ impl Board {
     }
 
     /// NextSeg's rule 4 (RFC 6675, section 4): the segment that ends with the last octet that isn't SACKed, of SMSS
-    /// octets at most, from `una` on and behind the SACKed octets before it; none where all are SACKed.
+    /// octets at most, from `una` on and after the SACKed octets before it; none where all are SACKed.
     pub fn rescue(&self) -> Option<Span>
         ensures { result ≡ rescue self.now }
     {

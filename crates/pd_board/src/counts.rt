@@ -1,10 +1,14 @@
 //! What is counted and found over ranges, each in one pass.
-ghost use Rattle.std.specs.Prelude.{◌≡◌, ℕ, ◌≤◌, ◌<◌, ◌+◌, ◌-◌, ◌*◌, ◌^◌, ◌||◌, true, false, nat_le, nat_lt};
+ghost use Rattle.std.specs.Prelude.{◌≡◌, ℕ, ◌≤◌, ◌<◌, ◌+◌, ◌-◌, ◌^◌, true, false};
+ghost use Rattle.pd_board.specs.Loss.{shows_loss};
 ghost use Rattle.pd_board.specs.Octets.{size_where};
 ghost use Rattle.pd_board.specs.Tests.{first_of, pipe_from};
 ghost use Rattle.pd_board.specs.Ranges.{in_ranges, AreRanges};
 
 use crate::ranges::Ranges;
+
+/// DupThresh: how many duplicates, or runs of SACKed octets, show a loss (RFC 6675, section 2).
+pub const DUP_THRESH: u32 = 3;
 
 /// How many runs and how many octets lie from a place on.
 #[derive(Clone, Copy)]
@@ -16,11 +20,11 @@ pub struct Above {
 }
 
 impl Above {
-    /// Whether an octet below is lost by RFC 6675, section 4: 3 runs, or more than 2 SMSS octets.
+    /// Whether an octet below is lost by RFC 6675, section 4: DupThresh runs, or more than (DupThresh - 1) * SMSS octets.
     pub fn makes_lost(&self, smss: u16) -> bool
-        ensures { result ≡ (nat_le 3 self.now.runs || nat_lt (2 * smss) self.now.octets) }
+        ensures { result ≡ shows_loss smss self.now.runs self.now.octets }
     {
-        3 <= self.runs || 2 * u32::from(smss) < self.octets
+        DUP_THRESH as usize <= self.runs || (DUP_THRESH - 1) * u32::from(smss) < self.octets
     }
 }
 
@@ -112,7 +116,7 @@ pub fn after_last_marked(ranges: &Ranges, from: u32, to: u32) -> u32
     requires order { from ≤ to }
     ensures low { from ≤ result }
     ensures high { result ≤ to }
-    ensures behind { (x : ℕ) → result ≤ x → x < to → in_ranges ranges.now x ≡ false }
+    ensures after { (x : ℕ) → result ≤ x → x < to → in_ranges ranges.now x ≡ false }
     ensures found { from < result → in_ranges ranges.now (result - 1) ≡ true }
 {
     let mut end = from;
@@ -130,7 +134,7 @@ pub fn after_last_free(ranges: &Ranges, from: u32, to: u32) -> u32
     requires order { from ≤ to }
     ensures low { from ≤ result }
     ensures high { result ≤ to }
-    ensures behind { (x : ℕ) → result ≤ x → x < to → in_ranges ranges.now x ≡ true }
+    ensures after { (x : ℕ) → result ≤ x → x < to → in_ranges ranges.now x ≡ true }
     ensures found { from < result → in_ranges ranges.now (result - 1) ≡ false }
 {
     for range in ranges.spans.iter() {

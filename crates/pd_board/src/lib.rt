@@ -7,4 +7,5 @@ mod laws;
 mod ranges;
 
 pub use board::Board;
+pub use counts::DUP_THRESH;
 pub use laws::losses_are_lawful;

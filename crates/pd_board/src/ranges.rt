@@ -3,7 +3,7 @@ ghost use Rattle.std.specs.Prelude.{◌≡◌, ℕ, ◌≤◌, ◌<◌, ◌^◌,
 ghost use Rattle.std.specs.List.{list_any};
 ghost use Rattle.pd_board.specs.Octets.{interval};
 ghost use Rattle.pd_board.specs.Runs.{among, Between};
-ghost use Rattle.pd_board.specs.Ranges.{in_ranges, octets_in, AreRanges, behind, raised};
+ghost use Rattle.pd_board.specs.Ranges.{in_ranges, octets_in, AreRanges, ranges_after, raised};
 
 use crate::counts::first_free;
 use pd_seg::Span;
@@ -137,7 +137,7 @@ fn count_octets(ranges: &Vec<Span>) -> u32
 
 /// How many ranges end at `start` or below it.
 fn count_passed(ranges: &Vec<Span>, start: u32) -> usize
-    ensures { drop result ranges.now.items ≡ behind start ranges.now.items }
+    ensures { drop result ranges.now.items ≡ ranges_after start ranges.now.items }
 {
     let mut passed: usize = 0;
     for range in ranges.iter() {

@@ -12,9 +12,11 @@ use Rattle.pd_settings.specs.declared.initial_window.InitialWindow.TheVariants.{
 use Rattle.pd_settings.specs.declared.use_set.UseSet.{UseSet}
 use Rattle.pd_settings.specs.declared.values.Value.{Value}
 use Rattle.pd_settings.specs.declared.values.Value.TheVariants.{Number, Truth, Word, Other}
-use Rattle.pd_settings.specs.Keys.{all_keys, name_of}
+use Rattle.pd_settings.specs.Keys.{name_of}
+use Rattle.pd_settings.specs.Rows.{all_keys}
 use Rattle.pd_settings.specs.Settings.{value_at}
-use Rattle.pd_settings.specs.Uses.{Agree, agrees, agrees_at, has, is_same_value, is_same_window}
+use Rattle.pd_settings.specs.Uses.{Agree, agrees, agrees_at, has, is_same, is_same_at, is_same_value, is_same_window}
+use Rattle.pd_settings.proofs.Changes.{determined}
 use Rattle.pd_settings.proofs.Names.{named-name_of}
 
 -- Values
@@ -79,10 +81,20 @@ all_same uses a b h =
     (λ key. where_used (has uses key) (is_same_value (value_at a key) (value_at b key))
     (λ e. subst (λ v. is_same_value (value_at a key) v ≡ true) (h key e) (value_same (value_at a key))))
 
--- settings agree with themselves
-pub agrees_with_itself : (uses : UseSet) (a : Settings) → agrees uses a a ≡ true
-agrees_with_itself uses a = all_same uses a a (λ key e. refl)
-
 -- the test holds where the two are equal at the keys of the set, and nowhere else
 pub agrees_is : (uses : UseSet) (a b : Settings) → IsTrue (agrees uses a b) ↔ Agree uses a b
 agrees_is uses a b = (same_at uses a b, all_same uses a b)
+
+-- Equality
+
+-- settings are equal where they are equal at all keys, and nowhere else
+pub is_same_is : (a b : Settings) → IsTrue (is_same a b) ↔ (a ≡ b)
+is_same_is a b = (equal, same)
+  where
+    equal : is_same a b ≡ true → a ≡ b
+    equal h =
+        determined a b (λ key. same_value (value_at a key) (value_at b key)
+        (passed (λ k. bytes_eq (name_of k) (name_of key)) (is_same_at a b) all_keys key h (named-name_of key)))
+
+    same : a ≡ b → is_same a b ≡ true
+    same e = subst (λ x. is_same a x ≡ true) e (passed_by_all (is_same_at a a) all_keys (λ key. value_same (value_at a key)))

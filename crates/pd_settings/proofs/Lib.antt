@@ -5,3 +5,4 @@ pub mod Overlays
 pub mod Taken
 pub mod ByName
 pub mod Agreements
+pub mod SameValues

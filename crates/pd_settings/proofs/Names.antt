@@ -5,7 +5,8 @@ use Rattle.std.specs.Str.{bytes_eq}
 use Rattle.std.proofs.lemmas.Slice.Eq.{bytes_eq-Decides}
 use Rattle.pd_settings.specs.declared.keys.Key.{Key}
 use Rattle.pd_settings.specs.declared.keys.Key.TheVariants.{Mss}
-use Rattle.pd_settings.specs.Keys.{name_of, all_keys, key_named}
+use Rattle.pd_settings.specs.Keys.{name_of, key_named}
+use Rattle.pd_settings.specs.Rows.{all_keys}
 
 -- what is found passes the test
 find-passes : {A : Type 0} (p : A → Bool) (xs : List A) (x : A) → find p xs ≡ Some x → p x ≡ true

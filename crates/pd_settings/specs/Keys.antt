@@ -1,5 +1,5 @@
--- The names of the settings, and the values that each takes.
-use Rattle.std.specs.Prelude.{codes, ℕ, ◌≤◌, List, [], ◌∷◌, Option, Some, None, find}
+-- The settings by name, and what each takes.
+use Rattle.std.specs.Prelude.{ℕ, ◌≤◌, List, Option, Some, None, find}
 use native.Mathlib.Decide.{dec_le}
 use mathlib.Core.Logic.{dite}
 use mathlib.Core.Logic.Dec.{and as both}
@@ -7,28 +7,13 @@ use Rattle.std.specs.Str.{bytes_eq}
 use Rattle.pd_settings.specs.declared.domains.Domain.{Domain}
 use Rattle.pd_settings.specs.declared.domains.Domain.TheVariants.{Numbers, Truths, Windows}
 use Rattle.pd_settings.specs.declared.keys.Key.{Key}
-use Rattle.pd_settings.specs.declared.keys.Key.TheVariants.{Mss, Sack, Wscale, Sndbuf, RcvWnd, InitialSsthresh, InitialWindow, MinRtoUs, MaxRtoUs, GranularityUs, Nagle, ToleranceUs}
 use Rattle.pd_settings.specs.declared.values.Value.{Value}
 use Rattle.pd_settings.specs.declared.values.Value.TheVariants.{Number, Truth, Word}
+use Rattle.pd_settings.specs.Rows.{all_keys, row_of}
 
 -- the name that a setting is written by
 abbrev pub name_of : Key → List ℕ
-name_of Mss = codes "mss"
-name_of Sack = codes "sack"
-name_of Wscale = codes "wscale"
-name_of Sndbuf = codes "sndbuf"
-name_of RcvWnd = codes "rcv_wnd"
-name_of InitialSsthresh = codes "initial_ssthresh"
-name_of InitialWindow = codes "initial_window"
-name_of MinRtoUs = codes "min_rto_us"
-name_of MaxRtoUs = codes "max_rto_us"
-name_of GranularityUs = codes "granularity_us"
-name_of Nagle = codes "nagle"
-name_of ToleranceUs = codes "tolerance_us"
-
--- the settings in the order of their table
-abbrev pub all_keys : List Key
-all_keys = Mss ∷ Sack ∷ Wscale ∷ Sndbuf ∷ RcvWnd ∷ InitialSsthresh ∷ InitialWindow ∷ MinRtoUs ∷ MaxRtoUs ∷ GranularityUs ∷ Nagle ∷ ToleranceUs ∷ []
+name_of key = (row_of key).name
 
 -- the setting of a name
 abbrev pub key_named : List ℕ → Option Key
@@ -37,18 +22,11 @@ key_named name = find (λ key. bytes_eq (name_of key) name) all_keys
 -- what each setting takes: the whole numbers of a range, both ends included, the truth values, or the rules for the
 -- initial window
 abbrev pub domain_of : Key → Domain
-domain_of Mss = Numbers 64 65495
-domain_of Sack = Truths
-domain_of Wscale = Numbers 0 14
-domain_of Sndbuf = Numbers 1024 1048576
-domain_of RcvWnd = Numbers 1 1073725440
-domain_of InitialSsthresh = Numbers 128 1073741824
-domain_of InitialWindow = Windows
-domain_of MinRtoUs = Numbers 1000 60000000
-domain_of MaxRtoUs = Numbers 60000000 3600000000
-domain_of GranularityUs = Numbers 1 1000000
-domain_of Nagle = Truths
-domain_of ToleranceUs = Numbers 0 1000000
+domain_of key = (row_of key).takes
+
+-- what a setting is where nobody sets it
+abbrev pub default_of : Key → Value
+default_of key = (row_of key).unset
 
 -- the value is one of the domain's
 abbrev pub Takes : Domain → Value → Type 0
@@ -57,13 +35,15 @@ Takes Truths (Truth _) = Unit {0}
 Takes Windows (Word _) = Unit {0}
 Takes _ _ = ⊥
 
--- whether a number is one of the domain's is decided by its two ends
-abbrev pub decided : (d : Domain) (n : ℕ) → Dec (Takes d (Number n))
-decided (Numbers least greatest) n = both (dec_le least n) (dec_le n greatest)
-decided Truths n = no (λ impossible. impossible)
-decided Windows n = no (λ impossible. impossible)
+-- whether it is one is decided by its kind, and of a number by the two ends
+abbrev pub decided : (d : Domain) (v : Value) → Dec (Takes d v)
+decided (Numbers least greatest) (Number n) = both (dec_le least n) (dec_le n greatest)
+decided (Numbers least greatest) _ = no (λ impossible. impossible)
+decided Truths (Truth _) = yes tt
+decided Truths _ = no (λ impossible. impossible)
+decided Windows (Word _) = yes tt
+decided Windows _ = no (λ impossible. impossible)
 
--- what `f` makes of a number that the domain takes; None for any other value
-abbrev pub taken : {A : Type 0} (d : Domain) → Value → ((n : ℕ) → Takes d (Number n) → A) → Option A
-taken d (Number n) f = dite (decided d n) (λ h. Some (f n h)) (λ _. None)
-taken d _ f = None
+-- what is made of a value that the domain takes; None for any other
+abbrev pub value_taken : {A : Type 0} (d : Domain) (v : Value) → (Takes d v → A) → Option A
+value_taken d v made = dite (decided d v) (λ h. Some (made h)) (λ _. None)

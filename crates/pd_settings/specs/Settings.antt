@@ -1,31 +1,52 @@
 -- The settings of a run, and what a change makes of them.
-use Rattle.std.specs.Prelude.{◌≡◌, ◌≢◌, ℕ, true, List, Option, Some, None, ok_or, Result, Err}
+use Rattle.std.specs.Prelude.{◌≡◌, ◌≢◌, ℕ, Bool, false, List, Option, Some, None, ok_or, Result, Err}
 use Rattle.std.proofs.Common.{lit≤}
+use Rattle.pd_settings.specs.declared.domains.Domain.TheVariants.{Numbers}
 use Rattle.pd_settings.specs.declared.faults.SettingsFault.{SettingsFault}
 use Rattle.pd_settings.specs.declared.faults.SettingsFault.TheVariants.{UnknownKey, BadValue}
 use Rattle.pd_settings.specs.declared.fields.Settings.{Settings}
+use Rattle.pd_settings.specs.declared.initial_window.InitialWindow.{InitialWindow as Window}
 use Rattle.pd_settings.specs.declared.initial_window.InitialWindow.TheVariants.{Rfc5681}
 use Rattle.pd_settings.specs.declared.keys.Key.{Key}
-use Rattle.pd_settings.specs.declared.keys.Key.TheVariants.{Mss, Sack, Wscale, Sndbuf, RcvWnd, InitialSsthresh, InitialWindow, MinRtoUs, MaxRtoUs, GranularityUs, Nagle, ToleranceUs}
+use Rattle.pd_settings.specs.declared.keys.Key.TheVariants.{Mss, Sack, Wscale, Sndbuf, RcvWnd, InitialSsthresh, InitialWindow, MinRtoUs, MaxRtoUs, GranularityUs, Nagle, LimitedTransmit, ToleranceUs}
 use Rattle.pd_settings.specs.declared.values.Value.{Value}
 use Rattle.pd_settings.specs.declared.values.Value.TheVariants.{Number, Truth, Word}
-use Rattle.pd_settings.specs.Keys.{key_named, domain_of, taken}
+use Rattle.pd_settings.specs.Keys.{Takes, key_named, domain_of, default_of, value_taken}
+
+-- the number, the truth value or the rule that a value is; another where it is of another kind
+abbrev pub number_in : Value → ℕ
+number_in (Number n) = n
+number_in _ = 0
+
+abbrev pub truth_in : Value → Bool
+truth_in (Truth b) = b
+truth_in _ = false
+
+abbrev pub word_in : Value → Window
+word_in (Word w) = w
+word_in _ = Rfc5681
+
+-- a value that a range takes is one of its numbers
+abbrev pub in_range : (least greatest : ℕ) (v : Value) → Takes (Numbers least greatest) v → Takes (Numbers least greatest) (Number (number_in v))
+in_range least greatest (Number n) h = h
+in_range least greatest _ h = absurd h
 
 -- the settings that nobody changed
 abbrev pub defaults : Settings
 defaults = record {
-  mss = 1460;
-  sack = true;
-  wscale = 7;
-  sndbuf = 262144;
-  rcv_wnd = 65535;
-  initial_ssthresh = 1073741824;
-  initial_window = Rfc5681;
-  min_rto_us = 1000000;
-  max_rto_us = 60000000;
-  granularity_us = 1000;
-  nagle = true;
-  tolerance_us = 4000;
+  mss = number_in (default_of Mss);
+  sack = truth_in (default_of Sack);
+  wscale = number_in (default_of Wscale);
+  sndbuf = number_in (default_of Sndbuf);
+  rcv_wnd = number_in (default_of RcvWnd);
+  initial_ssthresh = number_in (default_of InitialSsthresh);
+  initial_window = word_in (default_of InitialWindow);
+  min_rto_us = number_in (default_of MinRtoUs);
+  max_rto_us = number_in (default_of MaxRtoUs);
+  granularity_us = number_in (default_of GranularityUs);
+  nagle = truth_in (default_of Nagle);
+  limited_transmit = truth_in (default_of LimitedTransmit);
+  tolerance_us = number_in (default_of ToleranceUs);
   mss_in_range = (lit≤ tt, lit≤ tt);
   wscale_in_range = (lit≤ tt, lit≤ tt);
   sndbuf_in_range = (lit≤ tt, lit≤ tt);
@@ -50,31 +71,46 @@ value_at s MinRtoUs = Number s.min_rto_us
 value_at s MaxRtoUs = Number s.max_rto_us
 value_at s GranularityUs = Number s.granularity_us
 value_at s Nagle = Truth s.nagle
+value_at s LimitedTransmit = Truth s.limited_transmit
 value_at s ToleranceUs = Number s.tolerance_us
+
+-- it is a value that the key takes
+abbrev pub held : (s : Settings) (key : Key) → Takes (domain_of key) (value_at s key)
+held s Mss = s.mss_in_range
+held s Wscale = s.wscale_in_range
+held s Sndbuf = s.sndbuf_in_range
+held s RcvWnd = s.rcv_wnd_in_range
+held s InitialSsthresh = s.initial_ssthresh_in_range
+held s MinRtoUs = s.min_rto_us_in_range
+held s MaxRtoUs = s.max_rto_us_in_range
+held s GranularityUs = s.granularity_us_in_range
+held s ToleranceUs = s.tolerance_us_in_range
+held s _ = tt
 
 -- the key has the value, and every other key what it had
 pub record ChangesOnly (old : Settings) (key : Key) (value : Value) (new : Settings) : Type 0 where
   pub at_key : value_at new key ≡ value
   pub elsewhere : (other : Key) → other ≢ key → value_at new other ≡ value_at old other
 
--- the settings with the key's field replaced by the value; None where the key doesn't take the value
+-- the settings with the key's field replaced by a value that the key takes
+abbrev pub put : (s : Settings) (key : Key) (v : Value) → Takes (domain_of key) v → Settings
+put s Mss v h = record s { mss = number_in v; mss_in_range = in_range _ _ v h }
+put s Sack v h = record s { sack = truth_in v }
+put s Wscale v h = record s { wscale = number_in v; wscale_in_range = in_range _ _ v h }
+put s Sndbuf v h = record s { sndbuf = number_in v; sndbuf_in_range = in_range _ _ v h }
+put s RcvWnd v h = record s { rcv_wnd = number_in v; rcv_wnd_in_range = in_range _ _ v h }
+put s InitialSsthresh v h = record s { initial_ssthresh = number_in v; initial_ssthresh_in_range = in_range _ _ v h }
+put s InitialWindow v h = record s { initial_window = word_in v }
+put s MinRtoUs v h = record s { min_rto_us = number_in v; min_rto_us_in_range = in_range _ _ v h }
+put s MaxRtoUs v h = record s { max_rto_us = number_in v; max_rto_us_in_range = in_range _ _ v h }
+put s GranularityUs v h = record s { granularity_us = number_in v; granularity_us_in_range = in_range _ _ v h }
+put s Nagle v h = record s { nagle = truth_in v }
+put s LimitedTransmit v h = record s { limited_transmit = truth_in v }
+put s ToleranceUs v h = record s { tolerance_us = number_in v; tolerance_us_in_range = in_range _ _ v h }
+
+-- the same where the key takes the value; else None
 abbrev pub replaced : Settings → Key → Value → Option Settings
-replaced s Mss v = taken (domain_of Mss) v (λ n h. record s { mss = n; mss_in_range = h })
-replaced s Wscale v = taken (domain_of Wscale) v (λ n h. record s { wscale = n; wscale_in_range = h })
-replaced s Sndbuf v = taken (domain_of Sndbuf) v (λ n h. record s { sndbuf = n; sndbuf_in_range = h })
-replaced s RcvWnd v = taken (domain_of RcvWnd) v (λ n h. record s { rcv_wnd = n; rcv_wnd_in_range = h })
-replaced s InitialSsthresh v =
-    taken (domain_of InitialSsthresh) v (λ n h. record s { initial_ssthresh = n; initial_ssthresh_in_range = h })
-replaced s MinRtoUs v = taken (domain_of MinRtoUs) v (λ n h. record s { min_rto_us = n; min_rto_us_in_range = h })
-replaced s MaxRtoUs v = taken (domain_of MaxRtoUs) v (λ n h. record s { max_rto_us = n; max_rto_us_in_range = h })
-replaced s GranularityUs v =
-    taken (domain_of GranularityUs) v (λ n h. record s { granularity_us = n; granularity_us_in_range = h })
-replaced s ToleranceUs v =
-    taken (domain_of ToleranceUs) v (λ n h. record s { tolerance_us = n; tolerance_us_in_range = h })
-replaced s Sack (Truth b) = Some (record s { sack = b })
-replaced s Nagle (Truth b) = Some (record s { nagle = b })
-replaced s InitialWindow (Word w) = Some (record s { initial_window = w })
-replaced s _ _ = None
+replaced s key v = value_taken (domain_of key) v (put s key v)
 
 -- the settings with the key's field replaced by the value: refused where the name was no key's, then where the key
 -- doesn't take the value

@@ -6,11 +6,11 @@ use Rattle.pd_settings.specs.declared.fields.Settings.{Settings}
 use Rattle.pd_settings.specs.declared.initial_window.InitialWindow.{InitialWindow as Window}
 use Rattle.pd_settings.specs.declared.initial_window.InitialWindow.TheVariants.{Rfc5681, Rfc6928}
 use Rattle.pd_settings.specs.declared.keys.Key.{Key}
-use Rattle.pd_settings.specs.declared.keys.Key.TheVariants.{Mss, Sack, Wscale, Sndbuf, RcvWnd, InitialSsthresh, InitialWindow, MinRtoUs, MaxRtoUs, GranularityUs, Nagle, ToleranceUs}
+use Rattle.pd_settings.specs.declared.keys.Key.TheVariants.{Mss, Sack, Wscale, Sndbuf, RcvWnd, InitialSsthresh, InitialWindow, MinRtoUs, MaxRtoUs, GranularityUs, Nagle, LimitedTransmit, ToleranceUs}
 use Rattle.pd_settings.specs.declared.use_set.UseSet.{UseSet}
 use Rattle.pd_settings.specs.declared.values.Value.{Value}
 use Rattle.pd_settings.specs.declared.values.Value.TheVariants.{Number, Truth, Word, Other}
-use Rattle.pd_settings.specs.Keys.{all_keys}
+use Rattle.pd_settings.specs.Rows.{all_keys}
 use Rattle.pd_settings.specs.Settings.{value_at}
 
 -- a set has the setting of a key
@@ -26,6 +26,7 @@ has uses MinRtoUs = uses.min_rto_us
 has uses MaxRtoUs = uses.max_rto_us
 has uses GranularityUs = uses.granularity_us
 has uses Nagle = uses.nagle
+has uses LimitedTransmit = uses.limited_transmit
 has uses ToleranceUs = uses.tolerance_us
 
 -- no setting was consulted
@@ -42,6 +43,7 @@ no_uses = record {
   max_rto_us = false;
   granularity_us = false;
   nagle = false;
+  limited_transmit = false;
   tolerance_us = false;
 }
 
@@ -67,9 +69,17 @@ is_same_value (Word a) (Word b) = is_same_window a b
 is_same_value Other Other = true
 is_same_value _ _ = false
 
+-- two settings are equal at a key
+abbrev pub is_same_at : Settings → Settings → Key → Bool
+is_same_at a b key = is_same_value (value_at a key) (value_at b key)
+
+-- whether two settings are equal at all keys
+abbrev pub is_same : Settings → Settings → Bool
+is_same a b = list_all (is_same_at a b) all_keys
+
 -- two settings are equal at a key, or the set doesn't have it
 abbrev pub agrees_at : UseSet → Settings → Settings → Key → Bool
-agrees_at uses a b key = not (has uses key) || is_same_value (value_at a key) (value_at b key)
+agrees_at uses a b key = not (has uses key) || is_same_at a b key
 
 -- whether two settings are equal at the keys of a set
 abbrev pub agrees : UseSet → Settings → Settings → Bool

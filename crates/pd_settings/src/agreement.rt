@@ -1,6 +1,6 @@
-//! Whether settings are equal where it matters.
+//! Whether settings are equal, and whether they are where it matters.
 ghost use Rattle.std.specs.Prelude.{◌≡◌, ◌↔◌, IsTrue};
-ghost use Rattle.pd_settings.specs.Uses.{Agree, agrees, agrees_at, is_same_value};
+ghost use Rattle.pd_settings.specs.Uses.{Agree, agrees, agrees_at, is_same, is_same_at, is_same_value};
 
 use crate::fields::Settings;
 use crate::keys::Key;
@@ -8,19 +8,38 @@ use crate::use_set::UseSet;
 use crate::values::Value;
 
 impl Settings {
+    /// Whether the two are equal in each setting.
+    #[tactic(auto, using(crate::proofs::Agreements::is_same_is))]
+    pub fn is_same(&self, other: &Settings) -> bool
+        ensures { IsTrue result ↔ (self.now ≡ other.now) }
+    {
+        self.is_same_everywhere(other)
+    }
+
+    fn is_same_everywhere(&self, other: &Settings) -> bool
+        ensures { result ≡ is_same self.now other.now }
+    {
+        Key::ALL.iter().all(|key| self.is_same_at(other, *key))
+    }
+
+    fn is_same_at(&self, other: &Settings, key: Key) -> bool
+        ensures { result ≡ is_same_at self.now other.now key }
+    {
+        is_same_value(self.value_at(key), other.value_at(key))
+    }
+
     /// Whether the two are equal in each setting of a set.
     ///
     /// Takes no memory.
-    #[tactic(auto, using(crate::proofs::Agreements::agrees_is, crate::proofs::Agreements::agrees_with_itself))]
+    #[tactic(auto, using(crate::proofs::Agreements::agrees_is))]
     pub fn agrees(&self, other: &Settings, uses: &UseSet) -> bool
         ensures test { result ≡ agrees uses.now self.now other.now }
         ensures fields { IsTrue result ↔ Agree uses.now self.now other.now }
     {
-        // Mostly nothing has changed at all.
-        self.is_same(other) || self.has_same(other, uses)
+        self.agrees_everywhere(other, uses)
     }
 
-    fn has_same(&self, other: &Settings, uses: &UseSet) -> bool
+    fn agrees_everywhere(&self, other: &Settings, uses: &UseSet) -> bool
         ensures { result ≡ agrees uses.now self.now other.now }
     {
         Key::ALL.iter().all(|key| self.agrees_at(other, uses, *key))
@@ -29,7 +48,7 @@ impl Settings {
     fn agrees_at(&self, other: &Settings, uses: &UseSet, key: Key) -> bool
         ensures { result ≡ agrees_at uses.now self.now other.now key }
     {
-        !uses.has(key) || is_same_value(self.value_at(key), other.value_at(key))
+        !uses.has(key) || self.is_same_at(other, key)
     }
 }
 

@@ -1,5 +1,5 @@
 //! The settings themselves.
-ghost use Rattle.std.specs.Prelude.{◌≡◌, ◌↔◌, IsTrue, IsSome, IfSome, MatchResult};
+ghost use Rattle.std.specs.Prelude.{◌≡◌, ◌↔◌, IsSome, IfSome, MatchResult};
 ghost use Rattle.pd_settings.specs.Keys.{Takes, domain_of};
 ghost use Rattle.pd_settings.specs.declared.keys.Key.TheVariants.{Mss, Wscale, Sndbuf, RcvWnd, InitialSsthresh, MinRtoUs, MaxRtoUs, GranularityUs, ToleranceUs};
 ghost use Rattle.pd_settings.specs.declared.values.Value.TheVariants.{Number, Truth, Word};
@@ -11,7 +11,7 @@ use crate::values::Value;
 use toml::Table;
 
 /// The settings of a run, each in its range.
-#[derive(Clone, Copy, PartialEq, Eq)]
+#[derive(Clone, Copy)]
 pub struct Settings {
     /// The maximum segment size that is announced, in octets (RFC 9293, section 3.7.1): 64 to 65,495.
     pub mss: u16,
@@ -36,6 +36,8 @@ pub struct Settings {
     pub granularity_us: u64,
     /// Whether Nagle's algorithm is on at establishment (RFC 9293, section 3.7.4).
     pub nagle: bool,
+    /// Whether the first duplicates send new data (RFC 3042).
+    pub limited_transmit: bool,
     /// How far a packet's time may lie outside the written one, in microseconds, where the script's header
     /// doesn't say (packetdrill's `--tolerance_usecs`): 0 to 1,000,000.
     pub tolerance_us: u64,
@@ -81,15 +83,18 @@ impl Settings {
             max_rto_us: 60_000_000,
             granularity_us: 1_000,
             nagle: true,
+            limited_transmit: true,
             tolerance_us: 4_000,
         }
     }
 
-    /// Whether the two are equal in each field.
-    pub fn is_same(&self, other: &Settings) -> bool
-        ensures { IsTrue result ↔ (self.now ≡ other.now) }
+    /// What is so of all settings: they lie in their ranges. It does nothing.
+    pub fn facts(&self)
+        ensures initial_ssthresh { Takes (domain_of InitialSsthresh) (Number self.now.initial_ssthresh) }
+        ensures min_rto_us { Takes (domain_of MinRtoUs) (Number self.now.min_rto_us) }
+        ensures max_rto_us { Takes (domain_of MaxRtoUs) (Number self.now.max_rto_us) }
     {
-        self == other
+        let _settings = *self;
     }
 
     /// The value at a key.
@@ -108,6 +113,7 @@ impl Settings {
             Key::MaxRtoUs => Value::Number(self.max_rto_us),
             Key::GranularityUs => Value::Number(self.granularity_us),
             Key::Nagle => Value::Truth(self.nagle),
+            Key::LimitedTransmit => Value::Truth(self.limited_transmit),
             Key::ToleranceUs => Value::Number(self.tolerance_us),
         }
     }
@@ -127,13 +133,21 @@ impl Settings {
         ensures { result ≡ replaced self.now key value }
     {
         match value {
-            Value::Number(number) if key.domain().contains(number) => {
-                self.replace_number(key, number)
-            }
+            Value::Number(number) => self.change_number(key, number),
             Value::Truth(truth) => self.replace_truth(key, truth),
             Value::Word(window) => self.replace_word(key, window),
-            _ => None,
+            Value::Other => None,
         }
+    }
+
+    #[tactic(auto, using(crate::proofs::Taken::taken_outside))]
+    fn change_number(&self, key: Key, number: u64) -> Option<Settings>
+        ensures { result ≡ replaced self.now key (Number number) }
+    {
+        if !key.domain().contains(number) {
+            return None;
+        }
+        self.replace_number(key, number)
     }
 
     fn replace_number(&self, key: Key, number: u64) -> Option<Settings>
@@ -150,7 +164,7 @@ impl Settings {
             Key::MaxRtoUs => with_field!(self, max_rto_us, number),
             Key::GranularityUs => with_field!(self, granularity_us, number),
             Key::ToleranceUs => with_field!(self, tolerance_us, number),
-            Key::Sack | Key::Nagle | Key::InitialWindow => None,
+            Key::Sack | Key::Nagle | Key::LimitedTransmit | Key::InitialWindow => None,
         }
     }
 
@@ -160,6 +174,7 @@ impl Settings {
         match key {
             Key::Sack => with_field!(self, sack, truth),
             Key::Nagle => with_field!(self, nagle, truth),
+            Key::LimitedTransmit => with_field!(self, limited_transmit, truth),
             _ => None,
         }
     }

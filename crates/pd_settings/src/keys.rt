@@ -18,12 +18,13 @@ pub enum Key {
     MaxRtoUs,
     GranularityUs,
     Nagle,
+    LimitedTransmit,
     ToleranceUs,
 }
 
 impl Key {
     /// All settings, in the order of the fields of `Settings`.
-    pub const ALL: [Key; 12] = [
+    pub const ALL: [Key; 13] = [
         Key::Mss,
         Key::Sack,
         Key::Wscale,
@@ -35,6 +36,7 @@ impl Key {
         Key::MaxRtoUs,
         Key::GranularityUs,
         Key::Nagle,
+        Key::LimitedTransmit,
         Key::ToleranceUs,
     ];
 
@@ -61,6 +63,7 @@ impl Key {
             Key::MaxRtoUs => b"max_rto_us",
             Key::GranularityUs => b"granularity_us",
             Key::Nagle => b"nagle",
+            Key::LimitedTransmit => b"limited_transmit",
             Key::ToleranceUs => b"tolerance_us",
         }
     }
@@ -81,6 +84,7 @@ impl Key {
             Key::MaxRtoUs => Domain::Numbers(60_000_000, 3_600_000_000),
             Key::GranularityUs => Domain::Numbers(1, 1_000_000),
             Key::Nagle => Domain::Truths,
+            Key::LimitedTransmit => Domain::Truths,
             Key::ToleranceUs => Domain::Numbers(0, 1_000_000),
         }
     }

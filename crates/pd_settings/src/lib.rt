@@ -1,4 +1,4 @@
-//! The settings of a run: twelve fields, each in its range, and how a key and a value change one of them.
+//! The settings of a run: a value for each key, in its range, and how a key and a value change one of them.
 #![tactic(auto)]
 
 mod agreement;

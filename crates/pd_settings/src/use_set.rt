@@ -29,6 +29,8 @@ pub struct UseSet {
     pub granularity_us: bool,
     /// `nagle`, which the establishment consults.
     pub nagle: bool,
+    /// `limited_transmit`, which the establishment consults.
+    pub limited_transmit: bool,
     /// `tolerance_us`, which a packet that is expected consults, unless the header sets a tolerance.
     pub tolerance_us: bool,
 }
@@ -50,6 +52,7 @@ impl UseSet {
             max_rto_us: false,
             granularity_us: false,
             nagle: false,
+            limited_transmit: false,
             tolerance_us: false,
         }
     }
@@ -70,6 +73,7 @@ impl UseSet {
             Key::MaxRtoUs => self.max_rto_us,
             Key::GranularityUs => self.granularity_us,
             Key::Nagle => self.nagle,
+            Key::LimitedTransmit => self.limited_transmit,
             Key::ToleranceUs => self.tolerance_us,
         }
     }

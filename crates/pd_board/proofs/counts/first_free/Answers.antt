@@ -1,4 +1,4 @@
--- Below a range and right behind it nothing is held.
+-- Below a range and right after it nothing is held.
 use Rattle.std.proofs.Common.{◌≡◌, ◌+◌, ◌^◌, drop, get_or, ap, ◌∙◌, arith}
 use Rattle.pd_board.specs.Runs.{among}
 use Rattle.pd_board.proofs.Ahead.{none, ahead_at, free_before, free_after}

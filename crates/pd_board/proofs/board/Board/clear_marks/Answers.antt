@@ -1,7 +1,7 @@
 -- Without ranges nothing is SACKed.
 use Rattle.std.proofs.Common.{ap, ◌∙◌}
 use Rattle.pd_board.specs.contracts.board.Board.{the_view}
-use Rattle.pd_board.specs.Scoreboard.{unmarked}
+use Rattle.pd_board.specs.Board.{unmarked}
 use Rattle.pd_board.specs.Ranges.{in_ranges}
 use Rattle.pd_board.specs.Runs.{among}
 use Rattle.pd_board.proofs.Sets.{octets_where-none}

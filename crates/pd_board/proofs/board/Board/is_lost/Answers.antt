@@ -1,8 +1,7 @@
 -- What is counted over the ranges says whether an octet is lost.
-use Rattle.std.proofs.Common.{◌≡◌, ◌+◌, ◌*◌, ◌||◌, max, refl, sym, ap, ◌∙◌, arith}
-use Rattle.std.specs.Prelude.{nat_le, nat_lt}
+use Rattle.std.proofs.Common.{◌≡◌, ◌+◌, max, refl, sym, ap, ◌∙◌, arith}
 use Rattle.pd_board.specs.contracts.board.Board.{the_view}
-use Rattle.pd_board.specs.Loss.{is_lost}
+use Rattle.pd_board.specs.Loss.{is_lost, shows_loss}
 use Rattle.pd_board.specs.Ranges.{in_ranges}
 use Rattle.pd_board.proofs.Shown.{lost_is, never_lost}
 use Rattle.pd_board.proofs.board.Board.is_lost.Goals as goal
@@ -17,6 +16,6 @@ returns c =
     let i = c.self.inside in
     let first : c.max-first.result ≡ max i.una (c.args.x + 1) = omega arith in
     c.makes_lost.ensures
-    ∙ (λ k. nat_le 3 (c.count_above.ensures.runs k) || nat_lt (2 * i.smss) (c.count_above.ensures.octets k))
+    ∙ (λ k. shows_loss i.smss (c.count_above.ensures.runs k) (c.count_above.ensures.octets k))
     ∙ sym (lost_is (in_ranges i.ranges) (the_view i) refl c.args.x c.max-first.result (omega arith) first)
     ∙ ap (is_lost c.args.x) c.self.view_is

@@ -3,7 +3,7 @@ use Rattle.std.proofs.Common.{◌≡◌, ◌≤◌, ℕ, Bool, ◌||◌, ◌&&�
 use Rattle.std.specs.Prelude.{nat_le, nat_lt, Result, Ok, Err, OnOk, IfOk}
 use Rattle.std.proofs.lemmas.Bool.Decides.{nat_tests}
 use Rattle.pd_board.specs.contracts.board.Board.{the_view}
-use Rattle.pd_board.specs.Scoreboard.{marked, has_new}
+use Rattle.pd_board.specs.Board.{marked, has_new}
 use Rattle.pd_board.specs.Ranges.{in_ranges}
 use Rattle.pd_board.proofs.Shown.{marked_is, has_new_is, has_none_new}
 use Rattle.pd_board.proofs.Ahead.{wider}

@@ -1,6 +1,6 @@
 -- Without ranges nothing is SACKed.
 use Rattle.std.proofs.Common.{ap}
-use Rattle.pd_board.specs.Scoreboard.{opened}
+use Rattle.pd_board.specs.Board.{opened}
 use Rattle.pd_board.specs.Ranges.{in_ranges}
 use Rattle.pd_board.specs.Runs.{among}
 use Rattle.pd_board.proofs.Sets.{octets_where-none}

@@ -1,4 +1,4 @@
--- The first octet that isn't marked is a hole where a mark lies behind it, and else there is none.
+-- The first octet that isn't marked is a hole where a mark lies after it, and else there is none.
 use Rattle.std.proofs.Common.{◌<◌, refl, sym, ap, ◌∙◌, arith, ◌+◌, ◌^◌}
 use Rattle.pd_board.specs.contracts.board.Board.{the_view}
 use Rattle.pd_board.specs.Choice.{next_hole}

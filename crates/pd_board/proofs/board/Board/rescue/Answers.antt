@@ -10,7 +10,7 @@ use Rattle.pd_board.proofs.board.Board.rescue.Goals as goal
 pub returns-then-end-self : goal.returns-then-end-self
 returns-then-end-self c =
     let i = c.self.inside in
-    sym (no_rescue (in_ranges i.ranges) (the_view i) refl (omega arith) (λ k l u. c.after_last_free-end.ensures.behind k (omega arith) u)) ∙ ap rescue c.self.view_is
+    sym (no_rescue (in_ranges i.ranges) (the_view i) refl (omega arith) (λ k l u. c.after_last_free-end.ensures.after k (omega arith) u)) ∙ ap rescue c.self.view_is
 
 pub returns : goal.returns
 returns c =
@@ -19,8 +19,8 @@ returns c =
     let some : i.una < end = omega arith in
     let last : end ≡ end - 1 + 1 = omega arith in
     sym (rescue_is (in_ranges i.ranges) (the_view i) refl (end - 1) c.max-low.result c.after_last_marked-start.result (omega arith) (omega arith)
-    (λ k l u. c.after_last_free-end.ensures.behind k (omega arith) u) (c.after_last_free-end.ensures.found some)
-    (omega arith) c.after_last_marked-start.ensures.low c.after_last_marked-start.ensures.high c.after_last_marked-start.ensures.behind c.after_last_marked-start.ensures.found
+    (λ k l u. c.after_last_free-end.ensures.after k (omega arith) u) (c.after_last_free-end.ensures.found some)
+    (omega arith) c.after_last_marked-start.ensures.low c.after_last_marked-start.ensures.high c.after_last_marked-start.ensures.after c.after_last_marked-start.ensures.found
     ∙ ap (λ (n : ℕ). Some record { start = c.after_last_marked-start.result; end = n }) (sym last))
     ∙ ap rescue c.self.view_is
 

@@ -2,7 +2,7 @@
 use Rattle.std.proofs.Common.{List, refl, sym, subst}
 use Rattle.pd_seg.specs.declared.sack_blocks.Span.{Span}
 use Rattle.pd_board.specs.contracts.board.Board.{the_view}
-use Rattle.pd_board.specs.Scoreboard.{Scoreboard}
+use Rattle.pd_board.specs.Board.{BoardView}
 use Rattle.pd_board.specs.Runs.{AreRuns}
 use Rattle.pd_board.proofs.Ahead.{are_runs}
 use Rattle.pd_board.proofs.board.Board.runs.Goals as goal
@@ -10,5 +10,5 @@ use Rattle.pd_board.proofs.board.Board.runs.Goals as goal
 pub returns : goal.returns
 returns c =
     let i = c.self.inside in
-    subst (λ (s : Scoreboard). AreRuns s c.as_slice.result.now) c.self.view_is
+    subst (λ (s : BoardView). AreRuns s c.as_slice.result.now) c.self.view_is
     (subst (λ (rs : List Span). AreRuns (the_view i) rs) (sym c.as_slice.ensures) (are_runs i.ranges (the_view i) refl c.self.invariant.ranges))

@@ -1,7 +1,7 @@
 -- The first octet that isn't marked.
 use Rattle.std.proofs.Common.{refl, ap, ◌∙◌, ◌+◌, ◌^◌, arith}
 use Rattle.pd_board.specs.contracts.board.Board.{the_view}
-use Rattle.pd_board.specs.Scoreboard.{skipped}
+use Rattle.pd_board.specs.Board.{skipped}
 use Rattle.pd_board.specs.Ranges.{in_ranges}
 use Rattle.pd_board.proofs.Chosen.{skipped_is}
 use Rattle.pd_board.proofs.Ahead.{wider}

@@ -1,7 +1,7 @@
 -- The octets from x on stay.
 use Rattle.std.proofs.Common.{◌≡◌, refl, ap, ◌∙◌, arith, ◌+◌, ◌^◌}
 use Rattle.pd_board.specs.contracts.board.Board.{the_view}
-use Rattle.pd_board.specs.Scoreboard.{acknowledged}
+use Rattle.pd_board.specs.Board.{acknowledged}
 use Rattle.pd_board.specs.Ranges.{in_ranges}
 use Rattle.pd_board.proofs.Shown.{acknowledged_is}
 use Rattle.pd_board.proofs.Ahead.{wider}

@@ -1,4 +1,4 @@
--- Whether an octet is new is told by the first free one.
+-- Whether an octet is new follows from the first free one.
 use Rattle.std.proofs.Common.{◌-◌, not, sym, ap, arith}
 use Rattle.pd_board.specs.Ranges.{in_ranges}
 use Rattle.pd_board.proofs.Sets.{any-false}

@@ -1,10 +1,15 @@
 -- Each key's branch gives the replaced settings.
-use Rattle.std.proofs.Common.{ap, Some, refl}
-use Rattle.pd_settings.proofs.Changes.{same_fields}
+use Rattle.std.proofs.Common.{refl}
+use Rattle.pd_settings.specs.declared.keys.Key.TheVariants.{Sack, Nagle, LimitedTransmit}
+use Rattle.pd_settings.specs.declared.values.Value.TheVariants.{Truth}
+use Rattle.pd_settings.proofs.Changes.{answered}
 use Rattle.pd_settings.proofs.fields.Settings.replace_truth.Goals as goal
 
 pub returns-in-Sack : goal.returns-in-Sack
-returns-in-Sack c = rw c.in-Sack.is (ap Some (same_fields _ _ refl refl refl refl refl refl refl refl refl refl refl refl))
+returns-in-Sack c = rw c.in-Sack.is (answered c.args.self.now _ Sack (Truth c.args.truth) tt refl)
 
 pub returns-in-Nagle : goal.returns-in-Nagle
-returns-in-Nagle c = rw c.in-Nagle.is (ap Some (same_fields _ _ refl refl refl refl refl refl refl refl refl refl refl refl))
+returns-in-Nagle c = rw c.in-Nagle.is (answered c.args.self.now _ Nagle (Truth c.args.truth) tt refl)
+
+pub returns-in-LimitedTransmit : goal.returns-in-LimitedTransmit
+returns-in-LimitedTransmit c = rw c.in-LimitedTransmit.is (answered c.args.self.now _ LimitedTransmit (Truth c.args.truth) tt refl)

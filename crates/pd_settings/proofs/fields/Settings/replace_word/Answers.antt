@@ -1,7 +1,9 @@
 -- The key's branch gives the replaced settings.
-use Rattle.std.proofs.Common.{ap, Some, refl}
-use Rattle.pd_settings.proofs.Changes.{same_fields}
+use Rattle.std.proofs.Common.{refl}
+use Rattle.pd_settings.specs.declared.keys.Key.TheVariants.{InitialWindow}
+use Rattle.pd_settings.specs.declared.values.Value.TheVariants.{Word}
+use Rattle.pd_settings.proofs.Changes.{answered}
 use Rattle.pd_settings.proofs.fields.Settings.replace_word.Goals as goal
 
 pub returns-in-InitialWindow : goal.returns-in-InitialWindow
-returns-in-InitialWindow c = rw c.in-InitialWindow.is (ap Some (same_fields _ _ refl refl refl refl refl refl refl refl refl refl refl refl))
+returns-in-InitialWindow c = rw c.in-InitialWindow.is (answered c.args.self.now _ InitialWindow (Word c.args.window) tt refl)

@@ -1,0 +1,13 @@
+-- Values are equal where what they hold is.
+use Rattle.std.proofs.Common.{◌≡◌, ℕ, Bool}
+use Rattle.pd_settings.specs.declared.initial_window.InitialWindow.{InitialWindow}
+use Rattle.pd_settings.specs.declared.values.Value.TheVariants.{Number, Truth, Word}
+
+pub number_of : {a b : ℕ} → Number a ≡ Number b → a ≡ b
+number_of e = cc
+
+pub truth_of : {a b : Bool} → Truth a ≡ Truth b → a ≡ b
+truth_of e = cc
+
+pub rule_of : {a b : InitialWindow} → Word a ≡ Word b → a ≡ b
+rule_of e = cc

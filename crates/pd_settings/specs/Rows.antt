@@ -1,0 +1,36 @@
+-- The table of settings: a row for each.
+use Rattle.std.specs.Prelude.{codes, ℕ, true, List, [], ◌∷◌}
+use Rattle.pd_settings.specs.declared.domains.Domain.{Domain}
+use Rattle.pd_settings.specs.declared.domains.Domain.TheVariants.{Numbers, Truths, Windows}
+use Rattle.pd_settings.specs.declared.initial_window.InitialWindow.TheVariants.{Rfc5681}
+use Rattle.pd_settings.specs.declared.keys.Key.{Key}
+use Rattle.pd_settings.specs.declared.keys.Key.TheVariants.{Mss, Sack, Wscale, Sndbuf, RcvWnd, InitialSsthresh, InitialWindow, MinRtoUs, MaxRtoUs, GranularityUs, Nagle, LimitedTransmit, ToleranceUs}
+use Rattle.pd_settings.specs.declared.values.Value.{Value}
+use Rattle.pd_settings.specs.declared.values.Value.TheVariants.{Number, Truth, Word}
+
+-- a setting's name, what it takes, the unit of its numbers, and what it is where nobody sets it
+pub record Row : Type 0 where
+  pub name : List ℕ
+  pub takes : Domain
+  pub unit : List ℕ
+  pub unset : Value
+
+-- the settings in the order of their table
+abbrev pub all_keys : List Key
+all_keys = Mss ∷ Sack ∷ Wscale ∷ Sndbuf ∷ RcvWnd ∷ InitialSsthresh ∷ InitialWindow ∷ MinRtoUs ∷ MaxRtoUs ∷ GranularityUs ∷ Nagle ∷ LimitedTransmit ∷ ToleranceUs ∷ []
+
+-- the row of each; docs/SETTINGS.md says what each changes
+abbrev pub row_of : Key → Row
+row_of Mss = record { name = codes "mss"; takes = Numbers 64 65495; unit = codes "octets"; unset = Number 1460 }
+row_of Sack = record { name = codes "sack"; takes = Truths; unit = []; unset = Truth true }
+row_of Wscale = record { name = codes "wscale"; takes = Numbers 0 14; unit = codes "bits"; unset = Number 7 }
+row_of Sndbuf = record { name = codes "sndbuf"; takes = Numbers 1024 1048576; unit = codes "octets"; unset = Number 262144 }
+row_of RcvWnd = record { name = codes "rcv_wnd"; takes = Numbers 1 1073725440; unit = codes "octets"; unset = Number 65535 }
+row_of InitialSsthresh = record { name = codes "initial_ssthresh"; takes = Numbers 128 1073741824; unit = codes "octets"; unset = Number 1073741824 }
+row_of InitialWindow = record { name = codes "initial_window"; takes = Windows; unit = []; unset = Word Rfc5681 }
+row_of MinRtoUs = record { name = codes "min_rto_us"; takes = Numbers 1000 60000000; unit = codes "microseconds"; unset = Number 1000000 }
+row_of MaxRtoUs = record { name = codes "max_rto_us"; takes = Numbers 60000000 3600000000; unit = codes "microseconds"; unset = Number 60000000 }
+row_of GranularityUs = record { name = codes "granularity_us"; takes = Numbers 1 1000000; unit = codes "microseconds"; unset = Number 1000 }
+row_of Nagle = record { name = codes "nagle"; takes = Truths; unit = []; unset = Truth true }
+row_of LimitedTransmit = record { name = codes "limited_transmit"; takes = Truths; unit = []; unset = Truth true }
+row_of ToleranceUs = record { name = codes "tolerance_us"; takes = Numbers 0 1000000; unit = codes "microseconds"; unset = Number 4000 }

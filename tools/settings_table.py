@@ -1,0 +1,115 @@
+#!/usr/bin/env python3
+"""Prints the table of settings, which stands in crates/pd_settings/specs/Rows.antt, as others have it.
+
+  tools/settings_table.py page      the table of docs/SETTINGS.md; what stands there in its last two columns stays
+  tools/settings_table.py client    the rows of client/pdsuite/scripts/defaults.py
+  tools/settings_table.py man       the items of packaging/man/pdregress.h2m
+
+`tests/documents.py --write` puts all three in place.
+"""
+
+import re
+import sys
+from collections.abc import Iterator
+from dataclasses import dataclass
+from pathlib import Path
+
+TOP = Path(__file__).resolve().parents[1]
+SPECS = TOP / "crates/pd_settings/specs"
+PAGE = TOP / "docs/SETTINGS.md"
+ROW = re.compile(
+    r'^row_of \w+ = record \{ name = codes "(\w+)"; takes = (\w+)(?: (\d+) (\d+))?; '
+    r'unit = (?:\[\]|codes "(\w+)"); unset = \w+ (\w+) \}$',
+    re.MULTILINE,
+)
+WORD = re.compile(r'^word_for (\w+) = codes "(\w+)"$', re.MULTILINE)
+HEAD = "| key | unit | range | default | the standards' name | what it changes |\n|---|---|---|---|---|---|\n"
+
+
+@dataclass(frozen=True)
+class Setting:
+    """A row: its key, the ends of its range and their unit or else its words, and its default."""
+
+    key: str
+    ends: tuple[int, int] | None
+    unit: str
+    words: tuple[str, ...]
+    default: str
+
+    @property
+    def range(self) -> str:
+        """What it takes, as pages say it."""
+        if self.ends:
+            return f"{self.ends[0]:,} to {self.ends[1]:,}"
+        return ", ".join(f"`{word}`" for word in self.words)
+
+    @property
+    def shown_default(self) -> str:
+        """The default, as pages say it."""
+        return f"{int(self.default):,}" if self.ends else f"`{self.default}`"
+
+
+def settings(rows: str, words: str) -> Iterator[Setting]:
+    """The settings, by the texts of the rows and of the words."""
+    named = dict(WORD.findall(words))
+    for key, takes, least, greatest, unit, unset in ROW.findall(rows):
+        ends = (int(least), int(greatest)) if least else None
+        choice = () if ends else ("true", "false") if takes == "Truths" else tuple(named.values())
+        yield Setting(key, ends, unit, choice, named.get(unset, unset))
+
+
+def for_page(rows: list[Setting]) -> str:
+    """The table of the page, with the last two columns of the page as they are."""
+    lines = (line.split("|") for line in PAGE.read_text(encoding="utf-8").splitlines())
+    told = {cells[1].strip(" `"): "|".join(cells[5:7]) for cells in lines if len(cells) == 8}
+
+    def row(it: Setting) -> str:
+        unit = f" {it.unit}" if it.unit else ""
+        return f"| `{it.key}` |{unit} | {it.range} | {it.shown_default} |{told.get(it.key, ' | ')}|\n"
+
+    return HEAD + "".join(map(row, rows))
+
+
+def for_client(rows: list[Setting]) -> str:
+    """The same as values of Python."""
+
+    def value(word: str) -> str:
+        return word.capitalize() if word in ("true", "false") else f'"{word}"'
+
+    def row(it: Setting) -> str:
+        if it.ends:
+            return f'Number({int(it.default):_}, {it.ends[0]:_}, {it.ends[1]:_}, "{it.unit}")'
+        words = "" if "true" in it.words else f", ({', '.join(map(value, it.words))})"
+        return f"Word({value(it.default)}{words})"
+
+    lines = (f'    "{it.key}": {row(it)},\n' for it in rows)
+    return f"KEYS: dict[str, Number | Word] = {{\n{''.join(lines)}}}\n"
+
+
+def for_man(rows: list[Setting]) -> str:
+    """The same as items of a man page."""
+    takes = ((it, f"{it.range} {it.unit}" if it.ends else it.range.replace("`", "")) for it in rows)
+    return "".join(
+        f".TP\n.B {it.key}\n{what}; {it.shown_default.strip('`')} where nobody sets it\n" for it, what in takes
+    )
+
+
+MADE = {"page": for_page, "client": for_client, "man": for_man}
+
+
+def main(words: list[str]) -> int:
+    """Prints the one that is asked for."""
+    text = (SPECS / "Rows.antt").read_text(encoding="utf-8")
+    rows = list(settings(text, (SPECS / "Words.antt").read_text(encoding="utf-8")))
+    if len(rows) != len(re.findall(r"^row_of \w+ =", text, re.MULTILINE)):
+        print("settings_table: a row isn't read; each is one line, as the others are", file=sys.stderr)
+        return 1
+    if len(words) != 1 or words[0] not in MADE:
+        print((__doc__ or "").strip(), file=sys.stderr)
+        return 2
+    print(MADE[words[0]](rows), end="")
+    return 0
+
+
+if __name__ == "__main__":
+    sys.exit(main(sys.argv[1:]))
