@@ -1,30 +1,33 @@
 -- Calls that aren't refused, and turns of settling, keep a story legal.
-use Rattle.std.proofs.Common.{◌≡◌, ℕ, ◌==◌, ◌+◌, ◌≤◌, List, [], ◌∷◌, length, Option, Some, None, is_none, Bool, true, false, not, cond, unwrap_or, refl, ap, sym, subst, ◌∙◌, arith}
+use Rattle.std.proofs.Common.{◌≡◌, ◌↔◌, ℕ, ◌==◌, ◌+◌, ◌≤◌, ◌<◌, List, [], ◌∷◌, length, length-append, Option, Some, None, is_some, is_none, Bool, true, false, not, cond, unwrap_or, refl, ap, sym, subst, ◌∙◌, arith}
 use Rattle.std.specs.Prelude.{nat_le}
 use Rattle.std.specs.Option.{option_map}
 use Rattle.std.proofs.lemmas.Bool.{leb-false}
-use Rattle.std.proofs.lemmas.Bool.Decides.{Decides-eqb}
+use Rattle.std.proofs.lemmas.Bool.Decides.{Decides-eqb, nat_tests}
 use Rattle.pd_text.specs.Name.{is_valid_name}
 use Rattle.pd_text.specs.Edit.{edit_refusal as fault_of_edit}
+use Rattle.pd_text.specs.Text.{AreLines, IsText}
+use Rattle.pd_text.specs.declared.line_edit.LineEdit.{LineEdit}
 use Rattle.pd_settings.specs.Settings.{replaced}
 use Rattle.pd_settings.specs.Keys.{key_named}
 use Rattle.pd_settings.specs.declared.fields.Settings.{Settings}
 use Rattle.pd_settings.specs.declared.keys.Key.{Key}
+use Rattle.pd_settings.specs.declared.values.Value.{Value}
 use Rattle.pd_book.specs.declared.act.Act.{Act}
-use Rattle.pd_book.specs.declared.act.Act.TheVariants.{Add, Edit, Remove, Set, Start}
+use Rattle.pd_book.specs.declared.act.Act.TheVariants.{Add, Edit, Remove, Set, Start, Finish, Abandon}
 use Rattle.pd_book.specs.declared.faults.BookFault.{BookFault}
-use Rattle.pd_book.specs.declared.faults.BookFault.TheVariants.{BadName, NameTaken, TooManyScripts, NoSuchScript, BadValue}
+use Rattle.pd_book.specs.declared.faults.BookFault.TheVariants.{BadName, NameTaken, TooManyScripts, NoSuchScript, BadValue, HistoryFull}
 use Rattle.pd_track.specs.declared.task.Task.{Task}
-use Rattle.pd_book.specs.Acts.{Named, texts, present, text_of, stands, now, started, jobs, job, next}
+use Rattle.pd_book.specs.Acts.{Named, texts, present, text_of, stands, now, started, without, jobs, job, next, ruling}
 use Rattle.pd_book.specs.Legal.{May, HasRoom, Legal}
 use Rattle.pd_book.specs.Story.{Story}
 use Rattle.pd_book.specs.Faults.{of_text}
-use Rattle.pd_book.specs.Refusals.{taken_room, full, or_else, name_refusal, text_refusal, absence, value_refusal, start_refusal, next_job}
-use Rattle.pd_book.specs.Accepted.{AddsAreLegal, EditsAreLegal, RemovesAreLegal, SetsAreLegal}
+use Rattle.pd_book.specs.Refusals.{taken_room, full, or_else, name_refusal, text_refusal, absence, value_refusal, add_refusal, edit_refusal, remove_refusal, set_refusal, start_refusal, next_job}
+use Rattle.pd_book.specs.Accepted.{IsLegalWith, AddsAreLegal, EditsAreLegal, RemovesAreLegal, SetsAreLegal, LegalAddsAreAccepted, LegalEditsAreAccepted, LegalRemovesAreAccepted, LegalSetsAreAccepted, StartsAreLegal, FinishesAreLegal, AbandonsAreLegal}
 use Rattle.pd_book.specs.Turns.{turned, after_turn, IsAtRest, StartsAreOutstanding, TurnsAreLegal}
 use Rattle.pd_book.proofs.Searches.{find_last}
 use Rattle.pd_book.proofs.Numbers.{job_number}
-use Rattle.pd_book.proofs.Calls.{has_room, no_fault}
+use Rattle.pd_book.proofs.Calls.{has_room, no_fault, fewer}
 use Rattle.pd_book.proofs.Replayed.{next_text}
 
 -- ---- acts that start and end no job
@@ -36,8 +39,8 @@ pub both_none : (first second : Option BookFault) → or_else first second ≡ N
 both_none None second h = (refl, h)
 both_none (Some fault) second h = absurd cc
 
-pub adds_legal : (story : Story) → Legal story.opening story.past → AddsAreLegal story
-adds_legal story l name text fits h =
+pub add_legal : (story : Story) → Legal story.opening story.past → (name : List ℕ) (text : List (List ℕ)) → IsText text → add_refusal story name ≡ None → IsLegalWith story (Add name text)
+add_legal story l name text fits h =
     let both = both_none (name_refusal story.past name) (full 1 story) h in
     go (is_valid_name name) refl (stands story.past name) refl (nat_le 1024 (length (texts story.past))) refl both.0 both.1
   where
@@ -48,8 +51,8 @@ adds_legal story l name text fits h =
     go true e true f c g h k = absurd cc
     go true e false f true g h k = absurd cc
 
-pub edits_legal : (story : Story) → Legal story.opening story.past → EditsAreLegal story
-edits_legal story l name edit lines h =
+edit_legal : (story : Story) → Legal story.opening story.past → (name : List ℕ) (edit : LineEdit) → AreLines edit.insert → edit_refusal story name edit ≡ None → IsLegalWith story (Edit name edit)
+edit_legal story l name edit lines h =
     let both = both_none (text_refusal (present story.past name) edit) (full 1 story) h in
     go (present story.past name) refl both.0 both.1
   where
@@ -61,8 +64,8 @@ edits_legal story l name edit lines h =
         let fits : fault_of_edit (text_of story.past name) edit ≡ None = ap (λ (t : List (List ℕ)). fault_of_edit t edit) is ∙ no_fault of_text (fault_of_edit text edit) k in
         ((here, fits, lines), l, one_more story (Edit name edit) refl f)
 
-pub removes_legal : (story : Story) → Legal story.opening story.past → RemovesAreLegal story
-removes_legal story l name h =
+remove_legal : (story : Story) → Legal story.opening story.past → (name : List ℕ) → remove_refusal story name ≡ None → IsLegalWith story (Remove name)
+remove_legal story l name h =
     let both = both_none (absence story.past name) (full 1 story) h in
     go (stands story.past name) refl both.0 both.1
   where
@@ -70,8 +73,8 @@ removes_legal story l name h =
     go true e h k = (e, l, one_more story (Remove name) refl k)
     go false e h k = absurd cc
 
-pub sets_legal : (story : Story) → Legal story.opening story.past → SetsAreLegal story
-sets_legal story l name key value named h =
+set_legal : (story : Story) → Legal story.opening story.past → (name : List ℕ) (key : Key) (value : Value) → key_named name ≡ Some key → set_refusal story name value ≡ None → IsLegalWith story (Set key value)
+set_legal story l name key value named h =
     let both = both_none (value_refusal (now story.opening story.past) (key_named name) value) (full 1 story) h in
     go (replaced (now story.opening story.past) key value) refl (ap (λ (o : Option Key). value_refusal (now story.opening story.past) o value) (sym named) ∙ both.0) both.1
   where
@@ -79,7 +82,91 @@ sets_legal story l name key value named h =
     go None e k f = absurd cc
     go (Some settings) e k f = (rw e refl, l, one_more story (Set key value) refl f)
 
+-- ---- legal acts are those of calls that aren't refused
+
+room_left : (more : ℕ) (story : Story) → taken_room story + more ≤ 65536 → full more story ≡ None
+room_left more story h = ap (λ (b : Bool). cond b None (Some HistoryFull)) (fits (taken_room story + more) h)
+  where
+    fits : (n : ℕ) → n ≤ 65536 → nat_le n 65536 ≡ true
+    fits n le = grind (arith, nat_tests, le)
+
+one_left : (story : Story) (act : Act) → jobs story.opening (act ∷ story.past) ≡ jobs story.opening story.past → HasRoom story.opening (act ∷ story.past) → full 1 story ≡ None
+one_left story act same room = room_left 1 story (omega (arith, room, ap length same))
+
+none_of_both : (first second : Option BookFault) → first ≡ None → second ≡ None → or_else first second ≡ None
+none_of_both first second e f = rw (e, f) refl
+
+not_over : (n m : ℕ) → n < m → nat_le m n ≡ false
+not_over n m h = grind (arith, nat_tests, h)
+
+adds_exactly : (story : Story) → Legal story.opening story.past → (name : List ℕ) (text : List (List ℕ)) → IsLegalWith story (Add name text) ↔ (IsText text × (add_refusal story name ≡ None))
+adds_exactly story l name text = (allowed, λ h. add_legal story l name text h.0 h.1)
+  where
+    allowed : IsLegalWith story (Add name text) → IsText text × (add_refusal story name ≡ None)
+    allowed (may, older, room) =
+        let few : nat_le 1024 (length (texts story.past)) ≡ false = not_over (length (texts story.past)) 1024 may.2 in
+        (may.3, none_of_both (name_refusal story.past name) (full 1 story) (rw (may.0, may.1, few) refl) (one_left story (Add name text) refl room))
+
+edits_exactly : (story : Story) → Legal story.opening story.past → (name : List ℕ) (edit : LineEdit) → IsLegalWith story (Edit name edit) ↔ (AreLines edit.insert × (edit_refusal story name edit ≡ None))
+edits_exactly story l name edit = (allowed, λ h. edit_legal story l name edit h.0 h.1)
+  where
+    refused : (o : Option (List (List ℕ))) → is_some o ≡ true → fault_of_edit (unwrap_or o []) edit ≡ None → text_refusal o edit ≡ None
+    refused None e f = absurd cc
+    refused (Some text) e f = ap (option_map of_text) f
+
+    allowed : IsLegalWith story (Edit name edit) → AreLines edit.insert × (edit_refusal story name edit ≡ None)
+    allowed (may, older, room) =
+        (may.2, none_of_both (text_refusal (present story.past name) edit) (full 1 story) (refused (present story.past name) may.0 may.1) (one_left story (Edit name edit) refl room))
+
+removes_exactly : (story : Story) → Legal story.opening story.past → (name : List ℕ) → IsLegalWith story (Remove name) ↔ (remove_refusal story name ≡ None)
+removes_exactly story l name = (allowed, remove_legal story l name)
+  where
+    allowed : IsLegalWith story (Remove name) → remove_refusal story name ≡ None
+    allowed (may, older, room) = none_of_both (absence story.past name) (full 1 story) (rw may refl) (one_left story (Remove name) refl room)
+
+sets_exactly : (story : Story) → Legal story.opening story.past → (name : List ℕ) (key : Key) (value : Value) → key_named name ≡ Some key → IsLegalWith story (Set key value) ↔ (set_refusal story name value ≡ None)
+sets_exactly story l name key value named = (allowed, set_legal story l name key value named)
+  where
+    known : (o : Option Settings) → is_some o ≡ true → cond (is_none o) (Some BadValue) None ≡ None
+    known None e = absurd cc
+    known (Some settings) e = refl
+
+    allowed : IsLegalWith story (Set key value) → set_refusal story name value ≡ None
+    allowed (may, older, room) =
+        none_of_both (value_refusal (now story.opening story.past) (key_named name) value) (full 1 story)
+        (ap (λ (o : Option Key). value_refusal (now story.opening story.past) o value) named ∙ known (replaced (now story.opening story.past) key value) may) (one_left story (Set key value) refl room)
+
+pub adds_legal : (story : Story) → Legal story.opening story.past → AddsAreLegal story
+adds_legal story l name text fits h = add_legal story l name text fits h
+
+pub edits_legal : (story : Story) → Legal story.opening story.past → EditsAreLegal story
+edits_legal story l name edit lines h = edit_legal story l name edit lines h
+
+pub removes_legal : (story : Story) → Legal story.opening story.past → RemovesAreLegal story
+removes_legal story l name h = remove_legal story l name h
+
+pub sets_legal : (story : Story) → Legal story.opening story.past → SetsAreLegal story
+sets_legal story l name key value named h = set_legal story l name key value named h
+
+pub adds_accepted : (story : Story) → Legal story.opening story.past → LegalAddsAreAccepted story
+adds_accepted story l name text = (adds_exactly story l name text).0
+
+pub edits_accepted : (story : Story) → Legal story.opening story.past → LegalEditsAreAccepted story
+edits_accepted story l name edit = (edits_exactly story l name edit).0
+
+pub removes_accepted : (story : Story) → Legal story.opening story.past → LegalRemovesAreAccepted story
+removes_accepted story l name = (removes_exactly story l name).0
+
+pub sets_accepted : (story : Story) → Legal story.opening story.past → LegalSetsAreAccepted story
+sets_accepted story l name key value named = (sets_exactly story l name key value named).0
+
 -- ---- a start and its finish
+
+abbrev task_at : Story → ℕ → List ℕ → Task
+task_at story number name = record { number = number; name = name; text = text_of story.past name; settings = now story.opening story.past }
+
+abbrev task_now : Story → List ℕ → Task
+task_now story name = task_at story (started story.past + 1) name
 
 abbrev task_for : Story → Named → Task
 task_for story script = record { number = started story.past + 1; name = script.0; text = script.1; settings = now story.opening story.past }
@@ -142,3 +229,52 @@ turn_of story script q e h =
 
 pub turns_legal : (story : Story) → IsAtRest story → TurnsAreLegal story
 turns_legal story q task h k = job_from (λ (t : Task). IsAtRest (after_turn story t)) story task h (λ script e. turn_of story script q e k)
+
+-- ---- legal starts and ends of jobs
+
+start_legal : (story : Story) → Legal story.opening story.past → (script : Named) → next story.past ≡ Some script → full 2 story ≡ None → IsLegalWith story (Start (started story.past + 1) script.0)
+start_legal story l script e free =
+    let text : text_of story.past script.0 ≡ script.1 = next_text story.opening story.past script.0 script.1 l e in
+    let room = two_more story free in
+    ((refl, e ∙ ap (λ (t : List (List ℕ)). Some (script.0, t)) (sym text)), l, omega (arith, room, length-append (jobs story.opening story.past) (task_now story script.0 ∷ [])))
+
+pub starts_legal : (story : Story) → Legal story.opening story.past → StartsAreLegal story
+starts_legal story l number name = (allowed, back)
+  where
+    allowed : IsLegalWith story (Start number name) → (task : Task) × (next_job story ≡ Some task) × (start_refusal story ≡ None) × (number ≡ task.number) × (name ≡ task.name)
+    allowed (may, older, room) =
+        let some : is_some (next story.past) ≡ true = rw may.1 refl in
+        let free : full 2 story ≡ None = room_left 2 story (omega (arith, room, length-append (jobs story.opening story.past) (task_at story number name ∷ []))) in
+        (task_for story (name, text_of story.past name), ap (option_map (task_for story)) may.1, rw some free, may.0, refl)
+
+    back : (task : Task) × (next_job story ≡ Some task) × (start_refusal story ≡ None) × (number ≡ task.number) × (name ≡ task.name) → IsLegalWith story (Start number name)
+    back (task, h, r, n, m) =
+        rw (n, m) (job_from (λ (t : Task). IsLegalWith story (Start t.number t.name)) story task h (λ script e. start_legal story l script e (start_room story script e r)))
+
+-- an end of a job needs no further room
+end_room : (story : Story) (act : Act) (number : ℕ) (task : Task) → Legal story.opening story.past → job story.opening story.past number ≡ Some task → jobs story.opening (act ∷ story.past) ≡ without number (jobs story.opening story.past)
+    → HasRoom story.opening (act ∷ story.past)
+end_room story act number task l found gone =
+    let less : length (without number (jobs story.opening story.past)) < length (jobs story.opening story.past) = fewer number (jobs story.opening story.past) task found in
+    let room : HasRoom story.opening story.past = has_kept story.opening story.past l in
+    omega (arith, less, room, ap length gone)
+  where
+    has_kept : (opening : Settings) (past : List Act) → Legal opening past → HasRoom opening past
+    has_kept opening [] k = omega arith
+    has_kept opening (first ∷ older) k = k.2
+
+pub finishes_legal : (story : Story) → Legal story.opening story.past → FinishesAreLegal story
+finishes_legal story l number ruled = (λ h. h.0, λ h. (h, l, end_room story (Finish number ruled) number h.0 l h.1 refl))
+
+pub abandons_legal : (story : Story) → Legal story.opening story.past → AbandonsAreLegal story
+abandons_legal story l number = (λ h. found (job story.opening story.past number) h.0, back)
+  where
+    found : (o : Option Task) → (task : Task) × (o ≡ Some task) → is_some o ≡ true
+    found o (task, e) = rw e refl
+
+    some_of : (o : Option Task) → is_some o ≡ true → (task : Task) × (o ≡ Some task)
+    some_of None e = absurd cc
+    some_of (Some task) e = (task, refl)
+
+    back : is_some (job story.opening story.past number) ≡ true → IsLegalWith story (Abandon number)
+    back e = let t = some_of (job story.opening story.past number) e in (t, l, end_room story (Abandon number) number t.0 l t.1 refl)

@@ -73,7 +73,7 @@ other_kept j k f x e =
     let same : j ≡ x.number = (Decides-eqb j x.number).0 e in
     let no : (k == x.number) ≡ false = apart k x.number (λ q. f (same ∙ sym q)) in ap not no
 
--- an outstanding job behind the end of another
+-- an outstanding job after the end of another
 outlives : (opening : Settings) (older : List Act) (j k : ℕ) (h : Task) → find (λ (x : Task). j == x.number) (without k (jobs opening older)) ≡ Some h
     → ((j == k) ≡ false) × (job opening older j ≡ Some h)
 outlives opening older j k h e =

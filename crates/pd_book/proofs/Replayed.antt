@@ -15,7 +15,7 @@ use Rattle.pd_book.specs.declared.script.Script.{Script}
 use Rattle.pd_book.specs.declared.script.State.{State}
 use Rattle.pd_book.specs.declared.script.State.TheVariants.{Pending, Running, Answered}
 use Rattle.pd_track.specs.declared.task.Task.{Task}
-use Rattle.pd_book.specs.Acts.{Named, texts, stands, text_of, since, answered, busy, ended, fresh, job, next, waits, ruling}
+use Rattle.pd_book.specs.Acts.{Named, texts, stands, text_of, since, answered, busy, ended, is_unchanged, job, next, waits, ruling}
 use Rattle.pd_book.specs.Legal.{Legal}
 use Rattle.pd_book.specs.Kept.{Entry, is_pending, pending_state, runs, with_state}
 use Rattle.pd_book.specs.Replay.{scripts_of, settle, give_up}
@@ -94,10 +94,10 @@ runs_at opening past h t o (Running k) a false w =
     apart k h.number (λ e. let yes : began past h.name h.number ≡ true = subst (λ (i : ℕ). began past h.name i ≡ true) e a.1 in cc)
 
 pub runs_fresh : (opening : Settings) (past : List Act) (h : Task) → Legal opening past → AllByRecursion (Stands opening past) (scripts_of opening past) → job opening past h.number ≡ Some h
-    → runs (option_map (λ (s : Script). s.state) (lookup (bytes_eq h.name) (scripts_of opening past))) h.number ≡ fresh past h
+    → runs (option_map (λ (s : Script). s.state) (lookup (bytes_eq h.name) (scripts_of opening past))) h.number ≡ is_unchanged past h
 runs_fresh opening past h l a j = go (lookup (bytes_eq h.name) (scripts_of opening past)) refl
   where
-    go : (r : Option Script) → lookup (bytes_eq h.name) (scripts_of opening past) ≡ r → runs (option_map (λ (s : Script). s.state) r) h.number ≡ fresh past h
+    go : (r : Option Script) → lookup (bytes_eq h.name) (scripts_of opening past) ≡ r → runs (option_map (λ (s : Script). s.state) r) h.number ≡ is_unchanged past h
     go (Some s) q =
         let at = found_name h.name (scripts_of opening past) s q (Stands opening past) a in
         rw (ap is_some at.0) (runs_at opening past h s.text (open_job opening past h.number h l j) s.state at.1 (began past h.name h.number) refl)
@@ -122,12 +122,12 @@ standing opening (Finish k r ∷ past) l = go r (standing opening past l.1) l.0.
     go Taken a q =
         rw l.0.1 (all_map _ _ _ (scripts_of opening past) (taken_each opening past k l.0.0 l.1 l.0.1 (and_right (stands past l.0.0.name) (began past l.0.0.name l.0.0.number) (taken_if _ q))) a)
     go Stale a q = all_imp _ _ (scripts_of opening past) (stale_each opening past k l.0.0 l.1 l.0.1 (stale_if _ q)) a
-standing opening (Abandon k ∷ past) l = rw l.0.1 (go (fresh past l.0.0) refl (standing opening past l.1))
+standing opening (Abandon k ∷ past) l = rw l.0.1 (go (is_unchanged past l.0.0) refl (standing opening past l.1))
   where
     h : Task
     h = l.0.0
 
-    go : (b : Bool) → fresh past h ≡ b → AllByRecursion (Stands opening past) (scripts_of opening past) → AllByRecursion (Stands opening (Abandon k ∷ past)) (give_up (Some h) (scripts_of opening past))
+    go : (b : Bool) → is_unchanged past h ≡ b → AllByRecursion (Stands opening past) (scripts_of opening past) → AllByRecursion (Stands opening (Abandon k ∷ past)) (give_up (Some h) (scripts_of opening past))
     go b q a = rw is (by b q a)
       where
         num : h.number ≡ k
@@ -139,13 +139,13 @@ standing opening (Abandon k ∷ past) l = rw l.0.1 (go (fresh past l.0.0) refl (
         is : runs (option_map (λ (s : Script). s.state) (lookup (bytes_eq h.name) (scripts_of opening past))) h.number ≡ b
         is = runs_fresh opening past h l.1 a mine ∙ q
 
-        by : (c : Bool) → fresh past h ≡ c → AllByRecursion (Stands opening past) (scripts_of opening past)
+        by : (c : Bool) → is_unchanged past h ≡ c → AllByRecursion (Stands opening past) (scripts_of opening past)
             → AllByRecursion (Stands opening (Abandon k ∷ past)) (cond c (with_state (bytes_eq h.name) Pending (scripts_of opening past)) (scripts_of opening past))
         by true q a = all_map _ _ _ (scripts_of opening past) (abandoned_each opening past k h l.1 l.0.1 (and_right (stands past h.name) (began past h.name h.number) q)) a
         by false q a = all_imp _ _ (scripts_of opening past) (left_each opening past k h l.1 l.0.1 q) a
 
 pub ruling_kept : (opening : Settings) (past : List Act) (h : Task) → Legal opening past → job opening past h.number ≡ Some h
-    → runs (option_map (λ (s : Script). s.state) (lookup (bytes_eq h.name) (scripts_of opening past))) h.number ≡ fresh past h
+    → runs (option_map (λ (s : Script). s.state) (lookup (bytes_eq h.name) (scripts_of opening past))) h.number ≡ is_unchanged past h
 ruling_kept opening past h l j = runs_fresh opening past h l (standing opening past l) j
 
 waits_is : (opening : Settings) (past : List Act) (e : Entry) → Stands opening past e → waits past (named_text e) ≡ is_pending e

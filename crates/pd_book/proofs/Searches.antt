@@ -70,7 +70,7 @@ find_filter {A} p q (x ∷ xs) f = go (q x) (p x) refl (f x) (find_filter p q xs
     go false true e g k = absurd (let bad = g e in cc)
     go false false e g k = k
 
--- what is found behind a filter passes it
+-- what is found after a filter passes it
 pub found_kept : {A : Type 0} (p q : A → Bool) (xs : List A) (y : A) → find p (filter q xs) ≡ Some y → q y ≡ true
 found_kept p q [] y h = absurd cc
 found_kept {A} p q (x ∷ xs) y h = go (q x) refl h (found_kept p q xs y)

@@ -1,6 +1,6 @@
 -- The headline: what is answered and taken, said by positions in the acts.
 use Rattle.std.proofs.Common.{◌≡◌, ◌↔◌, ◌⊎◌, inl, inr, ℕ, ◌==◌, List, [], ◌∷◌, ◌++◌, append_assoc, map, Option, Some, None, is_some, Bool, true, false, ◌&&◌, ◌||◌, cond, refl, ap, sym, subst, ◌∙◌, arith}
-use Rattle.std.specs.Prelude.{IsSome}
+use Rattle.std.specs.Prelude.{IsSome, IfSome}
 use Rattle.std.specs.List.{AllByRecursion, All, list_any}
 use Rattle.std.specs.Map.{lookup}
 use Rattle.std.specs.Str.{bytes_eq}
@@ -10,16 +10,17 @@ use Rattle.std.proofs.lemmas.Slice.Eq.{bytes_eq-Decides}
 use Rattle.std.proofs.lemmas.Bool.Decides.{Decides-eqb}
 use Rattle.pd_settings.specs.declared.fields.Settings.{Settings}
 use Rattle.pd_run.specs.declared.verdicts.Verdict.{Verdict}
+use Rattle.pd_run.specs.Grammatical.{IsVerdictOf, VerdictsAreGrammatical, NoOtherVerdicts}
 use Rattle.pd_run.specs.Run.{verdict_of}
 use Rattle.pd_book.specs.declared.act.Act.{Act}
 use Rattle.pd_book.specs.declared.act.Act.TheVariants.{Add, Edit, Remove, Set, Start, Finish, Abandon}
 use Rattle.pd_book.specs.declared.act.Ruling.{Ruling}
 use Rattle.pd_book.specs.declared.act.Ruling.TheVariants.{Taken, Stale}
 use Rattle.pd_book.specs.declared.row.Row.{Row}
-use Rattle.pd_book.specs.Acts.{Named, texts, text_of, stands, now, changes, since, starts, finishes, finished, ended, answered, fresh, waits, ruling}
-use Rattle.pd_book.specs.Report.{row, shown, scratch_row}
+use Rattle.pd_book.specs.Acts.{Named, texts, text_of, stands, now, changes, since, starts, finishes, finished, ended, answered, is_unchanged, waits, ruling}
+use Rattle.pd_book.specs.Report.{ReportView, IsGrammarsRun, IsFromScratch, row, shown, scratch_row, scratch}
 use Rattle.pd_book.specs.Legal.{Legal}
-use Rattle.pd_book.specs.Headline.{AnsweredSinceChange, UnchangedSinceStart, CurrentWhenAnswered, RowsAreScripts, ScratchWhenAllAnswered, pending, AreOrPending, RowsAreOfScratch, TakenWhenUnchanged}
+use Rattle.pd_book.specs.Headline.{AnsweredSinceChange, UnchangedSinceStart, CurrentWhenAnswered, RowsAreScripts, VerdictsAreGrammars, ScratchWhenAllAnswered, WholeWhenAllAnswered, pending, AreOrPending, RowsAreOfScratch, RowsAreOfWhole, TakenWhenUnchanged}
 use Rattle.pd_book.proofs.Searches.{all_imp, lookup_push, not_true}
 use Rattle.pd_book.proofs.Faithful.{bytes_refl, bytes_flip, lookup-edited_other, lookup-removed_other}
 use Rattle.pd_book.proofs.Numbers.{ended_small, finished_ended}
@@ -72,7 +73,7 @@ parted name (a ∷ past) = go (changes name a) refl (parted name past)
     go true e before = record { rest = a ∷ past; split = rw e refl; same = rw e tt }
     go false e before = record { rest = before.rest; split = rw e (ap (λ (xs : List Act). a ∷ xs) before.split); same = rw e (e, before.same) }
 
--- acts that don't change the script stand in front of the rest
+-- acts that don't change the script are in front of the rest
 since-same : (name : List ℕ) (xs ys : List Act) → AllByRecursion (Same name) xs → since name (xs ++ ys) ≡ xs ++ since name ys
 since-same name [] ys h = refl
 since-same name (x ∷ xs) ys h = rw h.0 (ap (λ (zs : List Act). x ∷ zs) (since-same name xs ys h.1))
@@ -165,8 +166,8 @@ between : (past later ends mid older : List Act) (start finish : Act) → past �
 between past later ends mid older start finish e f = e ∙ (ap (λ (xs : List Act). xs ++ start ∷ older) f ∙ append_assoc ends (finish ∷ mid) (start ∷ older))
 
 -- a start among the acts since a change, in all acts
-behind : (past front rest later earlier : List Act) (start : Act) → past ≡ front ++ rest → front ≡ later ++ start ∷ earlier → past ≡ later ++ start ∷ (earlier ++ rest)
-behind past front rest later earlier start e f = e ∙ (ap (λ (xs : List Act). xs ++ rest) f ∙ append_assoc later (start ∷ earlier) rest)
+after : (past front rest later earlier : List Act) (start : Act) → past ≡ front ++ rest → front ≡ later ++ start ∷ earlier → past ≡ later ++ start ∷ (earlier ++ rest)
+after past front rest later earlier start e f = e ∙ (ap (λ (xs : List Act). xs ++ rest) f ∙ append_assoc later (start ∷ earlier) rest)
 
 -- the acts on both sides of one leave the script as it was, where all do
 parted_same : (n : List ℕ) (xs ys zs : List Act) (act : Act) → xs ≡ ys ++ act ∷ zs → AllByRecursion (Same n) xs → AllByRecursion (Same n) ys × AllByRecursion (Same n) zs
@@ -174,9 +175,9 @@ parted_same n xs ys zs act e h =
     let split : AllByRecursion (Same n) (ys ++ act ∷ zs) = subst (λ (acts : List Act). AllByRecursion (Same n) acts) e h in
     (all_front (Same n) ys (act ∷ zs) split, (all_back (Same n) ys (act ∷ zs) split).1)
 
--- a finished job's finish stands behind its start
-finished_behind : (opening : Settings) (past later older : List Act) (j : ℕ) (n : List ℕ) → past ≡ later ++ Start j n ∷ older → Legal opening past → finished past j ≡ true → finished later j ≡ true
-finished_behind opening past later older j n e l h =
+-- a finished job's finish follows its start
+finished_after : (opening : Settings) (past later older : List Act) (j : ℕ) (n : List ℕ) → past ≡ later ++ Start j n ∷ older → Legal opening past → finished past j ≡ true → finished later j ≡ true
+finished_after opening past later older j n e l h =
     finished_later opening later older j n (legal_before opening later (Start j n ∷ older) (subst (λ (xs : List Act). Legal opening xs) e l)) (subst (λ (xs : List Act). finished xs j ≡ true) e h)
 
 answered_split : (opening : Settings) (past : List Act) (n : List ℕ) → Legal opening past → reached past n ≡ true → AnsweredSinceChange n past
@@ -197,9 +198,9 @@ answered_split opening past n l h = starting (parted n past) (begun (finished pa
 
     starting : Parted n past → Begun (finished past) n (since n past) → AnsweredSinceChange n past
     starting p b =
-        let whole = behind past (since n past) p.rest b.later b.earlier (Start b.number n) p.split b.split in
+        let whole = after past (since n past) p.rest b.later b.earlier (Start b.number n) p.split b.split in
         let same = parted_same n (since n past) b.later b.earlier (Start b.number n) b.split p.same in
-        finishing b.number b.later (b.earlier ++ p.rest) whole same.0 (done b.number b.later (finished_behind opening past b.later (b.earlier ++ p.rest) b.number n whole l b.passes))
+        finishing b.number b.later (b.earlier ++ p.rest) whole same.0 (done b.number b.later (finished_after opening past b.later (b.earlier ++ p.rest) b.number n whole l b.passes))
 
 split_answered : (past : List Act) (n : List ℕ) → AnsweredSinceChange n past → reached past n ≡ true
 split_answered past n a =
@@ -279,6 +280,65 @@ from_scratch opening past h = ap (λ (rows : List Row). record { settings = now 
         let head : row opening past x ≡ scratch_row (now opening past) x = ap (λ (v : Option Verdict). record { name = x.0; text = x.1; verdict = v }) (one x (answered past x.0) k.0) in
         let rest = each xs k.1 in cc
 
+-- ---- in the grammar's words
+
+-- each verdict that is shown is a run
+pub rows_grammars : VerdictsAreGrammatical → (opening : Settings) (past : List Act) → VerdictsAreGrammars opening past (shown opening past)
+rows_grammars law opening past = All-map (IsGrammarsRun (now opening past)) (row opening past) (texts past) (All-from_recursion _ (texts past) (each (texts past)))
+  where
+    one : (p : Named) (b : Bool) → IsGrammarsRun (now opening past) (record { name = p.0; text = p.1; verdict = cond b (Some (verdict_of p.1 (now opening past))) None })
+    one p true = law p.1 (now opening past)
+    one p false = tt
+
+    each : (ps : List Named) → AllByRecursion (λ (p : Named). IsGrammarsRun (now opening past) (row opening past p)) ps
+    each [] = tt
+    each (p ∷ ps) = (one p (answered past p.0), each ps)
+
+pub scratch_is : VerdictsAreGrammatical → (scripts : List Named) (settings : Settings) → IsFromScratch scripts settings (scratch scripts settings)
+scratch_is law scripts settings = record {
+  under = refl;
+  rows = named scripts;
+  runs = All-map (IsGrammarsRun settings) (scratch_row settings) scripts (All-from_recursion _ scripts (run scripts));
+  none_pending = All-map (λ (row : Row). IsSome row.verdict) (scratch_row settings) scripts (All-from_recursion _ scripts (some scripts));
+}
+  where
+    named : (xs : List Named) → map (λ (r : Row). (r.name, r.text)) (map (scratch_row settings) xs) ≡ xs
+    named [] = refl
+    named (x ∷ xs) = ap (λ (ys : List Named). x ∷ ys) (named xs)
+
+    run : (xs : List Named) → AllByRecursion (λ (p : Named). IsGrammarsRun settings (scratch_row settings p)) xs
+    run [] = tt
+    run (x ∷ xs) = (law x.1 settings, run xs)
+
+    some : (xs : List Named) → AllByRecursion (λ (p : Named). IsSome (scratch_row settings p).verdict) xs
+    some [] = tt
+    some (x ∷ xs) = (refl, some xs)
+
+-- a row with the verdict of its run is the one from scratch
+row_one : NoOtherVerdicts → (settings : Settings) (r : Row) → IsGrammarsRun settings r → IsSome r.verdict → r ≡ scratch_row settings (r.name, r.text)
+row_one law settings r h k = go r.verdict refl h k
+  where
+    go : (v : Option Verdict) → r.verdict ≡ v → IfSome v (IsVerdictOf r.text settings) → is_some v ≡ true → r ≡ scratch_row settings (r.name, r.text)
+    go None e f g = absurd cc
+    go (Some v) e f g = ap (λ (o : Option Verdict). record { name = r.name; text = r.text; verdict = o }) (e ∙ ap (λ (x : Verdict). Some x) (law r.text settings v f))
+
+pub scratch_one : NoOtherVerdicts → (scripts : List Named) (settings : Settings) (report : ReportView) → IsFromScratch scripts settings report → report ≡ scratch scripts settings
+scratch_one law scripts settings report is =
+    let whole : report ≡ record { settings = settings; rows = report.rows } = ap (λ (s : Settings). record { settings = s; rows = report.rows }) is.under in
+    whole ∙ ap (λ (rs : List Row). record { settings = settings; rows = rs }) (each report.rows (by_recursion _ _ is.runs) (by_recursion _ _ is.none_pending) ∙ ap (map (scratch_row settings)) is.rows)
+  where
+    each : (rs : List Row) → AllByRecursion (IsGrammarsRun settings) rs → AllByRecursion (λ (r : Row). IsSome r.verdict) rs → rs ≡ map (scratch_row settings) (map (λ (r : Row). (r.name, r.text)) rs)
+    each [] h k = refl
+    each (r ∷ rs) h k =
+        let head : r ≡ scratch_row settings (r.name, r.text) = row_one law settings r h.0 k.0 in
+        let rest = each rs h.1 k.1 in cc
+
+pub rows_of_whole : VerdictsAreGrammatical → (opening : Settings) (past : List Act) → RowsAreOfWhole opening past (shown opening past)
+rows_of_whole law opening past = (scratch (texts past) (now opening past), scratch_is law (texts past) (now opening past), rows_of_scratch opening past)
+
+pub whole_answered : VerdictsAreGrammatical → (opening : Settings) (past : List Act) → WholeWhenAllAnswered opening past (shown opening past)
+whole_answered law opening past h = subst (IsFromScratch (texts past) (now opening past)) (sym (from_scratch opening past h)) (scratch_is law (texts past) (now opening past))
+
 -- ---- taken, by positions
 
 taken_when : (b : Bool) → cond b Taken Stale ≡ Taken → b ≡ true
@@ -293,13 +353,13 @@ taken opening past l j task open_task = (there, back)
 
     there : ruling past task ≡ Taken → UnchangedSinceStart task past
     there h =
-        let b = begun (λ (i : ℕ). i == task.number) n (since n past) (and_right (stands past n) (began past n task.number) (taken_when (fresh past task) h)) in
+        let b = begun (λ (i : ℕ). i == task.number) n (since n past) (and_right (stands past n) (began past n task.number) (taken_when (is_unchanged past task) h)) in
         let p = parted n past in
         let num : b.number ≡ task.number = (Decides-eqb b.number task.number).0 b.passes in
         let same : AllByRecursion (Same n) (b.later ++ Start b.number n ∷ b.earlier) = subst (λ (xs : List Act). AllByRecursion (Same n) xs) b.split p.same in record {
           later = b.later;
           earlier = b.earlier ++ p.rest;
-          split = behind past (since n past) p.rest b.later b.earlier (Start b.number n) p.split b.split ∙ ap (λ (i : ℕ). b.later ++ Start i n ∷ (b.earlier ++ p.rest)) num;
+          split = after past (since n past) p.rest b.later b.earlier (Start b.number n) p.split b.split ∙ ap (λ (i : ℕ). b.later ++ Start i n ∷ (b.earlier ++ p.rest)) num;
           later_unchanged = All-from_recursion (Same n) b.later (all_front (Same n) b.later (Start b.number n ∷ b.earlier) same);
         }
 

@@ -1,4 +1,4 @@
--- What a list of acts says of scripts, settings and jobs. The newest act stands first.
+-- What a list of acts says of scripts, settings and jobs. The newest act comes first.
 use Rattle.std.specs.Prelude.{ℕ, ◌+◌, ◌==◌, Bool, true, false, not, ◌&&◌, List, [], ◌∷◌, ◌++◌, map, filter, find, if◌then◌else◌, Option, is_some, unwrap_or}
 use Rattle.std.specs.List.{list_any}
 use Rattle.std.specs.Map.{lookup}
@@ -131,9 +131,9 @@ abbrev pub job : Settings → List Act → ℕ → Option Task
 job opening past j = find (λ (task : Task). j == task.number) (jobs opening past)
 
 -- the script of an outstanding job stands and hasn't changed since the job's start
-abbrev pub fresh : List Act → Task → Bool
-fresh past task = stands past task.name && list_any (starts (λ j. j == task.number) task.name) (since task.name past)
+abbrev pub is_unchanged : List Act → Task → Bool
+is_unchanged past task = stands past task.name && list_any (starts (λ j. j == task.number) task.name) (since task.name past)
 
 -- what a finish of an outstanding job is
 abbrev pub ruling : List Act → Task → Ruling
-ruling past task = if fresh past task then Taken else Stale
+ruling past task = if is_unchanged past task then Taken else Stale

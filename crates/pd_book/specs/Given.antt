@@ -10,7 +10,7 @@ use Rattle.pd_book.specs.declared.faults.FinishFault.{FinishFault}
 use Rattle.pd_book.specs.declared.faults.FinishFault.TheVariants.{NoSuchJob}
 use Rattle.pd_track.specs.declared.task.Task.{Task}
 use Rattle.pd_book.specs.Acts.{job, next, ruling}
-use Rattle.pd_track.specs.Reuse.{Handed}
+use Rattle.pd_track.specs.Reuse.{JobView}
 use Rattle.pd_book.specs.Story.{Story, handed_task, told, told_start}
 use Rattle.pd_book.specs.Refusals.{add_refusal, edit_refusal, remove_refusal, set_refusal, start_refusal, next_job, fault_of, finish_fault}
 
@@ -37,7 +37,7 @@ GivesSet old name value reply new =
     GivesChange (set_refusal old name value) old reply (IsSomeAnd (key_named name) (λ key. new ≡ told old (Set key value))) new
 
 -- a start: the job of the first script that waits, or none
-abbrev pub GivesStart : Story → Result (Option Handed) BookFault → Story → Type 0
+abbrev pub GivesStart : Story → Result (Option JobView) BookFault → Story → Type 0
 GivesStart old reply new =
     MatchResult reply
     (λ given. (start_refusal old ≡ None) × (handed_task given ≡ next_job old) × (new ≡ told_start old (handed_task given)))

@@ -1,4 +1,4 @@
--- The headline, said by positions in the list of acts. The newest act stands first.
+-- The headline, said by positions in the list of acts. The newest act comes first.
 use Rattle.std.specs.Prelude.{◌≡◌, ◌↔◌, ◌⊎◌, ℕ, false, List, [], ◌∷◌, ◌++◌, map, All, Some, None, IsSome}
 use Rattle.pd_settings.specs.declared.fields.Settings.{Settings}
 use Rattle.pd_book.specs.declared.act.Act.{Act}
@@ -7,8 +7,8 @@ use Rattle.pd_book.specs.declared.act.Ruling.{Ruling}
 use Rattle.pd_book.specs.declared.act.Ruling.TheVariants.{Taken}
 use Rattle.pd_book.specs.declared.row.Row.{Row}
 use Rattle.pd_track.specs.declared.task.Task.{Task}
-use Rattle.pd_book.specs.Acts.{changes, texts, now, job, ruling}
-use Rattle.pd_book.specs.Report.{Shown, IsRunUnder, scratch, owed}
+use Rattle.pd_book.specs.Acts.{Named, changes, texts, now, job, ruling}
+use Rattle.pd_book.specs.Report.{ReportView, IsRunUnder, IsGrammarsRun, IsFromScratch, scratch, owed}
 
 -- none of these acts changes the script of this name
 abbrev pub Unchanged : List ℕ → List Act → Type 0
@@ -35,19 +35,23 @@ pub record UnchangedSinceStart (task : Task) (past : List Act) : Type 0 where
   pub later_unchanged : Unchanged task.name later
 
 -- a row has a verdict exactly when a job started since the last change of its script was answered
-abbrev pub CurrentWhenAnswered : List Act → Shown → Type 0
+abbrev pub CurrentWhenAnswered : List Act → ReportView → Type 0
 CurrentWhenAnswered past report = All (λ (row : Row). IsSome row.verdict ↔ AnsweredSinceChange row.name past) report.rows
 
 -- the rows are the scripts that stand, with their present texts, in order of adding
-abbrev pub RowsAreScripts : List Act → Shown → Type 0
+abbrev pub RowsAreScripts : List Act → ReportView → Type 0
 RowsAreScripts past report = map (λ (row : Row). (row.name, row.text)) report.rows ≡ texts past
 
 -- each verdict is the run of the row's text, from its first event on a fresh host, under the present settings
-abbrev pub VerdictsAreRuns : Settings → List Act → Shown → Type 0
+abbrev pub VerdictsAreRuns : Settings → List Act → ReportView → Type 0
 VerdictsAreRuns opening past report = All (IsRunUnder (now opening past)) report.rows
 
+-- the same in the grammar's words
+abbrev pub VerdictsAreGrammars : Settings → List Act → ReportView → Type 0
+VerdictsAreGrammars opening past report = All (IsGrammarsRun (now opening past)) report.rows
+
 -- where each row has a verdict, the report is the one from scratch
-abbrev pub ScratchWhenAllAnswered : Settings → List Act → Shown → Type 0
+abbrev pub ScratchWhenAllAnswered : Settings → List Act → ReportView → Type 0
 ScratchWhenAllAnswered opening past report =
     All (λ (row : Row). IsSome row.verdict) report.rows → report ≡ scratch (texts past) (now opening past)
 
@@ -63,11 +67,24 @@ AreOrPending (row ∷ rows) [] = ⊥
 AreOrPending (row ∷ rows) (whole ∷ wholes) = ((row ≡ whole) ⊎ (row ≡ pending whole)) × AreOrPending rows wholes
 
 -- each row is pending or the one from scratch
-abbrev pub RowsAreOfScratch : Settings → List Act → Shown → Type 0
+abbrev pub RowsAreOfScratch : Settings → List Act → ReportView → Type 0
 RowsAreOfScratch opening past report = AreOrPending report.rows (scratch (texts past) (now opening past)).rows
 
+-- both in the grammar's words
+abbrev pub WholeWhenAllAnswered : Settings → List Act → ReportView → Type 0
+WholeWhenAllAnswered opening past report =
+    All (λ (row : Row). IsSome row.verdict) report.rows → IsFromScratch (texts past) (now opening past) report
+
+abbrev pub RowsAreOfWhole : Settings → List Act → ReportView → Type 0
+RowsAreOfWhole opening past report = (whole : ReportView) × IsFromScratch (texts past) (now opening past) whole × AreOrPending report.rows whole.rows
+
+-- of the same scripts under the same settings there is one report from scratch in the grammar's words, and no other
+abbrev pub ScratchIsOne : List Named → Settings → Type 0
+ScratchIsOne scripts settings =
+    IsFromScratch scripts settings (scratch scripts settings) × ((report : ReportView) → IsFromScratch scripts settings report → report ≡ scratch scripts settings)
+
 -- no row is owed exactly when each row has a verdict
-abbrev pub NoneOwedWhenAllAnswered : Settings → List Act → Shown → Type 0
+abbrev pub NoneOwedWhenAllAnswered : Settings → List Act → ReportView → Type 0
 NoneOwedWhenAllAnswered opening past report = (owed opening past ≡ 0) ↔ All (λ (row : Row). IsSome row.verdict) report.rows
 
 -- a finish of an outstanding job is taken exactly when its script hasn't changed since the job's start

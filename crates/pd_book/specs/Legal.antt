@@ -1,7 +1,7 @@
 -- Which lists of acts a book may have recorded.
 use Rattle.std.specs.Prelude.{◌≡◌, ◌+◌, ◌<◌, ◌≤◌, ℕ, true, false, List, [], ◌∷◌, length, Some, None, IsSome}
 use Rattle.pd_text.specs.Name.{is_valid_name}
-use Rattle.pd_text.specs.Text.{FitsText, AreLines}
+use Rattle.pd_text.specs.Text.{AreLines, IsText}
 use Rattle.pd_text.specs.Edit.{edit_refusal}
 use Rattle.pd_settings.specs.Settings.{replaced}
 use Rattle.pd_settings.specs.declared.fields.Settings.{Settings}
@@ -9,10 +9,6 @@ use Rattle.pd_book.specs.declared.act.Act.{Act}
 use Rattle.pd_book.specs.declared.act.Act.TheVariants.{Add, Edit, Remove, Set, Start, Finish, Abandon}
 use Rattle.pd_track.specs.declared.task.Task.{Task}
 use Rattle.pd_book.specs.Acts.{texts, stands, text_of, now, next, started, jobs, job, ruling}
-
--- lines, none of which holds a newline, within the limits of a text
-abbrev pub IsText : List (List ℕ) → Type 0
-IsText lines = FitsText lines × AreLines lines
 
 -- the act meets its call's conditions after these acts:
 -- an add gives a valid name that doesn't stand, where fewer than 1,024 scripts stand, and a text;

@@ -1,9 +1,9 @@
 -- What a book and a job are to their callers.
 use Rattle.std.specs.Prelude.{List, ◌∷◌, Option, Some, None}
-pub use Rattle.pd_track.specs.Reuse.{Handed}
+pub use Rattle.pd_track.specs.Reuse.{JobView}
 use Rattle.std.specs.Option.{option_map}
 use Rattle.pd_settings.specs.declared.fields.Settings.{Settings}
-use Rattle.pd_book.specs.Tracks.{Shelf}
+use Rattle.pd_book.specs.Tracks.{TracksView}
 use Rattle.pd_book.specs.declared.act.Act.{Act}
 use Rattle.pd_book.specs.declared.act.Act.TheVariants.{Start}
 use Rattle.pd_track.specs.declared.task.Task.{Task}
@@ -14,13 +14,13 @@ pub record Story : Type 0 where
   pub past : List Act
 
 -- what a book is: its story, and beside that the tracks that it keeps to spare steps
-pub record Contents : Type 0 where
+pub record BookView : Type 0 where
   pub story : Story
-  pub tracks : Shelf
+  pub tracks : TracksView
 
 -- the task of a job, if one was handed out
-abbrev pub handed_task : Option Handed → Option Task
-handed_task job = option_map (λ (handed : Handed). handed.task) job
+abbrev pub handed_task : Option JobView → Option Task
+handed_task job = option_map (λ (handed : JobView). handed.task) job
 
 -- the story with one more act
 abbrev pub told : Story → Act → Story

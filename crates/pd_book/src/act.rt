@@ -9,7 +9,7 @@ use std::alloc::AllocError;
 /// What a finish of a job came to.
 #[derive(Clone, Copy, PartialEq, Eq)]
 pub enum Ruling {
-    /// The job's script stands unchanged since the job's start: its verdict is shown.
+    /// The job's script is unchanged since the job's start: its verdict is shown.
     Taken,
     /// The script changed since the job's start, or is gone: the result shows nowhere.
     Stale,

@@ -6,7 +6,7 @@ ghost use Rattle.pd_settings.specs.Keys.{key_named};
 ghost use Rattle.pd_book.specs.Acts.{texts, present, text_of, stands, jobs, job};
 ghost use Rattle.pd_book.specs.Legal.{Legal};
 ghost use Rattle.pd_book.specs.Report.{shown, owed};
-ghost use Rattle.pd_book.specs.Headline.{CurrentWhenAnswered, RowsAreScripts, VerdictsAreRuns, ScratchWhenAllAnswered, RowsAreOfScratch};
+ghost use Rattle.pd_book.specs.Headline.{CurrentWhenAnswered, RowsAreScripts, VerdictsAreRuns, VerdictsAreGrammars, ScratchWhenAllAnswered, WholeWhenAllAnswered, RowsAreOfScratch, RowsAreOfWhole};
 ghost use Rattle.pd_book.specs.Story.{told};
 ghost use Rattle.pd_book.specs.Given.{GivesAdd, GivesEdit, GivesRemove, GivesSet};
 ghost use Rattle.pd_book.specs.Tracks.{without_track};
@@ -15,12 +15,12 @@ ghost use Rattle.pd_book.specs.Refusals.{full, add_refusal, text_refusal, edit_r
 mod jobs;
 
 use crate::act::Act;
-use crate::facts::{acts_are_legal, edits_insert_lines, texts_have_lines};
 use crate::faults::BookFault;
 use crate::recording::{Records, record};
 use crate::report::Report;
 use crate::shared_edit::SharedEdit;
 use crate::shelf::Tracks;
+use pd_run::verdicts_are_grammatical;
 use pd_settings::{Key, Settings, Value};
 use pd_text::{LineEdit, Lines, Name, Text, TextFault};
 use std::alloc::{AllocError, Global};
@@ -50,10 +50,10 @@ pub struct Book {
 
 impl Model for Book {
     ghost use Rattle.std.specs.Prelude.{reverse, vec_capacity};
-    ghost use Rattle.pd_book.specs.Story.{Contents};
+    ghost use Rattle.pd_book.specs.Story.{BookView};
     ghost use Rattle.pd_book.specs.Replay.{IsReplay};
 
-    ghost Value = { Contents };
+    ghost Value = { BookView };
 
     ghost view = { λ b. record { story = record { opening = b.opening; past = reverse b.records.acts.items }; tracks = b.tracks } };
 
@@ -76,6 +76,13 @@ impl Book {
             records: Records::new(alloc),
             tracks: Tracks::new(cache),
         }
+    }
+
+    /// What is so of all books: the rules allow their acts. It does nothing.
+    pub fn facts(&self)
+        ensures { Legal self.now.story.opening self.now.story.past }
+    {
+        let _acts = self.history();
     }
 
     /// The accepted calls, the oldest first.
@@ -112,7 +119,7 @@ impl Book {
         self.records.scripts.len()
     }
 
-    /// Adds a script behind the others.
+    /// Adds a script after the others.
     ///
     /// # Errors
     /// `BadName`, `NameTaken`, `TooManyScripts` or `HistoryFull`, the first that applies; else `OutOfMemory`.
@@ -180,7 +187,7 @@ impl Book {
         ensures same { OnErr result (self.new ≡ self.old) }
         ensures tracks { self.new.tracks ≡ self.old.tracks }
     {
-        texts_have_lines(&text);
+        text.facts();
         self.records.acts.reserve(self.records.tasks.len() + 1)?;
         let act = Act::Add(name.share()?, text.share()?);
         self.records.scripts.add(name, text)?;
@@ -223,7 +230,7 @@ impl Book {
         ensures err { IfErr result (λ e. text_refusal (present self.now.story.past name.now) edit.now ≡ Some e) }
         ensures lines { AreLines edit.now.insert }
     {
-        edits_insert_lines(edit);
+        edit.facts();
         let Some(text) = self.text(name) else {
             return Err(BookFault::NoSuchScript);
         };
@@ -367,8 +374,12 @@ impl Book {
         ensures verdicts { IfOk result (λ report. VerdictsAreRuns self.now.story.opening self.now.story.past report) }
         ensures scratch { IfOk result (λ report. ScratchWhenAllAnswered self.now.story.opening self.now.story.past report) }
         ensures rows { IfOk result (λ report. RowsAreOfScratch self.now.story.opening self.now.story.past report) }
+        ensures grammar { IfOk result (λ report. VerdictsAreGrammars self.now.story.opening self.now.story.past report) }
+        ensures whole { IfOk result (λ report. WholeWhenAllAnswered self.now.story.opening self.now.story.past report) }
+        ensures parts { IfOk result (λ report. RowsAreOfWhole self.now.story.opening self.now.story.past report) }
     {
-        acts_are_legal(self);
+        self.facts();
+        verdicts_are_grammatical();
         self.report()
     }
 

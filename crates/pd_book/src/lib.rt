@@ -7,7 +7,6 @@
 
 mod act;
 mod book_core;
-mod facts;
 mod faults;
 mod laws;
 mod recording;
@@ -21,7 +20,6 @@ mod shelf;
 
 pub use act::{Act, Ruling};
 pub use book_core::{Book, MAX_ACTS};
-pub use facts::acts_are_legal;
 pub use faults::{BookFault, FinishFault};
 pub use laws::{accepting, headline, settling};
 pub use pd_track::{Done, Job, Task, Track, Unfinished, run_job};

@@ -18,9 +18,9 @@ pub struct Report {
 
 impl Model for Report {
     ghost use Rattle.std.specs.Prelude.{All};
-    ghost use Rattle.pd_book.specs.Report.{Shown, IsRunUnder};
+    ghost use Rattle.pd_book.specs.Report.{ReportView, IsRunUnder};
 
-    ghost Value = { Shown };
+    ghost Value = { ReportView };
 
     ghost view = { λ r. record { settings = r.settings; rows = r.rows.items } };
 

@@ -7,7 +7,7 @@ use pd_text::{Name, Text};
 pub struct Row {
     /// The name of the script.
     pub name: Name,
-    /// Its text, as it stood at the report.
+    /// Its text, as it was at the report.
     pub text: Text,
     /// The verdict of that text, unless it is pending.
     pub verdict: Option<Verdict>,

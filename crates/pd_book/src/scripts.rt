@@ -79,7 +79,7 @@ impl Scripts {
         }
     }
 
-    /// Adds a script, pending, behind the others.
+    /// Adds a script, pending, after the others.
     ///
     /// # Errors
     /// `AllocError` where a growth is refused; the scripts are as before then.

@@ -29,9 +29,9 @@ impl Model for Tracks {
     ghost use Rattle.std.specs.Prelude.{[], ◌≡◌, IfSome};
     ghost use Rattle.std.specs.Option.{option_map_or};
     ghost use Rattle.std.specs.NonZero.{non_zero_usize_get};
-    ghost use Rattle.pd_book.specs.Tracks.{Shelf};
+    ghost use Rattle.pd_book.specs.Tracks.{TracksView};
 
-    ghost Value = { Shelf };
+    ghost Value = { TracksView };
 
     ghost view = { λ t. record { entries = option_map_or (λ c. c.entries) t.cache []; most = non_zero_usize_get t.most } };
 

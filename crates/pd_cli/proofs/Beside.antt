@@ -15,7 +15,7 @@ use Rattle.pd_book.specs.declared.row.Row.{Row}
 use Rattle.pd_book.specs.Acts.{texts, now}
 use Rattle.pd_book.specs.Headline.{AreOrPending, pending}
 use Rattle.pd_book.specs.Refusals.{or_else, value_refusal}
-use Rattle.pd_book.specs.Report.{Shown, IsRunUnder, scratch_row, scratch}
+use Rattle.pd_book.specs.Report.{ReportView, IsRunUnder, scratch_row, scratch}
 use Rattle.pd_book.specs.Story.{Story, told}
 use Rattle.pd_words.specs.Commands.{Item, does, stops, commands}
 use Rattle.pd_words.specs.Taking.{FaultIn}
@@ -90,13 +90,13 @@ rows_whole settings (row ∷ rows) h s =
     cc
 
 -- a report of the scripts as they stand
-pub part_of : (story : Story) (report kept : Shown) → IsOfSame report kept → kept.settings ≡ now story.opening story.past → scripts_of kept.rows ≡ texts story.past → All (IsRunUnder report.settings) report.rows → IsPartOf story report
+pub part_of : (story : Story) (report kept : ReportView) → IsOfSame report kept → kept.settings ≡ now story.opening story.past → scripts_of kept.rows ≡ texts story.past → All (IsRunUnder report.settings) report.rows → IsPartOf story report
 part_of story report kept same e t runs =
     let settings : report.settings ≡ now story.opening story.past = same.0 ∙ e in
     let scripts : scripts_of report.rows ≡ texts story.past = same.1 ∙ t in
     (settings, rw (← settings, ← scripts) (rows_part report.settings report.rows runs))
 
-pub whole_of : (story : Story) (report kept : Shown) → IsOfSame report kept → kept.settings ≡ now story.opening story.past → scripts_of kept.rows ≡ texts story.past → All (IsRunUnder report.settings) report.rows
+pub whole_of : (story : Story) (report kept : ReportView) → IsOfSame report kept → kept.settings ≡ now story.opening story.past → scripts_of kept.rows ≡ texts story.past → All (IsRunUnder report.settings) report.rows
     → All (λ (row : Row). IsSome row.verdict) report.rows → report ≡ from_scratch story
 whole_of story report kept same e t runs all =
     let settings : report.settings ≡ now story.opening story.past = same.0 ∙ e in

@@ -1,4 +1,4 @@
--- Pieces that are added one behind another.
+-- Pieces that are added one after another.
 use Rattle.std.proofs.Common.{◌≡◌, ℕ, List, ◌++◌, Result, Ok, Err, OnOk, is_ok, if◌then◌else◌, append_assoc, ◌∙◌}
 
 -- what was added last, where it was

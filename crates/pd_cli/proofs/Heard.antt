@@ -9,7 +9,7 @@ use Rattle.pd_book.specs.declared.faults.BookFault.{BookFault}
 use Rattle.pd_track.specs.declared.task.Task.{Task}
 use Rattle.pd_track.specs.Reuse as reuse
 use Rattle.pd_book.specs.Acts.{Named, next, started}
-use Rattle.pd_book.specs.Story.{Story, Handed, handed_task, told}
+use Rattle.pd_book.specs.Story.{Story, JobView, handed_task, told}
 use Rattle.pd_book.specs.Refusals.{next_job, add_refusal, edit_refusal, remove_refusal, set_refusal}
 use Rattle.pd_book.specs.Turns.{after_turn}
 use Rattle.pd_words.specs.Commands.{Item, does, stops}
@@ -28,7 +28,7 @@ use Rattle.pd_cli.proofs.Written.{ok_same, StartsNone, quiet_after}
 
 -- ---- one turn
 
-pub turn_heard : {S : Type 0} (hears : S → S → Counted → Type 0) (old new : S) (story : Story) (o : Option Handed) (job : Handed) (done : Task) (number : ℕ) (name : List ℕ) (steps : ℕ)
+pub turn_heard : {S : Type 0} (hears : S → S → Counted → Type 0) (old new : S) (story : Story) (o : Option JobView) (job : JobView) (done : Task) (number : ℕ) (name : List ℕ) (steps : ℕ)
     → o ≡ Some job → handed_task o ≡ next_job story → done ≡ job.task → number ≡ done.number → name ≡ done.name → steps ≡ 0 + reuse.steps job → hears old new (record { number = number; name = name; steps = steps }) → HearsTurn hears (Ok true) story old new
 turn_heard hears old new story o job done number name steps e f d n m s h =
     (record { number = number; name = name; steps = steps }, (job, sym f ∙ ap handed_task e, (n ∙ ap (λ (t : Task). t.number) d, m ∙ ap (λ (t : Task). t.name) d, omega (arith, s))), h)

@@ -13,7 +13,8 @@ use Rattle.pd_book.specs.declared.act.Act.{Act}
 use Rattle.pd_book.specs.declared.act.Act.TheVariants as act
 use Rattle.pd_book.specs.declared.faults.BookFault.{BookFault}
 use Rattle.pd_book.specs.declared.faults.BookFault.TheVariants as book
-use Rattle.pd_book.specs.Legal.{IsText, Legal}
+use Rattle.pd_text.specs.Text.{IsText}
+use Rattle.pd_book.specs.Legal.{Legal}
 use Rattle.pd_book.specs.Accepted.{AddsAreLegal, EditsAreLegal, RemovesAreLegal, SetsAreLegal}
 use Rattle.pd_book.specs.Story.{Story, told}
 use Rattle.pd_book.specs.Turns.{settled, IsAtRest, IsSettled, SettlesAll}

@@ -10,7 +10,7 @@ use Rattle.pd_book.specs.declared.faults.BookFault.TheVariants as book
 use Rattle.pd_book.specs.declared.faults.FinishFault.{FinishFault}
 use Rattle.pd_track.specs.declared.task.Task.{Task}
 use Rattle.pd_book.specs.Acts.{job as job_of, ruling, next, Named}
-use Rattle.pd_book.specs.Story.{Story, Contents, Handed, handed_task, told, told_start}
+use Rattle.pd_book.specs.Story.{Story, BookView, JobView, handed_task, told, told_start}
 use Rattle.pd_book.specs.Report.{owed}
 use Rattle.pd_book.specs.Refusals.{next_job, start_refusal, full, fault_of}
 use Rattle.pd_book.specs.Turns.{after_turn, settled, settled_in, StartsAreOutstanding, TurnsSettle}
@@ -91,7 +91,7 @@ start_full story q law h = go (next story.past) refl (full 2 story) refl
         first_or_none (Some x) s b t = (t.0, t.1, s ∙ ap (λ (y : BookFault). Some y) (sym b), some t.0 t.1)
 
 -- the job that was handed out is outstanding, and its result is its own
-pub finish_own : (story begun : Story) (o : Option Handed) (job : Handed) (done : Task) → StartsAreOutstanding story → o ≡ Some job → handed_task o ≡ next_job story → begun ≡ told_start story (handed_task o) → done ≡ job.task
+pub finish_own : (story begun : Story) (o : Option JobView) (job : JobView) (done : Task) → StartsAreOutstanding story → o ≡ Some job → handed_task o ≡ next_job story → begun ≡ told_start story (handed_task o) → done ≡ job.task
     → job_of begun.opening begun.past done.number ≡ Some done
 finish_own story begun o job done s e f b d = rw (d, b, e) (s job.task (sym f ∙ ap handed_task e))
 
@@ -99,7 +99,7 @@ pub finish_ok : (r : Result Ruling FinishFault) (P : Type 0) → OnErr r (P → 
 finish_ok (Ok x) P f p = refl
 finish_ok (Err x) P f p = absurd (f p)
 
-pub turn_done : (story begun after : Story) (o : Option Handed) (job : Handed) (done : Task) (r : Result Ruling FinishFault) → IsQuiet story → TurnsSettle story.opening story.past → o ≡ Some job → handed_task o ≡ next_job story
+pub turn_done : (story begun after : Story) (o : Option JobView) (job : JobView) (done : Task) (r : Result Ruling FinishFault) → IsQuiet story → TurnsSettle story.opening story.past → o ≡ Some job → handed_task o ≡ next_job story
     → begun ≡ told_start story (handed_task o) → start_refusal story ≡ None → done ≡ job.task → IsOk r → IfOk r (λ x. x ≡ ruling begun.past done) → IfOk r (λ x. after ≡ told begun (act.Finish done.number x)) → Turns (Ok true) story after
 turn_done story begun after o job done (Err x) q law e f b a d k m n = absurd cc
 turn_done story begun after o job done (Ok x) q law e f b a d k m n =
@@ -110,7 +110,7 @@ turn_done story begun after o job done (Ok x) q law e f b a d k m n =
 
 -- what acts print
 
-pub acts_set : (r : Result (Unit {0}) BookFault) (old new : Contents) (refusal : Option BookFault) (o : Option Key) (value : Value) (octets : List ℕ)
+pub acts_set : (r : Result (Unit {0}) BookFault) (old new : BookView) (refusal : Option BookFault) (o : Option Key) (value : Value) (octets : List ℕ)
     → OnOk r (IsSomeAnd o (λ k. new.story ≡ told old.story (act.Set k value))) → OnOk r (refusal ≡ None) → IfErr r (λ e. e ≡ fault_of refusal) → OnErr r (new ≡ old) → RepliesTo r octets
     → acted old.story refusal (option_map (λ k. act.Set k value) o) ≡ (octets, new.story)
 acts_set (Ok u) old new refusal None value octets h a e s p = absurd h

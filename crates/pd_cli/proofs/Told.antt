@@ -1,4 +1,4 @@
--- What is told of jobs, and how a run ends that tells it.
+-- What is reported of jobs, and how a run ends that tells it.
 use Rattle.std.proofs.Common.{◌≡◌, ◌⊎◌, ◌==◌, ◌||◌, ℕ, Bool, true, false, List, [], ◌∷◌, ◌++◌, length, bytes_eq, Bor, Option, Some, None, if◌then◌else◌, Result, Err, IfSome, refl, sym, ap, subst, ◌∙◌, append_assoc, append-nil}
 use Rattle.std.specs.Io.KnownBytes.{Appends}
 use Rattle.std.specs.List.{list_any}
@@ -20,17 +20,17 @@ use Rattle.pd_cli.specs.Hearing.{HearsAll, SaysMore}
 use Rattle.pd_cli.specs.Telling.{MayExplain, MayTell, AreTold, NothingIsTold, StepsAreTold, BlocksAreTold}
 use Rattle.pd_cli.proofs.Ending.{memory_runs, settings_out}
 
--- nothing was said
+-- nothing was written
 pub says_none : (w : Option (List ℕ)) → Says true w w []
 says_none w = ([], appends_none w, refl)
 
--- a line behind others, where all of these were said
+-- a line after others, where all of these were written
 pub says_more : (before told : Bool) (w w1 w2 : Option (List ℕ)) (lines line : List ℕ) → Says before w w1 lines → SaysMore before told w1 w2 line → Says told w w2 (lines ++ line)
 says_more true told w w1 w2 lines line s m = says_then told w w1 w2 lines line s m
 says_more false told w w1 w2 lines line s m =
     rw m.0 (subst (λ (x : Option (List ℕ)). Says false w x (lines ++ line)) (sym m.1) (says_front w w1 lines line s))
 
--- nothing is to be said behind the lines
+-- nothing is to be written after the lines
 pub more_none : (told : Bool) (w : Option (List ℕ)) → SaysMore told told w w []
 more_none true w = says_none w
 more_none false w = (refl, refl)
@@ -59,7 +59,7 @@ says_still told w line e = rw e (refl, refl)
 pub says_now : (before told : Bool) (w w1 : Option (List ℕ)) (line : List ℕ) → before ≡ true → Says told w w1 line → SaysMore before told w w1 line
 says_now before told w w1 line e s = rw e s
 
--- what is told of jobs, by a listener that tells it where it hears of each
+-- what is reported of jobs, by a listener that tells it where it hears of each
 pub told_said : {S N : Type 0} (hears : S → S → Counted → Type 0) (asked : Asked) (old new : S) (jobs : List Counted) → HearsAll hears old new jobs → (name : S → N) (asks : S → Asked) (told : S → Bool) (content : S → Option (List ℕ))
     → ((a b : S) (job : Counted) → hears a b job → (name b ≡ name a) × (asks b ≡ asks a) × (one : List ℕ) × MayTell (asks a) job one × SaysMore (told a) (told b) (content a) (content b) one)
     → asks old ≡ asked → (before : List ℕ) (w : Option (List ℕ)) → Says (told old) w (content old) before
@@ -76,7 +76,7 @@ told_said hears asked old new (job ∷ jobs) h name asks told content says e bef
       subst (λ (l : List ℕ). Says (told new) w (content new) l) (append_assoc before first rest.1) rest.3,
     )
 
--- what is told where one thing is asked for, or nothing
+-- what is reported where one thing is asked for, or nothing
 
 joined : (line first block rest lines told : List ℕ) → told ≡ first ++ rest → first ≡ line ++ block → block ≡ [] → rest ≡ lines → told ≡ line ++ lines
 joined line first block rest lines told e f g h = e ∙ (ap (λ (l : List ℕ). l ++ rest) (f ∙ (ap (λ (l : List ℕ). line ++ l) g ∙ append-nil line)) ∙ ap (λ (l : List ℕ). line ++ l) h)

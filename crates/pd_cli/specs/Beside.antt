@@ -11,7 +11,7 @@ use Rattle.pd_book.specs.declared.faults.BookFault.TheVariants as book
 use Rattle.pd_book.specs.Acts.{texts, present, now}
 use Rattle.pd_book.specs.Headline.{RowsAreOfScratch}
 use Rattle.pd_book.specs.Refusals.{name_refusal, text_refusal, absence, value_refusal}
-use Rattle.pd_book.specs.Report.{Shown, scratch}
+use Rattle.pd_book.specs.Report.{ReportView, scratch}
 use Rattle.pd_book.specs.Story.{Story, told}
 use Rattle.pd_words.specs.Commands.{Item, does, stops, commands}
 use Rattle.pd_words.specs.declared.command.Command.{Command}
@@ -23,11 +23,11 @@ use Rattle.pd_cli.specs.Output.{refused, all_pass}
 use Rattle.pd_cli.specs.Sessions.{PrintsAll}
 
 -- the report from scratch of the scripts and the settings as they stand
-abbrev pub from_scratch : Story → Shown
+abbrev pub from_scratch : Story → ReportView
 from_scratch story = scratch (texts story.past) (now story.opening story.past)
 
 -- a report of the scripts as they stand under the present settings, in which each row is pending or the one from scratch
-abbrev pub IsPartOf : Story → Shown → Type 0
+abbrev pub IsPartOf : Story → ReportView → Type 0
 IsPartOf story report = (report.settings ≡ now story.opening story.past) × RowsAreOfScratch story.opening story.past report
 
 -- what an act prints, and the story after it: where there is a reason to refuse it, a full history apart, that refusal;
@@ -47,7 +47,7 @@ MayPrint story (Edit name (Some edit)) octets next = MayAct story (text_refusal 
 MayPrint story (Remove name) octets next = MayAct story (absence story.past name) (Some (act.Remove name)) octets next
 MayPrint story (Set key value) octets next =
     MayAct story (value_refusal (now story.opening story.past) (key_named key) value) (option_map (λ k. act.Set k value) (key_named key)) octets next
-MayPrint story Show octets next = ((report : Shown) × IsPartOf story report × (octets ≡ rendered report)) × (next ≡ story)
+MayPrint story Show octets next = ((report : ReportView) × IsPartOf story report × (octets ≡ rendered report)) × (next ≡ story)
 MayPrint story Settle octets next = (octets ≡ rendered (from_scratch story)) × (next ≡ story)
 
 -- what items may print, one after another, and the story after them

@@ -4,7 +4,7 @@ use Rattle.pd_book.specs.declared.faults.BookFault.{BookFault}
 use Rattle.pd_book.specs.declared.faults.BookFault.TheVariants as book
 use Rattle.pd_book.specs.declared.row.Row.{Row}
 use Rattle.pd_book.specs.Acts.{Named}
-use Rattle.pd_book.specs.Report.{Shown}
+use Rattle.pd_book.specs.Report.{ReportView}
 use Rattle.pd_words.specs.declared.command.Command.{Command}
 use Rattle.pd_words.specs.declared.command.Command.TheVariants.{Settle}
 use Rattle.pd_words.specs.declared.faults.ServeFault.{ServeFault}
@@ -20,7 +20,7 @@ abbrev pub scripts_of : List Row → List Named
 scripts_of rows = map (λ (row : Row). (row.name, row.text)) rows
 
 -- both reports are of the same scripts under the same settings
-abbrev pub IsOfSame : Shown → Shown → Type 0
+abbrev pub IsOfSame : ReportView → ReportView → Type 0
 IsOfSame report other = (report.settings ≡ other.settings) × (scripts_of report.rows ≡ scripts_of other.rows)
 
 -- why a command beside workers has no reply

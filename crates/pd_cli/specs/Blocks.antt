@@ -1,4 +1,4 @@
--- What is said of jobs that are looked into.
+-- What is written of jobs that are looked into.
 use Rattle.std.specs.Prelude.{◌≡◌, ℕ, ◌==◌, ◌||◌, Bool, false, List, [], ◌∷◌, ◌++◌, length, bytes_eq}
 use Rattle.std.specs.List.{list_any}
 use Rattle.pd_cli.specs.StepLines.{Counted}
@@ -7,7 +7,7 @@ use Rattle.pd_cli.specs.StepLines.{Counted}
 abbrev pub is_looked_into : List (List ℕ) → List ℕ → Bool
 is_looked_into only name = length only == 0 || list_any (λ each. bytes_eq each name) only
 
--- what may be said of a job: nothing where its script isn't looked into
+-- what may be written of a job: nothing where its script isn't looked into
 abbrev pub MaySay : List (List ℕ) → Counted → List ℕ → Type 0
 MaySay only job block = is_looked_into only job.name ≡ false → block ≡ []
 

@@ -1,6 +1,6 @@
 -- Definitions that contracts of private functions cite and no public one does.
 use Rattle.std.specs.Prelude.{◌≡◌, ℕ, ◌+◌, Bool, true, false, List, [], ◌∷◌, length, Option, Some, Result, Ok, Err, OnOk}
-use Rattle.pd_track.specs.Reuse.{Handed}
+use Rattle.pd_track.specs.Reuse.{JobView}
 use Rattle.pd_book.specs.Acts.{started}
 use Rattle.pd_book.specs.Story.{Story}
 use Rattle.pd_book.specs.Refusals.{next_job}
@@ -11,18 +11,18 @@ use Rattle.pd_cli.specs.StepLines.{Counted, AreNumbered}
 use Rattle.pd_track.specs.Reuse as reuse
 
 -- it is the job that was handed out, with the steps that its track leaves
-abbrev pub IsOfJob : Handed → Counted → Type 0
+abbrev pub IsOfJob : JobView → Counted → Type 0
 IsOfJob handed job = (job.number ≡ handed.task.number) × (job.name ≡ handed.task.name) × (job.steps ≡ reuse.steps handed)
 
 -- it is the job of the next turn of settling
 abbrev pub IsOfTurn : Story → Counted → Type 0
-IsOfTurn story job = (handed : Handed) × (next_job story ≡ Some handed.task) × IsOfJob handed job
+IsOfTurn story job = (handed : JobView) × (next_job story ≡ Some handed.task) × IsOfJob handed job
 
 -- they are the jobs of the turns from one story to another, one each
 abbrev pub AreOfTurns : Story → List Counted → Story → Type 0
 AreOfTurns story [] after = after ≡ story
 AreOfTurns story (job ∷ jobs) after =
-    (handed : Handed) × (next_job story ≡ Some handed.task) × IsOfJob handed job × AreOfTurns (after_turn story handed.task) jobs after
+    (handed : JobView) × (next_job story ≡ Some handed.task) × IsOfJob handed job × AreOfTurns (after_turn story handed.task) jobs after
 
 -- a listener was told of these jobs, one after another, and of no others
 abbrev pub HearsAll : {S : Type 0} → (S → S → Counted → Type 0) → S → S → List Counted → Type 0
@@ -46,7 +46,7 @@ abbrev pub HearsNumbered : {S V : Type 0} → (S → S → Counted → Type 0) �
 HearsNumbered hears result story after old new =
     (jobs : List Counted) × AreNumbered (started story.past) jobs × HearsAll hears old new jobs × OnOk result (started after.past ≡ started story.past + length jobs)
 
--- a line was said on a writer where all before it were; else nothing more
+-- a line was written to a writer where all before it were; else nothing more
 abbrev pub SaysMore : Bool → Bool → Option (List ℕ) → Option (List ℕ) → List ℕ → Type 0
 SaysMore true told before after line = Says told before after line
 SaysMore false told before after line = (told ≡ false) × (after ≡ before)

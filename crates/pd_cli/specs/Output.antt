@@ -12,7 +12,7 @@ use Rattle.pd_book.specs.declared.row.Row.{Row}
 use Rattle.pd_book.specs.Faults.{fault_text}
 use Rattle.pd_book.specs.Story.{Story, told}
 use Rattle.pd_book.specs.Turns.{settled}
-use Rattle.pd_book.specs.Report.{Shown, shown}
+use Rattle.pd_book.specs.Report.{ReportView, shown}
 use Rattle.pd_book.specs.Refusals.{add_refusal, edit_refusal, remove_refusal, set_refusal}
 use Rattle.pd_words.specs.Commands.{Item, does, stops, commands}
 use Rattle.pd_words.specs.declared.command.Command.{Command}
@@ -27,11 +27,11 @@ abbrev pub refused : BookFault → List ℕ
 refused fault = codes "refused " ++ fault_text fault ++ codes "\n"
 
 -- the report as it stands after a story
-abbrev pub report : Story → Shown
+abbrev pub report : Story → ReportView
 report story = shown story.opening story.past
 
 -- each row of a report passes
-abbrev pub all_pass : Shown → Bool
+abbrev pub all_pass : ReportView → Bool
 all_pass printed = list_all (λ (row : Row). is_of class.Pass row.verdict) printed.rows
 
 -- what an act prints, and the story after it: nothing is printed for an accepted one, which is told

@@ -41,7 +41,7 @@ status_of (Ok true) = 0
 status_of (Ok false) = 1
 status_of (Err fault) = 2
 
--- what stands on standard error: the line of a fault
+-- what is on standard error: the line of a fault
 abbrev pub said_of : Result Bool ProgramFault → List ℕ
 said_of (Ok passed) = []
 said_of (Err fault) = fault_line fault

@@ -4,7 +4,7 @@ use Rattle.std.specs.Fmt.{decimal}
 use Rattle.pd_run.specs.declared.verdicts.Verdict.{Verdict}
 use Rattle.pd_run.specs.declared.verdicts.Verdict.TheVariants.{Pass, Fail, Syntax, Unsupported, Limit}
 use Rattle.pd_book.specs.declared.row.Row.{Row}
-use Rattle.pd_book.specs.Report.{Shown}
+use Rattle.pd_book.specs.Report.{ReportView}
 use Rattle.pd_words.specs.Verdicts.{verdict_text}
 use Rattle.pd_cli.specs.declared.rendering.Class.{Class}
 use Rattle.pd_cli.specs.declared.rendering.Class.TheVariants as class
@@ -58,5 +58,5 @@ totals_line t =
     ++ codes "\n"
 
 -- the octets of a report: a line for each row, in order, then the totals
-abbrev pub rendered : Shown → List ℕ
+abbrev pub rendered : ReportView → List ℕ
 rendered report = flat_map row_line report.rows ++ totals_line (totals report.rows)

@@ -20,8 +20,8 @@ PrintsAll {S = S} prints state (does command ∷ items) octets after =
 abbrev pub PrintsFirst : {S : Type 0} → (S → Command → List ℕ → S → Type 0) → S → List Item → List ℕ → S → List Item → Type 0
 PrintsFirst prints state items octets now left = (first : List Item) × (items ≡ first ++ left) × PrintsAll prints state first octets now
 
--- why the items that are left aren't answered, and the state then: a fault stands there, or reading on failed; or the command
--- that stands there has no reply
+-- why the items that are left aren't answered, and the state then: a fault is there, or reading on failed; or the command
+-- that is there has no reply
 abbrev pub StopsAt : {S : Type 0} → (ServeFault → S → Command → S → Type 0) → ServeFault → S → List Item → S → Type 0
 StopsAt fails fault now left last =
     (FaultIn fault left × (last ≡ now)) ⊎ ((command : Command) × (more : List Item) × (left ≡ does command ∷ more) × fails fault now command last)

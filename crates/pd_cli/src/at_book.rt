@@ -12,14 +12,14 @@ use pd_text::{LineEdit, Lines, Name};
 use pd_words::ServeFault;
 use std::alloc::{AllocError, Global};
 
-/// A book, with who is told of its jobs.
+/// A book, with who hears of its jobs.
 #[derive(Drop)]
 pub(crate) struct AtBook<L> {
     /// What it allocates by.
     pub alloc: Global,
     /// The book.
     pub book: Book,
-    /// Who is told of each job as it is finished.
+    /// Who hears of each job as it is finished.
     pub listener: L,
 }
 

@@ -11,7 +11,7 @@ use pd_text::Name;
 use pd_words::Explaining;
 use std::alloc::{AllocError, Global};
 
-/// What is said of a job: nothing where it passes, or where its script isn't among those that are looked into.
+/// What is written of a job: nothing where it passes, or where its script isn't among those that are looked into.
 ///
 /// # Errors
 /// `AllocError` where a growth is refused.

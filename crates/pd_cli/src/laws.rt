@@ -21,7 +21,7 @@ pub fn reports()
     settling();
 }
 
-/// Of jobs nothing is told where nothing is asked for, a line of steps each where steps alone are, and a block each where
+/// Of jobs nothing is reported where nothing is asked for, a line of steps each where steps alone are, and a block each where
 /// explanations alone are.
 pub fn tellings()
     ensures nothing { NothingIsTold }

@@ -1,4 +1,4 @@
-//! Who is told of each job as it is finished.
+//! Who hears of each job as it is finished.
 ghost use Rattle.std.specs.Prelude.{◌≡◌};
 
 use pd_book::Done;
@@ -14,7 +14,7 @@ pub(crate) trait Listener {
     /// A job was finished with this result, after so many steps.
     ///
     /// # Errors
-    /// `AllocError` where a growth for what is told is refused.
+    /// `AllocError` where a growth for what is reported is refused.
     fn finished(&mut self, done: &Done, steps: u64) -> Result<(), AllocError>
         ensures heard { OnOk result (hears self.old self.new (record { number = done.now.number; name = done.now.name; steps = steps })) }
         ensures same { OnErr result (self.new ≡ self.old) };

@@ -23,7 +23,7 @@ use std::sync::Wait;
 /// It writes the output of what it reads, and tells whether each row of the last report passes.
 ///
 /// # Errors
-/// `BadCommand` and `Truncated` where they stand in the input, `HistoryFull` where a settling has no
+/// `BadCommand` and `Truncated` where they are in the input, `HistoryFull` where a settling has no
 /// room for a start: the output up to there is written. `Read`, `Write` and `OutOfMemory`: a prefix of
 /// the output is written.
 pub fn serve_alone<R: Read, W: Write>(
@@ -52,7 +52,7 @@ pub fn serve_alone<R: Read, W: Write>(
 /// the desk (a full history and want of memory apart) and with each report.
 ///
 /// # Errors
-/// `BadCommand` and `Truncated` where they stand in the input, `NoWorkers` where a script is owed its verdict and all
+/// `BadCommand` and `Truncated` where they are in the input, `NoWorkers` where a script is owed its verdict and all
 /// workers have left, `Differs` where the desk isn't as the own copy, `Read`, `OutOfMemory`: what the commands before print
 /// is written. `Write`: a prefix of it is.
 pub fn serve_seat<H: Wait, R: Read, W: Write>(

@@ -8,7 +8,7 @@ ghost use Rattle.pd_cli.specs.Hearing.{HearsTurn, HearsSettling, HearsNumbered};
 
 use crate::listening::Listener;
 use crate::rendering::{Class, render};
-use pd_book::{Book, BookFault, Report, acts_are_legal, run_job, settling};
+use pd_book::{Book, BookFault, Report, run_job, settling};
 use pd_run::{Plain, Stepper};
 use pd_words::{Command, ServeFault};
 use std::alloc::{AllocError, Global};
@@ -19,7 +19,7 @@ fn at_rest(book: &Book)
     ensures turns { TurnsSettle book.now.story.opening book.now.story.past }
     ensures starts { StartsAreOutstanding book.now.story }
 {
-    acts_are_legal(book);
+    book.facts();
     settling();
 }
 
@@ -47,7 +47,7 @@ fn turn<L: Listener>(alloc: Global, book: &mut Book, listener: &mut L) -> Result
     }
 }
 
-/// Settles a book; a listener is told of the job of each turn.
+/// Settles a book; a listener hears of the job of each turn.
 fn settle<L: Listener>(alloc: Global, book: &mut Book, listener: &mut L) -> Result<(), ServeFault>
     requires { IsQuiet book.old.story }
     ensures settles { SettlesTo result book.old.story book.new.story }
@@ -71,7 +71,7 @@ pub fn show(alloc: Global, book: &Book) -> Result<(Vec<u8>, bool), AllocError>
     Ok((octets, all_pass(&report)))
 }
 
-/// Settles a book, and gives its report as `show` does; a listener is told of each job.
+/// Settles a book, and gives its report as `show` does; a listener hears of each job.
 ///
 /// # Errors
 /// `HistoryFull` where the history has no room for a start; `OutOfMemory` where a start, a job, the listener or the report

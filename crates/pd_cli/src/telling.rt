@@ -1,4 +1,4 @@
-//! A writer that is told of each finished job what the options ask for: its steps, and why it doesn't pass.
+//! A writer that hears of each finished job what the options ask for: its steps, and why it doesn't pass.
 ghost use Rattle.std.specs.Prelude.{◌≡◌, ◌++◌, IfOk, OnOk};
 ghost use Rattle.pd_words.specs.Chosen.{asked_of};
 ghost use Rattle.pd_cli.specs.StepLines.{Counted, step_line};
@@ -12,16 +12,16 @@ use pd_words::{Options, say};
 use std::alloc::{AllocError, Global};
 use std::io::Write;
 
-/// A writer that is told of each job.
+/// A writer that hears of each job.
 #[derive(Drop)]
 pub(crate) struct Teller<'a, 'b, E> {
-    /// What is told is allocated by this.
+    /// What is reported is allocated by this.
     pub alloc: Global,
     /// Where it is written.
     pub err: &'a mut E,
-    /// What is told of each job.
+    /// What is reported of each job.
     pub options: &'b Options<'b>,
-    /// Whether all that was told stands on the writer. After what couldn't be written nothing more is told.
+    /// Whether all that was told is on the writer. After what couldn't be written nothing more is reported.
     pub told: bool,
 }
 
@@ -42,7 +42,7 @@ impl<'a, 'b, E: Write> Listener for Teller<'a, 'b, E> {
     }
 }
 
-/// What is told of a job: its line of steps where these are asked for, then its block where explanations are.
+/// What is reported of a job: its line of steps where these are asked for, then its block where explanations are.
 fn told_of(
     alloc: Global,
     options: &Options<'_>,

@@ -51,7 +51,7 @@ pub fn run<H: Threads + Wait + Sync, S: AsStr, R: Read, W: Write, E: Write>(
 }
 
 /// Runs the program without workers: it serves the input, tells what the options ask for, and says at the end why it doesn't
-/// go on. After what can't be said nothing more is. It starts no thread.
+/// go on. After what can't be written nothing more is. It starts no thread.
 pub fn run_alone<R: Read, W: Write, E: Write>(
     alloc: Global,
     options: &Options<'_>,
@@ -131,7 +131,7 @@ fn run_beside<H: Threads + Wait + Sync, R: Read, W: Write, E: Write>(
     }
 }
 
-/// Ends a run that served its input, with whether all was said so far: says the fault of serving where there is one.
+/// Ends a run that served its input, with whether all was written so far: says the fault of serving where there is one.
 fn ended<E: Write>(told: bool, end: Result<bool, ServeFault>, err: &mut E) -> Exit
     ensures status { result.status ≡ status_of (end_of end) }
     ensures said { SaysMore told result.told (E.contents err.old) (E.contents err.new) (said_of (end_of end)) }

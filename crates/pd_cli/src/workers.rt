@@ -59,7 +59,7 @@ fn take_back<T>(lent: &mut T)
 
 /// What is done beside workers. Of what a closure wrote into its captures a scope says nothing, but it says what is
 /// returned, and so what this gives.
-trait Task {
+trait BesideWork {
     type Output;
 
     ghost gives: { Self → Self.Output → Type 0 };
@@ -91,7 +91,7 @@ struct Serving<'a, H, R, W> {
     writer: &'a mut W,
 }
 
-impl<'a, H: Wait, R: Read, W: Write> Task for Serving<'a, H, R, W> {
+impl<'a, H: Wait, R: Read, W: Write> BesideWork for Serving<'a, H, R, W> {
     ghost use Rattle.std.specs.Prelude.{◌≡◌};
     ghost use Rattle.pd_cli.specs.Beside.{ServesBeside};
 
@@ -120,14 +120,13 @@ impl<'a, H: Wait, R: Read, W: Write> Task for Serving<'a, H, R, W> {
 }
 
 /// Runs a task beside the workers of a desk, then shuts the desk and lets them leave.
-fn run_beside<'x, H: Threads + Wait + Sync, G: Gate + Sync, T: Task<Output = A> + Drop, A: Drop>(
-    rt: &'x H,
-    alloc: Global,
-    desk: &'x Desk,
-    gate: &'x G,
-    workers: Vec<Seat>,
-    task: T,
-) -> A
+fn run_beside<
+    'x,
+    H: Threads + Wait + Sync,
+    G: Gate + Sync,
+    T: BesideWork<Output = A> + Drop,
+    A: Drop,
+>(rt: &'x H, alloc: Global, desk: &'x Desk, gate: &'x G, workers: Vec<Seat>, task: T) -> A
     ensures { T.gives task result }
 {
     thread::scope(

@@ -12,7 +12,7 @@ use Rattle.pd_desk.specs.declared.faults.DeskFault.TheVariants.{OutOfMemory}
 pub worked_none : (s s' : SeatView) → s' ≡ s → Worked s s'
 worked_none s s' e = record { acts = []; jobs = none; now = e }
 
--- acts behind acts
+-- acts after acts
 later : (s m s' : SeatView) (older newer : List Act) → m ≡ with_acts s older → s' ≡ with_acts m newer → s' ≡ with_acts s (newer ++ older)
 later s m s' older newer e f =
     f ∙ (ap (λ (t : SeatView). with_acts t newer) e

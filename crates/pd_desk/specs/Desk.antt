@@ -4,17 +4,17 @@ use Rattle.pd_book.specs.declared.row.Row.{Row}
 use Rattle.pd_track.specs.declared.task.Task.{Task}
 use Rattle.pd_book.specs.Legal.{Legal}
 use Rattle.pd_book.specs.Refusals.{next_job}
-use Rattle.pd_book.specs.Report.{Shown}
-use Rattle.pd_book.specs.Story.{Story, Contents}
-use Rattle.pd_seat.specs.Seats.{Noted, SeatView}
+use Rattle.pd_book.specs.Report.{ReportView}
+use Rattle.pd_book.specs.Story.{Story, BookView}
+use Rattle.pd_seat.specs.Seats.{HeldView, SeatView}
 use Rattle.pd_seat.specs.Closing.{Closes}
 
 -- the book is that of some legal history in which each seat's acts stand once, in its order, and no others
-abbrev pub IsClosed : List SeatView → Contents → Type 0
-IsClosed seats book = (held : Noted) × Closes held seats book
+abbrev pub IsClosed : List SeatView → BookView → Type 0
+IsClosed seats book = (held : HeldView) × Closes held seats book
 
 -- no row is pending
-abbrev pub IsCurrent : Shown → Type 0
+abbrev pub IsCurrent : ReportView → Type 0
 IsCurrent report = All (λ (row : Row). IsSome row.verdict) report.rows
 
 -- a start hands out this job after some legal history

@@ -26,7 +26,7 @@ pub struct Desk {
 
 impl Desk {
     /// A desk for so many workers, with a book without acts, which keeps 1 to 1,024 tracks, and its seats. No clause tells
-    /// of the book, its settings and tracks, or of the workers: all of them stand under the lock, and of a lock that is
+    /// of the book, its settings and tracks, or of the workers: all of them are under the lock, and of a lock that is
     /// made nothing is known but its type's facts.
     ///
     /// # Errors
@@ -55,7 +55,7 @@ impl Desk {
         Ok((desk, made))
     }
 
-    /// Adds a script behind the others.
+    /// Adds a script after the others.
     ///
     /// # Errors
     /// Those of `Held::add`.

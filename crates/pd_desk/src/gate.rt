@@ -1,4 +1,4 @@
-//! What stands round each job of a worker.
+//! What is round each job of a worker.
 
 /// Is called by a worker round each job that it runs, with the job's number, while the desk isn't locked.
 pub trait Gate {

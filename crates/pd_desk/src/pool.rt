@@ -12,7 +12,7 @@ use std::thread;
 use std::thread::Threads;
 
 /// Work for a thread. A scope's closure may hold a `&mut` only inside a value of a type parameter.
-trait Task {
+trait ThreadWork {
     fn run(self) -> Result<(), DeskFault>;
 }
 
@@ -25,13 +25,13 @@ struct Worker<'a, 'b, R, G> {
     alloc: Global,
     /// The desk that it works at.
     desk: &'a Desk,
-    /// What stands round each of its jobs.
+    /// What is round each of its jobs.
     gate: &'a G,
     /// Its seat.
     seat: &'b mut Seat,
 }
 
-impl<'a, 'b, R: Wait, G: Gate> Task for Worker<'a, 'b, R, G> {
+impl<'a, 'b, R: Wait, G: Gate> ThreadWork for Worker<'a, 'b, R, G> {
     fn run(self) -> Result<(), DeskFault> {
         let Worker {
             rt,
@@ -96,7 +96,7 @@ impl Desk {
     }
 
     /// Runs each task in a thread of its own, and gives the first fault in their order.
-    fn run_all<R: Threads + Wait, T: Task + Send + Drop>(
+    fn run_all<R: Threads + Wait, T: ThreadWork + Send + Drop>(
         &self,
         rt: &R,
         alloc: Global,

@@ -2,7 +2,7 @@
 use Rattle.std.proofs.Common.{◌≡◌, ◌==◌, Bool, true, false, not, ◌&&◌, ◌||◌, if◌then◌else◌, Some, None, is_some, nat_lt, refl, sym, ap, ◌∙◌, true≢false}
 use Rattle.pd_seg.specs.declared.segments.Segment.{Segment}
 use Rattle.pd_host.specs.Arrivals.{is_stray_fin}
-use Rattle.pd_host.specs.ControlBlock.{ControlBlock}
+use Rattle.pd_host.specs.Connection.{ConnectionView}
 use Rattle.pd_host.specs.Handshake.{is_listening, is_syn_alone, is_mss_run, length_of, offered_mss}
 use Rattle.pd_host.specs.declared.listeners.Listener.{Listener}
 use Rattle.pd_explain.specs.Rules.{HoldsOfFirst, OpeningsHaveRules, is_closed_by, HoldsOn, ContentsHaveRules}
@@ -30,7 +30,7 @@ openings_have_rules l s e =
     opening l s (is_listening l) (is_syn_alone s.flags) (s.start == 0) (length_of s == 0) (is_mss_run (offered_mss s.options)) refl refl refl refl refl e
 
 -- a segment on a connection, by its tests
-contents : {X : Type 0} (x : X) (c : ControlBlock) (s : Segment) (filled syn stray closed reset : Bool)
+contents : {X : Type 0} (x : X) (c : ConnectionView) (s : Segment) (filled syn stray closed reset : Bool)
     → nat_lt 0 (length_of s) ≡ filled
     → s.flags.syn ≡ syn
     → is_stray_fin c s ≡ stray

@@ -5,7 +5,7 @@ use Rattle.std.proofs.lemmas.Bool.Decides.{nat_tests}
 use Rattle.pd_script.specs.declared.script_events.Event.{Event}
 use Rattle.pd_script.specs.declared.timing.Time.TheVariants.{Any, Relative}
 use Rattle.pd_seg.specs.declared.segments.Sent.{Sent}
-use Rattle.pd_host.specs.ControlBlock.{ControlBlock}
+use Rattle.pd_host.specs.Connection.{ConnectionView}
 use Rattle.pd_host.specs.Expiries.{advanced, deadline_of, due_by, segment_again, expired}
 use Rattle.pd_host.specs.Sending.{on_found, repeated, places_left}
 use Rattle.pd_host.specs.declared.halts.Halt.{Halt}
@@ -21,7 +21,7 @@ use Rattle.pd_print.specs.Laws.{SentPacketsAgree}
 use Rattle.pd_print.specs.Sent.{packet_of}
 use Rattle.pd_run.specs.Limits.{is_over_limit}
 use Rattle.pd_run.specs.Shapes.{is_run, is_action_run}
-use Rattle.pd_run.specs.Step.{Running, tolerance_of, noted, with_state, on_expiry, expires, awaited}
+use Rattle.pd_run.specs.Step.{RunStateView, tolerance_of, noted, with_state, on_expiry, expires, awaited}
 use Rattle.pd_run.specs.Times.{moments_of, is_backwards, is_in_reach, base_after}
 use Rattle.pd_run.specs.Why.{why, DifferencesAreFirst}
 use Rattle.pd_run.specs.declared.verdicts.Verdict.{Verdict}
@@ -42,23 +42,23 @@ state_out s = Ok s
 state_is : (a b : State) → state_out a ≡ state_out b → a ≡ b
 state_is a b e = cc
 
-abbrev run_out : Running → Result Running Verdict
+abbrev run_out : RunStateView → Result RunStateView Verdict
 run_out r = Ok r
 
-run_is : (a b : Running) → run_out a ≡ run_out b → a ≡ b
+run_is : (a b : RunStateView) → run_out a ≡ run_out b → a ≡ b
 run_is a b e = cc
 
 -- the oldest packet of a state
 abbrev Oldest : State → Sent → Type 0
 Oldest s sent = slice_get s.endpoint.outbox 0 ≡ Some sent
 
-behind : (xs ys : List Sent) (sent : Sent) → slice_get xs 0 ≡ Some sent → slice_get (xs ++ ys) 0 ≡ Some sent
-behind [] ys sent h = absurd cc
-behind (x ∷ xs) ys sent h = h
+after : (xs ys : List Sent) (sent : Sent) → slice_get xs 0 ≡ Some sent → slice_get (xs ++ ys) 0 ≡ Some sent
+after [] ys sent h = absurd cc
+after (x ∷ xs) ys sent h = h
 
-stays : (at : ℕ) (connection : Option ControlBlock) (s : State) (sent : Sent) → Oldest s sent → Oldest (expired at connection s) sent
+stays : (at : ℕ) (connection : Option ConnectionView) (s : State) (sent : Sent) → Oldest s sent → Oldest (expired at connection s) sent
 stays at None s sent h = h
-stays at (Some c) s sent h = behind s.endpoint.outbox _ sent h
+stays at (Some c) s sent h = after s.endpoint.outbox _ sent h
 
 -- the expiries up to a moment
 abbrev due : ℕ → State → Option ℕ
@@ -88,11 +88,11 @@ module _ (until : ℕ) where
       own : nat_le until until ≡ true
       own = grind (arith, nat_tests)
 
-  sent_first : (connection : Option ControlBlock) (s : State) → deadline_of s ≡ Some until → s.endpoint.connection ≡ connection → s.endpoint.outbox ≡ []
+  sent_first : (connection : Option ConnectionView) (s : State) → deadline_of s ≡ Some until → s.endpoint.connection ≡ connection → s.endpoint.outbox ≡ []
       → (sent : Sent) × Oldest (expired until connection s) sent × (sent.at ≡ until)
   sent_first None s d is empty = absurd (not_due s.endpoint.connection is d)
     where
-      not_due : (connection : Option ControlBlock) → connection ≡ None → deadline_of s ≡ Some until → ⊥
+      not_due : (connection : Option ConnectionView) → connection ≡ None → deadline_of s ≡ Some until → ⊥
       not_due connection none d = cc
   sent_first (Some c) s d is empty = (record { segment = segment_again c c.established; at = until }, rw empty refl, refl)
 
@@ -162,14 +162,14 @@ no_mismatch P (Some k) all is = absurd (is.fails (all k))
 
 -- The wait for it is the same
 
-came_of : (r q : Running) (e a : Event) (at : ℕ) (came : Result State Halt) → on_expiry r e at came ≡ Ok q
+came_of : (r q : RunStateView) (e a : Event) (at : ℕ) (came : Result State Halt) → on_expiry r e at came ≡ Ok q
     → (on_expiry r a at came ≡ Ok q) × (s : State) × (came ≡ Ok s) × (q.base ≡ r.base) × (q.host.state ≡ s)
 came_of r q e a at (Ok s) h =
     let same : record (with_state r s) { clock = at } ≡ q = run_is _ q h in
-    (h, s, refl, ap (λ (x : Running). x.base) (sym same), ap (λ (x : Running). x.host.state) (sym same))
+    (h, s, refl, ap (λ (x : RunStateView). x.base) (sym same), ap (λ (x : RunStateView). x.host.state) (sym same))
 came_of r q e a at (Err x) h = absurd cc
 
-module _ (r q : Running) (e : Event) (sent : Sent) (first : Oldest q.host.state sent) where
+module _ (r q : RunStateView) (e : Event) (sent : Sent) (first : Oldest q.host.state sent) where
   expires_too : (deadline : Option ℕ) → deadline_of r.host.state ≡ deadline → (length r.host.state.endpoint.outbox == 0) ≡ true
       → expires r e deadline ≡ Ok q → (expires r (with_actual q.base sent e) deadline ≡ Ok q) × (q.base ≡ r.base)
   expires_too None d none h = absurd cc
@@ -191,16 +191,16 @@ module _ (r q : Running) (e : Event) (sent : Sent) (first : Oldest q.host.state 
       go : (b : Bool) → (length r.host.state.endpoint.outbox == 0) ≡ b → (if b then expires r e (deadline_of r.host.state) else Ok r) ≡ Ok q
           → ((if b then expires r (with_actual q.base sent e) (deadline_of r.host.state) else Ok r) ≡ Ok q) × (q.base ≡ r.base)
       go true none h = expires_too (deadline_of r.host.state) refl none h
-      go false some h = (h, ap (λ (x : Running). x.base) (sym (run_is r q h)))
+      go false some h = (h, ap (λ (x : RunStateView). x.base) (sym (run_is r q h)))
 
 -- The checks before
 
-past : (b : Bool) (reason : Why) (rest : Option Why) (k : Kind) (sent : Sent) (q : Running) → reason ≢ Differs k sent q
+past : (b : Bool) (reason : Why) (rest : Option Why) (k : Kind) (sent : Sent) (q : RunStateView) → reason ≢ Differs k sent q
     → (if b then Some reason else rest) ≡ Some (Differs k sent q) → rest ≡ Some (Differs k sent q)
 past true reason rest k sent q not h = absurd (not (some_is h))
 past false reason rest k sent q not h = h
 
-is_passed : (b : Bool) (rest : Option Why) (k : Kind) (sent : Sent) (q : Running)
+is_passed : (b : Bool) (rest : Option Why) (k : Kind) (sent : Sent) (q : RunStateView)
     → (if not b then Some NotRun else rest) ≡ Some (Differs k sent q) → b ≡ true
 is_passed true rest k sent q h = refl
 is_passed false rest k sent q h = absurd cc
@@ -210,7 +210,7 @@ first_of true b h = refl
 first_of false b h = absurd cc
 
 -- the event has no blocking time
-not_blocking : (r q : Running) (e : Event) (k : Kind) (sent : Sent) → why r e ≡ Some (Differs k sent q) → is_none e.until ≡ true
+not_blocking : (r q : RunStateView) (e : Event) (k : Kind) (sent : Sent) → why r e ≡ Some (Differs k sent q) → is_none e.until ≡ true
 not_blocking r q e k sent h =
     let run : is_run e ≡ true = is_passed (is_run e) _ k sent q (past (is_over_limit e) OverLimit _ k sent q (λ n. cc) h) in
     first_of (is_none e.until) (is_action_run e.time e.action) run

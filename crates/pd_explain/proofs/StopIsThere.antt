@@ -8,9 +8,9 @@ use Rattle.pd_script.specs.Script.{script_of}
 use Rattle.pd_script.specs.declared.parsing.Parsed.{Parsed}
 use Rattle.pd_script.specs.declared.script_events.Event.{Event}
 use Rattle.pd_script.specs.declared.script_header.HeaderItem.{HeaderItem}
-use Rattle.pd_host.specs.Sender.{fresh}
+use Rattle.pd_host.specs.Host.{fresh_host}
 use Rattle.pd_run.specs.Run.{tolerance_in, start_of, verdict_in, verdict_from}
-use Rattle.pd_run.specs.Step.{Running, on_step, step}
+use Rattle.pd_run.specs.Step.{RunStateView, on_step, step}
 use Rattle.pd_run.specs.Stops.{reason_on, stop_by, stop_from, stop_in, line_of, VerdictsHaveReasons}
 use Rattle.pd_run.specs.Why.{verdict_at}
 use Rattle.pd_run.specs.declared.stops.Stopped.{Stopped}
@@ -30,18 +30,18 @@ later : (n more : ℕ) (found : Option Stopped) → Within (n + 1) more found �
 later n more None h = tt
 later n more (Some stop) h = omega arith
 
-here : (n more : ℕ) (r : Running) (reason : Option Why) (rest : Option Stopped) → Within n (more + 1) rest
+here : (n more : ℕ) (r : RunStateView) (reason : Option Why) (rest : Option Stopped) → Within n (more + 1) rest
     → Within n (more + 1) (stop_by n r reason rest)
 here n more r (Some w) rest h = omega arith
 here n more r None rest h = h
 
-onwards : (line n : ℕ) (es : List Event) (came : Result Running Verdict)
-    → ((s : Running) → Within (n + 1) (length es) (stop_from line (n + 1) es s))
+onwards : (line n : ℕ) (es : List Event) (came : Result RunStateView Verdict)
+    → ((s : RunStateView) → Within (n + 1) (length es) (stop_from line (n + 1) es s))
     → Within n (length es + 1) (on_step (stop_from line (n + 1) es) (λ v. None) came)
 onwards line n es (Ok s) each = later n (length es) (stop_from line (n + 1) es s) (each s)
 onwards line n es (Err v) each = tt
 
-within : (line n : ℕ) (es : List Event) (r : Running) → Within n (length es) (stop_from line n es r)
+within : (line n : ℕ) (es : List Event) (r : RunStateView) → Within n (length es) (stop_from line n es r)
 within line n [] r = tt
 within line n (e ∷ es) r =
     let one_more : length es + 1 ≡ length (e ∷ es) = omega arith in
@@ -49,10 +49,10 @@ within line n (e ∷ es) r =
     (here n (length es) r (reason_on line r e) _ (onwards line n es (step r e) (λ s. within line (n + 1) es s)))
 
 -- the run of a header that is run begins
-starts : (settings : Settings) (items : List HeaderItem) → not_run items ≡ None → (r : Running) × (start_of items settings ≡ Ok r)
+starts : (settings : Settings) (items : List HeaderItem) → not_run items ≡ None → (r : RunStateView) × (start_of items settings ≡ Ok r)
 starts settings items h = (
   record {
-    host = fresh settings;
+    host = fresh_host settings;
     clock = 0;
     base = 0;
     written = last_or None (filter_map tolerance_in items);

@@ -3,7 +3,7 @@ use Rattle.std.proofs.Common.{◌≡◌, ◌≢◌, ℕ, ◌+◌, ◌<◌, ◌�
 use Rattle.std.specs.Prelude.{⊤}
 use Rattle.std.proofs.lemmas.Bool.Decides.{nat_tests}
 use Rattle.pd_script.specs.declared.script_events.Action.{Action}
-use Rattle.pd_host.specs.ControlBlock.{ControlBlock}
+use Rattle.pd_host.specs.Connection.{ConnectionView}
 use Rattle.pd_host.specs.Holds.{wanted, is_enough, hold_of_new, hold_at, hold_in_recovery, hold_since, hold_by, hold_on, hold_in}
 use Rattle.pd_host.specs.Sending.{usable, unsent, is_full, is_all, is_half_window, leaves_now, past_sacked}
 use Rattle.pd_host.specs.declared.established.Established.{Established}
@@ -14,7 +14,7 @@ use Rattle.pd_explain.specs.Windows.{IsWithin, HoldsByPeer, HoldsByCongestion, L
 use Rattle.pd_explain.specs.declared.causes.reasons.Reason.TheVariants.{NoOctets, Held}
 
 -- what a reason says of a connection, where it names a window
-abbrev Says : ControlBlock → Established → Hold → Type 0
+abbrev Says : ConnectionView → Established → Hold → Type 0
 Says c e PeerWindow = HoldsByPeer c e
 Says c e CongestionWindow = HoldsByCongestion c e
 Says c e PartOfSegment = LeavesPart c e
@@ -44,7 +44,7 @@ within una window octet h = grind (arith, nat_tests)
 fewer : (d u smss : ℕ) → nat_le smss (min d u) ≡ false → nat_le d u ≡ false → u < min d smss
 fewer d u smss full all = grind (arith, nat_tests)
 
-module _ (c : ControlBlock) (e : Established) where
+module _ (c : ConnectionView) (e : Established) where
   -- new octets begin at the sending place
   first_new : nat_lt c.board.next c.board.top ≡ false → wanted c ≡ c.board.next
   first_new new = second (nat_lt c.board.next c.board.top) _ c.board.next new
@@ -90,7 +90,7 @@ told_is : (b : Bool) (h hold : Hold) → (if b then NoOctets else Held h) ≡ He
 told_is true h hold e = absurd cc
 told_is false h hold e = cc
 
--- the reason that is told is what holds the sender back
+-- the reason that is reported is what holds the sender back
 reason_is : (expected : Action) (h hold : Hold) → reason_of expected h ≡ Held hold → h ≡ hold
 reason_is expected Reset hold e = cc
 reason_is expected NotEstablished hold e = cc
@@ -109,13 +109,13 @@ unreset : (b : Bool) (x hold : Hold) → Reset ≢ hold → (if b then Reset els
 unreset true x hold reset h = absurd (reset h)
 unreset false x hold reset h = h
 
-established : (c : ControlBlock) (o : Option Established) (hold : Hold) → NotEstablished ≢ hold → hold_by c o ≡ hold
+established : (c : ConnectionView) (o : Option Established) (hold : Hold) → NotEstablished ≢ hold → hold_by c o ≡ hold
     → (e : Established) × (o ≡ Some e) × Says c e hold
 established c None hold out h = absurd (out h)
 established c (Some e) hold out h = (e, refl, subst (λ (x : Hold). Says c e x) h (since c e))
 
-begun : (connection : Option ControlBlock) (hold : Hold) → Reset ≢ hold → NotEstablished ≢ hold → hold_on connection ≡ hold
-    → (c : ControlBlock) × (e : Established) × (connection ≡ Some c) × (c.established ≡ Some e) × Says (past_sacked c) e hold
+begun : (connection : Option ConnectionView) (hold : Hold) → Reset ≢ hold → NotEstablished ≢ hold → hold_on connection ≡ hold
+    → (c : ConnectionView) × (e : Established) × (connection ≡ Some c) × (c.established ≡ Some e) × Says (past_sacked c) e hold
 begun None hold reset out h = absurd (out h)
 begun (Some c) hold reset out h =
     let goes_on : hold_by (past_sacked c) c.established ≡ hold = unreset c.reset (hold_by (past_sacked c) c.established) hold reset h in

@@ -34,7 +34,7 @@ pub record StopsAt (line : ℕ) (settings : Settings) (parsed : Parsed) (v : Ver
   pub event : slice_get parsed.events stop.passed ≡ Some e
   pub gives : verdict_at line stop.why ≡ v
 
--- what is told of a script whose run comes to a verdict at a line: the rule of the first header item that isn't run, or the
+-- what is reported of a script whose run comes to a verdict at a line: the rule of the first header item that isn't run, or the
 -- cause of the stop
 abbrev pub IsCauseIn : ℕ → Settings → Parsed → Verdict → Cause → Type 0
 IsCauseIn line settings parsed v told = by_header (not_run parsed.header.items)
@@ -43,12 +43,12 @@ IsCauseIn line settings parsed v told = by_header (not_run parsed.header.items)
     by_header (Some item) = told ≡ cause.Rule (header_rule item.kind)
     by_header None = (e : Event) × (stop : Stopped) × StopsAt line settings parsed v e stop × IsCauseOf e stop told
 
--- a text is refused, and nothing else is told
+-- a text is refused, and nothing else is reported
 abbrev pub IsRefused : Cause → Type 0
 IsRefused (cause.Syntax refusal) = Unit {0}
 IsRefused _ = ⊥
 
--- what is told of a row: of a text that is no script that it is refused, of any other the cause of the stop at its line
+-- what is reported of a row: of a text that is no script that it is refused, of any other the cause of the stop at its line
 abbrev pub IsCause : List (List ℕ) → Settings → Verdict → Cause → Type 0
 IsCause text settings (verdict.Pass n) told = ⊥
 IsCause text settings (verdict.Syntax line) told = IsRefused told

@@ -1,4 +1,4 @@
--- What is told of an event that failed.
+-- What is reported of an event that failed.
 use Rattle.std.specs.Prelude.{◌≡◌, ℕ, ◌++◌, Bool, true, false, List}
 use Rattle.pd_script.specs.declared.script_events.Action.{Action}
 use Rattle.pd_script.specs.declared.script_events.Action.TheVariants.{Outbound}
@@ -9,8 +9,8 @@ use Rattle.pd_print.specs.Numbers.{time_text}
 use Rattle.pd_print.specs.Sent.{packet_of}
 use Rattle.pd_host.specs.Expiries.{deadline_of}
 use Rattle.pd_host.specs.Holds.{hold_in}
-use Rattle.pd_host.specs.Sender.{Sender}
-use Rattle.pd_run.specs.Step.{Running}
+use Rattle.pd_host.specs.Host.{HostView}
+use Rattle.pd_run.specs.Step.{RunStateView}
 use Rattle.pd_run.specs.declared.stops.Stopped.{Stopped}
 use Rattle.pd_run.specs.declared.whys.Why.{Why}
 use Rattle.pd_run.specs.declared.whys.Why.TheVariants as why
@@ -32,7 +32,7 @@ is_failure _ = false
 
 -- the sender at the stop: after the call whose result it is, after the expiry that sent the packet compared, else as the event
 -- found it
-abbrev pub sender_at : Running → Why → Sender
+abbrev pub sender_at : RunStateView → Why → HostView
 sender_at before (why.Differs kind sent r) = r.host
 sender_at before (why.Answered answer r) = r.host
 sender_at before _ = before.host
@@ -44,8 +44,8 @@ ShowsPackets time (Outbound p) sent base c =
     × (c.actual.items ≡ lined_up (time_text (time_since base sent.at)) (packet_of sent.segment) time p ++ comment_of sent.at)
 ShowsPackets time _ sent base c = Unit {0}
 
--- what is told of the event, whose time is written so, by why it stopped the run
-abbrev pub Tells : List ℕ → Event → Running → Why → Failed → Type 0
+-- what is reported of the event, whose time is written so, by why it stopped the run
+abbrev pub Tells : List ℕ → Event → RunStateView → Why → Failed → Type 0
 Tells time e before (why.Differs kind sent r) (failed.Packet c) =
     (c.kind ≡ kind) × (c.at ≡ sent.at) × ShowsPackets (shown time) e.action sent r.base c
 Tells time e before why.Missing (failed.Missing w) =

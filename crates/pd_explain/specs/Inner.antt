@@ -8,7 +8,7 @@ use Rattle.pd_print.specs.declared.parts.Parts.{Parts}
 use Rattle.pd_explain.specs.Columns.{time_since, comment_of, followed}
 use Rattle.pd_explain.specs.BlockLines.{AreIndented}
 use Rattle.pd_script.specs.declared.timing.Time.{Time}
-use Rattle.pd_run.specs.Step.{Running, tolerance_of}
+use Rattle.pd_run.specs.Step.{RunStateView, tolerance_of}
 use Rattle.pd_run.specs.Times.{moments_of}
 use Rattle.pd_explain.specs.declared.causes.failures.Awaited.{Awaited}
 
@@ -26,7 +26,7 @@ laid time p other q =
     (followed p.win.items q.win.items p.options.items))))
 
 -- when a packet with a time is awaited
-abbrev pub awaited_of : Time → Running → Option Awaited
+abbrev pub awaited_of : Time → RunStateView → Option Awaited
 awaited_of time r = option_map awaited (moments_of r.base time)
   where
     awaited : ℕ × ℕ → Awaited

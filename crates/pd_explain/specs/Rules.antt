@@ -21,7 +21,7 @@ use Rattle.pd_script.specs.declared.timing.Until.{Until}
 use Rattle.pd_seg.specs.declared.segments.Segment.{Segment}
 use Rattle.pd_host.specs.ConnStates.{state_of, is_closed}
 use Rattle.pd_host.specs.Arrivals.{is_stray_fin, check_contents}
-use Rattle.pd_host.specs.ControlBlock.{ControlBlock}
+use Rattle.pd_host.specs.Connection.{ConnectionView}
 use Rattle.pd_host.specs.Handshake.{is_listening, is_syn_alone, is_mss_run, is_opening, length_of, offered_mss}
 use Rattle.pd_host.specs.Requests.{request_of}
 use Rattle.pd_host.specs.declared.halts.Halt.TheVariants as halt
@@ -183,11 +183,11 @@ OpeningsHaveRules =
     → HoldsOfFirst listener segment (opening_rule listener segment)
 
 -- a connection is closed
-abbrev pub is_closed_by : ControlBlock → Bool
+abbrev pub is_closed_by : ConnectionView → Bool
 is_closed_by c = is_closed (state_of c)
 
 -- of a segment on a connection: where it has neither data nor a SYN, and the connection goes on, its FIN is out of place
-abbrev pub contents_rule : ControlBlock → Segment → Input
+abbrev pub contents_rule : ConnectionView → Segment → Input
 contents_rule c segment =
     if nat_lt 0 (length_of segment) then Payload
     else (if segment.flags.syn then SecondSyn
@@ -195,7 +195,7 @@ contents_rule c segment =
     else (if c.reset then AfterReset else AfterFins)))
 
 -- a rule that names a segment on a connection is right of it
-abbrev pub HoldsOn : ControlBlock → Segment → Input → Type 0
+abbrev pub HoldsOn : ConnectionView → Segment → Input → Type 0
 HoldsOn _ segment Payload = nat_lt 0 (length_of segment) ≡ true
 HoldsOn _ segment SecondSyn = segment.flags.syn ≡ true
 HoldsOn c segment StrayFin = is_stray_fin c segment ≡ true
@@ -206,7 +206,7 @@ HoldsOn _ _ _ = ⊥
 -- a law: so is the one that is given for a segment whose contents aren't run
 abbrev pub ContentsHaveRules : Type 0
 ContentsHaveRules =
-    (c : ControlBlock) (segment : Segment)
+    (c : ConnectionView) (segment : Segment)
     → is_some (check_contents c segment) ≡ true
     → HoldsOn c segment (contents_rule c segment)
 
@@ -214,7 +214,7 @@ ContentsHaveRules =
 abbrev pub arrival_rule : State → Segment → Input
 arrival_rule s segment = by s.endpoint.connection
   where
-    by : Option ControlBlock → Input
+    by : Option ConnectionView → Input
     by None = opening_rule s.endpoint.listener segment
     by (Some c) = contents_rule c segment
 

@@ -5,15 +5,15 @@ use Rattle.pd_script.specs.declared.script_events.Action.TheVariants.{Outbound}
 use Rattle.pd_host.specs.ConnStates.{conn_state}
 use Rattle.pd_host.specs.Expiries.{deadline_of}
 use Rattle.pd_host.specs.Figures.{figures_in}
-use Rattle.pd_host.specs.Sender.{Sender}
+use Rattle.pd_host.specs.Host.{HostView}
 use Rattle.pd_host.specs.declared.holds.Hold.{Hold}
 use Rattle.pd_host.specs.declared.holds.Hold.TheVariants.{Reset, NotEstablished}
-use Rattle.pd_explain.specs.declared.causes.failures.Standing.{Standing}
+use Rattle.pd_explain.specs.declared.causes.failures.SenderSnapshot.{SenderSnapshot}
 use Rattle.pd_explain.specs.declared.causes.reasons.Reason.{Reason}
 use Rattle.pd_explain.specs.declared.causes.reasons.Reason.TheVariants.{NoOctets, Held}
 
 -- how a sender stands
-abbrev pub standing_of : Sender → Standing
+abbrev pub standing_of : HostView → SenderSnapshot
 standing_of h = record { state = conn_state h.state; figures = figures_in h.state; expiry = deadline_of h.state }
 
 -- a packet is expected that has no octets: no data, SYN or FIN

@@ -1,7 +1,7 @@
 -- Where the reason that no packet was sent names a window: which octets lie beyond it, and which within.
 use Rattle.std.specs.Prelude.{◌≡◌, ℕ, ◌+◌, ◌<◌, ◌≤◌, min, Some}
 use Rattle.pd_script.specs.declared.script_events.Action.{Action}
-use Rattle.pd_host.specs.ControlBlock.{ControlBlock}
+use Rattle.pd_host.specs.Connection.{ConnectionView}
 use Rattle.pd_host.specs.Holds.{wanted, hold_in}
 use Rattle.pd_host.specs.Sending.{usable, unsent, past_sacked}
 use Rattle.pd_host.specs.declared.established.Established.{Established}
@@ -11,30 +11,30 @@ use Rattle.pd_explain.specs.Senders.{reason_of}
 use Rattle.pd_explain.specs.declared.causes.reasons.Reason.TheVariants.{Held}
 
 -- an octet lies within a window of so many octets from SND.UNA on
-abbrev pub IsWithin : ControlBlock → ℕ → ℕ → Type 0
+abbrev pub IsWithin : ConnectionView → ℕ → ℕ → Type 0
 IsWithin c window octet = octet < c.board.una + window
 
 -- it lies beyond the window
-abbrev pub IsBeyond : ControlBlock → ℕ → ℕ → Type 0
+abbrev pub IsBeyond : ConnectionView → ℕ → ℕ → Type 0
 IsBeyond c window octet = c.board.una + window ≤ octet
 
 -- the octet that has to leave lies beyond the peer's window (RFC 9293, section 3.8.6)
-abbrev pub HoldsByPeer : ControlBlock → Established → Type 0
+abbrev pub HoldsByPeer : ConnectionView → Established → Type 0
 HoldsByPeer c e = IsBeyond c e.rwnd (wanted c)
 
 -- it lies within the peer's window, and beyond the congestion window (RFC 5681, section 3.1)
-abbrev pub HoldsByCongestion : ControlBlock → Established → Type 0
+abbrev pub HoldsByCongestion : ConnectionView → Established → Type 0
 HoldsByCongestion c e = IsWithin c e.rwnd (wanted c) × IsBeyond c e.congestion.cwnd (wanted c)
 
 -- the next octet lies within both windows, and fewer octets than a segment do: U < min(D, SMSS) (RFC 9293, section 3.8.6.2.1)
-abbrev pub LeavesPart : ControlBlock → Established → Type 0
+abbrev pub LeavesPart : ConnectionView → Established → Type 0
 LeavesPart c e =
     IsWithin c e.rwnd c.board.next × IsWithin c e.congestion.cwnd c.board.next × (usable c e < min (unsent c) c.board.smss)
 
 -- so it is on the sender's connection, whose sending place has moved past SACKed octets (RFC 2018, section 5)
-abbrev pub IsSoOn : State → (ControlBlock → Established → Type 0) → Type 0
+abbrev pub IsSoOn : State → (ConnectionView → Established → Type 0) → Type 0
 IsSoOn s P =
-    (c : ControlBlock) × (e : Established) × (s.endpoint.connection ≡ Some c) × (c.established ≡ Some e) × P (past_sacked c) e
+    (c : ConnectionView) × (e : Established) × (s.endpoint.connection ≡ Some c) × (c.established ≡ Some e) × P (past_sacked c) e
 
 -- a law: where the reason names a window, the octets that it is about lie beyond that window, and within those that the
 -- reasons before it name

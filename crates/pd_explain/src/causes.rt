@@ -12,7 +12,7 @@ mod writings;
 
 use self::failing::failure_of;
 pub use self::failures::{
-    Awaited, Comparison, Failed, Failure, Reply, Setback, Standing, Untaken, Wait,
+    Awaited, Comparison, Failed, Failure, Reply, SenderSnapshot, Setback, Untaken, Wait,
 };
 pub use self::pasted_laws::actual_packets_pass;
 pub use self::reasons::Reason;
@@ -37,7 +37,7 @@ pub enum Cause {
     Failed(Failure),
 }
 
-/// Why an event stopped a run. It is written in a text behind so many others, as the stop says, from a place on.
+/// Why an event stopped a run. It is written in a text after so many others, as the stop says, from a place on.
 ///
 /// # Errors
 /// `AllocError` where a growth is refused.

@@ -1,4 +1,4 @@
-//! What is told of a row that isn't `pass`.
+//! What is reported of a row that isn't `pass`.
 use crate::causes::Cause;
 use pd_run::Verdict;
 

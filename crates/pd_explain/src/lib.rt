@@ -16,8 +16,8 @@ mod shown_laws;
 
 pub use blocks::{block_json, block_text, cause_text, write_standing};
 pub use causes::{
-    Awaited, Cause, Comparison, Failed, Failure, Reason, Reply, Setback, Standing, Untaken, Wait,
-    actual_packets_pass, cause_at, named_windows_hold,
+    Awaited, Cause, Comparison, Failed, Failure, Reason, Reply, SenderSnapshot, Setback, Untaken,
+    Wait, actual_packets_pass, cause_at, named_windows_hold,
 };
 pub use explaining::explain;
 pub use explanations::Explanation;

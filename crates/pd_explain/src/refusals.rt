@@ -1,4 +1,4 @@
-//! The token at which no script goes on, and what could stand there.
+//! The token at which no script goes on, and what could be there.
 mod candidates;
 mod gaps;
 mod refused;

@@ -7,7 +7,7 @@ use std::alloc::{AllocError, Global};
 /// How many shown octets of a line are printed at most.
 const MAX_SHOWN: usize = 200;
 
-/// How many of them stand before a mark that is far along a line.
+/// How many of them are before a mark that is far along a line.
 const BEFORE_MARK: usize = 100;
 
 /// How many octets `\xHH` has.
@@ -74,7 +74,7 @@ pub fn shown_len(octets: &[u8]) -> usize {
     len
 }
 
-/// A shown line, cut at 200 octets; `..` stands in the place of what is cut off.
+/// A shown line, cut at 200 octets; `..` is in the place of what is cut off.
 ///
 /// # Errors
 /// `AllocError` where a growth is refused.
@@ -110,7 +110,7 @@ fn put_part(out: &mut Vec<u8>, part: &[u8]) -> Result<(), AllocError>
     out.extend_from_slice(part)
 }
 
-/// Adds what stands in the place of what is cut off, if something is.
+/// Adds what is in the place of what is cut off, if something is.
 fn put_cut(out: &mut Vec<u8>, is_cut: bool) -> Result<(), AllocError>
     ensures { OnOk result (are_printable out.old.items ≡ true → are_printable out.new.items ≡ true) }
 {

@@ -6,14 +6,14 @@ use Rattle.std.proofs.lemmas.Bool.Decides.{nat_tests}
 use Rattle.pd_settings.specs.declared.fields.Settings.{Settings}
 use Rattle.pd_seg.specs.declared.sack_blocks.Span.{Span}
 use Rattle.pd_seg.specs.declared.segments.Segment.{Segment}
-use Rattle.pd_board.specs.Scoreboard.{Scoreboard, acknowledged}
-use Rattle.pd_timer.specs.Timer.{Timer, stopped, restarted, sampled}
+use Rattle.pd_board.specs.Board.{BoardView, acknowledged}
+use Rattle.pd_timer.specs.Rto.{RtoView, stopped, restarted, sampled}
 use Rattle.pd_recover.specs.Acks.{IsNamed, acked}
 use Rattle.pd_recover.specs.Laws.{StaysWithin}
 use Rattle.pd_recover.specs.declared.responses.Then.TheVariants.{NewSegment, FastRetransmit}
 use Rattle.pd_host.specs.Acknowledgments.{newly_acked, with_number, blocks_of, told_blocks, scored, with_blocks, with_timing, is_current, with_new_window, with_ack, ack_of_segment, answering, taking}
 use Rattle.pd_host.specs.Arrivals.{ruling_of}
-use Rattle.pd_host.specs.ControlBlock.{ControlBlock}
+use Rattle.pd_host.specs.Connection.{ConnectionView}
 use Rattle.pd_host.specs.Handshake.{looked_at}
 use Rattle.pd_host.specs.Invariants.{IsEnding, IsOrdered, IsOfPhase, IsInBounds, IsTimed, IsReached, fin_octets}
 use Rattle.pd_host.specs.Sending.{sent_on}
@@ -61,7 +61,7 @@ fin_small false = omega arith
 
 module _ (b : Settings) (now : ℕ) where
   -- the board has moved up
-  record IsUp (c : ControlBlock) (s : Scoreboard) : Type 0 where
+  record IsUp (c : ConnectionView) (s : BoardView) : Type 0 where
     ordered : IsOrdered s
     smss : s.smss ≡ c.board.smss
     top : s.top ≡ c.board.top
@@ -69,11 +69,11 @@ module _ (b : Settings) (now : ℕ) where
     una : c.board.una ≤ s.una
 
   -- a live connection, and what it has since its establishment
-  record IsOn (e : Established) (c : ControlBlock) : Type 0 where
+  record IsOn (e : Established) (c : ConnectionView) : Type 0 where
     live : IsLive b now c
     is : c.established ≡ Some e
 
-  rebuilt : (c : ControlBlock) (e : Established) (s : Scoreboard) (t : Timer) (o : Option Timing) → IsLive b now c → c.established ≡ Some e → IsUp c s
+  rebuilt : (c : ConnectionView) (e : Established) (s : BoardView) (t : RtoView) (o : Option Timing) → IsLive b now c → c.established ≡ Some e → IsUp c s
       → is_some t.deadline ≡ (nat_lt s.una s.top && not c.reset) → IfSome o (IsTimed now s.una s.top)
       → IsOn e (record c { board = s; timer = t; timed = o })
   rebuilt c e s t o h is up runs timed = record {
@@ -97,11 +97,11 @@ module _ (b : Settings) (now : ℕ) where
     is = is;
   }
 
-  moved_on : (c : ControlBlock) (e : Established) (s : Scoreboard) (t : Timer) (o : Option Timing) → IsLive b now c → c.established ≡ Some e → IsUp c s
+  moved_on : (c : ConnectionView) (e : Established) (s : BoardView) (t : RtoView) (o : Option Timing) → IsLive b now c → c.established ≡ Some e → IsUp c s
       → IfSome o (IsTimed now s.una s.top) → IsOn e (with_timer_moved now (record c { board = s; timer = t; timed = o }))
   moved_on c e s t o h is up timed =
       rebuilt c e s (if s.una == s.top then stopped t else restarted now t) o h is up
-      (by_test (λ (u : Timer). is_some u.deadline ≡ (nat_lt s.una s.top && not c.reset)) (s.una == s.top) (stopped t) (restarted now t)
+      (by_test (λ (u : RtoView). is_some u.deadline ≡ (nat_lt s.una s.top && not c.reset)) (s.una == s.top) (stopped t) (restarted now t)
       (λ all. all_out s.una s.top c.reset all)
       (λ out. some_out s.una s.top c.reset out (omega (arith, up.ordered.una_next, up.ordered.next_top)) h.live)) timed
 
@@ -117,12 +117,12 @@ module _ (b : Settings) (now : ℕ) where
   none_timed una una' top top' None e h = tt
   none_timed una una' top top' (Some x) e h = absurd cc
 
-  sampled_on : (c : ControlBlock) (e : Established) (s : Scoreboard) (granularity : ℕ) (o : Option Timing) → IsLive b now c → c.established ≡ Some e → IsUp c s
+  sampled_on : (c : ConnectionView) (e : Established) (s : BoardView) (granularity : ℕ) (o : Option Timing) → IsLive b now c → c.established ≡ Some e → IsUp c s
       → c.timed ≡ o → IsOn e (with_timer_moved now (measured now granularity s.una (record c { board = s }) o))
   sampled_on c e s granularity None h is up timed =
       moved_on c e s c.timer c.timed h is up (none_timed c.board.una s.una c.board.top s.top c.timed timed h.reached.timed)
   sampled_on c e s granularity (Some t) h is up timed =
-      by_test (λ (d : ControlBlock). IsOn e (with_timer_moved now d)) (is_measured s.una t) _ (record c { board = s })
+      by_test (λ (d : ConnectionView). IsOn e (with_timer_moved now d)) (is_measured s.una t) _ (record c { board = s })
       (λ _. moved_on c e s (sampled (now - t.sent_at) granularity c.timer) None h is up tt)
       (λ waits. moved_on c e s c.timer c.timed h is up
       (still_timed c.board.una s.una c.board.top s.top c.timed t timed up.top (not_measured s.una t.segment.end waits) h.reached.timed))
@@ -133,7 +133,7 @@ module _ (b : Settings) (now : ℕ) where
   same_runs : (una una' top top' : ℕ) (reset runs : Bool) → una' ≡ una → top' ≡ top → runs ≡ (nat_lt una top && not reset) → runs ≡ (nat_lt una' top' && not reset)
   same_runs una una' top top' reset runs u t h = subst (λ x. runs ≡ (nat_lt una' x && not reset)) (sym t) (subst (λ x. runs ≡ (nat_lt x top && not reset)) (sym u) h)
 
-  timing_on : (c : ControlBlock) (e : Established) (s : Scoreboard) (granularity n : ℕ) → IsLive b now c → c.established ≡ Some e → IsUp c s
+  timing_on : (c : ConnectionView) (e : Established) (s : BoardView) (granularity n : ℕ) → IsLive b now c → c.established ≡ Some e → IsUp c s
       → n ≡ s.una - c.board.una → IsOn e (with_timing now granularity n (record c { board = s }))
   timing_on c e s granularity n h is up count =
       by_test (IsOn e) (nat_lt 0 n) _ (record c { board = s })
@@ -144,7 +144,7 @@ module _ (b : Settings) (now : ℕ) where
       (same_timed c.board.una s.una c.board.top s.top c.timed same up.top h.reached.timed))
 
   -- the window
-  window_live : (c : ControlBlock) (e : Established) (segment : Segment) → IsOn e c → IsLive b now (with_new_window segment e c)
+  window_live : (c : ConnectionView) (e : Established) (segment : Segment) → IsOn e c → IsLive b now (with_new_window segment e c)
   window_live c e segment h =
       by_test (IsLive b now) (is_current e segment) _ c
       (λ _.
@@ -171,16 +171,16 @@ module _ (b : Settings) (now : ℕ) where
       (λ _. h.live)
 
   -- the number and the blocks
-  scored_keeps : (segment : Segment) (c : ControlBlock) → IsOrdered c.board → HasNumbersOf c.board (scored segment c).0
+  scored_keeps : (segment : Segment) (c : ConnectionView) → IsOrdered c.board → HasNumbersOf c.board (scored segment c).0
   scored_keeps segment c h =
       let same : HasNumbersOf c.board c.board = record { smss = refl; una = refl; top = refl; end = refl; ordered = h } in
-      by_test (λ (t : Scoreboard × Bool). HasNumbersOf c.board t.0) c.sack (told_blocks (blocks_of (looked_at segment.options)) (c.board, false)) (c.board, false)
+      by_test (λ (t : BoardView × Bool). HasNumbersOf c.board t.0) c.sack (told_blocks (blocks_of (looked_at segment.options)) (c.board, false)) (c.board, false)
       (λ _. blocks_keep c.board (blocks_of (looked_at segment.options)) (c.board, false) same) (λ _. same)
 
-  with_ack_live : (segment : Segment) (c : ControlBlock) (e : Established) → IsReached b now c → Passes c segment → c.established ≡ Some e
+  with_ack_live : (segment : Segment) (c : ConnectionView) (e : Established) → IsReached b now c → Passes c segment → c.established ≡ Some e
       → IsLive b now (with_ack now segment e c).0
   with_ack_live segment c e h passed is =
-      let s : Scoreboard = (scored segment (with_number segment c)).0 in
+      let s : BoardView = (scored segment (with_number segment c)).0 in
       let k : HasNumbersOf (acknowledged segment.ack c.board) s =
       scored_keeps segment (with_number segment c) (acknowledged_ordered segment.ack c.board passed.from passed.to h.board) in
       let up : IsUp c s = record { ordered = k.ordered; smss = k.smss; top = k.top; end = k.end; una = omega (arith, k.una, passed.from) } in
@@ -188,17 +188,17 @@ module _ (b : Settings) (now : ℕ) where
       window_live (with_timing now e.granularity_us (newly_acked c segment) (with_blocks segment (with_number segment c))) e segment
       (timing_on c e s e.granularity_us (newly_acked c segment) (record { reached = h; live = passed.live }) is up count)
 
-  pub few : (c : ControlBlock) → IsReached b now c → c.board.top - c.board.una ≤ 2 ^ 20 + 1
+  pub few : (c : ConnectionView) → IsReached b now c → c.board.top - c.board.una ≤ 2 ^ 20 + 1
   few c h = omega (arith, h.room, h.board.top_end, b.sndbuf_in_range.1, fin_small c.fin)
 
   module _ (windows : StaysWithin) where
-    sent_above : (c : ControlBlock) → IsReached b now c → c.board.una ≤ c.board.top
+    sent_above : (c : ConnectionView) → IsReached b now c → c.board.una ≤ c.board.top
     sent_above c h = omega (arith, h.board.una_next, h.board.next_top)
 
-    some_segment : (c : ControlBlock) → IsReached b now c → 0 < c.board.smss
+    some_segment : (c : ConnectionView) → IsReached b now c → 0 < c.board.smss
     some_segment c h = omega (arith, h.board.smss_low)
 
-    answered_live : (segment : Segment) (n : ℕ) (fresh : Bool) (e : Established) (c : ControlBlock) (o : Option Established)
+    answered_live : (segment : Segment) (n : ℕ) (fresh : Bool) (e : Established) (c : ConnectionView) (o : Option Established)
         → IsLive b now c → c.established ≡ o → IsLive b now (answering segment n fresh e c o).0
     answered_live segment n fresh e c None h is = h
     answered_live segment n fresh e c (Some after) h is =
@@ -207,12 +207,12 @@ module _ (b : Settings) (now : ℕ) where
         (windows.ack b.initial_ssthresh (ack_of_segment segment n fresh e after c) after.congestion h.reached.board.smss_high (few c h.reached) k.windows)
         (acked_leads (ack_of_segment segment n fresh e after c) (some_segment c h.reached) (sent_above c h.reached) after.congestion (numbers b now c after h is)).below
 
-    named : (segment : Segment) (n : ℕ) (fresh : Bool) (e : Established) (c : ControlBlock) (after : Established) → IsLive b now c → c.established ≡ Some after
+    named : (segment : Segment) (n : ℕ) (fresh : Bool) (e : Established) (c : ConnectionView) (after : Established) → IsLive b now c → c.established ≡ Some after
         → IsNamed (ack_of_segment segment n fresh e after c) (answering segment n fresh e c (Some after)).1
     named segment n fresh e c after h is =
         (acked_leads (ack_of_segment segment n fresh e after c) (some_segment c h.reached) (sent_above c h.reached) after.congestion (numbers b now c after h is)).named
 
-    new_live : (segment : Segment) (n : ℕ) (fresh : Bool) (e : Established) (c : ControlBlock) (new : Span) (o : Option Established)
+    new_live : (segment : Segment) (n : ℕ) (fresh : Bool) (e : Established) (c : ConnectionView) (new : Span) (o : Option Established)
         → IsLive b now c → c.established ≡ o → (answering segment n fresh e c o).1 ≡ NewSegment new → IsLive b now (sent_on now new (answering segment n fresh e c o).0)
     new_live segment n fresh e c new None h is x = absurd cc
     new_live segment n fresh e c new (Some after) h is x =
@@ -221,7 +221,7 @@ module _ (b : Settings) (now : ℕ) where
         sent_live b now (answering segment n fresh e c (Some after)).0 _ new (answered_live segment n fresh e c (Some after) h is) refl
         (new_leaves c.board new h.reached.board (record { start = k.0; some = k.1; end = k.2 }))
 
-    again_live : (segment : Segment) (n : ℕ) (fresh : Bool) (e : Established) (c : ControlBlock) (first : Span) (o : Option Established)
+    again_live : (segment : Segment) (n : ℕ) (fresh : Bool) (e : Established) (c : ConnectionView) (first : Span) (o : Option Established)
         → IsLive b now c → c.established ≡ o → (answering segment n fresh e c o).1 ≡ FastRetransmit first → IsLive b now (clocked now first (answering segment n fresh e c o).0)
     again_live segment n fresh e c first None h is x = absurd cc
     again_live segment n fresh e c first (Some after) h is x =
@@ -231,21 +231,21 @@ module _ (b : Settings) (now : ℕ) where
         (omega (arith, k.0, k.1, k.2)) (omega (arith, k.1, k.2))
 
     -- a segment that passed all checks
-    pub taking_live : (segment : Segment) (c : ControlBlock) (o : Option Established) → IsReached b now c → ruling_of c segment ≡ None → c.established ≡ o
+    pub taking_live : (segment : Segment) (c : ConnectionView) (o : Option Established) → IsReached b now c → ruling_of c segment ≡ None → c.established ≡ o
         → IsLive b now (taking now segment c o).0
     taking_live segment c None h passed is = record { reached = h; live = (passes c segment passed).live }
     taking_live segment c (Some e) h passed is =
         answered_live segment (newly_acked c segment) (with_ack now segment e c).1 e (with_ack now segment e c).0 (with_ack now segment e c).0.established
         (with_ack_live segment c e h (passes c segment passed) is) refl
 
-    pub taking_new : (segment : Segment) (c : ControlBlock) (new : Span) (o : Option Established) → IsReached b now c → ruling_of c segment ≡ None → c.established ≡ o
+    pub taking_new : (segment : Segment) (c : ConnectionView) (new : Span) (o : Option Established) → IsReached b now c → ruling_of c segment ≡ None → c.established ≡ o
         → (taking now segment c o).1 ≡ NewSegment new → IsLive b now (sent_on now new (taking now segment c o).0)
     taking_new segment c new None h passed is x = absurd cc
     taking_new segment c new (Some e) h passed is x =
         new_live segment (newly_acked c segment) (with_ack now segment e c).1 e (with_ack now segment e c).0 new (with_ack now segment e c).0.established
         (with_ack_live segment c e h (passes c segment passed) is) refl x
 
-    pub taking_again : (segment : Segment) (c : ControlBlock) (first : Span) (o : Option Established) → IsReached b now c → ruling_of c segment ≡ None → c.established ≡ o
+    pub taking_again : (segment : Segment) (c : ConnectionView) (first : Span) (o : Option Established) → IsReached b now c → ruling_of c segment ≡ None → c.established ≡ o
         → (taking now segment c o).1 ≡ FastRetransmit first → IsLive b now (clocked now first (taking now segment c o).0)
     taking_again segment c first None h passed is x = absurd cc
     taking_again segment c first (Some e) h passed is x =

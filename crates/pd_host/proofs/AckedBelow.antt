@@ -1,28 +1,29 @@
 -- What an ACK leaves of the numbers of loss recovery, and which octets it names.
-use Rattle.std.proofs.Common.{◌≡◌, ℕ, ◌+◌, ◌-◌, ◌*◌, ◌<◌, ◌≤◌, ◌==◌, ◌&&◌, ◌||◌, min, nat_lt, nat_le, Bool, true, false, Option, Some, None, refl, arith}
+use Rattle.std.proofs.Common.{◌≡◌, ℕ, ◌+◌, ◌-◌, ◌*◌, ◌<◌, ◌≤◌, ◌&&◌, min, nat_lt, nat_le, Bool, true, false, Option, Some, None, refl, arith}
 use Rattle.std.proofs.lemmas.Bool.Decides.{nat_tests}
 use Rattle.pd_seg.specs.declared.sack_blocks.Span.{Span}
 use Rattle.pd_recover.specs.declared.feedback.Ack.{Ack}
 use Rattle.pd_recover.specs.declared.feedback.News.{News}
 use Rattle.pd_recover.specs.declared.responses.Then.{Then}
 use Rattle.pd_recover.specs.declared.responses.Then.TheVariants.{NewSegment}
-use Rattle.pd_recover.specs.Acks.{IsNamed, acked, renewed, told, told_by_sack, told_by_number, selective_duplicate, plain_duplicate, sent_limited, counted, grown_by, advanced, new_segment, is_duplicate}
-use Rattle.pd_recover.specs.Congestion.{Congestion}
+use Rattle.pd_recover.specs.Acks.{IsNamed, acked, renewed, told, told_by_sack, told_by_number, selective_duplicate, plain_duplicate, counted, grown_by, advanced, new_segment, is_duplicate}
+use Rattle.pd_recover.specs.Cong.{CongView}
+use Rattle.pd_recover.proofs.Cases.{selective_cases, plain_cases}
 use Rattle.pd_recover.proofs.Chosen.{AllOf, one_of, allowed_of}
 use Rattle.pd_host.proofs.Kept.{by_test}
 
 -- loss recovery names nothing that wasn't sent
-pub record IsBelow (top : ℕ) (w : Congestion) : Type 0 where
+pub record IsBelow (top : ℕ) (w : CongView) : Type 0 where
   pub recovery_point : w.recovery_point ≤ top
   pub high_rxt : w.high_rxt ≤ top
   pub rescue_rxt : w.rescue_rxt ≤ top
 
 -- the same after an ACK, and the segment that it names can be sent
-pub record Leads (ack : Ack) (step : Congestion × Then) : Type 0 where
+pub record Leads (ack : Ack) (step : CongView × Then) : Type 0 where
   pub below : IsBelow ack.top step.0
   pub named : IsNamed ack step.1
 
-kept : (top : ℕ) (v w : Congestion) → v.recovery_point ≡ w.recovery_point → v.high_rxt ≡ w.high_rxt → v.rescue_rxt ≡ w.rescue_rxt
+kept : (top : ℕ) (v w : CongView) → v.recovery_point ≡ w.recovery_point → v.high_rxt ≡ w.high_rxt → v.rescue_rxt ≡ w.rescue_rxt
     → IsBelow top v → IsBelow top w
 kept top v w p h r b = record {
   recovery_point = omega (arith, p, b.recovery_point);
@@ -56,26 +57,25 @@ new_named ack smss una top end rwnd t e =
     one_of (λ segment. IsNamed ack (NewSegment segment)) _ (t, some, omega (arith, some, e)))
 
 module _ (ack : Ack) (smss : 0 < ack.smss) (sent : ack.una ≤ ack.top) where
-  abbrev Below : Congestion → Type 0
+  abbrev Below : CongView → Type 0
   Below w = IsBelow ack.top w
 
-  abbrev Then_leads : Congestion × Then → Type 0
+  abbrev Then_leads : CongView × Then → Type 0
   Then_leads step = Leads ack step
 
-  renewed_below : (w : Congestion) → Below w → Below (renewed ack w)
+  renewed_below : (w : CongView) → Below w → Below (renewed ack w)
   renewed_below w h = by_test Below (nat_lt 0 ack.acked) _ w (λ _. kept ack.top w _ refl refl refl h) (λ _. h)
 
-  grown_below : (w : Congestion) → Below w → Below (grown_by ack w)
+  grown_below : (w : CongView) → Below w → Below (grown_by ack w)
   grown_below w h = by_test Below (nat_lt 0 ack.acked) _ w (λ _. kept ack.top w _ refl refl refl h) (λ _. h)
 
-  duplicate_leads : (lost : Bool) (w : Congestion) → Below w → Then_leads (selective_duplicate ack lost w)
+  duplicate_leads : (lost : Bool) (w : CongView) → Below w → Then_leads (selective_duplicate ack lost w)
   duplicate_leads lost w h =
-      by_test Then_leads (nat_lt ack.una w.recovery_point) _ _ (λ _. record { below = h; named = tt })
-      (λ _. by_test Then_leads (nat_le 3 w.dup_acks || lost) _ _
-      (λ _. record { below = record { recovery_point = omega arith; high_rxt = h.high_rxt; rescue_rxt = h.rescue_rxt }; named = tt })
-      (λ _. record { below = record { recovery_point = h.recovery_point; high_rxt = sent; rescue_rxt = h.rescue_rxt }; named = tt }))
+      selective_cases Then_leads ack lost w (record { below = h; named = tt })
+      (record { below = record { recovery_point = omega arith; high_rxt = h.high_rxt; rescue_rxt = h.rescue_rxt }; named = tt })
+      (record { below = record { recovery_point = h.recovery_point; high_rxt = sent; rescue_rxt = h.rescue_rxt }; named = tt })
 
-  sack_leads : (news : News) (w : Congestion) → Below w → Then_leads (told_by_sack ack news w)
+  sack_leads : (news : News) (w : CongView) → Below w → Then_leads (told_by_sack ack news w)
   sack_leads news w h =
       by_test Then_leads (w.recovering && nat_le w.recovery_point ack.una) _ _
       (λ _. record { below = kept ack.top w _ refl refl refl h; named = tt })
@@ -84,26 +84,20 @@ module _ (ack : Ack) (smss : 0 < ack.smss) (sent : ack.una ≤ ack.top) where
       (λ _. duplicate_leads news.lost (counted (grown_by ack w)) (kept ack.top (grown_by ack w) _ refl refl refl (grown_below w h)))
       (λ _. record { below = grown_below w h; named = tt })))
 
-  advanced_below : (w : Congestion) → Below w → Below (advanced ack w)
+  advanced_below : (w : CongView) → Below w → Below (advanced ack w)
   advanced_below w h = by_test Below w.recovering _ _ (λ _. kept ack.top w _ refl refl refl h) (λ _. grown_below w h)
 
-  limited_leads : (o : Option Span) (w : Congestion) → Below w → AllOf (λ segment. IsNamed ack (NewSegment segment)) o
-      → Then_leads (sent_limited ack o w)
-  limited_leads None w h named = record { below = h; named = tt }
-  limited_leads (Some segment) w h named =
-      by_test Then_leads (nat_le (segment.end - ack.una) (w.cwnd + 2 * ack.smss)) _ _
-      (λ _. record { below = kept ack.top w _ refl refl refl h; named = named segment refl })
-      (λ _. record { below = h; named = tt })
-
-  plain_leads : (w : Congestion) → Below w → ack.una < ack.top → Then_leads (plain_duplicate ack w)
+  plain_leads : (w : CongView) → Below w → ack.una < ack.top → Then_leads (plain_duplicate ack w)
   plain_leads w h outstanding =
-      by_test Then_leads (nat_lt w.dup_acks 3) _ _
-      (λ _. limited_leads (new_segment ack.smss ack.una ack.top ack.end ack.rwnd) w h (new_named ack ack.smss ack.una ack.top ack.end ack.rwnd refl refl))
-      (λ _. by_test Then_leads (w.dup_acks == 3) _ _
-      (λ _. record { below = kept ack.top w _ refl refl refl h; named = (refl, omega (arith, smss, outstanding), omega arith) })
-      (λ _. record { below = kept ack.top w _ refl refl refl h; named = tt }))
+      plain_cases Then_leads ack w (record { below = h; named = tt })
+      (λ segment is. record {
+        below = kept ack.top w _ refl refl refl h;
+        named = new_named ack ack.smss ack.una ack.top ack.end ack.rwnd refl refl segment is;
+      })
+      (record { below = kept ack.top w _ refl refl refl h; named = (refl, omega (arith, smss, outstanding), omega arith) })
+      (record { below = kept ack.top w _ refl refl refl h; named = tt })
 
-  number_leads : (w : Congestion) → Below w → Then_leads (told_by_number ack w)
+  number_leads : (w : CongView) → Below w → Then_leads (told_by_number ack w)
   number_leads w h =
       by_test Then_leads (nat_lt 0 ack.acked) _ _ (λ _. record { below = advanced_below w h; named = tt })
       (λ _. by_test Then_leads (is_duplicate ack && nat_le w.recovery_point ack.una) _ _
@@ -111,9 +105,9 @@ module _ (ack : Ack) (smss : 0 < ack.smss) (sent : ack.una ≤ ack.top) where
       (lt _ _ (first_of_two _ _ (second_of_two _ _ (first_of_two _ _ e)))))
       (λ _. record { below = h; named = tt }))
 
-  told_leads : (o : Option News) (w : Congestion) → Below w → Then_leads (told ack o w)
+  told_leads : (o : Option News) (w : CongView) → Below w → Then_leads (told ack o w)
   told_leads None w h = number_leads w h
   told_leads (Some news) w h = sack_leads news w h
 
-  pub acked_leads : (w : Congestion) → IsBelow ack.top w → Leads ack (acked ack w)
+  pub acked_leads : (w : CongView) → IsBelow ack.top w → Leads ack (acked ack w)
   acked_leads w h = told_leads ack.sack (renewed ack w) (renewed_below w h)

@@ -4,9 +4,9 @@ use Rattle.std.specs.List.{AllByRecursion}
 use Rattle.std.proofs.lemmas.Bool.Decides.{nat_tests}
 use Rattle.pd_settings.specs.declared.fields.Settings.{Settings}
 use Rattle.pd_seg.specs.declared.segments.Sent.{Sent}
-use Rattle.pd_host.specs.ControlBlock.{ControlBlock}
+use Rattle.pd_host.specs.Connection.{ConnectionView}
 use Rattle.pd_host.specs.Expiries.{deadline_of, due_by, segment_again, block_expired, expired, advanced}
-use Rattle.pd_host.specs.InputLaws.{AdvancesPutOutBehind, AdvancesUseNone, rebound}
+use Rattle.pd_host.specs.InputLaws.{AdvancesPutOutAfter, AdvancesUseNone, rebound}
 use Rattle.pd_host.specs.Laws.{AreInOrder}
 use Rattle.pd_host.specs.Sending.{places_left}
 use Rattle.pd_host.specs.declared.established.Established.{Established}
@@ -52,15 +52,15 @@ one_later : (n : ℕ) (packets : List Sent) (p : Sent) → p.at ≤ n → AllByR
 one_later n [] p le h = (le, tt)
 one_later n (q ∷ packets) p le h = (h.0, one_later n packets p le h.1)
 
-one_behind : (n : ℕ) (packets : List Sent) (p : Sent) → n ≤ p.at → AllByRecursion (λ q. n ≤ q.at) packets → AllByRecursion (λ q. n ≤ q.at) (packets ++ p ∷ [])
-one_behind n [] p le h = (le, tt)
-one_behind n (q ∷ packets) p le h = (h.0, one_behind n packets p le h.1)
+one_after : (n : ℕ) (packets : List Sent) (p : Sent) → n ≤ p.at → AllByRecursion (λ q. n ≤ q.at) packets → AllByRecursion (λ q. n ≤ q.at) (packets ++ p ∷ [])
+one_after n [] p le h = (le, tt)
+one_after n (q ∷ packets) p le h = (h.0, one_after n packets p le h.1)
 
 in_order : (until : ℕ) (packets : List Sent) (p : Sent) → p.at ≤ until → AllByRecursion (λ q. q.at ≤ p.at) packets → AreInOrder until packets
     → AreInOrder until (packets ++ p ∷ [])
 in_order until [] p le before h = (le, (tt, tt))
 in_order until (q ∷ packets) p le before h =
-    (h.0, (one_behind q.at packets p before.0 h.1.0, in_order until packets p le before.1 h.1.1))
+    (h.0, (one_after q.at packets p before.0 h.1.0, in_order until packets p le before.1 h.1.1))
 
 -- Each expiry
 
@@ -74,13 +74,13 @@ record IsRun (until : ℕ) (s t : State) : Type 0 where
 none_run : (until : ℕ) (s : State) → IsRun until s s
 none_run until s = record { packets = []; order = tt; outbox = sym (append-nil s.endpoint.outbox); last = λ at e. tt }
 
--- the next expiry lies behind this one
-next_expiry : (at : ℕ) (c : ControlBlock) (o : Option Established)
+-- the next expiry lies after this one
+next_expiry : (at : ℕ) (c : ConnectionView) (o : Option Established)
     → (block_expired at c o).timer.deadline ≡ Some (at + min (2 * c.timer.rto) c.timer.max_rto_us)
 next_expiry at c None = refl
 next_expiry at c (Some e) = refl
 
-one_run : (until at : ℕ) (s t : State) (o : Option ControlBlock) → at ≤ until → deadline_of t ≡ Some at → t.endpoint.connection ≡ o
+one_run : (until at : ℕ) (s t : State) (o : Option ConnectionView) → at ≤ until → deadline_of t ≡ Some at → t.endpoint.connection ≡ o
     → IsRun until s t → IsRun until s (expired at o t)
 one_run until at s t None le due e h = h
 one_run until at s t (Some c) le due e h =
@@ -104,12 +104,12 @@ runs until s =
     one_run until at s t t.endpoint.connection now.1 now.0 refl h)
     (places_left s) s (none_run until s)
 
-pub advances_put_out_behind : AdvancesPutOutBehind
-advances_put_out_behind until s t h =
+pub advances_put_out_after : AdvancesPutOutAfter
+advances_put_out_after until s t h =
     let run : IsRun until s t = came (IsRun until s) (advanced until s) t h (runs until s) in
     (run.packets, run.order, run.outbox)
 
-expired_again : (b : Settings) (at : ℕ) (o : Option ControlBlock) (s : State) → expired at o (rebound b s) ≡ rebound b (expired at o s)
+expired_again : (b : Settings) (at : ℕ) (o : Option ConnectionView) (s : State) → expired at o (rebound b s) ≡ rebound b (expired at o s)
 expired_again b at None s = refl
 expired_again b at (Some c) s = refl
 

@@ -8,13 +8,13 @@ use Rattle.pd_seg.specs.declared.segments.Sent.{Sent}
 use Rattle.pd_recover.specs.declared.responses.Then.{Then}
 use Rattle.pd_recover.specs.declared.responses.Then.TheVariants.{Ordinary, StepC, Entry, LimitedTransmit, NewSegment, FastRetransmit, Nothing}
 use Rattle.pd_recover.specs.declared.segments.NextSegment.{NextSegment}
-use Rattle.pd_host.specs.Acknowledgments.{OnTheWay, taking, taken, next_found, one_filled, filled, sender_of, pipe_of, put_segment, entered_on, entry, led_to}
+use Rattle.pd_host.specs.Acknowledgments.{OnTheWay, taking, ack_taken, next_found, one_filled, filled, sender_of, pipe_of, put_segment, entered_on, entry, led_to}
 use Rattle.pd_host.specs.Arrivals.{ruling_of, ruled, goes_on, with_connection, with_peer_fin, finished_on, finished_by, arrived_on, arrived}
-use Rattle.pd_host.specs.ControlBlock.{ControlBlock}
+use Rattle.pd_host.specs.Connection.{ConnectionView}
 use Rattle.pd_host.specs.Handshake.{is_opening, block_begun, syn_uses}
 use Rattle.pd_host.specs.Packets.{ack_of, refusal_of, syn_ack_of, data_of}
 use Rattle.pd_host.specs.Places.{has_place}
-use Rattle.pd_host.specs.Sender.{beside, with_outbox, put_out}
+use Rattle.pd_host.specs.Host.{beside, with_outbox, put_out}
 use Rattle.pd_host.specs.Sending.{with_block, places_left, sent_on, ordinary}
 use Rattle.pd_host.specs.Timing.{clocked}
 use Rattle.pd_host.specs.declared.endpoint.Endpoint.{Endpoint}
@@ -34,7 +34,7 @@ sender_comes : (P : State → Type 0) (r : Result OnTheWay Halt) → Comes (λ t
 sender_comes P (Ok t) h = h
 sender_comes P (Err halt) h = tt
 
-module _ (now : ℕ) (O : List Sent → Type 0) (C D : Settings → ControlBlock → Type 0) (more : TakesOne now O) where
+module _ (now : ℕ) (O : List Sent → Type 0) (C D : Settings → ConnectionView → Type 0) (more : TakesOne now O) where
   -- it holds between two inputs
   abbrev All : State → Type 0
   All s = Holds O C s
@@ -47,7 +47,7 @@ module _ (now : ℕ) (O : List Sent → Type 0) (C D : Settings → ControlBlock
     ordinary_after : (s : State) → Sends s → Comes Sends (ordinary now s)
     ordinary_after s h = ordinary_holds now O D more (λ b. (rules b).sending) s h
 
-    in_filled : (filling : Filling) (o : Option ControlBlock) (sent : NextSegment) (t : OnTheWay) → Sends t.0 → IfSome o (D t.0.settings)
+    in_filled : (filling : Filling) (o : Option ConnectionView) (sent : NextSegment) (t : OnTheWay) → Sends t.0 → IfSome o (D t.0.settings)
         → next_found filling t.1 o ≡ Some sent → Sends (one_filled now filling sent o t).0
     in_filled filling None sent t h d e = h
     in_filled filling (Some c) sent t h d e = placed now O D more _ _ t.0 h ((rules t.0.settings).acks.filled filling t.1 c sent d e)
@@ -59,19 +59,19 @@ module _ (now : ℕ) (O : List Sent → Type 0) (C D : Settings → ControlBlock
         (λ t sent k e. in_filled filling t.0.endpoint.connection sent t k k.connection e)
         (places_left s) (s, pipe_of s.endpoint.connection) h)
 
-    put_holds : (segment : Span) (before after : ControlBlock) (s : State) → Sends s → D s.settings after
+    put_holds : (segment : Span) (before after : ConnectionView) (s : State) → Sends s → D s.settings after
         → Comes Sends (put_segment now segment before after s)
     put_holds segment before after s h d =
         by_test (Comes Sends) (has_place s.endpoint.outbox) _ (Err Limit) (λ _. placed now O D more (data_of before segment) after s h d) (λ _. tt)
 
-    entry_holds : (c : ControlBlock) (s : State) → Sends s → D s.settings c → Comes Sends (entry now c s)
+    entry_holds : (c : ConnectionView) (s : State) → Sends s → D s.settings c → Comes Sends (entry now c s)
     entry_holds c s h d =
         by_test (Comes Sends) (nat_lt (first_run c).start (first_run c).end) _ _
         (λ e. put_holds (first_run c) c (entered_on (first_run c) (clocked now (first_run c) c) c.established) s h ((rules s.settings).acks.entry c d e))
         (λ _. record { packets = h.packets; connection = (rules s.settings).acks.entry_alone c d })
 
     -- what an ACK that was taken leads to
-    led_holds : (segment : Segment) (c : ControlBlock) (s : State) (x : Then)
+    led_holds : (segment : Segment) (c : ConnectionView) (s : State) (x : Then)
         → Sends s → C s.settings c → D s.settings (taking now segment c c.established).0 → ruling_of c segment ≡ None
         → (taking now segment c c.established).1 ≡ x → Comes Sends (led_to now (taking now segment c c.established).0 s x)
     led_holds segment c s Ordinary h old d passed e = ordinary_after s h
@@ -81,26 +81,26 @@ module _ (now : ℕ) (O : List Sent → Type 0) (C D : Settings → ControlBlock
         (entry_holds (taking now segment c c.established).0 s h d)
     led_holds segment c s LimitedTransmit h old d passed e = filled_holds NewData s h
     led_holds segment c s (NewSegment new) h old d passed e =
-        let t : ControlBlock = (taking now segment c c.established).0 in
+        let t : ConnectionView = (taking now segment c c.established).0 in
         put_holds new t (sent_on now new t) s h ((rules s.settings).acks.new_segment segment c new old passed e)
     led_holds segment c s (FastRetransmit first) h old d passed e =
-        let t : ControlBlock = (taking now segment c c.established).0 in
+        let t : ConnectionView = (taking now segment c c.established).0 in
         comes_then Sends Sends (ordinary now) ordinary_after (put_segment now first t (clocked now first t) s)
         (put_holds first t (clocked now first t) s h ((rules s.settings).acks.again segment c first old passed e))
     led_holds segment c s Nothing h old d passed e = h
 
-    went_on : (s : State) → (o : Option ControlBlock) → IfSome o (D s.settings) → IfSome o (C s.settings)
+    went_on : (s : State) → (o : Option ConnectionView) → IfSome o (D s.settings) → IfSome o (C s.settings)
     went_on s None d = tt
     went_on s (Some c) d = (rules s.settings).sent c d
 
     sent_all : (s : State) → Sends s → All s
     sent_all s h = record { packets = h.packets; connection = went_on s s.endpoint.connection h.connection }
 
-    taken_holds : (segment : Segment) (c : ControlBlock) (s : State) → All s → C s.settings c → ruling_of c segment ≡ None
-        → Comes All (taken now segment c s c.established)
+    taken_holds : (segment : Segment) (c : ConnectionView) (s : State) → All s → C s.settings c → ruling_of c segment ≡ None
+        → Comes All (ack_taken now segment c s c.established)
     taken_holds segment c s h d passed =
         let k : D s.settings (taking now segment c c.established).0 = (rules s.settings).acks.ack segment c d passed in
-        comes_more Sends All sent_all (taken now segment c s c.established)
+        comes_more Sends All sent_all (ack_taken now segment c s c.established)
         (led_holds segment c (with_block (taking now segment c c.established).0 s) (taking now segment c c.established).1
         (record { packets = h.packets; connection = k }) d k passed refl)
 
@@ -114,7 +114,7 @@ module _ (now : ℕ) (O : List Sent → Type 0) (C D : Settings → ControlBlock
         → Comes All (beside s (put_out now segment e))
     answers_with segment s e h d = answers (nat_lt (length e.outbox) 1024) _ s e (more e.outbox _ refl h) d
 
-    ruled_holds : (r : Option Ruling) (segment : Segment) (c : ControlBlock) (s : State)
+    ruled_holds : (r : Option Ruling) (segment : Segment) (c : ConnectionView) (s : State)
         → All s → C s.settings c → s.endpoint.connection ≡ Some c → ruling_of c segment ≡ r → Comes All (ruled now segment c s r)
     ruled_holds (Some NotRun) segment c s h d is e = tt
     ruled_holds (Some StrayRst) segment c s h d is e = h
@@ -130,7 +130,7 @@ module _ (now : ℕ) (O : List Sent → Type 0) (C D : Settings → ControlBlock
     ruled_holds None segment c s h d is e = taken_holds segment c s h d e
 
     -- the peer's FIN is taken
-    finished_on_holds : (s : State) (o : Option ControlBlock) → All s → IfSome o (C s.settings) → Comes All (finished_on now s o)
+    finished_on_holds : (s : State) (o : Option ConnectionView) → All s → IfSome o (C s.settings) → Comes All (finished_on now s o)
     finished_on_holds s None h d = h
     finished_on_holds s (Some c) h d =
         answers_with (ack_of (with_peer_fin c)) s (with_connection (with_peer_fin c) s.endpoint) h.packets ((rules s.settings).finished c d)
@@ -140,14 +140,14 @@ module _ (now : ℕ) (O : List Sent → Type 0) (C D : Settings → ControlBlock
         by_test (Comes All) (goes_on r && segment.flags.fin) (finished_on now s s.endpoint.connection) (Ok s)
         (λ _. finished_on_holds s s.endpoint.connection h h.connection) (λ _. h)
 
-    passed_holds : (segment : Segment) (c : ControlBlock) (s : State) → All s → C s.settings c → s.endpoint.connection ≡ Some c
+    passed_holds : (segment : Segment) (c : ConnectionView) (s : State) → All s → C s.settings c → s.endpoint.connection ≡ Some c
         → Comes All (arrived_on now segment s (Some c))
     passed_holds segment c s h d is =
         comes_then All All (finished_by now segment (ruling_of c segment)) (finished_holds segment (ruling_of c segment))
         (ruled now segment c s (ruling_of c segment)) (ruled_holds (ruling_of c segment) segment c s h d is refl)
 
     -- on a connection
-    pub arrived_later : (segment : Segment) (c : ControlBlock) (s t : State) → s.endpoint.connection ≡ Some c → All s → arrived segment now s ≡ Ok t
+    pub arrived_later : (segment : Segment) (c : ConnectionView) (s t : State) → s.endpoint.connection ≡ Some c → All s → arrived segment now s ≡ Ok t
         → All t
     arrived_later segment c s t on h is =
         came All (arrived segment now s) t
@@ -163,7 +163,7 @@ module _ (now : ℕ) (O : List Sent → Type 0) (C D : Settings → ControlBlock
           (first s.settings s.endpoint.listener segment e))
           (λ _. tt)
 
-      arrived_on_holds : (o : Option ControlBlock) (segment : Segment) (s : State) → All s → IfSome o (C s.settings) → s.endpoint.connection ≡ o
+      arrived_on_holds : (o : Option ConnectionView) (segment : Segment) (s : State) → All s → IfSome o (C s.settings) → s.endpoint.connection ≡ o
           → Comes All (arrived_on now segment s o)
       arrived_on_holds None segment s h d is = opened_holds segment s h
       arrived_on_holds (Some c) segment s h d is = passed_holds segment c s h d is

@@ -5,7 +5,7 @@ use Rattle.std.proofs.lemmas.Bool.Decides.{nat_tests}
 use Rattle.pd_seg.specs.declared.sack_blocks.Span.{Span}
 use Rattle.pd_board.proofs.Sets.{contains-octets_where, contains_in, octets_where-same, octets_where-none, octets_where-longer}
 use Rattle.pd_board.specs.Octets.{contains, octets_where, least_where}
-use Rattle.pd_board.specs.Scoreboard.{Scoreboard, opened, written, sent_to, acknowledged, covers, marked, has_new, unmarked, skipped}
+use Rattle.pd_board.specs.Board.{BoardView, opened, written, sent_to, acknowledged, covers, marked, has_new, unmarked, skipped}
 use Rattle.pd_recover.proofs.Found.{least}
 use Rattle.pd_host.specs.Acknowledgments.{is_block_sent, told_block, told_blocks}
 use Rattle.pd_host.specs.Invariants.{IsOrdered}
@@ -45,7 +45,7 @@ opened_ordered smss low high = record {
   sacked_sent = none_sent 0 1;
 }
 
-pub unmarked_ordered : (s : Scoreboard) → IsOrdered s → IsOrdered (unmarked s)
+pub unmarked_ordered : (s : BoardView) → IsOrdered s → IsOrdered (unmarked s)
 unmarked_ordered s h = record {
   smss_low = h.smss_low;
   smss_high = h.smss_high;
@@ -56,7 +56,7 @@ unmarked_ordered s h = record {
   sacked_sent = none_sent s.una s.top;
 }
 
-pub written_ordered : (n : ℕ) (s : Scoreboard) → IsOrdered s → IsOrdered (written n s)
+pub written_ordered : (n : ℕ) (s : BoardView) → IsOrdered s → IsOrdered (written n s)
 written_ordered n s h = record {
   smss_low = h.smss_low;
   smss_high = h.smss_high;
@@ -67,16 +67,16 @@ written_ordered n s h = record {
   sacked_sent = h.sacked_sent;
 }
 
-above_top : (s : Scoreboard) → IsOrdered s → (x : ℕ) → s.top ≤ x → contains s.sacked x ≡ false
+above_top : (s : BoardView) → IsOrdered s → (x : ℕ) → s.top ≤ x → contains s.sacked x ≡ false
 above_top s h x l = sure (contains s.sacked x) (λ t. beyond (h.sacked_sent x t).1)
   where
     beyond : x < s.top → ⊥
     beyond u = omega (arith, l, u)
 
-higher : (s : Scoreboard) (x y : ℕ) → (s.una ≤ y) × (y < s.top) → (s.una ≤ y) × (y < max s.top x)
+higher : (s : BoardView) (x y : ℕ) → (s.una ≤ y) × (y < s.top) → (s.una ≤ y) × (y < max s.top x)
 higher s x y h = (h.0, omega (arith, h.1))
 
-pub sent_ordered : (x : ℕ) (s : Scoreboard) → s.una ≤ x → x ≤ s.end → IsOrdered s → IsOrdered (sent_to x s)
+pub sent_ordered : (x : ℕ) (s : BoardView) → s.una ≤ x → x ≤ s.end → IsOrdered s → IsOrdered (sent_to x s)
 sent_ordered x s from to h = record {
   smss_low = h.smss_low;
   smss_high = h.smss_high;
@@ -89,7 +89,7 @@ sent_ordered x s from to h = record {
   sacked_sent = λ y e. higher s x y (h.sacked_sent y e);
 }
 
-pub acknowledged_ordered : (x : ℕ) (s : Scoreboard) → s.una ≤ x → x ≤ s.top → IsOrdered s → IsOrdered (acknowledged x s)
+pub acknowledged_ordered : (x : ℕ) (s : BoardView) → s.una ≤ x → x ≤ s.top → IsOrdered s → IsOrdered (acknowledged x s)
 acknowledged_ordered x s from to h = record {
   smss_low = h.smss_low;
   smss_high = h.smss_high;
@@ -100,7 +100,7 @@ acknowledged_ordered x s from to h = record {
   sacked_sent = members (contains s.sacked) x s.top;
 }
 
-pub marked_ordered : (block : Span) (s : Scoreboard) → IsOrdered s → IsOrdered (marked block s)
+pub marked_ordered : (block : Span) (s : BoardView) → IsOrdered s → IsOrdered (marked block s)
 marked_ordered block s h = record {
   smss_low = h.smss_low;
   smss_high = h.smss_high;
@@ -116,7 +116,7 @@ found_within : (p : ℕ → Bool) (a b : ℕ) → a ≤ b → (o : Option ℕ) �
 found_within p a b le None e = (le, omega arith)
 found_within p a b le (Some r) e = let h = least p a b r e in (h.from, omega (arith, h.to))
 
-pub skipped_ordered : (s : Scoreboard) → IsOrdered s → IsOrdered (skipped s)
+pub skipped_ordered : (s : BoardView) → IsOrdered s → IsOrdered (skipped s)
 skipped_ordered s h =
     let k = found_within (λ x. not (contains s.sacked x)) s.next s.top h.next_top _ refl in
     record {
@@ -131,19 +131,19 @@ skipped_ordered s h =
 
 -- blocks move no number
 
-pub record HasNumbersOf (s t : Scoreboard) : Type 0 where
+pub record HasNumbersOf (s t : BoardView) : Type 0 where
   pub smss : t.smss ≡ s.smss
   pub una : t.una ≡ s.una
   pub top : t.top ≡ s.top
   pub end : t.end ≡ s.end
   pub ordered : IsOrdered t
 
-told_keeps : (s : Scoreboard) (block : Span) (told : Scoreboard × Bool) → HasNumbersOf s told.0 → HasNumbersOf s (told_block block told).0
+told_keeps : (s : BoardView) (block : Span) (told : BoardView × Bool) → HasNumbersOf s told.0 → HasNumbersOf s (told_block block told).0
 told_keeps s block told h =
-    by_test (λ (t : Scoreboard × Bool). HasNumbersOf s t.0) (is_block_sent told.0 block) (marked block told.0, told.1 || has_new block told.0) told
+    by_test (λ (t : BoardView × Bool). HasNumbersOf s t.0) (is_block_sent told.0 block) (marked block told.0, told.1 || has_new block told.0) told
     (λ _. record { smss = h.smss; una = h.una; top = h.top; end = h.end; ordered = marked_ordered block told.0 h.ordered })
     (λ _. h)
 
-pub blocks_keep : (s : Scoreboard) (blocks : List Span) (told : Scoreboard × Bool) → HasNumbersOf s told.0 → HasNumbersOf s (told_blocks blocks told).0
+pub blocks_keep : (s : BoardView) (blocks : List Span) (told : BoardView × Bool) → HasNumbersOf s told.0 → HasNumbersOf s (told_blocks blocks told).0
 blocks_keep s [] told h = h
 blocks_keep s (block ∷ blocks) told h = blocks_keep s blocks (told_block block told) (told_keeps s block told h)

@@ -9,7 +9,7 @@ use Rattle.pd_settings.specs.declared.keys.Key.TheVariants.{Sndbuf}
 use Rattle.pd_settings.specs.declared.use_set.UseSet.{UseSet}
 use Rattle.pd_host.specs.Calls.{Reply, answered, with_listener, with_stored, with_answer, socket_reply, bind_reply, listen_reply, accept_reply, handed_out, no_delay_reply, free_of, with_queued, write_uses, queued, written_on, write_reply, closed_stream, closed_on, close_reply, operated, on_open, open_descriptor, reply_to, requested, is_pending, is_waiting, stream_of, with_stream}
 use Rattle.pd_host.specs.Requests.{request_of}
-use Rattle.pd_host.specs.ControlBlock.{ControlBlock}
+use Rattle.pd_host.specs.Connection.{ConnectionView}
 use Rattle.pd_host.specs.InputLaws.{CallsOnlyUse, rebound}
 use Rattle.pd_host.specs.Sending.{ordinary, ordinary_outside_recovery, is_recovering}
 use Rattle.pd_host.specs.declared.descriptors.Descriptor.{Descriptor}
@@ -24,10 +24,10 @@ use Rattle.pd_host.specs.declared.requests.Request.{Request}
 use Rattle.pd_host.specs.declared.requests.Request.TheVariants.{Socket, On}
 use Rattle.pd_host.specs.declared.sender_state.State.{State}
 use Rattle.pd_host.specs.declared.streams.Stream.TheVariants as stream
-use Rattle.pd_host.proofs.CallsBehind.{queued_sends}
+use Rattle.pd_host.proofs.CallsAfter.{queued_sends}
 use Rattle.pd_host.proofs.Outcomes.{came, mapped, either_mapped}
 use Rattle.pd_host.proofs.Rebound.{again, ordinary_again}
-use Rattle.pd_host.proofs.SameValues.{number_of}
+use Rattle.pd_settings.proofs.SameValues.{number_of}
 
 -- a state and an answer, with other settings held
 abbrev rebound_with : Settings → State × Answer → State × Answer
@@ -40,13 +40,13 @@ answer_again : (b : Settings) (answer : Answer) (r : Result State Halt) → with
 answer_again b answer (Ok s) = refl
 answer_again b answer (Err halt) = refl
 
-outside_again : (b : Settings) (now : ℕ) (c : ControlBlock) (s : State)
+outside_again : (b : Settings) (now : ℕ) (c : ConnectionView) (s : State)
     → ordinary_outside_recovery now c (rebound b s) ≡ again b (ordinary_outside_recovery now c s)
 outside_again b now c s =
     either_mapped (rebound b) (is_recovering c.established) (Ok s) (ordinary now s) (Ok (rebound b s)) (ordinary now (rebound b s))
     refl (ordinary_again b now s)
 
-queued_again : (b : Settings) (now n free : ℕ) (c : ControlBlock) (s : State) → queued now n free c (rebound b s) ≡ reply_again b (queued now n free c s)
+queued_again : (b : Settings) (now n free : ℕ) (c : ConnectionView) (s : State) → queued now n free c (rebound b s) ≡ reply_again b (queued now n free c s)
 queued_again b now n free c s =
     let u : State = with_stored (Some (with_queued (min n free) c)) s in
     let answer : Answer = Number (min n free) in
@@ -69,7 +69,7 @@ listen_again b s Bound Listening = refl
 listen_again b s Listens Listening = refl
 listen_again b s _ _ = refl
 
-handed_again : (b : Settings) (s : State) (o : Option ControlBlock) → handed_out (rebound b s) o ≡ reply_again b (handed_out s o)
+handed_again : (b : Settings) (s : State) (o : Option ConnectionView) → handed_out (rebound b s) o ≡ reply_again b (handed_out s o)
 handed_again b s None = refl
 handed_again b s (Some c) =
     let handed : State = with_stored (Some (with_stream stream.Open c)) s in
@@ -86,19 +86,19 @@ no_delay_again b s set Listening = refl
 no_delay_again b s set Connected = refl
 
 -- what a `write` consulted
-queued_uses : (now n free : ℕ) (c : ControlBlock) (s t : State) (a : Answer) → queued now n free c s ≡ Ok (t, a) → t.uses ≡ s.uses
+queued_uses : (now n free : ℕ) (c : ConnectionView) (s t : State) (a : Answer) → queued now n free c s ≡ Ok (t, a) → t.uses ≡ s.uses
 queued_uses now n free c s t a h =
     came (λ (x : State × Answer). x.0.uses ≡ s.uses) (queued now n free c s) (t, a) h
     (queued_sends now n free c s (λ u. u.uses ≡ s.uses) refl (λ u sent. sent.uses))
 
 -- a `write`, by whether the connection was reset and whether it has octets
-abbrev wrote : Bool → Bool → ℕ → ℕ → ControlBlock → State → Reply
+abbrev wrote : Bool → Bool → ℕ → ℕ → ConnectionView → State → Reply
 wrote reset none now n c s =
     if reset then answered s (Error Epipe)
     else if none then answered s (Number 0)
     else queued now n (free_of s.settings.sndbuf c) c (record s { uses = write_uses s.uses })
 
-wrote_again : (b : Settings) (reset none : Bool) (now n : ℕ) (c : ControlBlock) (s t : State) (a : Answer)
+wrote_again : (b : Settings) (reset none : Bool) (now n : ℕ) (c : ConnectionView) (s t : State) (a : Answer)
     → wrote reset none now n c s ≡ Ok (t, a)
     → Agree t.uses s.settings b
     → wrote reset none now n c (rebound b s) ≡ reply_again b (wrote reset none now n c s)
@@ -110,7 +110,7 @@ wrote_again b false false now n c s t a h agree =
     let same : b.sndbuf ≡ s.settings.sndbuf = sym (number_of (agree Sndbuf (ap (λ (x : UseSet). x.sndbuf) uses))) in
     ap (λ (x : ℕ). queued now n (free_of x c) c (rebound b u)) same ∙ queued_again b now n (free_of s.settings.sndbuf c) c u
 
-written_again : (b : Settings) (now n : ℕ) (o : Option ControlBlock) (s t : State) (a : Answer)
+written_again : (b : Settings) (now n : ℕ) (o : Option ConnectionView) (s t : State) (a : Answer)
     → written_on now n o s ≡ Ok (t, a)
     → Agree t.uses s.settings b
     → written_on now n o (rebound b s) ≡ reply_again b (written_on now n o s)
@@ -124,7 +124,7 @@ write_again : (b : Settings) (now : ℕ) (s : State) (n : ℕ) (d : Descriptor) 
 write_again b now s n Listening t a h agree = refl
 write_again b now s n Connected t a h agree = written_again b now n s.endpoint.connection s t a h agree
 
-closed_again : (b : Settings) (now : ℕ) (o : Option ControlBlock) (s : State) → closed_on now o (rebound b s) ≡ reply_again b (closed_on now o s)
+closed_again : (b : Settings) (now : ℕ) (o : Option ConnectionView) (s : State) → closed_on now o (rebound b s) ≡ reply_again b (closed_on now o s)
 closed_again b now None s = refl
 closed_again b now (Some c) s =
     let closed : State = with_stored (Some (closed_stream c)) s in

@@ -5,7 +5,7 @@ use Rattle.pd_seg.specs.declared.answers.Answer.{Answer}
 use Rattle.pd_seg.specs.declared.answers.Answer.TheVariants.{Number, Error}
 use Rattle.pd_seg.specs.declared.answers.Errno.TheVariants.{Eagain, Epipe}
 use Rattle.pd_host.specs.Calls.{Reply, answered, with_listener, with_stored, with_answer, socket_reply, bind_reply, listen_reply, accept_reply, handed_out, no_delay_reply, free_of, with_queued, write_uses, queued, written_on, write_reply, closed_stream, with_fin, closed_on, close_reply, operated, on_open, open_descriptor, reply_to, requested, called, is_pending, is_waiting, stream_of, with_stream, with_nagle}
-use Rattle.pd_host.specs.ControlBlock.{ControlBlock}
+use Rattle.pd_host.specs.Connection.{ConnectionView}
 use Rattle.pd_host.specs.Requests.{request_of}
 use Rattle.pd_host.specs.Sending.{ordinary, ordinary_outside_recovery, is_recovering}
 use Rattle.pd_host.specs.SendingLaws.{sent_in, taken_in, timed_in}
@@ -23,7 +23,7 @@ use Rattle.pd_host.specs.declared.requests.Request.TheVariants.{Socket, On}
 use Rattle.pd_host.specs.declared.sender_state.State.{State}
 use Rattle.pd_host.specs.declared.streams.Stream.{Stream}
 use Rattle.pd_host.specs.declared.streams.Stream.TheVariants as stream
-use Rattle.pd_host.proofs.CallsBehind.{Replies, either_reply, reply_leaves}
+use Rattle.pd_host.proofs.CallsAfter.{Replies, either_reply, reply_leaves}
 use Rattle.pd_host.proofs.Goes.{window_end, Goes, ordinary_goes}
 use Rattle.pd_host.proofs.Outcomes.{Leaves, came, leaves_too, either}
 
@@ -35,18 +35,18 @@ pub record IsQuiet (s t : State) : Type 0 where
   pub taken : taken_in t.endpoint.connection ≡ taken_in s.endpoint.connection
 
 -- so of connections
-record IsAlike (x y : Option ControlBlock) : Type 0 where
+record IsAlike (x y : Option ConnectionView) : Type 0 where
   pub timed : timed_in x ≡ timed_in y
   pub sent : sent_in x ≡ sent_in y
   pub taken : taken_in x ≡ taken_in y
 
-self : (x : Option ControlBlock) → IsAlike x x
+self : (x : Option ConnectionView) → IsAlike x x
 self x = record { timed = refl; sent = refl; taken = refl }
 
 quiet : (s t : State) → t.endpoint.outbox ≡ s.endpoint.outbox → t.endpoint.connection ≡ s.endpoint.connection → IsQuiet s t
 quiet s t out same = record { outbox = out; timed = ap timed_in same; sent = ap sent_in same; taken = ap taken_in same }
 
-stored_in : (s u : State) (x y : Option ControlBlock) → u.endpoint.outbox ≡ s.endpoint.outbox → s.endpoint.connection ≡ y → IsAlike x y
+stored_in : (s u : State) (x y : Option ConnectionView) → u.endpoint.outbox ≡ s.endpoint.outbox → s.endpoint.connection ≡ y → IsAlike x y
     → IsQuiet s (with_stored x u)
 stored_in s u x y out e h = record {
   outbox = out;
@@ -55,44 +55,44 @@ stored_in s u x y out e h = record {
   taken = h.taken ∙ sym (ap taken_in e);
 }
 
-stored : (s : State) (x y : Option ControlBlock) → s.endpoint.connection ≡ y → IsAlike x y → IsQuiet s (with_stored x s)
+stored : (s : State) (x y : Option ConnectionView) → s.endpoint.connection ≡ y → IsAlike x y → IsQuiet s (with_stored x s)
 stored s x y e h = stored_in s s x y refl e h
 
 -- what calls change of a connection
 
-stream_window : (d : Stream) (c : ControlBlock) (o : Option Established) → window_end c (option_map {T = Established} (λ e. record e { stream = d }) o) ≡ window_end c o
+stream_window : (d : Stream) (c : ConnectionView) (o : Option Established) → window_end c (option_map {T = Established} (λ e. record e { stream = d }) o) ≡ window_end c o
 stream_window d c None = refl
 stream_window d c (Some e) = refl
 
-streamed : (d : Stream) (c : ControlBlock) → IsAlike (Some (with_stream d c)) (Some c)
+streamed : (d : Stream) (c : ConnectionView) → IsAlike (Some (with_stream d c)) (Some c)
 streamed d c = record { timed = refl; sent = refl; taken = stream_window d c c.established }
 
-nagle_window : (on : Bool) (c : ControlBlock) (o : Option Established) → window_end c (option_map {T = Established} (λ e. record e { nagle = on }) o) ≡ window_end c o
+nagle_window : (on : Bool) (c : ConnectionView) (o : Option Established) → window_end c (option_map {T = Established} (λ e. record e { nagle = on }) o) ≡ window_end c o
 nagle_window on c None = refl
 nagle_window on c (Some e) = refl
 
-nagled : (on : Bool) (o : Option ControlBlock) → IsAlike (option_map (with_nagle on) o) o
+nagled : (on : Bool) (o : Option ConnectionView) → IsAlike (option_map (with_nagle on) o) o
 nagled on None = self None
 nagled on (Some c) = record { timed = refl; sent = refl; taken = nagle_window on c c.established }
 
-bounded : (c : ControlBlock) (n : ℕ) → IsAlike (Some (with_queued n c)) (Some c)
+bounded : (c : ConnectionView) (n : ℕ) → IsAlike (Some (with_queued n c)) (Some c)
 bounded c n = record { timed = refl; sent = refl; taken = queued_window c.established }
   where
     queued_window : (o : Option Established) → window_end (with_queued n c) o ≡ window_end c o
     queued_window None = refl
     queued_window (Some e) = refl
 
-finished : (c : ControlBlock) → IsAlike (Some (with_fin c)) (Some c)
+finished : (c : ConnectionView) → IsAlike (Some (with_fin c)) (Some c)
 finished c = record { timed = refl; sent = refl; taken = fin_window c.established }
   where
     fin_window : (o : Option Established) → window_end (with_fin c) o ≡ window_end c o
     fin_window None = refl
     fin_window (Some e) = refl
 
-after_both : (x y z : Option ControlBlock) → IsAlike x y → IsAlike y z → IsAlike x z
+after_both : (x y z : Option ConnectionView) → IsAlike x y → IsAlike y z → IsAlike x z
 after_both x y z h k = record { timed = h.timed ∙ k.timed; sent = h.sent ∙ k.sent; taken = h.taken ∙ k.taken }
 
-closed_so : (b : Bool) (c : ControlBlock) → IsAlike (Some (with_stream stream.Closed (if b then c else with_fin c))) (Some c)
+closed_so : (b : Bool) (c : ConnectionView) → IsAlike (Some (with_stream stream.Closed (if b then c else with_fin c))) (Some c)
 closed_so true c = streamed stream.Closed c
 closed_so false c = after_both (Some (with_stream stream.Closed (with_fin c))) (Some (with_fin c)) (Some c) (streamed stream.Closed (with_fin c)) (finished c)
 
@@ -107,7 +107,7 @@ module _ (now : ℕ) (R : State → State → Type 0) (rules : Goes now R) where
   changed : (s t : State) → t.endpoint.outbox ≡ s.endpoint.outbox → t.endpoint.connection ≡ s.endpoint.connection → Went s t
   changed s t out same = (t, quiet s t out same, rules.none t)
 
-  outside_goes : (c : ControlBlock) (s : State) → Leaves (R s) (ordinary_outside_recovery now c s)
+  outside_goes : (c : ConnectionView) (s : State) → Leaves (R s) (ordinary_outside_recovery now c s)
   outside_goes c s =
       either (R s) (is_recovering c.established) (Ok s) (ordinary now s) (rules.none s) (ordinary_goes now R rules s s (rules.none s))
 
@@ -124,10 +124,10 @@ module _ (now : ℕ) (R : State → State → Type 0) (rules : Goes now R) where
   listen_goes s Listens Listening = stayed s
   listen_goes s _ _ = stayed s
 
-  handed_goes : (s : State) (o : Option ControlBlock) → s.endpoint.connection ≡ o → Replies (Went s) (handed_out s o)
+  handed_goes : (s : State) (o : Option ConnectionView) → s.endpoint.connection ≡ o → Replies (Went s) (handed_out s o)
   handed_goes s None e = stayed s
   handed_goes s (Some c) e =
-      let x : Option ControlBlock = Some (with_stream stream.Open c) in
+      let x : Option ConnectionView = Some (with_stream stream.Open c) in
       either_reply (Went s) (is_some c.established && is_waiting (stream_of c)) (answered (with_stored x s) (Number 4)) (answered s (Error Eagain))
       (with_stored x s, stored s x (Some c) e (streamed stream.Open c), rules.none (with_stored x s)) (stayed s)
 
@@ -138,21 +138,21 @@ module _ (now : ℕ) (R : State → State → Type 0) (rules : Goes now R) where
   no_delay_goes : (s : State) (set : Bool) (d : Descriptor) → Replies (Went s) (no_delay_reply s set d)
   no_delay_goes s set Listening = stayed s
   no_delay_goes s set Connected =
-      let x : Option ControlBlock = option_map (with_nagle (not set)) s.endpoint.connection in
+      let x : Option ConnectionView = option_map (with_nagle (not set)) s.endpoint.connection in
       (with_stored x s, stored s x s.endpoint.connection refl (nagled (not set) s.endpoint.connection), rules.none (with_stored x s))
 
   -- what a call queues is sent on
-  sends_on : (c : ControlBlock) (s u : State) (answer : Answer) → IsQuiet s u → Replies (Went s) (with_answer answer (ordinary_outside_recovery now c u))
+  sends_on : (c : ConnectionView) (s u : State) (answer : Answer) → IsQuiet s u → Replies (Went s) (with_answer answer (ordinary_outside_recovery now c u))
   sends_on c s u answer h =
       reply_leaves (Went s) answer (ordinary_outside_recovery now c u)
       (leaves_too (R u) (Went s) (ordinary_outside_recovery now c u) (λ t r. (u, h, r)) (outside_goes c u))
 
-  written_goes : (n : ℕ) (s : State) (o : Option ControlBlock) → s.endpoint.connection ≡ o → Replies (Went s) (written_on now n o s)
+  written_goes : (n : ℕ) (s : State) (o : Option ConnectionView) → s.endpoint.connection ≡ o → Replies (Went s) (written_on now n o s)
   written_goes n s None e = stayed s
   written_goes n s (Some c) e =
       let noted : State = record s { uses = write_uses s.uses } in
       let free : ℕ = free_of s.settings.sndbuf c in
-      let x : Option ControlBlock = Some (with_queued (min n free) c) in
+      let x : Option ConnectionView = Some (with_queued (min n free) c) in
       let sending : Reply = with_answer (Number (min n free)) (ordinary_outside_recovery now c (with_stored x noted)) in
       let rest : Reply = if n == 0 then answered s (Number 0) else queued now n free c noted in
       either_reply (Went s) c.reset (answered s (Error Epipe)) rest (stayed s)
@@ -164,10 +164,10 @@ module _ (now : ℕ) (R : State → State → Type 0) (rules : Goes now R) where
   write_goes s n Listening = stayed s
   write_goes s n Connected = written_goes n s s.endpoint.connection refl
 
-  closed_goes : (s : State) (o : Option ControlBlock) → s.endpoint.connection ≡ o → Replies (Went s) (closed_on now o s)
+  closed_goes : (s : State) (o : Option ConnectionView) → s.endpoint.connection ≡ o → Replies (Went s) (closed_on now o s)
   closed_goes s None e = stayed s
   closed_goes s (Some c) e =
-      let x : Option ControlBlock = Some (closed_stream c) in
+      let x : Option ConnectionView = Some (closed_stream c) in
       let u : State = with_stored x s in
       let h : IsQuiet s u = stored s x (Some c) e (closed_so c.reset c) in
       let r : Result State Halt = if c.reset then Ok u else ordinary_outside_recovery now c u in

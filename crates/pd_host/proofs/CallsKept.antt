@@ -7,7 +7,7 @@ use Rattle.pd_seg.specs.declared.answers.Answer.{Answer}
 use Rattle.pd_seg.specs.declared.answers.Answer.TheVariants.{Number}
 use Rattle.pd_seg.specs.declared.segments.Sent.{Sent}
 use Rattle.pd_host.specs.Calls.{Reply, with_answer, with_listener, with_stored, is_listener_open, is_waiting, is_open, is_stream_open, is_pending, stream_of, open_descriptor, socket_reply, bind_reply, listen_reply, handed_out, accept_reply, with_stream, with_nagle, no_delay_reply, free_of, with_queued, write_uses, queued, written_on, write_reply, closed_stream, closed_on, close_reply, operated, on_open, reply_to, requested, called}
-use Rattle.pd_host.specs.ControlBlock.{ControlBlock}
+use Rattle.pd_host.specs.Connection.{ConnectionView}
 use Rattle.pd_host.specs.Requests.{request_of}
 use Rattle.pd_host.specs.Sending.{is_recovering, ordinary, ordinary_outside_recovery}
 use Rattle.pd_host.specs.declared.descriptors.Descriptor.{Descriptor}
@@ -45,8 +45,8 @@ connected_so false false is e = absurd cc
 pub connected : (e : Endpoint) (fd : ℕ) → open_descriptor e fd ≡ Some Connected → is_stream_open e.connection ≡ true
 connected e fd is = connected_so (fd == 3 && is_listener_open e.listener) (fd == 4) (is_stream_open e.connection) is
 
-module _ (now : ℕ) (O : List Sent → Type 0) (C D : Settings → ControlBlock → Type 0) (Q : ControlBlock → Type 0)
-    (more : (b : Settings) (c : ControlBlock) → D b c → TakesOne now O) (rules : (b : Settings) → KeptByCalls now b Q (C b) (D b)) where
+module _ (now : ℕ) (O : List Sent → Type 0) (C D : Settings → ConnectionView → Type 0) (Q : ConnectionView → Type 0)
+    (more : (b : Settings) (c : ConnectionView) → D b c → TakesOne now O) (rules : (b : Settings) → KeptByCalls now b Q (C b) (D b)) where
   abbrev All : State → Type 0
   All s = Holds O C s
 
@@ -54,7 +54,7 @@ module _ (now : ℕ) (O : List Sent → Type 0) (C D : Settings → ControlBlock
   listens : (l : Listener) (s : State) → All s → All (with_listener l s)
   listens l s h = record { packets = h.packets; connection = h.connection }
 
-  stored : (o : Option ControlBlock) (s : State) → All s → IfSome o (C s.settings) → All (with_stored o s)
+  stored : (o : Option ConnectionView) (s : State) → All s → IfSome o (C s.settings) → All (with_stored o s)
   stored o s h d = record { packets = h.packets; connection = d }
 
   socket_leaves : (s : State) (l : Listener) → All s → Leaves All (socket_reply s l)
@@ -70,7 +70,7 @@ module _ (now : ℕ) (O : List Sent → Type 0) (C D : Settings → ControlBlock
   listen_leaves s Listens Listening h = h
   listen_leaves s _ _ h = h
 
-  handed_leaves : (s : State) (o : Option ControlBlock) → All s → IfSome o (C s.settings) → Leaves All (handed_out s o)
+  handed_leaves : (s : State) (o : Option ConnectionView) → All s → IfSome o (C s.settings) → Leaves All (handed_out s o)
   handed_leaves s None h d = h
   handed_leaves s (Some c) h d =
       by_test (Leaves All) (is_some c.established && is_waiting (stream_of c)) _ _
@@ -81,7 +81,7 @@ module _ (now : ℕ) (O : List Sent → Type 0) (C D : Settings → ControlBlock
   accept_leaves s _ _ h = h
 
   -- Nagle's algorithm
-  switched : (b : Settings) (on : Bool) (o : Option ControlBlock) → IfSome o (C b) → IfSome (option_map (with_nagle on) o) (C b)
+  switched : (b : Settings) (on : Bool) (o : Option ConnectionView) → IfSome o (C b) → IfSome (option_map (with_nagle on) o) (C b)
   switched b on None d = tt
   switched b on (Some c) d = (rules b).nagle on c d
 
@@ -91,19 +91,19 @@ module _ (now : ℕ) (O : List Sent → Type 0) (C D : Settings → ControlBlock
       stored (option_map (with_nagle (not set)) s.endpoint.connection) s h (switched s.settings (not set) s.endpoint.connection h.connection)
 
   -- octets are queued, and sent
-  went_on : (s : State) → (o : Option ControlBlock) → IfSome o (D s.settings) → IfSome o (C s.settings)
+  went_on : (s : State) → (o : Option ConnectionView) → IfSome o (D s.settings) → IfSome o (C s.settings)
   went_on s None d = tt
   went_on s (Some c) d = (rules s.settings).sent c d
 
   sent_all : (s : State) → Holds O D s → All s
   sent_all s h = record { packets = h.packets; connection = went_on s s.endpoint.connection h.connection }
 
-  outside_recovery : (c : ControlBlock) (s : State) → Holds O D s → Comes All (ordinary_outside_recovery now c s)
+  outside_recovery : (c : ConnectionView) (s : State) → Holds O D s → Comes All (ordinary_outside_recovery now c s)
   outside_recovery c s h =
       by_test (Comes All) (is_recovering c.established) (Ok s) (ordinary now s) (λ _. sent_all s h)
       (λ _. comes_more (Holds O D) All sent_all (ordinary now s) (ordinary_where now O D more (λ b. (rules b).sending) s h))
 
-  queued_leaves : (n : ℕ) (c : ControlBlock) (s : State) → Q c → All s → C s.settings c → is_open (stream_of c) ≡ true → c.reset ≡ false
+  queued_leaves : (n : ℕ) (c : ConnectionView) (s : State) → Q c → All s → C s.settings c → is_open (stream_of c) ≡ true → c.reset ≡ false
       → Leaves All (queued now n (free_of s.settings.sndbuf c) c s)
   queued_leaves n c s q h d unclosed still =
       by_test (Leaves All) (free_of s.settings.sndbuf c == 0) _ _ (λ _. h)
@@ -111,7 +111,7 @@ module _ (now : ℕ) (O : List Sent → Type 0) (C D : Settings → ControlBlock
       (outside_recovery c (with_stored (Some (with_queued (min n (free_of s.settings.sndbuf c)) c)) s)
       (record { packets = h.packets; connection = (rules s.settings).queued n c q d unclosed still })))
 
-  written_leaves : (n : ℕ) (o : Option ControlBlock) (s : State) → IfSome o Q → All s → IfSome o (C s.settings) → is_stream_open o ≡ true
+  written_leaves : (n : ℕ) (o : Option ConnectionView) (s : State) → IfSome o Q → All s → IfSome o (C s.settings) → is_stream_open o ≡ true
       → Leaves All (written_on now n o s)
   written_leaves n None s q h d unclosed = h
   written_leaves n (Some c) s q h d unclosed =
@@ -119,7 +119,7 @@ module _ (now : ℕ) (O : List Sent → Type 0) (C D : Settings → ControlBlock
       (λ still. by_test (Leaves All) (n == 0) _ _ (λ _. h)
       (λ _. queued_leaves n c (record s { uses = write_uses s.uses }) q (record { packets = h.packets; connection = h.connection }) d unclosed still))
 
-  closed_leaves : (o : Option ControlBlock) (s : State) → IfSome o Q → All s → IfSome o (C s.settings) → is_stream_open o ≡ true
+  closed_leaves : (o : Option ConnectionView) (s : State) → IfSome o Q → All s → IfSome o (C s.settings) → is_stream_open o ≡ true
       → Leaves All (closed_on now o s)
   closed_leaves None s q h d unclosed = h
   closed_leaves (Some c) s q h d unclosed =
@@ -175,7 +175,7 @@ module _ (now : ℕ) (O : List Sent → Type 0) (C D : Settings → ControlBlock
       came (λ (r : State × Answer). All r.0) (called call now s) (t, answer) (requested_leaves s (request_of call) q h) is
 
 -- the same where any packet may be put out
-pub called_holds : (now : ℕ) (O : List Sent → Type 0) (C D : Settings → ControlBlock → Type 0) (Q : ControlBlock → Type 0) → TakesOne now O
+pub called_holds : (now : ℕ) (O : List Sent → Type 0) (C D : Settings → ConnectionView → Type 0) (Q : ConnectionView → Type 0) → TakesOne now O
     → ((b : Settings) → KeptByCalls now b Q (C b) (D b))
     → (call : Call) (s t : State) (answer : Answer) → IfSome s.endpoint.connection Q → Holds O C s → called call now s ≡ Ok (t, answer) → Holds O C t
 called_holds now O C D Q more = called_where now O C D Q (λ b c d. more)

@@ -1,20 +1,23 @@
 -- Other settings that agree on all that was consulted give the same arrival.
-use Rattle.std.proofs.Common.{◌≡◌, ℕ, ◌&&◌, min, Bool, true, false, if◌then◌else◌, nat_lt, length, List, Option, None, Some, Result, Ok, Err, refl, sym, ap, subst, ◌∙◌}
+use Rattle.std.proofs.Common.{◌≡◌, ℕ, ◌&&◌, min, max, Bool, true, false, if◌then◌else◌, nat_lt, length, List, Option, None, Some, Result, Ok, Err, refl, sym, ap, subst, ◌∙◌}
 use Rattle.std.specs.Option.{option_map, unwrap_or}
-use Rattle.pd_board.specs.Scoreboard.{opened}
+use Rattle.pd_board.specs.Board.{opened}
 use Rattle.pd_settings.specs.Uses.{Agree}
 use Rattle.pd_settings.specs.declared.fields.Settings.{Settings}
-use Rattle.pd_settings.specs.declared.keys.Key.TheVariants.{Mss, Sack, Wscale, RcvWnd, InitialSsthresh, InitialWindow as Rule, MinRtoUs, MaxRtoUs, GranularityUs, Nagle}
+use Rattle.pd_settings.specs.declared.keys.Key.TheVariants.{Mss, Sack, Wscale, RcvWnd, MinRtoUs, MaxRtoUs, GranularityUs, Nagle}
 use Rattle.pd_settings.specs.declared.use_set.UseSet.{UseSet}
 use Rattle.pd_seg.specs.declared.segments.Segment.{Segment}
 use Rattle.pd_seg.specs.declared.segments.Sent.{Sent}
-use Rattle.pd_timer.specs.Timer.{initial, started}
+use Rattle.pd_timer.specs.Rto.{initial, started}
 use Rattle.pd_host.specs.Arrivals.{ruled, goes_on, finished_on, finished_by, arrived_on, ruling_of, with_connection}
-use Rattle.pd_host.specs.ControlBlock.{ControlBlock}
-use Rattle.pd_host.specs.Handshake.{is_opening, block_begun, answered_syn, established_by, syn_octet, syn_uses, establishment_uses, offered_mss, offered_count, offers_sack}
+use Rattle.pd_host.specs.Connection.{ConnectionView}
+use Rattle.pd_host.specs.Handshake.{is_opening, block_begun, answered_syn, established_by, syn_acked, syn_octet, syn_uses, establishment_uses, offered_mss, offered_count, offers_sack, window_in}
+use Rattle.pd_host.specs.Timing.{with_sample, with_timer_settled}
+use Rattle.pd_host.specs.declared.peer_fins.PeerFin.TheVariants.{Awaited}
+use Rattle.pd_host.specs.declared.streams.Stream.TheVariants.{Waiting}
 use Rattle.pd_host.specs.InputLaws.{OnlyUsesMatter, rebound}
 use Rattle.pd_host.specs.Packets.{syn_ack_of}
-use Rattle.pd_host.specs.Sender.{beside, with_outbox, put_out, then_on}
+use Rattle.pd_host.specs.Host.{beside, with_outbox, put_out, then_on}
 use Rattle.pd_host.specs.declared.endpoint.Endpoint.{Endpoint}
 use Rattle.pd_host.specs.declared.halts.Halt.{Halt}
 use Rattle.pd_host.specs.declared.halts.Halt.TheVariants.{Limit, Unsupported}
@@ -24,7 +27,9 @@ use Rattle.pd_host.specs.declared.sender_state.State.{State}
 use Rattle.pd_host.proofs.Finishes.{finished_leaves}
 use Rattle.pd_host.proofs.Outcomes.{came, either_mapped}
 use Rattle.pd_host.proofs.Rebound.{again, taken_again}
-use Rattle.pd_host.proofs.SameValues.{number_of, truth_of, rule_of}
+use Rattle.pd_settings.proofs.SameValues.{number_of, truth_of}
+use Rattle.pd_recover.specs.Cong.{CongView, begun}
+use Rattle.pd_recover.proofs.Begun.{begins_by_uses}
 
 -- the endpoint's rules know no settings
 beside_again : (b : Settings) (s : State) (r : Result Endpoint Halt) → beside (rebound b s) r ≡ again b (beside s r)
@@ -32,7 +37,7 @@ beside_again b s (Ok e) = refl
 beside_again b s (Err halt) = refl
 
 -- the connection that a SYN begins depends on six settings alone
-abbrev begun_with : ℕ → Bool → ℕ → ℕ → ℕ → ℕ → ℕ → Segment → ControlBlock
+abbrev begun_with : ℕ → Bool → ℕ → ℕ → ℕ → ℕ → ℕ → Segment → ConnectionView
 begun_with mss sack wscale rcv_wnd least greatest now syn = record {
   announced = mss;
   sack = sack && offers_sack syn.options;
@@ -72,21 +77,39 @@ opening : (o : Bool) (segment : Segment) (now : ℕ) (s t : State) (b : Settings
     → (if o then answered_syn now (block_begun now b segment) (rebound b s) else Err Unsupported)
     ≡ again b (if o then answered_syn now (block_begun now s.settings segment) s else Err Unsupported)
 opening true segment now s t b h agree =
-    let c : ControlBlock = block_begun now s.settings segment in
+    let c : ConnectionView = block_begun now s.settings segment in
     let uses : t.uses ≡ syn_uses s.uses = syn_consults (nat_lt (length s.endpoint.outbox) 1024) _ (record s.endpoint { connection = Some c }) s t h in
     let same : block_begun now b segment ≡ c =
     begun_same s.settings b now segment (number_of (agree Mss (ap (λ (u : UseSet). u.mss) uses))) (truth_of (agree Sack (ap (λ (u : UseSet). u.sack) uses))) (number_of (agree Wscale (ap (λ (u : UseSet). u.wscale) uses))) (number_of (agree RcvWnd (ap (λ (u : UseSet). u.rcv_wnd) uses))) (number_of (agree MinRtoUs (ap (λ (u : UseSet). u.min_rto_us) uses))) (number_of (agree MaxRtoUs (ap (λ (u : UseSet). u.max_rto_us) uses))) in
-    ap (λ (x : ControlBlock). answered_syn now x (rebound b s)) same
+    ap (λ (x : ConnectionView). answered_syn now x (rebound b s)) same
     ∙ beside_again b (record s { uses = syn_uses s.uses }) (put_out now (syn_ack_of c) (record s.endpoint { connection = Some c }))
 opening false segment now s t b h agree = refl
 
--- the establishment depends on four settings alone
-established_same : (a b : Settings) (now : ℕ) (segment : Segment) (c : ControlBlock)
-    → a.nagle ≡ b.nagle → a.granularity_us ≡ b.granularity_us → a.initial_window ≡ b.initial_window → a.initial_ssthresh ≡ b.initial_ssthresh
-    → established_by now b segment c ≡ established_by now a segment c
-established_same a b now segment c n g r i = cc
+-- the establishment depends on two settings, and on those by which congestion control begins
+abbrev established_from : ℕ → Segment → ConnectionView → Bool → ℕ → CongView → ConnectionView
+established_from now segment c nagle granularity congestion = record (with_timer_settled (with_sample now granularity 1 (syn_acked c))) {
+  widest = max c.widest (window_in c segment);
+  established = Some (record {
+    rwnd = window_in c segment;
+    wl1 = segment.start;
+    wl2 = segment.ack;
+    nagle = nagle;
+    granularity_us = granularity;
+    congestion = congestion;
+    stream = Waiting;
+    peer_fin = Awaited;
+  });
+}
 
-by_ruling : (r : Option Ruling) (segment : Segment) (now : ℕ) (s t : State) (c : ControlBlock) (b : Settings)
+established_same : (a b : Settings) (now : ℕ) (segment : Segment) (c : ConnectionView)
+    → a.nagle ≡ b.nagle → a.granularity_us ≡ b.granularity_us → begun b c.board.smss c.resent ≡ begun a c.board.smss c.resent
+    → established_by now b segment c ≡ established_by now a segment c
+established_same a b now segment c n g w =
+    ap (λ (x : Bool). established_from now segment c x b.granularity_us (begun b c.board.smss c.resent)) (sym n)
+    ∙ ap (λ (x : ℕ). established_from now segment c a.nagle x (begun b c.board.smss c.resent)) (sym g)
+    ∙ ap (λ (x : CongView). established_from now segment c a.nagle a.granularity_us x) w
+
+by_ruling : (r : Option Ruling) (segment : Segment) (now : ℕ) (s t : State) (c : ConnectionView) (b : Settings)
     → ruled now segment c s r ≡ Ok t
     → Agree t.uses s.settings b
     → ruled now segment c (rebound b s) r ≡ again b (ruled now segment c s r)
@@ -99,8 +122,9 @@ by_ruling (Some WithoutAck) segment now s t c b h agree = refl
 by_ruling (Some FirstAck) segment now s t c b h agree =
     let uses : t.uses ≡ establishment_uses s.uses = cc in
     let same : established_by now b segment c ≡ established_by now s.settings segment c =
-    established_same s.settings b now segment c (truth_of (agree Nagle (ap (λ (u : UseSet). u.nagle) uses))) (number_of (agree GranularityUs (ap (λ (u : UseSet). u.granularity_us) uses))) (rule_of (agree Rule (ap (λ (u : UseSet). u.initial_window) uses))) (number_of (agree InitialSsthresh (ap (λ (u : UseSet). u.initial_ssthresh) uses))) in
-    ap (λ (x : ControlBlock). Ok (record s {
+    established_same s.settings b now segment c (truth_of (agree Nagle (ap (λ (u : UseSet). u.nagle) uses))) (number_of (agree GranularityUs (ap (λ (u : UseSet). u.granularity_us) uses)))
+    (begins_by_uses (record s.uses { nagle = true; granularity_us = true }) s.settings b c.board.smss c.resent (subst (λ (u : UseSet). Agree u s.settings b) uses agree)) in
+    ap (λ (x : ConnectionView). Ok (record s {
       settings = b;
       uses = establishment_uses s.uses;
       endpoint = with_connection x s.endpoint;
@@ -112,7 +136,7 @@ by_ruling None segment now s t c b h agree = taken_again b now segment c s c.est
 
 -- the peer's FIN consults nothing
 
-finished_on_again : (b : Settings) (now : ℕ) (s : State) (o : Option ControlBlock) → finished_on now (rebound b s) o ≡ again b (finished_on now s o)
+finished_on_again : (b : Settings) (now : ℕ) (s : State) (o : Option ConnectionView) → finished_on now (rebound b s) o ≡ again b (finished_on now s o)
 finished_on_again b now s None = refl
 finished_on_again b now s (Some c) = beside_again b s _
 
@@ -127,7 +151,7 @@ finished_uses now segment r s t h =
     came (λ (u : State). u.uses ≡ s.uses) (finished_by now segment r s) t h (finished_leaves (λ (u : State). u.uses ≡ s.uses) now segment r s refl (λ c e. refl))
 
 -- the ruling, and then the FIN
-both_again : (b : Settings) (now : ℕ) (segment : Segment) (t : State) (c : ControlBlock) (s : State) (r : Option Ruling) (x y : Result State Halt)
+both_again : (b : Settings) (now : ℕ) (segment : Segment) (t : State) (c : ConnectionView) (s : State) (r : Option Ruling) (x y : Result State Halt)
     → ((u : State) → x ≡ Ok u → Agree u.uses s.settings b → y ≡ again b x)
     → then_on (finished_by now segment r) x ≡ Ok t
     → Agree t.uses s.settings b
@@ -138,7 +162,7 @@ both_again b now segment t c s r (Ok u) y same h agree =
     ap (then_on (finished_by now segment r)) (same u refl (subst (λ (x : UseSet). Agree x s.settings b) uses agree))
     ∙ finished_again b now segment r u
 
-on_connection : (o : Option ControlBlock) (segment : Segment) (now : ℕ) (s t : State) (b : Settings)
+on_connection : (o : Option ConnectionView) (segment : Segment) (now : ℕ) (s t : State) (b : Settings)
     → arrived_on now segment s o ≡ Ok t
     → Agree t.uses s.settings b
     → arrived_on now segment (rebound b s) o ≡ again b (arrived_on now segment s o)

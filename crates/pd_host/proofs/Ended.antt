@@ -7,11 +7,11 @@ use Rattle.pd_seg.specs.declared.segments.Sent.{Sent}
 use Rattle.pd_host.specs.Arrivals.{is_stray_fin, check_window, check_rst, check_ack_flag, check_handshake, check_ack, first_ruling, ruling_of, passed_on, arrived_on}
 use Rattle.pd_host.specs.Calls.{with_stream, with_fin, closed_stream}
 use Rattle.pd_host.specs.ConnStates.{state_since, state_of, is_closed}
-use Rattle.pd_host.specs.ControlBlock.{ControlBlock}
+use Rattle.pd_host.specs.Connection.{ConnectionView}
 use Rattle.pd_host.specs.Expiries.{due_by, deadline_of, expired}
 use Rattle.pd_host.specs.Handshake.{length_of}
-use Rattle.pd_host.specs.Invariants.{IsReached, BoardsAreScoreboards, CallsStayInRange, EndsForGood}
-use Rattle.pd_host.specs.Sender.{queued_to}
+use Rattle.pd_host.specs.Invariants.{IsReached, BoardsAreLawful, CallsStayInRange, EndsForGood}
+use Rattle.pd_host.specs.Host.{queued_to}
 use Rattle.pd_host.specs.Sending.{repeated, on_found, places_left}
 use Rattle.pd_host.specs.declared.conn_states.ConnState.{ConnState}
 use Rattle.pd_host.specs.declared.conn_states.ConnState.TheVariants.{Closed}
@@ -26,8 +26,8 @@ use Rattle.pd_host.proofs.Queued.{clash}
 use Rattle.pd_host.proofs.Reached.{at_some}
 use Rattle.pd_host.proofs.Rules.{deadline_on, Holds, KeptByCalls}
 
-pub boards_are_scoreboards : BoardsAreScoreboards
-boards_are_scoreboards now s c h is low =
+pub boards_are_lawful : BoardsAreLawful
+boards_are_lawful now s c h is low =
     let k : IsReached s.settings now c = at_some (IsReached s.settings now) s.endpoint.connection c is h.connection in
     record {
       smss_low = k.board.smss_low;
@@ -42,18 +42,18 @@ boards_are_scoreboards now s c h is low =
 
 -- The range of the numbers
 
-abbrev IsLow : ControlBlock → Type 0
+abbrev IsLow : ConnectionView → Type 0
 IsLow c = c.board.end < 2 ^ 31
 
-abbrev MayQueue : ControlBlock → Type 0
+abbrev MayQueue : ConnectionView → Type 0
 MayQueue c = c.board.end < 2 ^ 30
 
-closed_low : (c : ControlBlock) → MayQueue c → IsLow (closed_stream c)
-closed_low c h = by_test (λ (d : ControlBlock). IsLow (with_stream stream.Closed d)) c.reset c (with_fin c) (λ _. omega (arith, h)) (λ _. omega (arith, h))
+closed_low : (c : ConnectionView) → MayQueue c → IsLow (closed_stream c)
+closed_low c h = by_test (λ (d : ConnectionView). IsLow (with_stream stream.Closed d)) c.reset c (with_fin c) (λ _. omega (arith, h)) (λ _. omega (arith, h))
 
-reset_low : (c : ControlBlock) → IsLow c → c.reset ≡ true → IsLow (closed_stream c)
+reset_low : (c : ConnectionView) → IsLow c → c.reset ≡ true → IsLow (closed_stream c)
 reset_low c h was =
-    by_test (λ (d : ControlBlock). IsLow (with_stream stream.Closed d)) c.reset c (with_fin c) (λ _. h) (λ still. absurd (clash c.reset was still))
+    by_test (λ (d : ConnectionView). IsLow (with_stream stream.Closed d)) c.reset c (with_fin c) (λ _. h) (λ still. absurd (clash c.reset was still))
 
 calls_low : (now : ℕ) (b : Settings) → KeptByCalls now b MayQueue IsLow IsLow
 calls_low now b = record {
@@ -66,15 +66,15 @@ calls_low now b = record {
   abandoned = λ c h unclosed was. reset_low c h was;
 }
 
-may_queue : (o : Option ControlBlock) → queued_to o < 2 ^ 30 → IfSome o MayQueue
+may_queue : (o : Option ConnectionView) → queued_to o < 2 ^ 30 → IfSome o MayQueue
 may_queue None h = tt
 may_queue (Some c) h = h
 
-low_before : (o : Option ControlBlock) → queued_to o < 2 ^ 30 → IfSome o IsLow
+low_before : (o : Option ConnectionView) → queued_to o < 2 ^ 30 → IfSome o IsLow
 low_before None h = tt
 low_before (Some c) h = omega (arith, h)
 
-low_after : (o : Option ControlBlock) → IfSome o IsLow → queued_to o < 2 ^ 31
+low_after : (o : Option ConnectionView) → IfSome o IsLow → queued_to o < 2 ^ 31
 low_after None h = omega arith
 low_after (Some c) h = h
 
@@ -98,7 +98,7 @@ reset_closes : (reset : Bool) (state : ConnState) → reset ≡ true → is_clos
 reset_closes true state e = refl
 reset_closes false state e = absurd cc
 
-reset_rules : (c : ControlBlock) (segment : Segment) → c.reset ≡ true → ruling_of c segment ≡ Some NotRun
+reset_rules : (c : ConnectionView) (segment : Segment) → c.reset ≡ true → ruling_of c segment ≡ Some NotRun
 reset_rules c segment e =
     not_run (nat_lt 0 (length_of segment)) segment.flags.syn (is_stray_fin c segment) (is_closed (state_of c))
     (check_window c segment ∷ check_rst c segment ∷ check_ack_flag segment ∷ check_handshake c segment ∷ check_ack c segment ∷ [])
@@ -109,7 +109,7 @@ off true true e = refl
 off false true e = refl
 off x false e = absurd cc
 
-nothing_due : (until : ℕ) (o : Option ControlBlock) (c : ControlBlock) → o ≡ Some c → c.timer.deadline ≡ None → due_by until (deadline_on o) ≡ None
+nothing_due : (until : ℕ) (o : Option ConnectionView) (c : ConnectionView) → o ≡ Some c → c.timer.deadline ≡ None → due_by until (deadline_on o) ≡ None
 nothing_due until o c is e = ap (λ x. due_by until (deadline_on x)) is ∙ ap (due_by until) e
 
 rests : {S X : Type 0} (find : S → Option X) (act : X → S → S) (n : ℕ) (s : S) → find s ≡ None → repeated find act n s ≡ Ok s
@@ -127,10 +127,10 @@ module _ (now : ℕ) where
     queued = λ n c q h unclosed still. clash c.reset h still;
     finished = λ c q h unclosed still. clash c.reset h still;
     abandoned = λ c h unclosed was.
-        by_test (λ (d : ControlBlock). (with_stream stream.Closed d).reset ≡ true) c.reset c (with_fin c) (λ _. h) (λ _. h);
+        by_test (λ (d : ConnectionView). (with_stream stream.Closed d).reset ≡ true) c.reset c (with_fin c) (λ _. h) (λ _. h);
   }
 
-  reset_of_some : (o : Option ControlBlock) (c : ControlBlock) → o ≡ Some c → c.reset ≡ true → IfSome o (λ x. x.reset ≡ true)
+  reset_of_some : (o : Option ConnectionView) (c : ConnectionView) → o ≡ Some c → c.reset ≡ true → IfSome o (λ x. x.reset ≡ true)
   reset_of_some o c is e = subst (λ x. IfSome x (λ y. y.reset ≡ true)) (sym is) e
 
 pub ends_for_good : EndsForGood
@@ -144,9 +144,9 @@ ends_for_good = record {
       (nothing_due until s.endpoint.connection c is none);
   calls = λ call now s t answer c d is after e came.
       let O : List Sent → Type 0 = λ packets. packets ≡ s.endpoint.outbox in
-      let C : Settings → ControlBlock → Type 0 = λ b x. x.reset ≡ true in
+      let C : Settings → ConnectionView → Type 0 = λ b x. x.reset ≡ true in
       let k : Holds O C t =
       called_where now O C (λ b x. ⊥) (λ _. Unit {0}) (λ b x never. absurd never) (resets now) call s t answer (anything s.endpoint.connection)
       (record { packets = refl; connection = reset_of_some now s.endpoint.connection c is e }) came in
-      (at_some (λ (x : ControlBlock). x.reset ≡ true) t.endpoint.connection d after k.connection, k.packets);
+      (at_some (λ (x : ConnectionView). x.reset ≡ true) t.endpoint.connection d after k.connection, k.packets);
 }

@@ -4,12 +4,12 @@ use Rattle.std.proofs.lemmas.Bool.Decides.{nat_tests}
 use Rattle.pd_settings.specs.declared.fields.Settings.{Settings}
 use Rattle.pd_seg.specs.declared.segments.Segment.{Segment}
 use Rattle.pd_seg.specs.declared.segments.Sent.{Sent}
-use Rattle.pd_host.specs.Acknowledgments.{taking, taken}
+use Rattle.pd_host.specs.Acknowledgments.{taking, ack_taken}
 use Rattle.pd_host.specs.Arrivals.{first_ruling, ruled, passed_on, arrived_on, ruling_of}
-use Rattle.pd_host.specs.ControlBlock.{ControlBlock, rcv_nxt}
+use Rattle.pd_host.specs.Connection.{ConnectionView, rcv_nxt}
 use Rattle.pd_host.specs.Handshake.{established_by, syn_acked}
 use Rattle.pd_host.specs.InputLaws.{OnlyAnExactRstResets}
-use Rattle.pd_host.specs.Sender.{beside, with_outbox}
+use Rattle.pd_host.specs.Host.{beside, with_outbox}
 use Rattle.pd_host.specs.Sending.{with_block}
 use Rattle.pd_host.specs.declared.established.Established.{Established}
 use Rattle.pd_host.specs.declared.halts.Halt.{Halt}
@@ -23,14 +23,14 @@ use Rattle.pd_host.proofs.SentOn.{IsSentOn, stills}
 use Rattle.pd_host.proofs.Taken.{taking_keeps, taken_sends, measured_keeps}
 
 -- an RST has ended a connection
-abbrev was_reset : Option ControlBlock → Bool
+abbrev was_reset : Option ConnectionView → Bool
 was_reset None = false
 was_reset (Some c) = c.reset
 
 abbrev IsLive : State → Type 0
 IsLive s = was_reset s.endpoint.connection ≡ false
 
-still_reset : (o : Option ControlBlock) → was_reset (stills o) ≡ was_reset o
+still_reset : (o : Option ConnectionView) → was_reset (stills o) ≡ was_reset o
 still_reset None = refl
 still_reset (Some c) = refl
 
@@ -40,14 +40,14 @@ sent_live now s t h live =
     sym (still_reset t.endpoint.connection) ∙ ap was_reset h.connection ∙ still_reset s.endpoint.connection ∙ live
 
 -- nor does taking a segment
-taking_live : (now : ℕ) (segment : Segment) (c : ControlBlock) (o : Option Established) → (taking now segment c o).0.reset ≡ c.reset
+taking_live : (now : ℕ) (segment : Segment) (c : ConnectionView) (o : Option Established) → (taking now segment c o).0.reset ≡ c.reset
 taking_live now segment c None = refl
-taking_live now segment c (Some e) = ap (λ (x : ControlBlock). x.reset) (taking_keeps now segment c e)
+taking_live now segment c (Some e) = ap (λ (x : ConnectionView). x.reset) (taking_keeps now segment c e)
 
 -- nor the end of the handshake
-established_live : (now : ℕ) (settings : Settings) (segment : Segment) (c : ControlBlock) → (established_by now settings segment c).reset ≡ c.reset
+established_live : (now : ℕ) (settings : Settings) (segment : Segment) (c : ConnectionView) → (established_by now settings segment c).reset ≡ c.reset
 established_live now settings segment c =
-    ap (λ (x : ControlBlock). x.reset) (measured_keeps now settings.granularity_us 1 (syn_acked c) (syn_acked c).timed)
+    ap (λ (x : ConnectionView). x.reset) (measured_keeps now settings.granularity_us 1 (syn_acked c) (syn_acked c).timed)
 
 -- nor a packet more
 answers : (b : Bool) (packets : List Sent) (s : State) → IsLive s
@@ -56,7 +56,7 @@ answers true packets s live = live
 answers false packets s live = tt
 
 -- the ruling that resets
-resets : (r : Option Ruling) (segment : Segment) (now : ℕ) (s : State) (c : ControlBlock) → c.reset ≡ false → IsLive s
+resets : (r : Option Ruling) (segment : Segment) (now : ℕ) (s : State) (c : ConnectionView) → c.reset ≡ false → IsLive s
     → (r ≡ Some ExactRst) ⊎ Leaves IsLive (ruled now segment c s r)
 resets (Some NotRun) segment now s c still live = inr tt
 resets (Some StrayRst) segment now s c still live = inr live
@@ -70,11 +70,11 @@ resets (Some EarlyAck) segment now s c still live = inr (answers (nat_lt (length
 resets (Some OldAck) segment now s c still live = inr live
 resets None segment now s c still live =
     let left : State = with_block (taking now segment c c.established).0 s in
-    inr (leaves_too (IsSentOn now left) IsLive (taken now segment c s c.established)
+    inr (leaves_too (IsSentOn now left) IsLive (ack_taken now segment c s c.established)
     (λ t h. sent_live now left t h (taking_live now segment c c.established ∙ still)) (taken_sends now segment c s c.established))
 
 -- nor a FIN of the peer's
-passed : (r : Option Ruling) (segment : Segment) (now : ℕ) (s : State) (c : ControlBlock)
+passed : (r : Option Ruling) (segment : Segment) (now : ℕ) (s : State) (c : ConnectionView)
     → (r ≡ Some ExactRst) ⊎ Leaves IsLive (ruled now segment c s r)
     → (r ≡ Some ExactRst) ⊎ Leaves IsLive (passed_on now segment c s r)
 passed r segment now s c (inl same) = inl same
@@ -82,7 +82,7 @@ passed r segment now s c (inr live) =
     inr (passed_leaves IsLive now segment c s r (λ u d e k. sym (ap was_reset e) ∙ k) live)
 
 -- an arrival that resets was ruled so
-was_exact : (r : Option Ruling) (x : Result State Halt) (t : State) (d : ControlBlock) → t.endpoint.connection ≡ Some d → d.reset ≡ true
+was_exact : (r : Option Ruling) (x : Result State Halt) (t : State) (d : ConnectionView) → t.endpoint.connection ≡ Some d → d.reset ≡ true
     → x ≡ Ok t → (r ≡ Some ExactRst) ⊎ Leaves IsLive x → r ≡ Some ExactRst
 was_exact r x t d hd was h (inl same) = same
 was_exact r x t d hd was h (inr live) =

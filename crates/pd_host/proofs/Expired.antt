@@ -4,9 +4,9 @@ use Rattle.std.specs.Prelude.{is_some}
 use Rattle.std.proofs.lemmas.Option.{IfSome_then}
 use Rattle.std.proofs.lemmas.Bool.Decides.{nat_tests}
 use Rattle.pd_settings.specs.declared.fields.Settings.{Settings}
-use Rattle.pd_board.specs.Scoreboard.{unmarked}
+use Rattle.pd_board.specs.Board.{unmarked}
 use Rattle.pd_recover.specs.Laws.{StaysWithin}
-use Rattle.pd_host.specs.ControlBlock.{ControlBlock}
+use Rattle.pd_host.specs.Connection.{ConnectionView}
 use Rattle.pd_host.specs.Expiries.{resent_by, first_again, expired_by}
 use Rattle.pd_host.specs.Invariants.{IsEnding, IsOfPhase, IsInBounds, IsTimed, IsReached}
 use Rattle.pd_host.specs.declared.established.Established.{Established}
@@ -27,11 +27,11 @@ was_out una top true e = absurd (elsewhere (nat_lt una top) e)
 was_out una top false e = (grind (arith, nat_tests), refl)
 
 module _ (b : Settings) where
-  running : (now at : ℕ) (c : ControlBlock) → IsReached b now c → c.timer.deadline ≡ Some at → true ≡ (nat_lt c.board.una c.board.top && not c.reset)
+  running : (now at : ℕ) (c : ConnectionView) → IsReached b now c → c.timer.deadline ≡ Some at → true ≡ (nat_lt c.board.una c.board.top && not c.reset)
   running now at c h e = sym (ap (λ (o : Option ℕ). is_some o) e) ∙ h.runs
 
   -- the SYN/ACK is sent again
-  pub resent_reached : (now at : ℕ) (c : ControlBlock) → IsReached b now c → c.timer.deadline ≡ Some at → IsReached b at (resent_by at c)
+  pub resent_reached : (now at : ℕ) (c : ConnectionView) → IsReached b now c → c.timer.deadline ≡ Some at → IsReached b at (resent_by at c)
   resent_reached now at c h e = record {
     agreed = h.agreed;
     board = h.board;
@@ -44,7 +44,7 @@ module _ (b : Settings) where
   }
 
   -- the segment at una is sent again
-  pub expired_reached : (windows : StaysWithin) (now at : ℕ) (c : ControlBlock) (e : Established) → IsReached b now c → c.timer.deadline ≡ Some at
+  pub expired_reached : (windows : StaysWithin) (now at : ℕ) (c : ConnectionView) (e : Established) → IsReached b now c → c.timer.deadline ≡ Some at
       → c.established ≡ Some e → IsReached b at (expired_by at e c)
   expired_reached windows now at c e h d is =
       let out = was_out c.board.una c.board.top c.reset (running now at c h d) in
@@ -71,7 +71,7 @@ module _ (b : Settings) where
   later_timed : (now until una top : ℕ) (t : Timing) → now ≤ until → IsTimed now una top t → IsTimed until una top t
   later_timed now until una top t le h = record { some = h.some; waited = h.waited; sent = h.sent; past = omega (arith, h.past, le) }
 
-  pub later_reached : (now until : ℕ) (c : ControlBlock) → now ≤ until → IsReached b now c → IsReached b until c
+  pub later_reached : (now until : ℕ) (c : ConnectionView) → now ≤ until → IsReached b now c → IsReached b until c
   later_reached now until c le h = record {
     agreed = h.agreed;
     board = h.board;

@@ -4,7 +4,7 @@ use Rattle.std.specs.Prelude.{IfSome}
 use Rattle.std.proofs.lemmas.Bool.Decides.{nat_tests}
 use Rattle.pd_settings.specs.declared.fields.Settings.{Settings}
 use Rattle.pd_seg.specs.declared.segments.Sent.{Sent}
-use Rattle.pd_host.specs.ControlBlock.{ControlBlock}
+use Rattle.pd_host.specs.Connection.{ConnectionView}
 use Rattle.pd_host.specs.Expiries.{due_by, deadline_of, expired_on, expired, advanced}
 use Rattle.pd_host.specs.Sending.{places_left}
 use Rattle.pd_host.specs.declared.established.Established.{Established}
@@ -33,7 +33,7 @@ due_time : (until at : ℕ) (o : Option ℕ) → due_by until o ≡ Some at → 
 due_time until at None e = absurd cc
 due_time until at (Some d) e = due_time_so until at d (nat_le d until) refl e
 
-module _ (O : ℕ → List Sent → Type 0) (C : Settings → ℕ → ControlBlock → Type 0) (rules : KeptByExpiries O C) (until : ℕ) where
+module _ (O : ℕ → List Sent → Type 0) (C : Settings → ℕ → ConnectionView → Type 0) (rules : KeptByExpiries O C) (until : ℕ) where
   abbrev HoldsAt : ℕ → State → Type 0
   HoldsAt now s = Holds (O now) (λ b c. C b now c) s
 
@@ -43,7 +43,7 @@ module _ (O : ℕ → List Sent → Type 0) (C : Settings → ℕ → ControlBlo
     in_time : moment ≤ until
     holds : HoldsAt moment s
 
-  on_established : (now at : ℕ) (c : ControlBlock) (o : Option Established) (s : State) → HoldsAt now s → C s.settings now c
+  on_established : (now at : ℕ) (c : ConnectionView) (o : Option Established) (s : State) → HoldsAt now s → C s.settings now c
       → at ≤ until → c.timer.deadline ≡ Some at → c.established ≡ o → HoldsBy (expired_on at c o s)
   on_established now at c None s h d in_time runs is = record {
     moment = at;
@@ -62,13 +62,13 @@ module _ (O : ℕ → List Sent → Type 0) (C : Settings → ℕ → ControlBlo
     };
   }
 
-  on_connection : (at : ℕ) (o : Option ControlBlock) (s : State) (h : HoldsBy s) → IfSome o (C s.settings h.moment)
+  on_connection : (at : ℕ) (o : Option ConnectionView) (s : State) (h : HoldsBy s) → IfSome o (C s.settings h.moment)
       → due_by until (deadline_on o) ≡ Some at → HoldsBy (expired at o s)
   on_connection at None s h d e = h
   on_connection at (Some c) s h d e =
       on_established h.moment at c c.established s h.holds d (due_time until at c.timer.deadline e) (due until at c.timer.deadline e) refl
 
-  at_last : (b : Settings) (now : ℕ) (o : Option ControlBlock) → now ≤ until → IfSome o (C b now) → due_by until (deadline_on o) ≡ None
+  at_last : (b : Settings) (now : ℕ) (o : Option ConnectionView) → now ≤ until → IfSome o (C b now) → due_by until (deadline_on o) ≡ None
       → IfSome o (C b until)
   at_last b now None in_time d e = tt
   at_last b now (Some c) in_time d e = rules.idle b now until c in_time d e

@@ -5,14 +5,14 @@ use Rattle.pd_seg.specs.declared.segments.Segment.{Segment}
 use Rattle.pd_host.specs.Acknowledgments.{newly_acked, is_current, with_number, with_blocks, with_timing, with_ack, answering, taking}
 use Rattle.pd_host.specs.Arrivals.{with_peer_fin}
 use Rattle.pd_host.specs.ConnStates.{synchronized, state_since, state_of, state_on}
-use Rattle.pd_host.specs.ControlBlock.{ControlBlock}
+use Rattle.pd_host.specs.Connection.{ConnectionView}
 use Rattle.pd_host.specs.Handshake.{window_in, with_window}
 use Rattle.pd_host.specs.declared.conn_states.ConnState.{ConnState}
 use Rattle.pd_host.specs.declared.conn_states.ConnState.TheVariants.{Closed, SynReceived}
 use Rattle.pd_host.specs.declared.established.Established.{Established}
 use Rattle.pd_host.specs.declared.listeners.Listener.{Listener}
 use Rattle.pd_host.specs.declared.peer_fins.PeerFin.{PeerFin}
-use Rattle.pd_host.specs.declared.peer_fins.PeerFin.TheVariants.{BeforeOurs, BehindOurs}
+use Rattle.pd_host.specs.declared.peer_fins.PeerFin.TheVariants.{BeforeOurs, AfterOurs}
 use Rattle.pd_host.specs.declared.sender_state.State.{State}
 use Rattle.pd_host.proofs.SentOn.{IsSentOn, still, stills, at_rest}
 use Rattle.pd_host.proofs.Taken.{same_either, timing_keeps, taking_keeps}
@@ -29,10 +29,10 @@ abbrev pub peer_of : Option Established → Option PeerFin
 peer_of None = None
 peer_of (Some e) = Some e.peer_fin
 
-abbrev pub face : ControlBlock → Face
+abbrev pub face : ConnectionView → Face
 face c = record { reset = c.reset; peer = peer_of c.established; fin = c.fin; acked = c.board.una == c.board.end }
 
-abbrev pub faces : Option ControlBlock → Option Face
+abbrev pub faces : Option ConnectionView → Option Face
 faces None = None
 faces (Some c) = Some (face c)
 
@@ -45,22 +45,22 @@ since (Some p) fin acked = synchronized p fin acked
 abbrev pub named : Face → ConnState
 named f = if f.reset then Closed else since f.peer f.fin f.acked
 
-pub since_of : (c : ControlBlock) (o : Option Established) → state_since c o ≡ since (peer_of o) c.fin (c.board.una == c.board.end)
+pub since_of : (c : ConnectionView) (o : Option Established) → state_since c o ≡ since (peer_of o) c.fin (c.board.una == c.board.end)
 since_of c None = refl
 since_of c (Some e) = refl
 
-pub state_named : (c : ControlBlock) → state_of c ≡ named (face c)
+pub state_named : (c : ConnectionView) → state_of c ≡ named (face c)
 state_named c = ap (λ (x : ConnState). if c.reset then Closed else x) (since_of c c.established)
 
 some_face : (f g : Face) → Some f ≡ Some g → f ≡ g
 some_face f g h = cc
 
-pub state_at : (l : Listener) (o : Option ControlBlock) (f : Face) → faces o ≡ Some f → state_on l o ≡ named f
+pub state_at : (l : Listener) (o : Option ConnectionView) (f : Face) → faces o ≡ Some f → state_on l o ≡ named f
 state_at l None f h = absurd cc
 state_at l (Some c) f h = state_named c ∙ ap named (some_face (face c) f h)
 
 -- two connections with the same face have the same state
-pub same_state : (c d : ControlBlock) → face d ≡ face c → state_of d ≡ state_of c
+pub same_state : (c d : ConnectionView) → face d ≡ face c → state_of d ≡ state_of c
 same_state c d h = state_named d ∙ ap named h ∙ sym (state_named c)
 
 -- What leaves it
@@ -69,11 +69,11 @@ rest_peer : (o : Option Established) → peer_of (at_rest o) ≡ peer_of o
 rest_peer None = refl
 rest_peer (Some e) = refl
 
-still_face : (c : ControlBlock) → face (still c) ≡ face c
+still_face : (c : ConnectionView) → face (still c) ≡ face c
 still_face c =
     ap (λ (p : Option PeerFin). record { reset = c.reset; peer = p; fin = c.fin; acked = c.board.una == c.board.end }) (rest_peer c.established)
 
-still_faces : (o : Option ControlBlock) → faces (stills o) ≡ faces o
+still_faces : (o : Option ConnectionView) → faces (stills o) ≡ faces o
 still_faces None = refl
 still_faces (Some c) = ap (λ (f : Face). Some f) (still_face c)
 
@@ -83,43 +83,43 @@ sent_faces now s t h = sym (still_faces t.endpoint.connection) ∙ ap faces h.co
 
 -- What an ACK makes of it
 
-ack_peer : (now : ℕ) (segment : Segment) (e : Established) (c : ControlBlock) → c.established ≡ Some e
+ack_peer : (now : ℕ) (segment : Segment) (e : Established) (c : ConnectionView) → c.established ≡ Some e
     → peer_of (with_ack now segment e c).0.established ≡ Some e.peer_fin
 ack_peer now segment e c has =
-    let d : ControlBlock = with_timing now e.granularity_us (newly_acked c segment) (with_blocks segment (with_number segment c)) in
+    let d : ConnectionView = with_timing now e.granularity_us (newly_acked c segment) (with_blocks segment (with_number segment c)) in
     let same : d.established ≡ c.established =
-    ap (λ (x : ControlBlock). x.established) (timing_keeps now e.granularity_us (newly_acked c segment) (with_blocks segment (with_number segment c))) in
-    same_either (λ (x : ControlBlock). peer_of x.established) (is_current e segment)
+    ap (λ (x : ConnectionView). x.established) (timing_keeps now e.granularity_us (newly_acked c segment) (with_blocks segment (with_number segment c))) in
+    same_either (λ (x : ConnectionView). peer_of x.established) (is_current e segment)
     (record d { widest = max d.widest (window_in d segment); established = Some (with_window (window_in d segment) segment e) }) d
     (Some e.peer_fin) refl (ap peer_of (same ∙ has))
 
-answer_peer : (segment : Segment) (n : ℕ) (fresh : Bool) (before : Established) (c : ControlBlock) (o : Option Established) → c.established ≡ o
+answer_peer : (segment : Segment) (n : ℕ) (fresh : Bool) (before : Established) (c : ConnectionView) (o : Option Established) → c.established ≡ o
     → peer_of (answering segment n fresh before c o).0.established ≡ peer_of o
 answer_peer segment n fresh before c None e = ap peer_of e
 answer_peer segment n fresh before c (Some x) e = refl
 
-pub taking_peer : (now : ℕ) (segment : Segment) (c : ControlBlock) (o : Option Established) → c.established ≡ o
+pub taking_peer : (now : ℕ) (segment : Segment) (c : ConnectionView) (o : Option Established) → c.established ≡ o
     → peer_of (taking now segment c o).0.established ≡ peer_of o
 taking_peer now segment c None e = ap peer_of e
 taking_peer now segment c (Some x) e =
-    let after : ControlBlock × Bool = with_ack now segment x c in
+    let after : ConnectionView × Bool = with_ack now segment x c in
     answer_peer segment (newly_acked c segment) after.1 x after.0 after.0.established refl ∙ ack_peer now segment x c e
 
 -- the same face but for what is acknowledged
 
-abbrev pub face_with : Bool → ControlBlock → Face
+abbrev pub face_with : Bool → ConnectionView → Face
 face_with acked c = record { reset = c.reset; peer = peer_of c.established; fin = c.fin; acked = acked }
 
-abbrev pub is_all_acked : ℕ → ControlBlock → Option Established → Bool
+abbrev pub is_all_acked : ℕ → ConnectionView → Option Established → Bool
 is_all_acked number c None = c.board.una == c.board.end
 is_all_acked number c (Some e) = number == c.board.end
 
-pub taking_face : (now : ℕ) (segment : Segment) (c : ControlBlock) (o : Option Established) → c.established ≡ o
+pub taking_face : (now : ℕ) (segment : Segment) (c : ConnectionView) (o : Option Established) → c.established ≡ o
     → face (taking now segment c o).0 ≡ face_with (is_all_acked segment.ack c o) c
 taking_face now segment c None e = refl
 taking_face now segment c (Some x) e =
-    let t : ControlBlock = (taking now segment c (Some x)).0 in
-    ap (λ (b : ControlBlock). record { reset = b.reset; peer = peer_of t.established; fin = b.fin; acked = b.board.una == b.board.end })
+    let t : ConnectionView = (taking now segment c (Some x)).0 in
+    ap (λ (b : ConnectionView). record { reset = b.reset; peer = peer_of t.established; fin = b.fin; acked = b.board.una == b.board.end })
     (taking_keeps now segment c x)
     ∙ ap (λ (p : Option PeerFin). record { reset = c.reset; peer = p; fin = c.fin; acked = segment.ack == c.board.end })
     (taking_peer now segment c (Some x) e ∙ sym (ap peer_of e))
@@ -128,16 +128,16 @@ taking_face now segment c (Some x) e =
 
 abbrev pub noted : Bool → Option PeerFin → Option PeerFin
 noted fin None = None
-noted fin (Some p) = Some (if fin then BehindOurs else BeforeOurs)
+noted fin (Some p) = Some (if fin then AfterOurs else BeforeOurs)
 
 abbrev pub finished : Face → Face
 finished f = record f { peer = noted f.fin f.peer }
 
 noted_peer : (fin : Bool) (o : Option Established)
-    → peer_of (option_map {T = Established} (λ e. record e { peer_fin = if fin then BehindOurs else BeforeOurs }) o) ≡ noted fin (peer_of o)
+    → peer_of (option_map {T = Established} (λ e. record e { peer_fin = if fin then AfterOurs else BeforeOurs }) o) ≡ noted fin (peer_of o)
 noted_peer fin None = refl
 noted_peer fin (Some e) = refl
 
-pub finished_face : (c : ControlBlock) → face (with_peer_fin c) ≡ finished (face c)
+pub finished_face : (c : ConnectionView) → face (with_peer_fin c) ≡ finished (face c)
 finished_face c =
     ap (λ (p : Option PeerFin). record { reset = c.reset; peer = p; fin = c.fin; acked = c.board.una == c.board.end }) (noted_peer c.fin c.established)

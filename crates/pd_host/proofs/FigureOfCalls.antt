@@ -8,7 +8,7 @@ use Rattle.pd_seg.specs.declared.answers.Answer.TheVariants.{Number, Error}
 use Rattle.pd_seg.specs.declared.answers.Errno.TheVariants.{Eagain, Epipe}
 use Rattle.pd_host.specs.Calls.{answered, with_listener, with_stored, socket_reply, bind_reply, listen_reply, accept_reply, handed_out, no_delay_reply, free_of, with_queued, write_uses, queued, written_on, write_reply, closed_stream, with_fin, closed_on, close_reply, operated, on_open, open_descriptor, requested, called, is_open, is_pending, is_waiting, is_stream_open, stream_in, stream_of, with_stream, with_nagle}
 use Rattle.pd_host.specs.ConnStates.{synchronized, state_since, state_of, state_on, conn_state}
-use Rattle.pd_host.specs.ControlBlock.{ControlBlock, peer_fin_in}
+use Rattle.pd_host.specs.Connection.{ConnectionView, peer_fin_in}
 use Rattle.pd_host.specs.Expiries.{block_expired, expired, advanced}
 use Rattle.pd_host.specs.Figure.{MovesByCall}
 use Rattle.pd_host.specs.Invariants.{IsReached, IsLawful}
@@ -23,7 +23,7 @@ use Rattle.pd_host.specs.declared.halts.Halt.TheVariants.{Unsupported}
 use Rattle.pd_host.specs.declared.listeners.Listener.{Listener}
 use Rattle.pd_host.specs.declared.listeners.Listener.TheVariants.{Absent, Open, Bound, Listens, Closed}
 use Rattle.pd_host.specs.declared.peer_fins.PeerFin.{PeerFin}
-use Rattle.pd_host.specs.declared.peer_fins.PeerFin.TheVariants.{Awaited, BeforeOurs, BehindOurs}
+use Rattle.pd_host.specs.declared.peer_fins.PeerFin.TheVariants.{Awaited, BeforeOurs, AfterOurs}
 use Rattle.pd_host.specs.declared.requests.Operation.{Operation}
 use Rattle.pd_host.specs.declared.requests.Operation.TheVariants.{Bind, Listen, Accept, ReuseAddress, NoDelay, SetFlags, Write, Close}
 use Rattle.pd_host.specs.declared.requests.Request.{Request}
@@ -33,7 +33,7 @@ use Rattle.pd_host.specs.declared.streams.Stream.{Stream}
 use Rattle.pd_host.specs.declared.streams.Stream.TheVariants as stream
 use Rattle.pd_host.proofs.Advances.{expiry_finds, expiry_sends}
 use Rattle.pd_host.proofs.Boards.{sure}
-use Rattle.pd_host.proofs.CallsBehind.{Replies, reply_leaves, either_reply, queued_sends, outside_sends}
+use Rattle.pd_host.proofs.CallsAfter.{Replies, reply_leaves, either_reply, queued_sends, outside_sends}
 use Rattle.pd_host.proofs.CallsKept.{connected}
 use Rattle.pd_host.proofs.Faces.{peer_of, face, faces, since, state_named, same_state, sent_faces}
 use Rattle.pd_host.proofs.Kept.{by_test}
@@ -43,11 +43,11 @@ use Rattle.pd_host.proofs.SentOn.{IsSentOn}
 
 -- Expiries
 
-expired_state : (at : ℕ) (c : ControlBlock) (o : Option Established) → c.established ≡ o → state_of (block_expired at c o) ≡ state_of c
+expired_state : (at : ℕ) (c : ConnectionView) (o : Option Established) → c.established ≡ o → state_of (block_expired at c o) ≡ state_of c
 expired_state at c None e = refl
 expired_state at c (Some x) e = ap (λ (y : Option Established). if c.reset then state.Closed else state_since c y) (sym e)
 
-one_expired : (at : ℕ) (s : State) (o : Option ControlBlock) → s.endpoint.connection ≡ o → conn_state (expired at o s) ≡ conn_state s
+one_expired : (at : ℕ) (s : State) (o : Option ConnectionView) → s.endpoint.connection ≡ o → conn_state (expired at o s) ≡ conn_state s
 one_expired at s None e = refl
 one_expired at s (Some c) e = expired_state at c c.established refl ∙ sym (ap (state_on s.endpoint.listener) e)
 
@@ -59,7 +59,7 @@ expiries_stay until s t h =
 
 -- Sending leaves the state
 
-on_faces : (l m : Listener) (x y : Option ControlBlock) → m ≡ l → faces y ≡ faces x → state_on m y ≡ state_on l x
+on_faces : (l m : Listener) (x y : Option ConnectionView) → m ≡ l → faces y ≡ faces x → state_on m y ≡ state_on l x
 on_faces l m None None e h = ap (λ (n : Listener). state_on n None) e
 on_faces l m None (Some d) e h = absurd cc
 on_faces l m (Some c) None e h = absurd cc
@@ -79,7 +79,7 @@ abbrev Moves : ConnState → State → Type 0
 Moves a t = MovesByCall a (conn_state t)
 
 -- another listener
-relisten : (l m : Listener) (o : Option ControlBlock) → MovesByCall (state_on l None) (state_on m None) → MovesByCall (state_on l o) (state_on m o)
+relisten : (l m : Listener) (o : Option ConnectionView) → MovesByCall (state_on l None) (state_on m None) → MovesByCall (state_on l o) (state_on m o)
 relisten l m None h = h
 relisten l m (Some c) h = inl refl
 
@@ -103,24 +103,24 @@ listen_moves s Listens Listening e = inl refl
 listen_moves s _ _ e = inl refl
 
 -- the same state on another connection
-restored : (s : State) (c d : ControlBlock) → s.endpoint.connection ≡ Some c → state_of d ≡ state_of c → conn_state (with_stored (Some d) s) ≡ conn_state s
+restored : (s : State) (c d : ConnectionView) → s.endpoint.connection ≡ Some c → state_of d ≡ state_of c → conn_state (with_stored (Some d) s) ≡ conn_state s
 restored s c d e h = h ∙ sym (ap (state_on s.endpoint.listener) e)
 
-streamed : (d : Stream) (c : ControlBlock) → state_of (with_stream d c) ≡ state_of c
+streamed : (d : Stream) (c : ConnectionView) → state_of (with_stream d c) ≡ state_of c
 streamed d c = same_state c (with_stream d c) (ap (λ (p : Option PeerFin). record { reset = c.reset; peer = p; fin = c.fin; acked = c.board.una == c.board.end }) (same c.established))
   where
     same : (o : Option Established) → peer_of (option_map {T = Established} (λ e. record e { stream = d }) o) ≡ peer_of o
     same None = refl
     same (Some e) = refl
 
-switched : (on : Bool) (c : ControlBlock) → state_of (with_nagle on c) ≡ state_of c
+switched : (on : Bool) (c : ConnectionView) → state_of (with_nagle on c) ≡ state_of c
 switched on c = same_state c (with_nagle on c) (ap (λ (p : Option PeerFin). record { reset = c.reset; peer = p; fin = c.fin; acked = c.board.una == c.board.end }) (same c.established))
   where
     same : (o : Option Established) → peer_of (option_map {T = Established} (λ e. record e { nagle = on }) o) ≡ peer_of o
     same None = refl
     same (Some e) = refl
 
-handed_moves : (s : State) (o : Option ControlBlock) → s.endpoint.connection ≡ o → Replies (Moves (conn_state s)) (handed_out s o)
+handed_moves : (s : State) (o : Option ConnectionView) → s.endpoint.connection ≡ o → Replies (Moves (conn_state s)) (handed_out s o)
 handed_moves s None e = inl refl
 handed_moves s (Some c) e =
     either_reply (Moves (conn_state s)) (is_some c.established && is_waiting (stream_of c))
@@ -131,7 +131,7 @@ accept_moves : (s : State) (l : Listener) (d : Descriptor) → Replies (Moves (c
 accept_moves s Listens Listening = handed_moves s s.endpoint.connection refl
 accept_moves s _ _ = inl refl
 
-switched_on : (on : Bool) (s : State) (o : Option ControlBlock) → s.endpoint.connection ≡ o
+switched_on : (on : Bool) (s : State) (o : Option ConnectionView) → s.endpoint.connection ≡ o
     → conn_state (with_stored (option_map (with_nagle on) o) s) ≡ conn_state s
 switched_on on s None e = sym (ap (state_on s.endpoint.listener) e)
 switched_on on s (Some c) e = restored s c (with_nagle on c) e (switched on c)
@@ -145,17 +145,17 @@ no_delay_moves s set Connected = inl (switched_on (not set) s s.endpoint.connect
 not_open : (d : Stream) → is_open d ≡ true → d ≡ stream.Closed → ⊥
 not_open d e f = let w : is_open stream.Closed ≡ true = subst (λ x. is_open x ≡ true) f e in absurd cc
 
-unfinished : (b : Settings) (now : ℕ) (c : ControlBlock) → IsReached b now c → is_open (stream_of c) ≡ true → c.fin ≡ false
+unfinished : (b : Settings) (now : ℕ) (c : ConnectionView) → IsReached b now c → is_open (stream_of c) ≡ true → c.fin ≡ false
 unfinished b now c h unclosed = sure c.fin (λ queued. not_open (stream_of c) unclosed (h.fin.0 queued))
 
 since_unfinished : (p : Option PeerFin) (x y : Bool) → since p false x ≡ since p false y
 since_unfinished None x y = refl
 since_unfinished (Some Awaited) x y = refl
 since_unfinished (Some BeforeOurs) x y = refl
-since_unfinished (Some BehindOurs) x y = refl
+since_unfinished (Some AfterOurs) x y = refl
 
 -- octets more queued leave the state, while our FIN isn't
-queued_state : (n : ℕ) (c : ControlBlock) → c.fin ≡ false → state_of (with_queued n c) ≡ state_of c
+queued_state : (n : ℕ) (c : ConnectionView) → c.fin ≡ false → state_of (with_queued n c) ≡ state_of c
 queued_state n c h =
     let x : Bool = c.board.una == c.board.end + n in
     let y : Bool = c.board.una == c.board.end in
@@ -164,7 +164,7 @@ queued_state n c h =
     (ap (λ (f : Bool). since (peer_of c.established) f x) h ∙ since_unfinished (peer_of c.established) x y ∙ sym (ap (λ (f : Bool). since (peer_of c.established) f y) h))
     ∙ sym (state_named c)
 
-write_moves : (now : ℕ) (s : State) (n : ℕ) (c : ControlBlock) → s.endpoint.connection ≡ Some c → c.fin ≡ false
+write_moves : (now : ℕ) (s : State) (n : ℕ) (c : ConnectionView) → s.endpoint.connection ≡ Some c → c.fin ≡ false
     → Replies (Moves (conn_state s)) (written_on now n (Some c) s)
 write_moves now s n c e h =
     let after : State = record s { uses = write_uses s.uses } in
@@ -176,20 +176,20 @@ write_moves now s n c e h =
 
 -- our FIN is queued
 
-fin_waits : (p : PeerFin) (x : Bool) → (p ≡ BehindOurs → false ≡ true) → MovesByCall (synchronized p false x) (synchronized p true false)
+fin_waits : (p : PeerFin) (x : Bool) → (p ≡ AfterOurs → false ≡ true) → MovesByCall (synchronized p false x) (synchronized p true false)
 fin_waits Awaited x h = inr refl
 fin_waits BeforeOurs x h = inr refl
-fin_waits BehindOurs x h = let no : false ≡ true = h refl in absurd cc
+fin_waits AfterOurs x h = let no : false ≡ true = h refl in absurd cc
 
 beyond : (una end : ℕ) → una ≤ end → (una == end + 1) ≡ false
 beyond una end h = grind (arith, nat_tests)
 
-closing_moves : (b : Settings) (now : ℕ) (c : ControlBlock) (e : Established) → IsReached b now c → c.established ≡ Some e → is_open (stream_of c) ≡ true
+closing_moves : (b : Settings) (now : ℕ) (c : ConnectionView) (e : Established) → IsReached b now c → c.established ≡ Some e → is_open (stream_of c) ≡ true
     → c.reset ≡ false → MovesByCall (state_of c) (state_of (with_stream stream.Closed (with_fin c)))
 closing_moves b now c e h is unclosed live =
     let x : Bool = c.board.una == c.board.end in
     let none : c.fin ≡ false = unfinished b now c h unclosed in
-    let order : e.peer_fin ≡ BehindOurs → false ≡ true = λ q. sym none ∙ h.fin.1 (ap peer_fin_in is ∙ q) in
+    let order : e.peer_fin ≡ AfterOurs → false ≡ true = λ q. sym none ∙ h.fin.1 (ap peer_fin_in is ∙ q) in
     let from : state_of c ≡ synchronized e.peer_fin false x =
     ap (λ (r : Bool). if r then state.Closed else state_since c c.established) live ∙ ap (state_since c) is
     ∙ ap (λ (f : Bool). synchronized e.peer_fin f x) none in
@@ -206,18 +206,18 @@ opened_some : (o : Option Established) → is_open (stream_in o) ≡ true → (e
 opened_some None e = absurd cc
 opened_some (Some est) e = (est, refl)
 
-closed_moves : (b : Settings) (now : ℕ) (c : ControlBlock) → IsReached b now c → is_open (stream_of c) ≡ true → MovesByCall (state_of c) (state_of (closed_stream c))
+closed_moves : (b : Settings) (now : ℕ) (c : ConnectionView) → IsReached b now c → is_open (stream_of c) ≡ true → MovesByCall (state_of c) (state_of (closed_stream c))
 closed_moves b now c h unclosed =
     let k = opened_some c.established unclosed in
-    by_test (λ (d : ControlBlock). MovesByCall (state_of c) (state_of (with_stream stream.Closed d))) c.reset c (with_fin c)
+    by_test (λ (d : ConnectionView). MovesByCall (state_of c) (state_of (with_stream stream.Closed d))) c.reset c (with_fin c)
     (λ _. inl (streamed stream.Closed c)) (λ live. closing_moves b now c k.0 h k.1 unclosed live)
 
-close_moves : (now : ℕ) (s : State) (c : ControlBlock) → s.endpoint.connection ≡ Some c → IsReached s.settings now c → is_open (stream_of c) ≡ true
+close_moves : (now : ℕ) (s : State) (c : ConnectionView) → s.endpoint.connection ≡ Some c → IsReached s.settings now c → is_open (stream_of c) ≡ true
     → Replies (Moves (conn_state s)) (closed_on now (Some c) s)
 close_moves now s c e h unclosed =
     let closed : State = with_stored (Some (closed_stream c)) s in
     let here : Moves (conn_state s) closed =
-    subst (λ (o : Option ControlBlock). MovesByCall (state_on s.endpoint.listener o) (state_of (closed_stream c))) (sym e)
+    subst (λ (o : Option ConnectionView). MovesByCall (state_on s.endpoint.listener o) (state_of (closed_stream c))) (sym e)
     (closed_moves s.settings now c h unclosed) in
     reply_leaves (Moves (conn_state s)) (Number 0) (if c.reset then Ok closed else ordinary_outside_recovery now c closed)
     (either (Moves (conn_state s)) c.reset (Ok closed) (ordinary_outside_recovery now c closed) here
@@ -231,14 +231,14 @@ IsOpenOn s Listening = Unit {0}
 IsOpenOn s Connected = is_stream_open s.endpoint.connection ≡ true
 
 module _ (now : ℕ) (s : State) (h : IsLawful now s) where
-  reached : (c : ControlBlock) → s.endpoint.connection ≡ Some c → IsReached s.settings now c
+  reached : (c : ConnectionView) → s.endpoint.connection ≡ Some c → IsReached s.settings now c
   reached c e = at_some (IsReached s.settings now) s.endpoint.connection c e h.connection
 
-  written_moves : (n : ℕ) (o : Option ControlBlock) → s.endpoint.connection ≡ o → is_stream_open o ≡ true → Replies (Moves (conn_state s)) (written_on now n o s)
+  written_moves : (n : ℕ) (o : Option ConnectionView) → s.endpoint.connection ≡ o → is_stream_open o ≡ true → Replies (Moves (conn_state s)) (written_on now n o s)
   written_moves n None e unclosed = inl refl
   written_moves n (Some c) e unclosed = write_moves now s n c e (unfinished s.settings now c (reached c e) unclosed)
 
-  close_on : (o : Option ControlBlock) → s.endpoint.connection ≡ o → is_stream_open o ≡ true → Replies (Moves (conn_state s)) (closed_on now o s)
+  close_on : (o : Option ConnectionView) → s.endpoint.connection ≡ o → is_stream_open o ≡ true → Replies (Moves (conn_state s)) (closed_on now o s)
   close_on None e unclosed = inl refl
   close_on (Some c) e unclosed = close_moves now s c e (reached c e) unclosed
 

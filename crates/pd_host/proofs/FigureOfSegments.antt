@@ -5,15 +5,15 @@ use Rattle.std.proofs.lemmas.Bool.Decides.{nat_tests}
 use Rattle.pd_settings.specs.declared.fields.Settings.{Settings}
 use Rattle.pd_seg.specs.declared.segments.Segment.{Segment}
 use Rattle.pd_seg.specs.declared.segments.Sent.{Sent}
-use Rattle.pd_host.specs.Acknowledgments.{taking, taken}
+use Rattle.pd_host.specs.Acknowledgments.{taking, ack_taken}
 use Rattle.pd_host.specs.Arrivals.{is_in_window, is_awaited, is_stray_fin, ruling_of, ruled, goes_on, with_peer_fin, finished_by, passed_on, arrived_on, arrived}
 use Rattle.pd_host.specs.Calls.{stream_in}
 use Rattle.pd_host.specs.ConnStates.{state_since, state_of, state_on, conn_state, is_closed}
-use Rattle.pd_host.specs.ControlBlock.{ControlBlock, peer_fin_in, rcv_nxt}
+use Rattle.pd_host.specs.Connection.{ConnectionView, peer_fin_in, rcv_nxt}
 use Rattle.pd_host.specs.Figure.{MovesBySegment}
 use Rattle.pd_host.specs.Handshake.{is_listening, length_of, is_opening, block_begun, answered_syn, syn_uses, established_by, syn_acked}
 use Rattle.pd_host.specs.Invariants.{IsReached, IsLawful}
-use Rattle.pd_host.specs.Sender.{beside, with_outbox}
+use Rattle.pd_host.specs.Host.{beside, with_outbox}
 use Rattle.pd_host.specs.Sending.{with_block}
 use Rattle.pd_host.specs.declared.conn_states.ConnState.{ConnState}
 use Rattle.pd_host.specs.declared.conn_states.ConnState.TheVariants.{Closed, Listen, SynReceived, Established as Stands, CloseWait}
@@ -21,7 +21,7 @@ use Rattle.pd_host.specs.declared.established.Established.{Established}
 use Rattle.pd_host.specs.declared.halts.Halt.TheVariants.{Limit, Unsupported}
 use Rattle.pd_host.specs.declared.listeners.Listener.{Listener}
 use Rattle.pd_host.specs.declared.peer_fins.PeerFin.{PeerFin}
-use Rattle.pd_host.specs.declared.peer_fins.PeerFin.TheVariants.{Awaited, BeforeOurs, BehindOurs}
+use Rattle.pd_host.specs.declared.peer_fins.PeerFin.TheVariants.{Awaited, BeforeOurs, AfterOurs}
 use Rattle.pd_host.specs.declared.rulings.Ruling.{Ruling}
 use Rattle.pd_host.specs.declared.rulings.Ruling.TheVariants.{NotRun, StrayRst, OutsideWindow, ExactRst, ChallengedRst, WithoutAck, FirstAck, RefusedAck, EarlyAck, OldAck}
 use Rattle.pd_host.specs.declared.sender_state.State.{State}
@@ -62,13 +62,13 @@ awaited_next false inside awaited here h f i = absurd cc
 is_the_first : (p : PeerFin) → is_awaited p ≡ true → p ≡ Awaited
 is_the_first Awaited h = refl
 is_the_first BeforeOurs h = absurd cc
-is_the_first BehindOurs h = absurd cc
+is_the_first AfterOurs h = absurd cc
 
-record Going (c : ControlBlock) (segment : Segment) : Type 0 where
+record Going (c : ConnectionView) (segment : Segment) : Type 0 where
   live : c.reset ≡ false
   first : segment.flags.fin ≡ true → peer_fin_in c.established ≡ Awaited
 
-going : (c : ControlBlock) (segment : Segment) → goes_on (ruling_of c segment) ≡ true → Going c segment
+going : (c : ConnectionView) (segment : Segment) → goes_on (ruling_of c segment) ≡ true → Going c segment
 going c segment h =
     let k = goes (nat_lt 0 (length_of segment) || (segment.flags.syn || (is_stray_fin c segment || is_closed (state_of c)))) (is_in_window c segment)
     segment.flags.rst (segment.start == rcv_nxt c) segment.flags.ack (is_some c.established)
@@ -87,16 +87,16 @@ ack_moves : (segment : Segment) (p : Option PeerFin) (fin x y : Bool) → (x ≡
 ack_moves segment None fin x y h = inl refl
 ack_moves segment (Some Awaited) false x y h = inl refl
 ack_moves segment (Some BeforeOurs) false x y h = inl refl
-ack_moves segment (Some BehindOurs) false x y h = inl refl
+ack_moves segment (Some AfterOurs) false x y h = inl refl
 ack_moves segment (Some Awaited) true false false h = inl refl
 ack_moves segment (Some BeforeOurs) true false false h = inl refl
-ack_moves segment (Some BehindOurs) true false false h = inl refl
+ack_moves segment (Some AfterOurs) true false false h = inl refl
 ack_moves segment (Some Awaited) true false true h = inr (inl refl)
 ack_moves segment (Some BeforeOurs) true false true h = inr (inl refl)
-ack_moves segment (Some BehindOurs) true false true h = inr (inl refl)
+ack_moves segment (Some AfterOurs) true false true h = inr (inl refl)
 ack_moves segment (Some Awaited) true true true h = inl refl
 ack_moves segment (Some BeforeOurs) true true true h = inl refl
-ack_moves segment (Some BehindOurs) true true true h = inl refl
+ack_moves segment (Some AfterOurs) true true true h = inl refl
 ack_moves segment (Some p) true true false h = let no : false ≡ true = h refl in absurd cc
 
 peer_first : (o : Option Established) → peer_fin_in o ≡ Awaited → (peer_of o ≡ None) ⊎ (peer_of o ≡ Some Awaited)
@@ -113,8 +113,8 @@ fin_moves segment (Some Awaited) true true true h has first = inr (inl refl)
 fin_moves segment (Some Awaited) true true false h has first = let no : false ≡ true = h refl in absurd cc
 fin_moves segment (Some BeforeOurs) fin x y h has (inl first) = absurd cc
 fin_moves segment (Some BeforeOurs) fin x y h has (inr first) = absurd cc
-fin_moves segment (Some BehindOurs) fin x y h has (inl first) = absurd cc
-fin_moves segment (Some BehindOurs) fin x y h has (inr first) = absurd cc
+fin_moves segment (Some AfterOurs) fin x y h has (inl first) = absurd cc
+fin_moves segment (Some AfterOurs) fin x y h has (inr first) = absurd cc
 
 -- the same between names that are equal
 between : (segment : Segment) (a b from to : ConnState) → from ≡ a → to ≡ b → MovesBySegment segment a b → MovesBySegment segment from to
@@ -124,7 +124,7 @@ between segment a b from to f t h =
 live_named : (f : Face) → f.reset ≡ false → named f ≡ since f.peer f.fin f.acked
 live_named f live = ap (λ (b : Bool). if b then Closed else since f.peer f.fin f.acked) live
 
-module _ (segment : Segment) (now : ℕ) (c : ControlBlock) where
+module _ (segment : Segment) (now : ℕ) (c : ConnectionView) where
   -- where the segment leads from the connection
   abbrev Moves : State → Type 0
   Moves t = MovesBySegment segment (state_of c) (conn_state t)
@@ -132,7 +132,7 @@ module _ (segment : Segment) (now : ℕ) (c : ControlBlock) where
   abbrev HasFace : Face → State → Type 0
   HasFace f t = faces t.endpoint.connection ≡ Some f
 
-  some_faces : (o : Option ControlBlock) (d : ControlBlock) (f : Face) → faces o ≡ Some f → o ≡ Some d → face d ≡ f
+  some_faces : (o : Option ConnectionView) (d : ConnectionView) (f : Face) → faces o ≡ Some f → o ≡ Some d → face d ≡ f
   some_faces o d f h e = same (sym (ap faces e) ∙ h)
     where
       same : {x y : Face} → Some x ≡ Some y → x ≡ y
@@ -183,7 +183,7 @@ module _ (segment : Segment) (now : ℕ) (c : ControlBlock) where
 
   first_face : (b : Settings) → face (established_by now b segment c) ≡ record { reset = c.reset; peer = Some Awaited; fin = c.fin; acked = 1 == c.board.end }
   first_face b =
-      ap (λ (x : ControlBlock). record { reset = x.reset; peer = Some Awaited; fin = x.fin; acked = x.board.una == x.board.end })
+      ap (λ (x : ConnectionView). record { reset = x.reset; peer = Some Awaited; fin = x.fin; acked = x.board.una == x.board.end })
       (measured_keeps now b.granularity_us 1 (syn_acked c) (syn_acked c).timed)
 
   module _ (b : Settings) (h : IsReached b now c) where
@@ -225,7 +225,7 @@ module _ (segment : Segment) (now : ℕ) (c : ControlBlock) where
         let left : State = with_block (taking now segment c c.established).0 s in
         acks_from (is_all_acked segment.ack c c.established) None s (going c segment (ap goes_on is))
         (all_acked c.established p.from p.to h.board.top_end)
-        (leaves_too (IsSentOn now left) (HasFace (face_with (is_all_acked segment.ack c c.established) c)) (taken now segment c s c.established)
+        (leaves_too (IsSentOn now left) (HasFace (face_with (is_all_acked segment.ack c c.established) c)) (ack_taken now segment c s c.established)
         (λ t sent. sent_faces now left t sent ∙ ap (λ (x : Face). Some x) (taking_face now segment c c.established refl))
         (taken_sends now segment c s c.established))
 
@@ -248,7 +248,7 @@ opens : (b : Bool) (segment : Segment) (now : ℕ) (s : State) (a : ConnState) �
 opens true segment now s a e = begins (nat_lt (length s.endpoint.outbox) 1024) _ segment now s a (e refl)
 opens false segment now s a e = tt
 
-on_connection : (o : Option ControlBlock) (segment : Segment) (now : ℕ) (s : State) → IsLawful now s → s.endpoint.connection ≡ o
+on_connection : (o : Option ConnectionView) (segment : Segment) (now : ℕ) (s : State) → IsLawful now s → s.endpoint.connection ≡ o
     → Leaves (λ t. MovesBySegment segment (state_on s.endpoint.listener o) (conn_state t)) (arrived_on now segment s o)
 on_connection None segment now s h e =
     opens (is_opening s.endpoint.listener segment) segment now s (state_on s.endpoint.listener None)

@@ -8,7 +8,7 @@ use Rattle.pd_recover.specs.declared.segments.NextSegment.{NextSegment}
 use Rattle.pd_recover.specs.declared.segments.NextSegment.TheVariants.{Lost, New, Hole, Rescue}
 use Rattle.pd_seg.specs.declared.sack_blocks.Span.{Span}
 use Rattle.pd_host.specs.Acknowledgments.{OnTheWay, next_found, sent_as, noted_on, one_filled, pipe_of, filled, put_segment, entered_on, entry, led_to}
-use Rattle.pd_host.specs.ControlBlock.{ControlBlock}
+use Rattle.pd_host.specs.Connection.{ConnectionView}
 use Rattle.pd_host.specs.Places.{has_place}
 use Rattle.pd_host.specs.Sending.{value_on, places_left, with_block, past_sacked, sent_on, with_segment, found, sent_ordinarily, ready, ordinary}
 use Rattle.pd_host.specs.Timing.{clocked, timed_after}
@@ -23,11 +23,11 @@ use Rattle.pd_host.proofs.SentOn.{still, sender_leaves, finds, sends, fill_finds
 use Rattle.pd_host.proofs.Rules.{found_on, next_on}
 
 -- the number after the last octet that the peer's window takes
-abbrev pub window_end : ControlBlock → Option Established → ℕ
+abbrev pub window_end : ConnectionView → Option Established → ℕ
 window_end c o = value_on 0 (λ d e. d.board.una + e.rwnd) c o
 
 -- a segment that the windows let leave is sent from a connection, which becomes another one
-pub record IsSending (now : ℕ) (segment : Span) (c d : ControlBlock) : Type 0 where
+pub record IsSending (now : ℕ) (segment : Span) (c d : ConnectionView) : Type 0 where
   pub stays : still d ≡ still c
   pub timed : d.timed ≡ timed_after now segment c.board.top c.timed
   pub low : d.board.top ≤ max c.board.top segment.end
@@ -37,7 +37,7 @@ pub record IsSending (now : ℕ) (segment : Span) (c d : ControlBlock) : Type 0 
   pub queued : c.board.top ≤ segment.start → segment.start < segment.end → segment.end ≤ c.board.end
 
 -- a connection is left as it is, but for the sending place and what recovery has sent
-pub record IsMoved (c d : ControlBlock) : Type 0 where
+pub record IsMoved (c d : ConnectionView) : Type 0 where
   pub stays : still d ≡ still c
   pub timed : d.timed ≡ c.timed
   pub top : d.board.top ≡ c.board.top
@@ -46,9 +46,9 @@ pub record IsMoved (c d : ControlBlock) : Type 0 where
 pub record Goes (now : ℕ) (R : State → State → Type 0) : Type 0 where
   pub none : (s : State) → R s s
   pub more : (r s t : State) → R r s → R s t → R r t
-  pub moved : (c d : ControlBlock) (s : State) → s.endpoint.connection ≡ Some c → IsMoved c d → R s (with_block d s)
+  pub moved : (c d : ConnectionView) (s : State) → s.endpoint.connection ≡ Some c → IsMoved c d → R s (with_block d s)
   pub sent :
-      (segment : Span) (c d : ControlBlock) (s : State) → s.endpoint.connection ≡ Some c → IsSending now segment c d
+      (segment : Span) (c d : ConnectionView) (s : State) → s.endpoint.connection ≡ Some c → IsSending now segment c d
       → R s (with_segment now segment c d s)
 
 greater : (a b : ℕ) → (a ≤ max a b) × (b ≤ max a b)
@@ -67,7 +67,7 @@ none_new start end top last below above some = absurd (omega (arith, below, abov
 -- One segment
 
 -- new octets
-new_octets : (now : ℕ) (segment : Span) (c d : ControlBlock) → still d ≡ still c
+new_octets : (now : ℕ) (segment : Span) (c d : ConnectionView) → still d ≡ still c
     → d.timed ≡ timed_after now segment c.board.top c.timed → d.board.top ≡ max c.board.top segment.end
     → (c.board.top < segment.end → segment.end ≤ window_end c c.established)
     → (c.board.top ≤ segment.start → segment.start < segment.end → segment.end ≤ c.board.end) → IsSending now segment c d
@@ -82,7 +82,7 @@ new_octets now segment c d stays timed top allowed queued = record {
 }
 
 -- octets again
-old_octets : (now : ℕ) (segment : Span) (c d : ControlBlock) → still d ≡ still c
+old_octets : (now : ℕ) (segment : Span) (c d : ConnectionView) → still d ≡ still c
     → d.timed ≡ timed_after now segment c.board.top c.timed → d.board.top ≡ c.board.top
     → segment.end ≤ c.board.top → IsSending now segment c d
 old_octets now segment c d stays timed top below = record {
@@ -96,106 +96,106 @@ old_octets now segment c d stays timed top below = record {
 }
 
 -- what ordinary sending finds ends in the peer's window
-found_end : (c : ControlBlock) (o : Option Established) (segment : Span) → found_on c o ≡ Some segment → segment.end ≤ window_end c o
+found_end : (c : ConnectionView) (o : Option Established) (segment : Span) → found_on c o ≡ Some segment → segment.end ≤ window_end c o
 found_end c None segment h = absurd cc
 found_end c (Some e) segment h = ordinary_end c e segment h
 
 -- and among what is queued
-found_queued : (c : ControlBlock) (o : Option Established) (segment : Span) → found_on c o ≡ Some segment
+found_queued : (c : ConnectionView) (o : Option Established) (segment : Span) → found_on c o ≡ Some segment
     → c.board.top ≤ segment.start → segment.start < segment.end → segment.end ≤ c.board.end
 found_queued c None segment h = absurd cc
 found_queued c (Some e) segment h = ordinary_queued c e segment h
 
-ordinary_sending : (now : ℕ) (segment : Span) (c : ControlBlock) → found_on c c.established ≡ Some segment
+ordinary_sending : (now : ℕ) (segment : Span) (c : ConnectionView) → found_on c c.established ≡ Some segment
     → IsSending now segment c (past_sacked (sent_on now segment c))
 ordinary_sending now segment c h =
     new_octets now segment c (past_sacked (sent_on now segment c)) refl refl refl (λ _. found_end c c.established segment h)
     (found_queued c c.established segment h)
 
 -- what is noted leaves the rest
-abbrev bare : ControlBlock → ControlBlock
+abbrev bare : ConnectionView → ConnectionView
 bare c = record c { established = None }
 
-noted_bare : (filling : Filling) (sent : NextSegment) (c : ControlBlock) (o : Option Established) → bare (noted_on filling sent c o) ≡ bare c
+noted_bare : (filling : Filling) (sent : NextSegment) (c : ConnectionView) (o : Option Established) → bare (noted_on filling sent c o) ≡ bare c
 noted_bare filling sent c None = refl
 noted_bare filling sent c (Some e) = refl
 
-entered_bare : (segment : Span) (c : ControlBlock) (o : Option Established) → bare (entered_on segment c o) ≡ bare c
+entered_bare : (segment : Span) (c : ConnectionView) (o : Option Established) → bare (entered_on segment c o) ≡ bare c
 entered_bare segment c None = refl
 entered_bare segment c (Some e) = refl
 
 -- where what step C or limited transmit finds stands
-abbrev StandsOn : ControlBlock → Option Established → NextSegment → Type 0
+abbrev StandsOn : ConnectionView → Option Established → NextSegment → Type 0
 StandsOn c o (New segment) = (segment.end ≤ window_end c o) × (segment.end ≤ c.board.end)
 StandsOn c o (Lost segment) = segment.end ≤ c.board.top
 StandsOn c o (Hole segment) = segment.end ≤ c.board.top
 StandsOn c o (Rescue segment) = segment.end ≤ c.board.top
 
-on_board : (c : ControlBlock) (e : Established) (sent : NextSegment) → Stands e.rwnd c.board sent → StandsOn c (Some e) sent
+on_board : (c : ConnectionView) (e : Established) (sent : NextSegment) → Stands e.rwnd c.board sent → StandsOn c (Some e) sent
 on_board c e (New segment) h = (h.1, h.2)
 on_board c e (Lost segment) h = h
 on_board c e (Hole segment) h = h
 on_board c e (Rescue segment) h = h
 
-fill_stands : (filling : Filling) (n : ℕ) (c : ControlBlock) (o : Option Established) (sent : NextSegment) → next_on filling n c o ≡ Some sent
+fill_stands : (filling : Filling) (n : ℕ) (c : ConnectionView) (o : Option Established) (sent : NextSegment) → next_on filling n c o ≡ Some sent
     → StandsOn c o sent
 fill_stands filling n c None sent h = absurd cc
 fill_stands filling n c (Some e) sent h = on_board c e sent (filling_stands filling n c e sent h)
 
 -- what they make of the connection
-abbrev fill_left : ℕ → Filling → NextSegment → ControlBlock → ControlBlock
+abbrev fill_left : ℕ → Filling → NextSegment → ConnectionView → ConnectionView
 fill_left now filling sent c = noted_on filling sent (sent_as now sent c) c.established
 
-fill_old : (now : ℕ) (filling : Filling) (sent : NextSegment) (c : ControlBlock) → sent_as now sent c ≡ clocked now (segment_of sent) c
+fill_old : (now : ℕ) (filling : Filling) (sent : NextSegment) (c : ConnectionView) → sent_as now sent c ≡ clocked now (segment_of sent) c
     → (segment_of sent).end ≤ c.board.top → IsSending now (segment_of sent) c (fill_left now filling sent c)
 fill_old now filling sent c e below =
     let left : bare (fill_left now filling sent c) ≡ bare (clocked now (segment_of sent) c) =
     noted_bare filling sent (sent_as now sent c) c.established ∙ ap bare e in
     old_octets now (segment_of sent) c (fill_left now filling sent c) (fill_still now filling sent c)
-    (ap (λ (x : ControlBlock). x.timed) left) (ap (λ (x : ControlBlock). x.board.top) left) below
+    (ap (λ (x : ConnectionView). x.timed) left) (ap (λ (x : ConnectionView). x.board.top) left) below
 
-fill_sending : (now : ℕ) (filling : Filling) (sent : NextSegment) (c : ControlBlock) → StandsOn c c.established sent
+fill_sending : (now : ℕ) (filling : Filling) (sent : NextSegment) (c : ConnectionView) → StandsOn c c.established sent
     → IsSending now (segment_of sent) c (fill_left now filling sent c)
 fill_sending now filling (New segment) c h =
     let left : bare (fill_left now filling (New segment) c) ≡ bare (sent_on now segment c) =
     noted_bare filling (New segment) (sent_on now segment c) c.established in
     new_octets now segment c (fill_left now filling (New segment) c) (fill_still now filling (New segment) c)
-    (ap (λ (x : ControlBlock). x.timed) left) (ap (λ (x : ControlBlock). x.board.top) left) (λ _. h.0) (λ _ _. h.1)
+    (ap (λ (x : ConnectionView). x.timed) left) (ap (λ (x : ConnectionView). x.board.top) left) (λ _. h.0) (λ _ _. h.1)
 fill_sending now filling (Lost segment) c h = fill_old now filling (Lost segment) c refl h
 fill_sending now filling (Hole segment) c h = fill_old now filling (Hole segment) c refl h
 fill_sending now filling (Rescue segment) c h = fill_old now filling (Rescue segment) c refl h
 
-entry_sending : (now : ℕ) (segment : Span) (c : ControlBlock) → segment.end ≤ c.board.top
+entry_sending : (now : ℕ) (segment : Span) (c : ConnectionView) → segment.end ≤ c.board.top
     → IsSending now segment c (entered_on segment (clocked now segment c) c.established)
 entry_sending now segment c below =
     let left : bare (entered_on segment (clocked now segment c) c.established) ≡ bare (clocked now segment c) =
     entered_bare segment (clocked now segment c) c.established in
     old_octets now segment c (entered_on segment (clocked now segment c) c.established)
     (entered_still segment (clocked now segment c) c.established refl)
-    (ap (λ (x : ControlBlock). x.timed) left) (ap (λ (x : ControlBlock). x.board.top) left) below
+    (ap (λ (x : ConnectionView). x.timed) left) (ap (λ (x : ConnectionView). x.board.top) left) below
 
-entry_moved : (segment : Span) (c : ControlBlock) → IsMoved c (entered_on segment c c.established)
+entry_moved : (segment : Span) (c : ConnectionView) → IsMoved c (entered_on segment c c.established)
 entry_moved segment c = record {
   stays = entered_still segment c c.established refl;
-  timed = ap (λ (x : ControlBlock). x.timed) (entered_bare segment c c.established);
-  top = ap (λ (x : ControlBlock). x.board.top) (entered_bare segment c c.established);
+  timed = ap (λ (x : ConnectionView). x.timed) (entered_bare segment c c.established);
+  top = ap (λ (x : ConnectionView). x.board.top) (entered_bare segment c c.established);
 }
 
 -- All that an ACK or a call leads to
 
--- a segment that an ACK names stands there
-abbrev pub IsNamed : ControlBlock → Then → Type 0
+-- a segment that an ACK names is there
+abbrev pub IsNamed : ConnectionView → Then → Type 0
 IsNamed c (NewSegment segment) = (segment.end ≤ window_end c c.established) × (segment.end ≤ c.board.end)
 IsNamed c (FastRetransmit segment) = segment.end ≤ c.board.top
 IsNamed c _ = Unit {0}
 
 module _ (now : ℕ) (R : State → State → Type 0) (rules : Goes now R) where
-  once : (segment : Span) (s : State) (o : Option ControlBlock) → s.endpoint.connection ≡ o → found o ≡ Some segment
+  once : (segment : Span) (s : State) (o : Option ConnectionView) → s.endpoint.connection ≡ o → found o ≡ Some segment
       → R s (sent_ordinarily now segment o s)
   once segment s None e h = rules.none s
   once segment s (Some c) e h = rules.sent segment c (past_sacked (sent_on now segment c)) s e (ordinary_sending now segment c h)
 
-  made_ready : (s : State) (o : Option ControlBlock) → s.endpoint.connection ≡ o → R s (ready o s)
+  made_ready : (s : State) (o : Option ConnectionView) → s.endpoint.connection ≡ o → R s (ready o s)
   made_ready s None e = rules.none s
   made_ready s (Some c) e = rules.moved c (past_sacked c) s e (record { stays = refl; timed = refl; top = refl })
 
@@ -206,7 +206,7 @@ module _ (now : ℕ) (R : State → State → Type 0) (rules : Goes now R) where
       (λ segment t e so_far. rules.more r t (sends now segment t) so_far (once segment t t.endpoint.connection refl e))
       (places_left u) u (rules.more r s u h (made_ready s s.endpoint.connection refl))
 
-  fill_once : (filling : Filling) (sent : NextSegment) (t : OnTheWay) (o : Option ControlBlock) → t.0.endpoint.connection ≡ o
+  fill_once : (filling : Filling) (sent : NextSegment) (t : OnTheWay) (o : Option ConnectionView) → t.0.endpoint.connection ≡ o
       → next_found filling t.1 o ≡ Some sent → R t.0 (one_filled now filling sent o t).0
   fill_once filling sent t None e h = rules.none t.0
   fill_once filling sent t (Some c) e h =
@@ -220,21 +220,21 @@ module _ (now : ℕ) (R : State → State → Type 0) (rules : Goes now R) where
       (λ sent t e so_far. rules.more r t.0 (fill_sends now filling sent t).0 so_far (fill_once filling sent t t.0.endpoint.connection refl e))
       (places_left s) (s, pipe_of s.endpoint.connection) h)
 
-  put_goes : (segment : Span) (c d : ControlBlock) (s : State) → s.endpoint.connection ≡ Some c → IsSending now segment c d
+  put_goes : (segment : Span) (c d : ConnectionView) (s : State) → s.endpoint.connection ≡ Some c → IsSending now segment c d
       → Leaves (R s) (put_segment now segment c d s)
   put_goes segment c d s e h =
       either (R s) (has_place s.endpoint.outbox) (Ok (with_segment now segment c d s)) (Err Limit) (rules.sent segment c d s e h) tt
 
-  entry_goes : (c : ControlBlock) (s : State) → s.endpoint.connection ≡ Some c → Leaves (R s) (entry now c s)
+  entry_goes : (c : ConnectionView) (s : State) → s.endpoint.connection ≡ Some c → Leaves (R s) (entry now c s)
   entry_goes c s e =
       let segment : Span = run_at c.board.una c.board in
-      let sent : ControlBlock = entered_on segment (clocked now segment c) c.established in
-      let moved : ControlBlock = entered_on segment c c.established in
+      let sent : ConnectionView = entered_on segment (clocked now segment c) c.established in
+      let moved : ConnectionView = entered_on segment c c.established in
       either (R s) (nat_lt segment.start segment.end) (put_segment now segment c sent s) (Ok (with_block moved s))
       (put_goes segment c sent s e (entry_sending now segment c (run_end c.board c.board.una)))
       (rules.moved c moved s e (entry_moved segment c))
 
-  pub led_to_goes : (c : ControlBlock) (s : State) (next : Then) → s.endpoint.connection ≡ Some c → IsNamed c next → Leaves (R s) (led_to now c s next)
+  pub led_to_goes : (c : ConnectionView) (s : State) (next : Then) → s.endpoint.connection ≡ Some c → IsNamed c next → Leaves (R s) (led_to now c s next)
   led_to_goes c s Ordinary e h = ordinary_goes s s (rules.none s)
   led_to_goes c s StepC e h = filled_goes NextSeg s s (rules.none s)
   led_to_goes c s Entry e h =

@@ -7,17 +7,17 @@ use Rattle.pd_seg.specs.declared.answers.Answer.TheVariants.{Number, Error}
 use Rattle.pd_seg.specs.declared.answers.Errno.TheVariants.{Eagain, Epipe}
 use Rattle.pd_seg.specs.declared.sack_blocks.Span.{Span}
 use Rattle.pd_seg.specs.declared.segments.Segment.{Segment}
-use Rattle.pd_board.specs.Scoreboard.{Scoreboard, marked, has_new}
+use Rattle.pd_board.specs.Board.{BoardView, marked, has_new}
 use Rattle.pd_recover.specs.declared.segments.NextSegment.{NextSegment}
 use Rattle.pd_recover.specs.declared.segments.NextSegment.TheVariants.{Lost, New, Hole, Rescue}
 use Rattle.pd_host.specs.Acknowledgments.{is_block_sent, told_block, told_blocks, blocks_of, scored, with_number, with_blocks, newly_acked, with_timing, with_new_window, is_current, noted_on, sent_as, entered_on, with_ack, answering, taking}
 use Rattle.pd_host.specs.Calls.{Reply, answered, with_listener, with_stored, with_stream, with_nagle, with_queued, with_fin, with_answer, socket_reply, bind_reply, listen_reply, accept_reply, handed_out, no_delay_reply, queued, free_of, write_uses, written_on, write_reply, closed_stream, closed_on, close_reply, operated, on_open, open_descriptor, requested, called, is_pending, is_waiting, stream_of}
-use Rattle.pd_host.specs.ControlBlock.{ControlBlock}
+use Rattle.pd_host.specs.Connection.{ConnectionView}
 use Rattle.pd_host.specs.Expiries.{advanced, deadline_of, due_by, expired, expired_on}
 use Rattle.pd_host.specs.Growth.{asked_by, ExpiriesQueueNothing, ArrivalsQueueOurSyn, CallsQueueWhatTheyAsk}
 use Rattle.pd_host.specs.Handshake.{syn_acked, looked_at}
 use Rattle.pd_host.specs.Requests.{request_of}
-use Rattle.pd_host.specs.Sender.{queued_to}
+use Rattle.pd_host.specs.Host.{queued_to}
 use Rattle.pd_host.specs.Sending.{places_left, ordinary, is_recovering, ordinary_outside_recovery}
 use Rattle.pd_host.specs.Timing.{clocked, measured, is_measured, with_sample, with_timer_moved}
 use Rattle.pd_host.specs.declared.descriptors.Descriptor.{Descriptor}
@@ -42,11 +42,11 @@ use Rattle.pd_host.proofs.SendingKept.{ordinary_holds}
 
 -- What an ACK leaves
 
-either : (b : Bool) (c d : ControlBlock) (n : ℕ) → c.board.end ≡ n → d.board.end ≡ n → (if b then c else d).board.end ≡ n
+either : (b : Bool) (c d : ConnectionView) (n : ℕ) → c.board.end ≡ n → d.board.end ≡ n → (if b then c else d).board.end ≡ n
 either true c d n hc hd = hc
 either false c d n hc hd = hd
 
-told_end : (blocks : List Span) (told : Scoreboard × Bool) → (told_blocks blocks told).0.end ≡ told.0.end
+told_end : (blocks : List Span) (told : BoardView × Bool) → (told_blocks blocks told).0.end ≡ told.0.end
 told_end [] told = refl
 told_end (block ∷ blocks) told = told_end blocks (told_block block told) ∙ one (is_block_sent told.0 block)
   where
@@ -54,62 +54,62 @@ told_end (block ∷ blocks) told = told_end blocks (told_block block told) ∙ o
     one true = refl
     one false = refl
 
-scored_end : (segment : Segment) (c : ControlBlock) → (scored segment c).0.end ≡ c.board.end
+scored_end : (segment : Segment) (c : ConnectionView) → (scored segment c).0.end ≡ c.board.end
 scored_end segment c = by_sack c.sack
   where
     by_sack : (b : Bool) → (if b then told_blocks (blocks_of (looked_at segment.options)) (c.board, false) else (c.board, false)).0.end ≡ c.board.end
     by_sack true = told_end (blocks_of (looked_at segment.options)) (c.board, false)
     by_sack false = refl
 
-measured_end : (now granularity ack : ℕ) (c : ControlBlock) (o : Option Timing) → (measured now granularity ack c o).board.end ≡ c.board.end
+measured_end : (now granularity ack : ℕ) (c : ConnectionView) (o : Option Timing) → (measured now granularity ack c o).board.end ≡ c.board.end
 measured_end now granularity ack c None = refl
 measured_end now granularity ack c (Some t) = either (is_measured ack t) _ c c.board.end refl refl
 
-timing_end : (now granularity n : ℕ) (c : ControlBlock) → (with_timing now granularity n c).board.end ≡ c.board.end
+timing_end : (now granularity n : ℕ) (c : ConnectionView) → (with_timing now granularity n c).board.end ≡ c.board.end
 timing_end now granularity n c =
     either (nat_lt 0 n) (with_timer_moved now (with_sample now granularity c.board.una c)) c c.board.end
     (measured_end now granularity c.board.una c c.timed) refl
 
-window_end : (segment : Segment) (e : Established) (c : ControlBlock) → (with_new_window segment e c).board.end ≡ c.board.end
+window_end : (segment : Segment) (e : Established) (c : ConnectionView) → (with_new_window segment e c).board.end ≡ c.board.end
 window_end segment e c = either (is_current e segment) _ c c.board.end refl refl
 
-with_ack_end : (now : ℕ) (segment : Segment) (e : Established) (c : ControlBlock) → (with_ack now segment e c).0.board.end ≡ c.board.end
+with_ack_end : (now : ℕ) (segment : Segment) (e : Established) (c : ConnectionView) → (with_ack now segment e c).0.board.end ≡ c.board.end
 with_ack_end now segment e c =
-    let told : ControlBlock = with_blocks segment (with_number segment c) in
+    let told : ConnectionView = with_blocks segment (with_number segment c) in
     window_end segment e (with_timing now e.granularity_us (newly_acked c segment) told)
     ∙ (timing_end now e.granularity_us (newly_acked c segment) told ∙ scored_end segment (with_number segment c))
 
-answering_end : (segment : Segment) (n : ℕ) (fresh : Bool) (before : Established) (c : ControlBlock) (o : Option Established)
+answering_end : (segment : Segment) (n : ℕ) (fresh : Bool) (before : Established) (c : ConnectionView) (o : Option Established)
     → (answering segment n fresh before c o).0.board.end ≡ c.board.end
 answering_end segment n fresh before c None = refl
 answering_end segment n fresh before c (Some after) = refl
 
-taking_end : (now : ℕ) (segment : Segment) (c : ControlBlock) (o : Option Established) → (taking now segment c o).0.board.end ≡ c.board.end
+taking_end : (now : ℕ) (segment : Segment) (c : ConnectionView) (o : Option Established) → (taking now segment c o).0.board.end ≡ c.board.end
 taking_end now segment c None = refl
 taking_end now segment c (Some e) =
-    let after : ControlBlock × Bool = with_ack now segment e c in
+    let after : ConnectionView × Bool = with_ack now segment e c in
     answering_end segment (newly_acked c segment) after.1 e after.0 after.0.established ∙ with_ack_end now segment e c
 
 -- What is sent leaves the end
 
-sent_as_end : (now : ℕ) (sent : NextSegment) (c : ControlBlock) → (sent_as now sent c).board.end ≡ c.board.end
+sent_as_end : (now : ℕ) (sent : NextSegment) (c : ConnectionView) → (sent_as now sent c).board.end ≡ c.board.end
 sent_as_end now (Lost segment) c = refl
 sent_as_end now (New segment) c = refl
 sent_as_end now (Hole segment) c = refl
 sent_as_end now (Rescue segment) c = refl
 
-noted_end : (filling : Filling) (sent : NextSegment) (c : ControlBlock) (o : Option Established) → (noted_on filling sent c o).board.end ≡ c.board.end
+noted_end : (filling : Filling) (sent : NextSegment) (c : ConnectionView) (o : Option Established) → (noted_on filling sent c o).board.end ≡ c.board.end
 noted_end filling sent c None = refl
 noted_end filling sent c (Some e) = refl
 
-entered_end : (segment : Span) (c : ControlBlock) (o : Option Established) → (entered_on segment c o).board.end ≡ c.board.end
+entered_end : (segment : Span) (c : ConnectionView) (o : Option Established) → (entered_on segment c o).board.end ≡ c.board.end
 entered_end segment c None = refl
 entered_end segment c (Some e) = refl
 
 -- Arrivals
 
 -- a connection ends at or below a place
-abbrev IsUpToPlace : ℕ → ControlBlock → Type 0
+abbrev IsUpToPlace : ℕ → ConnectionView → Type 0
 IsUpToPlace n c = c.board.end ≤ n
 
 alike : (n from to : ℕ) → to ≡ from → from ≤ n → to ≤ n
@@ -143,11 +143,11 @@ Ends n s = queued_to s.endpoint.connection ≤ n
 abbrev Sparse : ℕ → State → Type 0
 Sparse n s = Holds (λ _. Unit {0}) (λ _ c. IsUpToPlace n c) s
 
-of_end : (n : ℕ) (o : Option ControlBlock) → queued_to o ≤ n → IfSome o (IsUpToPlace n)
+of_end : (n : ℕ) (o : Option ConnectionView) → queued_to o ≤ n → IfSome o (IsUpToPlace n)
 of_end n None h = tt
 of_end n (Some c) h = h
 
-to_end : (n : ℕ) (o : Option ControlBlock) → IfSome o (IsUpToPlace n) → queued_to o ≤ n
+to_end : (n : ℕ) (o : Option ConnectionView) → IfSome o (IsUpToPlace n) → queued_to o ≤ n
 to_end n None h = omega arith
 to_end n (Some c) h = h
 
@@ -164,11 +164,11 @@ arrivals_queue_our_syn segment now s t is =
 
 -- Expiries
 
-expired_on_end : (at : ℕ) (c : ControlBlock) (o : Option Established) (s : State) → queued_to (expired_on at c o s).endpoint.connection ≡ c.board.end
+expired_on_end : (at : ℕ) (c : ConnectionView) (o : Option Established) (s : State) → queued_to (expired_on at c o s).endpoint.connection ≡ c.board.end
 expired_on_end at c None s = refl
 expired_on_end at c (Some e) s = refl
 
-expired_end : (at : ℕ) (o : Option ControlBlock) (s : State) → s.endpoint.connection ≡ o
+expired_end : (at : ℕ) (o : Option ConnectionView) (s : State) → s.endpoint.connection ≡ o
     → queued_to (expired at o s).endpoint.connection ≡ queued_to s.endpoint.connection
 expired_end at None s is = refl
 expired_end at (Some c) s is = expired_on_end at c c.established s ∙ sym (ap queued_to is)
@@ -197,7 +197,7 @@ sparse_ends : (n : ℕ) (r : Result State Halt) → Comes (Sparse n) r → Comes
 sparse_ends n (Ok s) h = to_end n s.endpoint.connection h.connection
 sparse_ends n (Err halt) h = tt
 
-outside_recovery_ends : (n now : ℕ) (c : ControlBlock) (s : State) → Ends n s → Comes (Ends n) (ordinary_outside_recovery now c s)
+outside_recovery_ends : (n now : ℕ) (c : ConnectionView) (s : State) → Ends n s → Comes (Ends n) (ordinary_outside_recovery now c s)
 outside_recovery_ends n now c s h =
     by_test (Comes (Ends n)) (is_recovering c.established) (Ok s) (ordinary now s) (λ _. h)
     (λ _. sparse_ends n (ordinary now s) (ordinary_holds now (λ _. Unit {0}) (λ _ c. IsUpToPlace n c) (λ packets p e h. tt) (λ b. sending now n) s (sparse n s h)))
@@ -215,7 +215,7 @@ listen_ends n s Bound Listening h = h
 listen_ends n s Listens Listening h = h
 listen_ends n s _ _ h = h
 
-handed_ends : (n : ℕ) (s : State) (o : Option ControlBlock) → s.endpoint.connection ≡ o → Ends n s → AtMost n (handed_out s o)
+handed_ends : (n : ℕ) (s : State) (o : Option ConnectionView) → s.endpoint.connection ≡ o → Ends n s → AtMost n (handed_out s o)
 handed_ends n s None is h = h
 handed_ends n s (Some c) is h =
     by_test (AtMost n) (is_some c.established && is_waiting (stream_of c)) (answered (with_stored (Some (with_stream stream.Open c)) s) (Number 4))
@@ -225,7 +225,7 @@ accept_ends : (n : ℕ) (s : State) (l : Listener) (d : Descriptor) → Ends n s
 accept_ends n s Listens Listening h = handed_ends n s s.endpoint.connection refl h
 accept_ends n s _ _ h = h
 
-nagle_end : (on : Bool) (o : Option ControlBlock) → queued_to (option_map (with_nagle on) o) ≡ queued_to o
+nagle_end : (on : Bool) (o : Option ConnectionView) → queued_to (option_map (with_nagle on) o) ≡ queued_to o
 nagle_end on None = refl
 nagle_end on (Some c) = refl
 
@@ -233,13 +233,13 @@ no_delay_ends : (n : ℕ) (s : State) (set : Bool) (d : Descriptor) → Ends n s
 no_delay_ends n s set Listening h = h
 no_delay_ends n s set Connected h = omega (arith, nagle_end (not set) s.endpoint.connection, h)
 
-queued_ends : (now octets free n : ℕ) (c : ControlBlock) (s : State) → c.board.end + octets ≤ n → Ends n s → AtMost n (queued now octets free c s)
+queued_ends : (now octets free n : ℕ) (c : ConnectionView) (s : State) → c.board.end + octets ≤ n → Ends n s → AtMost n (queued now octets free c s)
 queued_ends now octets free n c s le h =
     by_test (AtMost n) (free == 0) (answered s (Error Eagain)) _ (λ _. h)
     (λ _. answered_at_most n (Number (min octets free)) _
     (outside_recovery_ends n now c (with_stored (Some (with_queued (min octets free) c)) s) (omega (arith, le))))
 
-written_ends : (now octets : ℕ) (s : State) (o : Option ControlBlock) → s.endpoint.connection ≡ o
+written_ends : (now octets : ℕ) (s : State) (o : Option ConnectionView) → s.endpoint.connection ≡ o
     → AtMost (queued_to s.endpoint.connection + octets) (written_on now octets o s)
 written_ends now octets s None is = more (queued_to s.endpoint.connection) octets
 written_ends now octets s (Some c) is =
@@ -255,10 +255,10 @@ write_ends : (now : ℕ) (s : State) (octets : ℕ) (d : Descriptor) → AtMost 
 write_ends now s octets Listening = more (queued_to s.endpoint.connection) octets
 write_ends now s octets Connected = written_ends now octets s s.endpoint.connection refl
 
-closed_stream_end : (c : ControlBlock) → (closed_stream c).board.end ≤ c.board.end + 1
-closed_stream_end c = by_test (λ (d : ControlBlock). d.board.end ≤ c.board.end + 1) c.reset c (with_fin c) (λ _. more c.board.end 1) (λ _. omega arith)
+closed_stream_end : (c : ConnectionView) → (closed_stream c).board.end ≤ c.board.end + 1
+closed_stream_end c = by_test (λ (d : ConnectionView). d.board.end ≤ c.board.end + 1) c.reset c (with_fin c) (λ _. more c.board.end 1) (λ _. omega arith)
 
-closed_ends : (now : ℕ) (s : State) (o : Option ControlBlock) → s.endpoint.connection ≡ o
+closed_ends : (now : ℕ) (s : State) (o : Option ConnectionView) → s.endpoint.connection ≡ o
     → AtMost (queued_to s.endpoint.connection + 1) (closed_on now o s)
 closed_ends now s None is = more (queued_to s.endpoint.connection) 1
 closed_ends now s (Some c) is =

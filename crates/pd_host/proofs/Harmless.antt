@@ -3,9 +3,9 @@ use Rattle.std.proofs.Common.{◌≡◌, ℕ, Bool, true, false, if◌then◌els
 use Rattle.pd_seg.specs.declared.segments.Segment.{Segment}
 use Rattle.pd_seg.specs.declared.segments.Sent.{Sent}
 use Rattle.pd_host.specs.Arrivals.{first_ruling, finished_by, passed_on, arrived_on, is_in_window}
-use Rattle.pd_host.specs.ControlBlock.{ControlBlock}
+use Rattle.pd_host.specs.Connection.{ConnectionView}
 use Rattle.pd_host.specs.InputLaws.{OutsideIsHarmless}
-use Rattle.pd_host.specs.Sender.{beside, with_outbox, then_on}
+use Rattle.pd_host.specs.Host.{beside, with_outbox, then_on}
 use Rattle.pd_host.specs.declared.halts.Halt.{Halt}
 use Rattle.pd_host.specs.declared.halts.Halt.TheVariants.{Limit}
 use Rattle.pd_host.specs.declared.rulings.Ruling.{Ruling}
@@ -34,7 +34,7 @@ outbox_keeps true packets s t h = ap (λ (u : State). u.endpoint.connection) (gi
 outbox_keeps false packets s t h = absurd cc
 
 -- of the first two checks one rules
-outside : (bad inside rst : Bool) (checks : List (Option Ruling)) (segment : Segment) (now : ℕ) (s t : State) (c : ControlBlock)
+outside : (bad inside rst : Bool) (checks : List (Option Ruling)) (segment : Segment) (now : ℕ) (s t : State) (c : ConnectionView)
     → inside ≡ false
     → passed_on now segment c s (first_ruling ((if bad then Some NotRun else None) ∷ (if inside then None else Some (if rst then StrayRst else OutsideWindow)) ∷ checks)) ≡ Ok t
     → t.endpoint.connection ≡ s.endpoint.connection

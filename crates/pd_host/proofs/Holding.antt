@@ -3,7 +3,7 @@ use Rattle.std.proofs.Common.{◌≡◌, ℕ, ◌+◌, ◌-◌, ◌≤◌, nat_l
 use Rattle.std.proofs.lemmas.Bool.Decides.{nat_tests}
 use Rattle.pd_seg.specs.declared.sack_blocks.Span.{Span}
 use Rattle.pd_board.specs.Choice.{run_at}
-use Rattle.pd_host.specs.ControlBlock.{ControlBlock}
+use Rattle.pd_host.specs.Connection.{ConnectionView}
 use Rattle.pd_host.specs.Holds.{is_enough, hold_of_new, is_open, OpenHoldsSend}
 use Rattle.pd_host.specs.Sending.{window_edge, sendable, unsent_segment, is_full, is_all, is_half_window, is_held_back, leaves_now, next_new, next_again}
 use Rattle.pd_host.specs.declared.established.Established.{Established}
@@ -48,13 +48,13 @@ joined true true true false true true = refl
 joined true true true false true false = refl
 joined true true true false false held = refl
 
-abbrev Claim : ControlBlock → Established → Bool → Type 0
+abbrev Claim : ConnectionView → Established → Bool → Type 0
 Claim c e again =
     let wanted : ℕ = if again then (run_at c.board.next c.board).end - 1 else c.board.next in
     is_open (if nat_le c.board.end c.board.next then AllSent else (if nat_le (c.board.una + e.rwnd) wanted then PeerWindow else (if nat_le (c.board.una + e.congestion.cwnd) wanted then CongestionWindow else (if again then Open else hold_of_new c e))))
     ≡ is_some (if again then next_again c e else next_new c e)
 
-by : (c : ControlBlock) (e : Established) → 1 ≤ c.board.next → c.board.next ≤ c.board.top → c.board.top ≤ c.board.end
+by : (c : ConnectionView) (e : Established) → 1 ≤ c.board.next → c.board.next ≤ c.board.top → c.board.top ≤ c.board.end
     → (again : Bool) → nat_lt c.board.next c.board.top ≡ again → Claim c e again
 by c e some sent queued true before =
     let segment : Span = run_at c.board.next c.board in

@@ -9,23 +9,23 @@ use Rattle.pd_seg.specs.declared.answers.Answer.{Answer}
 use Rattle.pd_seg.specs.declared.sack_blocks.Span.{Span}
 use Rattle.pd_seg.specs.declared.segments.Segment.{Segment}
 use Rattle.pd_seg.specs.declared.segments.Sent.{Sent}
-use Rattle.pd_host.specs.Acknowledgments.{newly_acked, ack_of_segment, answering, with_ack, taking, taken}
+use Rattle.pd_host.specs.Acknowledgments.{newly_acked, ack_of_segment, answering, with_ack, taking, ack_taken}
 use Rattle.std.specs.Prelude.{option_map}
-use Rattle.pd_board.specs.Scoreboard.{unmarked}
+use Rattle.pd_board.specs.Board.{unmarked}
 use Rattle.pd_script.specs.declared.calls.Call.{Call}
 use Rattle.pd_host.specs.Calls.{called}
 use Rattle.pd_host.specs.Arrivals.{ruled, arrived_on, arrived, ruling_of, reset_of, with_peer_fin}
-use Rattle.pd_host.specs.ControlBlock.{ControlBlock, data_end}
+use Rattle.pd_host.specs.Connection.{ConnectionView, data_end}
 use Rattle.pd_host.specs.Expiries.{first_again, segment_again, block_expired, expired, advanced}
 use Rattle.pd_host.specs.Handshake.{is_opening, block_begun, answered_syn, syn_uses, established_by, establishment_uses}
 use Rattle.pd_host.specs.Packets.{data_of, covers_fin, ack_of, refusal_of, syn_ack_of}
-use Rattle.pd_host.specs.Sender.{beside, with_outbox}
+use Rattle.pd_host.specs.Host.{beside, with_outbox}
 use Rattle.pd_host.specs.Sending.{places_left, with_block, with_segment}
 use Rattle.pd_host.specs.SendingLaws.{sent_in, taken_in, end_with_fin, LiesBelow, PutsOutInWindow, StaysInWindow}
 use Rattle.pd_host.specs.declared.endpoint.Endpoint.{Endpoint}
 use Rattle.pd_host.specs.declared.established.Established.{Established}
 use Rattle.pd_host.specs.declared.halts.Halt.TheVariants.{Limit, Unsupported}
-use Rattle.pd_host.specs.declared.peer_fins.PeerFin.TheVariants.{BeforeOurs, BehindOurs}
+use Rattle.pd_host.specs.declared.peer_fins.PeerFin.TheVariants.{BeforeOurs, AfterOurs}
 use Rattle.pd_host.specs.declared.rulings.Ruling.{Ruling}
 use Rattle.pd_host.specs.declared.rulings.Ruling.TheVariants.{NotRun, StrayRst, OutsideWindow, ExactRst, ChallengedRst, WithoutAck, FirstAck, RefusedAck, EarlyAck, OldAck}
 use Rattle.pd_host.specs.declared.sender_state.State.{State}
@@ -88,7 +88,7 @@ not_last true start x end e some h =
     omega (arith, below)
 not_last false start x end e some h = whole x end h
 
-exact_end : (b : Bool) (c : ControlBlock) (segment : Span) → covers_fin c segment ≡ b → segment.start < segment.end → segment.end ≤ c.board.end
+exact_end : (b : Bool) (c : ConnectionView) (segment : Span) → covers_fin c segment ≡ b → segment.start < segment.end → segment.end ≤ c.board.end
     → (if b then min segment.end (data_end c) + 1 else min segment.end (data_end c)) ≡ segment.end
 exact_end true c segment e some h =
     let covered = fin_covered c segment e in
@@ -96,11 +96,11 @@ exact_end true c segment e some h =
     subst (λ (n : ℕ). min segment.end n + 1 ≡ segment.end) (sym last) (last_octet segment.end c.board.end segment.start covered.1 covered.2 h)
 exact_end false c segment e some h = not_last c.fin segment.start segment.end c.board.end e some h
 
-pub packet_is : (c : ControlBlock) (segment : Span) → segment.start < segment.end → segment.end ≤ c.board.end
+pub packet_is : (c : ConnectionView) (segment : Span) → segment.start < segment.end → segment.end ≤ c.board.end
     → end_with_fin (data_of c segment) ≡ segment.end
 packet_is c segment some h = exact_end (covers_fin c segment) c segment refl some h
 
-data_ends : (b : Bool) (c : ControlBlock) (segment : Span) → covers_fin c segment ≡ b
+data_ends : (b : Bool) (c : ConnectionView) (segment : Span) → covers_fin c segment ≡ b
     → (if b then min segment.end (data_end c) + 1 else min segment.end (data_end c)) ≤ segment.end
 data_ends true c segment e =
     let h = fin_covered c segment e in
@@ -109,7 +109,7 @@ data_ends true c segment e =
 data_ends false c segment e = shorter segment.end (data_end c)
 
 -- the octets of a packet of data are those of its segment
-pub packet_ends : (c : ControlBlock) (segment : Span) → end_with_fin (data_of c segment) ≤ segment.end
+pub packet_ends : (c : ConnectionView) (segment : Span) → end_with_fin (data_of c segment) ≤ segment.end
 packet_ends c segment = data_ends (covers_fin c segment) c segment refl
 
 -- Packets
@@ -127,7 +127,7 @@ both_lists n (p ∷ a) b first second = (first.0, both_lists n a b first.1 secon
 
 -- The relation
 
-abbrev edge : Option ControlBlock → ℕ
+abbrev edge : Option ConnectionView → ℕ
 edge o = max (sent_in o) (taken_in o)
 
 record IsIn (s t : State) : Type 0 where
@@ -137,12 +137,12 @@ record IsIn (s t : State) : Type 0 where
   pub reach : sent_in t.endpoint.connection ≤ edge s.endpoint.connection
   pub window : taken_in t.endpoint.connection ≡ taken_in s.endpoint.connection
 
-rest_window : (c : ControlBlock) (o : Option Established) → window_end (still c) (at_rest o) ≡ window_end c o
+rest_window : (c : ConnectionView) (o : Option Established) → window_end (still c) (at_rest o) ≡ window_end c o
 rest_window c None = refl
 rest_window c (Some e) = refl
 
-same_window : (c d : ControlBlock) → still d ≡ still c → taken_in (Some d) ≡ taken_in (Some c)
-same_window c d h = sym (rest_window d d.established) ∙ ap (λ (x : ControlBlock). taken_in (Some x)) h ∙ rest_window c c.established
+same_window : (c d : ConnectionView) → still d ≡ still c → taken_in (Some d) ≡ taken_in (Some c)
+same_window c d h = sym (rest_window d d.established) ∙ ap (λ (x : ConnectionView). taken_in (Some x)) h ∙ rest_window c c.established
 
 none_in : (s : State) → IsIn s s
 none_in s = record {
@@ -167,7 +167,7 @@ further r s t a b =
       window = b.window ∙ a.window;
     }
 
-moved : (c d : ControlBlock) (s : State) → s.endpoint.connection ≡ Some c → IsMoved c d → IsIn s (with_block d s)
+moved : (c d : ConnectionView) (s : State) → s.endpoint.connection ≡ Some c → IsMoved c d → IsIn s (with_block d s)
 moved c d s e h =
     let top : sent_in (Some d) ≡ sent_in s.endpoint.connection = h.top ∙ sym (ap sent_in e) in
     record {
@@ -178,7 +178,7 @@ moved c d s e h =
       window = same_window c d h.stays ∙ sym (ap taken_in e);
     }
 
-sent : (now : ℕ) (segment : Span) (c d : ControlBlock) (s : State) → s.endpoint.connection ≡ Some c → IsSending now segment c d
+sent : (now : ℕ) (segment : Span) (c d : ConnectionView) (s : State) → s.endpoint.connection ≡ Some c → IsSending now segment c d
     → IsIn s (with_segment now segment c d s)
 sent now segment c d s e h =
     let packet : Sent = record { segment = data_of c segment; at = now } in
@@ -234,7 +234,7 @@ answered_out now segment s empty = one_out (nat_lt (length s.endpoint.outbox) 10
 
 -- what an ACK names stands where the connection that it left says
 
-named : (ack : Ack) (c : ControlBlock) (next : Then) → ack.una + ack.rwnd ≡ window_end c c.established → ack.top ≡ c.board.top
+named : (ack : Ack) (c : ConnectionView) (next : Then) → ack.una + ack.rwnd ≡ window_end c c.established → ack.top ≡ c.board.top
     → ack.end ≡ c.board.end → IsAllowed ack next → IsNamed c next
 named ack c Ordinary window top end h = tt
 named ack c StepC window top end h = tt
@@ -245,31 +245,31 @@ named ack c (NewSegment segment) window top end h =
 named ack c (FastRetransmit segment) window top end h = subst (λ (n : ℕ). segment.end ≤ n) top h
 named ack c Nothing window top end h = tt
 
-answer_named : (segment : Segment) (n : ℕ) (fresh : Bool) (before : Established) (c : ControlBlock) (o : Option Established)
+answer_named : (segment : Segment) (n : ℕ) (fresh : Bool) (before : Established) (c : ConnectionView) (o : Option Established)
     → IsNamed (answering segment n fresh before c o).0 (answering segment n fresh before c o).1
 answer_named segment n fresh before c None = tt
 answer_named segment n fresh before c (Some e) =
     let ack : Ack = ack_of_segment segment n fresh before e c in
-    let step : ControlBlock × Then = answering segment n fresh before c (Some e) in
+    let step : ConnectionView × Then = answering segment n fresh before c (Some e) in
     named ack step.0 step.1 refl refl refl (what_follows ack e.congestion)
 
-pub taking_named : (now : ℕ) (segment : Segment) (c : ControlBlock) (o : Option Established)
+pub taking_named : (now : ℕ) (segment : Segment) (c : ConnectionView) (o : Option Established)
     → IsNamed (taking now segment c o).0 (taking now segment c o).1
 taking_named now segment c None = tt
 taking_named now segment c (Some e) =
-    let after : ControlBlock × Bool = with_ack now segment e c in
+    let after : ConnectionView × Bool = with_ack now segment e c in
     answer_named segment (newly_acked c segment) after.1 e after.0 after.0.established
 
-pub taking_top : (now : ℕ) (segment : Segment) (c : ControlBlock) (o : Option Established) → (taking now segment c o).0.board.top ≡ c.board.top
+pub taking_top : (now : ℕ) (segment : Segment) (c : ConnectionView) (o : Option Established) → (taking now segment c o).0.board.top ≡ c.board.top
 taking_top now segment c None = refl
-taking_top now segment c (Some e) = ap (λ (x : ControlBlock). x.board.top) (taking_keeps now segment c e)
+taking_top now segment c (Some e) = ap (λ (x : ConnectionView). x.board.top) (taking_keeps now segment c e)
 
-taken_in_window : (now : ℕ) (segment : Segment) (c : ControlBlock) (s : State) (o : Option Established) → s.endpoint.connection ≡ Some c
-    → Leaves (PutsOutInWindow s) (taken now segment c s o)
+taken_in_window : (now : ℕ) (segment : Segment) (c : ConnectionView) (s : State) (o : Option Established) → s.endpoint.connection ≡ Some c
+    → Leaves (PutsOutInWindow s) (ack_taken now segment c s o)
 taken_in_window now segment c s o e =
-    let step : ControlBlock × Then = taking now segment c o in
+    let step : ConnectionView × Then = taking now segment c o in
     let u : State = with_block step.0 s in
-    leaves_too (IsIn u) (PutsOutInWindow s) (taken now segment c s o)
+    leaves_too (IsIn u) (PutsOutInWindow s) (ack_taken now segment c s o)
     (λ t run.
     let top : sent_in u.endpoint.connection ≡ sent_in s.endpoint.connection = taking_top now segment c o ∙ sym (ap sent_in e) in
     let same : edge u.endpoint.connection ≡ max (sent_in s.endpoint.connection) (taken_in t.endpoint.connection) =
@@ -277,7 +277,7 @@ taken_in_window now segment c s o e =
     (run.packets, subst (λ (n : ℕ). AllBelow n run.packets) same run.below, run.outbox))
     (led_to_goes now IsIn (in_rules now) step.0 u step.1 refl (taking_named now segment c o))
 
-by_ruling : (r : Option Ruling) (segment : Segment) (now : ℕ) (s : State) (c : ControlBlock) → s.endpoint.connection ≡ Some c
+by_ruling : (r : Option Ruling) (segment : Segment) (now : ℕ) (s : State) (c : ConnectionView) → s.endpoint.connection ≡ Some c
     → Leaves (PutsOutInWindow s) (ruled now segment c s r)
 by_ruling (Some NotRun) segment now s c e = tt
 by_ruling (Some StrayRst) segment now s c e = nothing_out s s refl
@@ -294,7 +294,7 @@ by_ruling (Some OldAck) segment now s c e = nothing_out s s refl
 by_ruling None segment now s c e = taken_in_window now segment c s c.established e
 
 -- the ACK of the peer's FIN has no octets, and the window stays
-fin_in_window : (now : ℕ) (s u : State) (c : ControlBlock) → u.endpoint.connection ≡ Some c → PutsOutInWindow s u
+fin_in_window : (now : ℕ) (s u : State) (c : ConnectionView) → u.endpoint.connection ≡ Some c → PutsOutInWindow s u
     → PutsOutInWindow s (after_fin now c u)
 fin_in_window now s u c e h =
     let packet : Sent = record { segment = ack_of (with_peer_fin c); at = now } in
@@ -306,15 +306,15 @@ fin_in_window now s u c e h =
       ap (λ (l : List Sent). l ++ packet ∷ []) h.2 ∙ append_assoc s.endpoint.outbox h.0 (packet ∷ []),
     )
   where
-    fin_window : (d : ControlBlock) (o : Option Established)
-        → window_end (with_peer_fin d) (option_map {T = Established} (λ e. record e { peer_fin = if d.fin then BehindOurs else BeforeOurs }) o) ≡ window_end d o
+    fin_window : (d : ConnectionView) (o : Option Established)
+        → window_end (with_peer_fin d) (option_map {T = Established} (λ e. record e { peer_fin = if d.fin then AfterOurs else BeforeOurs }) o) ≡ window_end d o
     fin_window d None = refl
     fin_window d (Some x) = refl
 
-on_connection : (o : Option ControlBlock) (segment : Segment) (now : ℕ) (s : State) → s.endpoint.connection ≡ o
+on_connection : (o : Option ConnectionView) (segment : Segment) (now : ℕ) (s : State) → s.endpoint.connection ≡ o
     → Leaves (PutsOutInWindow s) (arrived_on now segment s o)
 on_connection None segment now s e =
-    let c : ControlBlock = block_begun now s.settings segment in
+    let c : ConnectionView = block_begun now s.settings segment in
     either (PutsOutInWindow s) (is_opening s.endpoint.listener segment) (answered_syn now c s) (Err Unsupported)
     (one_out (nat_lt (length s.endpoint.outbox) 1024) now (syn_ack_of c) (record s { uses = syn_uses s.uses }) s
     (record s.endpoint { connection = Some c }) refl (below_self 0)) tt
@@ -334,19 +334,19 @@ record IsAgain (s t : State) : Type 0 where
 highest : (a b : ℕ) → b ≤ a → max a b ≡ a
 highest a b h = omega (arith, h)
 
-expired_top : (at : ℕ) (c : ControlBlock) (o : Option Established) → (block_expired at c o).board.top ≡ c.board.top
+expired_top : (at : ℕ) (c : ConnectionView) (o : Option Established) → (block_expired at c o).board.top ≡ c.board.top
 expired_top at c None = refl
 expired_top at c (Some e) = highest c.board.top (first_again c).end (again_end c)
   where
-    again_end : (d : ControlBlock) → (first_again d).end ≤ d.board.top
+    again_end : (d : ConnectionView) → (first_again d).end ≤ d.board.top
     again_end d = run_end (unmarked d.board) d.board.una
 
-expired_below : (at : ℕ) (c : ControlBlock) (o : Option Established) → LiesBelow c.board.top (record { segment = segment_again c o; at = at })
+expired_below : (at : ℕ) (c : ConnectionView) (o : Option Established) → LiesBelow c.board.top (record { segment = segment_again c o; at = at })
 expired_below at c None = λ lt. absurd (below_self 0 lt)
 expired_below at c (Some e) =
     λ lt. lower (end_with_fin (data_of c (first_again c))) (first_again c).end c.board.top (packet_ends c (first_again c)) (run_end (unmarked c.board) c.board.una)
 
-one_again : (at : ℕ) (s t : State) (o : Option ControlBlock) → t.endpoint.connection ≡ o → IsAgain s t → IsAgain s (expired at o t)
+one_again : (at : ℕ) (s t : State) (o : Option ConnectionView) → t.endpoint.connection ≡ o → IsAgain s t → IsAgain s (expired at o t)
 one_again at s t None e h = h
 one_again at s t (Some c) e h =
     let packet : Sent = record { segment = segment_again c c.established; at = at } in

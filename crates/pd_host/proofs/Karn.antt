@@ -2,7 +2,7 @@
 use Rattle.std.proofs.Common.{◌≡◌, ℕ, ◌≤◌, nat_le, Bool, true, false, if◌then◌else◌, Option, None, Some, refl, sym, ap, ◌∙◌, arith}
 use Rattle.std.proofs.lemmas.Bool.Decides.{nat_tests}
 use Rattle.pd_seg.specs.declared.sack_blocks.Span.{Span}
-use Rattle.pd_host.specs.ControlBlock.{ControlBlock}
+use Rattle.pd_host.specs.Connection.{ConnectionView}
 use Rattle.pd_host.specs.Expiries.{block_expired}
 use Rattle.pd_host.specs.SendingLaws.{TimesOnce}
 use Rattle.pd_host.specs.Timing.{timed_after}
@@ -25,7 +25,7 @@ new_so true now segment top t e h =
     (ap (λ (x : Timing). x.segment) same, ap (λ (x : Timing). x.sent_at) same, within top segment.start e)
 new_so false now segment top t e h = absurd cc
 
-expiry : (at : ℕ) (c : ControlBlock) (o : Option Established) → (block_expired at c o).timed ≡ None
+expiry : (at : ℕ) (c : ConnectionView) (o : Option Established) → (block_expired at c o).timed ≡ None
 expiry at c None = refl
 expiry at c (Some e) = refl
 

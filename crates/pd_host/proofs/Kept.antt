@@ -1,7 +1,7 @@
 -- What holds of all that comes of a rule, and of a repetition.
 use Rattle.std.proofs.Common.{◌≡◌, ℕ, zero, suc, Bool, true, false, if◌then◌else◌, Option, Some, None, Result, Ok, Err, refl, subst}
 use Rattle.std.specs.Prelude.{is_some}
-use Rattle.pd_host.specs.Sender.{then_on}
+use Rattle.pd_host.specs.Host.{then_on}
 use Rattle.pd_host.specs.Sending.{repeated, on_found}
 use Rattle.pd_host.specs.declared.halts.Halt.{Halt}
 use Rattle.pd_host.specs.declared.halts.Halt.TheVariants.{Limit}

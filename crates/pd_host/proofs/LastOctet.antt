@@ -7,7 +7,7 @@ use Rattle.pd_seg.specs.declared.answers.Answer.TheVariants.{Number, Error}
 use Rattle.pd_seg.specs.declared.answers.Errno.TheVariants.{Eagain, Epipe}
 use Rattle.pd_seg.specs.declared.sack_blocks.Span.{Span}
 use Rattle.pd_host.specs.Calls.{Reply, answered, with_listener, with_stored, socket_reply, bind_reply, listen_reply, accept_reply, handed_out, no_delay_reply, free_of, with_queued, write_uses, queued, written_on, write_reply, operated, on_open, open_descriptor, reply_to, requested, called, is_pending, is_waiting, is_open, is_stream_open, is_listener_open, stream_of, with_stream, with_nagle}
-use Rattle.pd_host.specs.ControlBlock.{ControlBlock, data_end}
+use Rattle.pd_host.specs.Connection.{ConnectionView, data_end}
 use Rattle.pd_host.specs.Packets.{data_of}
 use Rattle.pd_host.specs.Requests.{request_of}
 use Rattle.pd_host.specs.declared.descriptors.Descriptor.{Descriptor}
@@ -22,14 +22,14 @@ use Rattle.pd_host.specs.declared.requests.Request.{Request}
 use Rattle.pd_host.specs.declared.requests.Request.TheVariants.{Socket, On}
 use Rattle.pd_host.specs.declared.sender_state.State.{State}
 use Rattle.pd_host.specs.declared.streams.Stream.TheVariants as stream
-use Rattle.pd_host.proofs.CallsBehind.{Replies, either_reply, queued_sends}
+use Rattle.pd_host.proofs.CallsAfter.{Replies, either_reply, queued_sends}
 use Rattle.pd_host.proofs.Chosen.{first_of_two, second_of_two, is_above, is_within}
 use Rattle.pd_host.proofs.Outcomes.{came}
 use Rattle.pd_host.proofs.SentOn.{IsSentOn, stills}
 
 -- Segments
 
-pub fin_covered : (c : ControlBlock) (segment : Span) → (data_of c segment).flags.fin ≡ true
+pub fin_covered : (c : ConnectionView) (segment : Span) → (data_of c segment).flags.fin ≡ true
     → (c.fin ≡ true) × (segment.start < c.board.end) × (c.board.end ≤ segment.end)
 fin_covered c segment h =
     let below : Bool = nat_lt segment.start c.board.end in
@@ -43,7 +43,7 @@ fin_covered c segment h =
 lesser : (a b : ℕ) → min a b ≤ b
 lesser a b = omega arith
 
-pub ends_before : (c : ControlBlock) (segment : Span) → (data_of c segment).end ≤ data_end c
+pub ends_before : (c : ConnectionView) (segment : Span) → (data_of c segment).end ≤ data_end c
 ends_before c segment = lesser segment.end (data_end c)
 
 -- Descriptors
@@ -72,14 +72,14 @@ is_connected e fd h = connected_so (fd == 3 && is_listener_open e.listener) (fd 
 
 -- Only `close` queues the FIN
 
-abbrev fins : Option ControlBlock → Bool
+abbrev fins : Option ConnectionView → Bool
 fins None = false
 fins (Some c) = c.fin
 
 abbrev SameFin : State → State → Type 0
 SameFin s t = fins t.endpoint.connection ≡ fins s.endpoint.connection
 
-still_fin : (o : Option ControlBlock) → fins (stills o) ≡ fins o
+still_fin : (o : Option ConnectionView) → fins (stills o) ≡ fins o
 still_fin None = refl
 still_fin (Some c) = refl
 
@@ -99,7 +99,7 @@ listen_fin s Bound Listening = refl
 listen_fin s Listens Listening = refl
 listen_fin s _ _ = refl
 
-handed_fin : (s : State) (o : Option ControlBlock) → s.endpoint.connection ≡ o → Replies (SameFin s) (handed_out s o)
+handed_fin : (s : State) (o : Option ConnectionView) → s.endpoint.connection ≡ o → Replies (SameFin s) (handed_out s o)
 handed_fin s None e = refl
 handed_fin s (Some c) e =
     either_reply (SameFin s) (is_some c.established && is_waiting (stream_of c))
@@ -109,7 +109,7 @@ accept_fin : (s : State) (l : Listener) (d : Descriptor) → Replies (SameFin s)
 accept_fin s Listens Listening = handed_fin s s.endpoint.connection refl
 accept_fin s _ _ = refl
 
-nagle_fin : (on : Bool) (o : Option ControlBlock) → fins (option_map (with_nagle on) o) ≡ fins o
+nagle_fin : (on : Bool) (o : Option ConnectionView) → fins (option_map (with_nagle on) o) ≡ fins o
 nagle_fin on None = refl
 nagle_fin on (Some c) = refl
 
@@ -117,7 +117,7 @@ no_delay_fin : (s : State) (set : Bool) (d : Descriptor) → Replies (SameFin s)
 no_delay_fin s set Listening = refl
 no_delay_fin s set Connected = nagle_fin (not set) s.endpoint.connection
 
-written_fin : (now n : ℕ) (s : State) (o : Option ControlBlock) → s.endpoint.connection ≡ o → Replies (SameFin s) (written_on now n o s)
+written_fin : (now n : ℕ) (s : State) (o : Option ConnectionView) → s.endpoint.connection ≡ o → Replies (SameFin s) (written_on now n o s)
 written_fin now n s None e = refl
 written_fin now n s (Some c) e =
     let noted : State = record s { uses = write_uses s.uses } in
@@ -167,7 +167,7 @@ asked : (now : ℕ) (s t : State) (a : Answer) (o : Option Request) → Queues s
 asked now s t a None queues h = absurd cc
 asked now s t a (Some r) queues h = ap (λ (x : Request). Some x) (fin_queued now s t a r queues h (reply_fin now s r))
 
-pub only_close_queues : (call : Call) (now : ℕ) (s t : State) (a : Answer) (c d : ControlBlock)
+pub only_close_queues : (call : Call) (now : ℕ) (s t : State) (a : Answer) (c d : ConnectionView)
     → s.endpoint.connection ≡ Some c → t.endpoint.connection ≡ Some d → c.fin ≡ false → d.fin ≡ true
     → called call now s ≡ Ok (t, a) → request_of call ≡ Some (On 4 Close)
 only_close_queues call now s t a c d hc hd before after h =
@@ -196,20 +196,20 @@ nobody_waits a true s x e = absurd (true≢false e)
 nobody_waits true false s x e = refl
 nobody_waits false false s x e = refl
 
-handed_same : (s : State) (c : ControlBlock) (o : Option ControlBlock) → o ≡ Some c → stream_of c ≡ stream.Closed
+handed_same : (s : State) (c : ConnectionView) (o : Option ConnectionView) → o ≡ Some c → stream_of c ≡ stream.Closed
     → Replies (SameConnection s) (handed_out s o)
 handed_same s c None e closed = refl
 handed_same s c (Some d) e closed =
     let same : d ≡ c = cc in
     nobody_waits (is_some d.established) (is_waiting (stream_of d)) s (answered (with_stored (Some (with_stream stream.Open d)) s) (Number 4))
-    (ap (λ (x : ControlBlock). is_waiting (stream_of x)) same ∙ ap is_waiting closed)
+    (ap (λ (x : ConnectionView). is_waiting (stream_of x)) same ∙ ap is_waiting closed)
 
-accept_same : (s : State) (c : ControlBlock) (l : Listener) → s.endpoint.connection ≡ Some c → stream_of c ≡ stream.Closed
+accept_same : (s : State) (c : ConnectionView) (l : Listener) → s.endpoint.connection ≡ Some c → stream_of c ≡ stream.Closed
     → Replies (SameConnection s) (accept_reply s l Listening)
 accept_same s c Listens e closed = handed_same s c s.endpoint.connection e closed
 accept_same s c _ e closed = refl
 
-listening_same : (now : ℕ) (s : State) (c : ControlBlock) (o : Operation) → s.endpoint.connection ≡ Some c → stream_of c ≡ stream.Closed
+listening_same : (now : ℕ) (s : State) (c : ConnectionView) (o : Operation) → s.endpoint.connection ≡ Some c → stream_of c ≡ stream.Closed
     → Replies (SameConnection s) (operated now s Listening o)
 listening_same now s c Bind e closed = bind_same s s.endpoint.listener
 listening_same now s c Listen e closed = listen_same s s.endpoint.listener
@@ -221,20 +221,20 @@ listening_same now s c (Write n) e closed = refl
 listening_same now s c Close e closed =
     either_reply (SameConnection s) (is_pending s.endpoint.connection) (Err Unsupported) (answered (with_listener Closed s) (Number 0)) tt refl
 
-open_same : (now fd : ℕ) (s : State) (c : ControlBlock) (o : Operation) (d : Option Descriptor) → s.endpoint.connection ≡ Some c → stream_of c ≡ stream.Closed
+open_same : (now fd : ℕ) (s : State) (c : ConnectionView) (o : Operation) (d : Option Descriptor) → s.endpoint.connection ≡ Some c → stream_of c ≡ stream.Closed
     → open_descriptor s.endpoint fd ≡ d → Replies (SameConnection s) (on_open now s o d)
 open_same now fd s c o None e closed h = refl
 open_same now fd s c o (Some Listening) e closed h = listening_same now s c o e closed
 open_same now fd s c o (Some Connected) e closed h =
     absurd (true≢false (sym (is_connected s.endpoint fd h).1 ∙ ap is_stream_open e ∙ ap is_open closed))
 
-reply_same : (now : ℕ) (s : State) (c : ControlBlock) (o : Option Request) → s.endpoint.connection ≡ Some c → stream_of c ≡ stream.Closed
+reply_same : (now : ℕ) (s : State) (c : ConnectionView) (o : Option Request) → s.endpoint.connection ≡ Some c → stream_of c ≡ stream.Closed
     → Replies (SameConnection s) (requested now s o)
 reply_same now s c None e closed = tt
 reply_same now s c (Some Socket) e closed = socket_same s s.endpoint.listener
 reply_same now s c (Some (On fd o)) e closed = open_same now fd s c o (open_descriptor s.endpoint fd) e closed refl
 
-pub closed_stays : (call : Call) (now : ℕ) (s t : State) (a : Answer) (c : ControlBlock)
+pub closed_stays : (call : Call) (now : ℕ) (s t : State) (a : Answer) (c : ConnectionView)
     → s.endpoint.connection ≡ Some c → stream_of c ≡ stream.Closed → called call now s ≡ Ok (t, a) → t.endpoint.connection ≡ Some c
 closed_stays call now s t a c e closed h =
     came (λ (x : State × Answer). SameConnection s x.0) (called call now s) (t, a) h (reply_same now s c (request_of call) e closed) ∙ e

@@ -3,9 +3,9 @@ pub mod Acked
 pub mod AckedBelow
 pub mod Advances
 pub mod ArrivalsKept
-pub mod Behind
+pub mod After
 pub mod Boards
-pub mod CallsBehind
+pub mod CallsAfter
 pub mod CallsConsulted
 pub mod CallsGo
 pub mod CallsKept
@@ -48,7 +48,6 @@ pub mod Repeats
 pub mod Room
 pub mod Rules
 pub mod Runs
-pub mod SameValues
 pub mod Sendables
 pub mod SendingKept
 pub mod Sends

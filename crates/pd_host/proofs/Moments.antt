@@ -8,7 +8,7 @@ use Rattle.pd_seg.specs.declared.segments.Segment.{Segment}
 use Rattle.pd_seg.specs.declared.segments.Sent.{Sent}
 use Rattle.pd_timer.specs.Laws.{GoesBy, StaysWithin}
 use Rattle.pd_host.specs.Arrivals.{arrived}
-use Rattle.pd_host.specs.ControlBlock.{ControlBlock}
+use Rattle.pd_host.specs.Connection.{ConnectionView}
 use Rattle.pd_host.specs.Expiries.{due_by}
 use Rattle.pd_host.specs.InputLaws.{RebindingKeepsUp}
 use Rattle.pd_host.specs.Laws.{AreInOrder, IsUpTo, begun_under, StartsUpToDate, AdvancesKeepUp, ArrivalsKeepUp, CallsKeepUp, TakingKeepsUp}
@@ -38,16 +38,16 @@ one_less now (p ∷ packets) h = h.1.1
 
 -- the timer's part of it, by whether there is a connection
 
-joined : (b : Settings) (now : ℕ) (o : Option ControlBlock) → IfSome o (λ c. GoesBy b c.timer) → IfSome (deadline_on o) (IsAhead b now)
+joined : (b : Settings) (now : ℕ) (o : Option ConnectionView) → IfSome o (λ c. GoesBy b c.timer) → IfSome (deadline_on o) (IsAhead b now)
     → IfSome o (λ c. IsTimely b now c.timer)
 joined b now None g d = tt
 joined b now (Some c) g d = record { bounds = g; deadline = d }
 
-bounds_of : (b : Settings) (now : ℕ) (o : Option ControlBlock) → IfSome o (λ c. IsTimely b now c.timer) → IfSome o (λ c. GoesBy b c.timer)
+bounds_of : (b : Settings) (now : ℕ) (o : Option ConnectionView) → IfSome o (λ c. IsTimely b now c.timer) → IfSome o (λ c. GoesBy b c.timer)
 bounds_of b now None h = tt
 bounds_of b now (Some c) h = h.bounds
 
-deadline_in : (b : Settings) (now : ℕ) (o : Option ControlBlock) → IfSome o (λ c. IsTimely b now c.timer) → IfSome (deadline_on o) (IsAhead b now)
+deadline_in : (b : Settings) (now : ℕ) (o : Option ConnectionView) → IfSome o (λ c. IsTimely b now c.timer) → IfSome (deadline_on o) (IsAhead b now)
 deadline_in b now None h = tt
 deadline_in b now (Some c) h = h.deadline
 
@@ -109,7 +109,7 @@ first_arrival within segment now s t none packets came =
     subst (λ b. IsUpTo b now t) (arrivals_note segment now s t came).settings (up_to t.settings now t (record { packets = after.packets; connection = after.connection }))
 
 -- and one that was begun goes on by its own
-later_arrival : StaysWithin → (b : Settings) (segment : Segment) (now : ℕ) (c : ControlBlock) (s t : State) → s.endpoint.connection ≡ Some c
+later_arrival : StaysWithin → (b : Settings) (segment : Segment) (now : ℕ) (c : ConnectionView) (s t : State) → s.endpoint.connection ≡ Some c
     → IsUpTo b now s → arrived segment now s ≡ Ok t → IsUpTo b now t
 later_arrival within b segment now c s t on h came =
     up_to b now t (arrived_later now (AreInOrder now) (λ _ c. IsTimely b now c.timer) (λ _ c. IsTimely b now c.timer) (one_more now)
@@ -118,11 +118,11 @@ later_arrival within b segment now c s t on h came =
 pub arrivals_keep_up : StaysWithin → ArrivalsKeepUp
 arrivals_keep_up within b segment now s t h came = go s.endpoint.connection refl
   where
-    go : (o : Option ControlBlock) → s.endpoint.connection ≡ o → IsUpTo (begun_under s.settings b o) now t
+    go : (o : Option ConnectionView) → s.endpoint.connection ≡ o → IsUpTo (begun_under s.settings b o) now t
     go None on = first_arrival within segment now s t on h.packets came
     go (Some c) on = later_arrival within b segment now c s t on h came
 
-pub anything : (o : Option ControlBlock) → IfSome o (λ _. Unit {0})
+pub anything : (o : Option ConnectionView) → IfSome o (λ _. Unit {0})
 anything None = tt
 anything (Some c) = tt
 

@@ -7,15 +7,15 @@ use Rattle.pd_seg.specs.declared.answers.Answer.{Answer}
 use Rattle.pd_seg.specs.declared.answers.Answer.TheVariants.{Number, Error}
 use Rattle.pd_seg.specs.declared.answers.Errno.TheVariants.{Eagain, Epipe}
 use Rattle.pd_seg.specs.declared.segments.Segment.{Segment}
-use Rattle.pd_host.specs.Acknowledgments.{taking, taken}
+use Rattle.pd_host.specs.Acknowledgments.{taking, ack_taken}
 use Rattle.pd_host.specs.Arrivals.{ruled, arrived_on, arrived, ruling_of, reset_of}
 use Rattle.pd_host.specs.Calls.{Reply, answered, with_listener, with_stored, socket_reply, bind_reply, listen_reply, accept_reply, handed_out, no_delay_reply, free_of, with_queued, write_uses, queued, written_on, write_reply, closed_stream, closed_on, close_reply, operated, on_open, open_descriptor, reply_to, requested, called, is_pending, is_waiting, stream_of, with_stream, with_nagle}
-use Rattle.pd_host.specs.ControlBlock.{ControlBlock}
+use Rattle.pd_host.specs.Connection.{ConnectionView}
 use Rattle.pd_host.specs.Expiries.{expired, advanced}
 use Rattle.pd_host.specs.Handshake.{is_opening, block_begun, answered_syn, syn_uses, establishment_uses}
 use Rattle.pd_host.specs.InputLaws.{Notes, ArrivalsNote, CallsNote, AdvancesNote}
 use Rattle.pd_host.specs.Requests.{request_of}
-use Rattle.pd_host.specs.Sender.{beside}
+use Rattle.pd_host.specs.Host.{beside}
 use Rattle.pd_host.specs.Sending.{ordinary_outside_recovery, places_left, with_block}
 use Rattle.pd_host.specs.declared.descriptors.Descriptor.{Descriptor}
 use Rattle.pd_host.specs.declared.descriptors.Descriptor.TheVariants.{Listening, Connected}
@@ -33,7 +33,7 @@ use Rattle.pd_host.specs.declared.rulings.Ruling.TheVariants.{NotRun, StrayRst, 
 use Rattle.pd_host.specs.declared.sender_state.State.{State}
 use Rattle.pd_host.specs.declared.streams.Stream.TheVariants as stream
 use Rattle.pd_host.proofs.Advances.{expiry_finds, expiry_sends}
-use Rattle.pd_host.proofs.CallsBehind.{Replies, reply_leaves, either_reply, outside_sends, queued_sends}
+use Rattle.pd_host.proofs.CallsAfter.{Replies, reply_leaves, either_reply, outside_sends, queued_sends}
 use Rattle.pd_host.proofs.Finishes.{passed_leaves}
 use Rattle.pd_host.proofs.Outcomes.{Leaves, came, leaves_too, either, kept}
 use Rattle.pd_host.proofs.SentOn.{IsSentOn}
@@ -79,7 +79,7 @@ beside_notes s u (Err halt) h = tt
 here : (s : State) → Notes s s
 here s = same_notes s s refl refl
 
-by_ruling : (r : Option Ruling) (segment : Segment) (now : ℕ) (s : State) (c : ControlBlock) → Leaves (Notes s) (ruled now segment c s r)
+by_ruling : (r : Option Ruling) (segment : Segment) (now : ℕ) (s : State) (c : ConnectionView) → Leaves (Notes s) (ruled now segment c s r)
 by_ruling (Some NotRun) segment now s c = tt
 by_ruling (Some StrayRst) segment now s c = here s
 by_ruling (Some OutsideWindow) segment now s c = beside_notes s s _ (here s)
@@ -92,15 +92,15 @@ by_ruling (Some EarlyAck) segment now s c = beside_notes s s _ (here s)
 by_ruling (Some OldAck) segment now s c = here s
 by_ruling None segment now s c =
     let left : State = with_block (taking now segment c c.established).0 s in
-    leaves_too (IsSentOn now left) (Notes s) (taken now segment c s c.established)
+    leaves_too (IsSentOn now left) (Notes s) (ack_taken now segment c s c.established)
     (λ t h. sent_notes now s left t (same_notes s left refl refl) h) (taken_sends now segment c s c.established)
 
-opening : (now : ℕ) (c : ControlBlock) (s : State) → Leaves (Notes s) (answered_syn now c s)
+opening : (now : ℕ) (c : ConnectionView) (s : State) → Leaves (Notes s) (answered_syn now c s)
 opening now c s =
     let noted : State = record s { uses = syn_uses s.uses } in
     beside_notes s noted _ (record { settings = refl; uses = more_by_syn s.uses })
 
-on_connection : (o : Option ControlBlock) (segment : Segment) (now : ℕ) (s : State) → Leaves (Notes s) (arrived_on now segment s o)
+on_connection : (o : Option ConnectionView) (segment : Segment) (now : ℕ) (s : State) → Leaves (Notes s) (arrived_on now segment s o)
 on_connection None segment now s =
     either (Notes s) (is_opening s.endpoint.listener segment) (answered_syn now (block_begun now s.settings segment) s) (Err Unsupported)
     (opening now (block_begun now s.settings segment) s) tt
@@ -126,7 +126,7 @@ listen_notes now s Bound Listening = same_notes s (with_listener Listens s) refl
 listen_notes now s Listens Listening = same_notes s s refl refl
 listen_notes now s _ _ = same_notes s s refl refl
 
-handed_notes : (now : ℕ) (s : State) (c : Option ControlBlock) → Replies (Notes s) (handed_out s c)
+handed_notes : (now : ℕ) (s : State) (c : Option ConnectionView) → Replies (Notes s) (handed_out s c)
 handed_notes now s None = same_notes s s refl refl
 handed_notes now s (Some c) =
     let handed : State = with_stored (Some (with_stream stream.Open c)) s in
@@ -142,7 +142,7 @@ no_delay_notes now s set Listening = same_notes s s refl refl
 no_delay_notes now s set Connected =
     same_notes s (with_stored (option_map (with_nagle (not set)) s.endpoint.connection) s) refl refl
 
-written_notes : (now n : ℕ) (s : State) (o : Option ControlBlock) → Replies (Notes s) (written_on now n o s)
+written_notes : (now n : ℕ) (s : State) (o : Option ConnectionView) → Replies (Notes s) (written_on now n o s)
 written_notes now n s None = same_notes s s refl refl
 written_notes now n s (Some c) =
     let noted : State = record s { uses = write_uses s.uses } in
@@ -157,7 +157,7 @@ write_notes : (now : ℕ) (s : State) (n : ℕ) (d : Descriptor) → Replies (No
 write_notes now s n Listening = same_notes s s refl refl
 write_notes now s n Connected = written_notes now n s s.endpoint.connection
 
-closed_notes : (now : ℕ) (s : State) (o : Option ControlBlock) → Replies (Notes s) (closed_on now o s)
+closed_notes : (now : ℕ) (s : State) (o : Option ConnectionView) → Replies (Notes s) (closed_on now o s)
 closed_notes now s None = same_notes s s refl refl
 closed_notes now s (Some c) =
     let closed : State = with_stored (Some (closed_stream c)) s in
@@ -199,7 +199,7 @@ calls_note call now s t a h = came (λ (x : State × Answer). Notes s x.0) (call
 
 -- Expiries
 
-expired_notes : (at : ℕ) (s t : State) (o : Option ControlBlock) → Notes s t → Notes s (expired at o t)
+expired_notes : (at : ℕ) (s t : State) (o : Option ConnectionView) → Notes s t → Notes s (expired at o t)
 expired_notes at s t None h = h
 expired_notes at s t (Some c) h = record { settings = h.settings; uses = h.uses }
 

@@ -33,7 +33,7 @@ one_more f Eol rest not_end = absurd (not_end refl)
 one_more f (Timestamp x y) rest not_end = refl
 one_more f (Sack x) rest not_end = refl
 
--- the option at i stands first in what is left
+-- the option at i comes first in what is left
 at_option : (f : Offers) (options : List SegOption) (i : ℕ) (o : SegOption) (whole : Offers)
     → i < length options → o ≡ get_or options i o → in_all f (drop i options) ≡ whole
     → in_all f (o ∷ drop (i + 1) options) ≡ whole

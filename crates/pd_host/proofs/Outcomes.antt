@@ -1,6 +1,6 @@
 -- What holds of all that is done again and again.
 use Rattle.std.proofs.Common.{◌≡◌, ℕ, zero, suc, Bool, true, false, Option, None, Some, is_some, Result, Ok, Err, if◌then◌else◌, refl, ap, subst, ◌∙◌}
-use Rattle.pd_host.specs.Sender.{then_on}
+use Rattle.pd_host.specs.Host.{then_on}
 use Rattle.pd_host.specs.Sending.{repeated, on_found}
 use Rattle.pd_host.specs.declared.halts.Halt.{Halt}
 use Rattle.pd_host.specs.declared.halts.Halt.TheVariants.{Limit}

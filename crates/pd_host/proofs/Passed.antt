@@ -4,7 +4,7 @@ use Rattle.std.specs.Prelude.{is_some}
 use Rattle.pd_seg.specs.declared.segments.Segment.{Segment}
 use Rattle.pd_host.specs.Arrivals.{first_ruling, ruling_of, is_in_window, is_stray_fin}
 use Rattle.pd_host.specs.ConnStates.{state_since, state_of, is_closed}
-use Rattle.pd_host.specs.ControlBlock.{ControlBlock}
+use Rattle.pd_host.specs.Connection.{ConnectionView}
 use Rattle.pd_host.specs.Handshake.{length_of}
 use Rattle.pd_host.specs.declared.conn_states.ConnState.{ConnState}
 use Rattle.pd_host.specs.declared.conn_states.ConnState.TheVariants.{Closed}
@@ -62,16 +62,16 @@ not_first : (reset : Bool) (state : ConnState) → is_closed (if reset then Clos
 not_first true state h = absurd cc
 not_first false state h = refl
 
-pub open_live : (c : ControlBlock) → is_closed (state_of c) ≡ false → c.reset ≡ false
+pub open_live : (c : ConnectionView) → is_closed (state_of c) ≡ false → c.reset ≡ false
 open_live c h = not_first c.reset (state_since c c.established) h
 
 -- a segment that passes comes before a reset, and acknowledges what was sent
-pub record Passes (c : ControlBlock) (segment : Segment) : Type 0 where
+pub record Passes (c : ConnectionView) (segment : Segment) : Type 0 where
   pub live : c.reset ≡ false
   pub from : c.board.una ≤ segment.ack
   pub to : segment.ack ≤ c.board.top
 
-pub passes : (c : ControlBlock) (segment : Segment) → ruling_of c segment ≡ None → Passes c segment
+pub passes : (c : ConnectionView) (segment : Segment) → ruling_of c segment ≡ None → Passes c segment
 passes c segment h =
     let k = none_rules (nat_lt 0 (length_of segment) || (segment.flags.syn || (is_stray_fin c segment || is_closed (state_of c)))) (is_in_window c segment) segment.flags.rst _ segment.flags.ack
     (is_some c.established) (nat_lt c.board.una segment.ack && nat_le segment.ack c.board.top)
@@ -83,7 +83,7 @@ passes c segment h =
     }
 
 -- the first ACK comes before a reset, in the handshake
-pub first_comes : (c : ControlBlock) (segment : Segment) → ruling_of c segment ≡ Some FirstAck → (c.reset ≡ false) × (c.established ≡ None)
+pub first_comes : (c : ConnectionView) (segment : Segment) → ruling_of c segment ≡ Some FirstAck → (c.reset ≡ false) × (c.established ≡ None)
 first_comes c segment h =
     let k = shakes (nat_lt 0 (length_of segment) || (segment.flags.syn || (is_stray_fin c segment || is_closed (state_of c)))) (is_in_window c segment) segment.flags.rst _ segment.flags.ack
     (is_some c.established) (nat_lt c.board.una segment.ack && nat_le segment.ack c.board.top) _ _ h in

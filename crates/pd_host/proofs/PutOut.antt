@@ -3,16 +3,16 @@ use Rattle.std.proofs.Common.{◌≡◌, ℕ, suc, ◌-◌, ◌<◌, Bool, true,
 use Rattle.std.proofs.lemmas.Bool.Decides.{nat_tests}
 use Rattle.pd_seg.specs.declared.segments.Segment.{Segment}
 use Rattle.pd_seg.specs.declared.segments.Sent.{Sent}
-use Rattle.pd_host.specs.ControlBlock.{ControlBlock}
+use Rattle.pd_host.specs.Connection.{ConnectionView}
 use Rattle.pd_host.specs.Outcome.{Gives}
-use Rattle.pd_host.specs.Sender.{with_packet}
+use Rattle.pd_host.specs.Host.{with_packet}
 use Rattle.pd_host.specs.declared.halts.Ending.{Ending}
 use Rattle.pd_host.specs.declared.halts.Halt.{Halt}
 use Rattle.pd_host.specs.declared.halts.Halt.TheVariants.{Limit}
 use Rattle.pd_host.specs.declared.sender_state.State.{State}
 
 -- the state with this connection and these packets
-abbrev pub holding : ControlBlock → List Sent → State → State
+abbrev pub holding : ConnectionView → List Sent → State → State
 holding c packets s = record s { endpoint = record s.endpoint { connection = Some c; outbox = packets } }
 
 -- the packets with one more
@@ -29,7 +29,7 @@ placed_ok false more new h = absurd cc
 is_below : (n : ℕ) → nat_lt n 1024 ≡ true → n < 1024
 is_below n h = grind (arith, nat_tests)
 
--- the packet stands behind the others, and takes one place
+-- the packet follows the others, and takes one place
 pub put_ok : (now : ℕ) (segment : Segment) (packets new : List Sent) → with_packet now segment packets ≡ Ok new
     → (length packets < 1024) × (new ≡ and_packet now segment packets)
 put_ok now segment packets new h =

@@ -4,11 +4,11 @@ use Rattle.std.specs.Prelude.{is_some, option_map, IfSome, if◌then◌else◌}
 use Rattle.pd_settings.specs.declared.fields.Settings.{Settings}
 use Rattle.pd_host.specs.Arrivals.{with_peer_fin}
 use Rattle.pd_host.specs.Calls.{is_open, is_waiting, stream_in, stream_of, with_stream, with_nagle, free_of, with_queued, with_fin, closed_stream}
-use Rattle.pd_host.specs.ControlBlock.{ControlBlock}
+use Rattle.pd_host.specs.Connection.{ConnectionView}
 use Rattle.pd_host.specs.Invariants.{IsOfPhase, IsInBounds, IsEnding, IsReached, fin_octets}
 use Rattle.pd_host.specs.declared.established.Established.{Established}
 use Rattle.pd_host.specs.declared.peer_fins.PeerFin.{PeerFin}
-use Rattle.pd_host.specs.declared.peer_fins.PeerFin.TheVariants.{BeforeOurs, BehindOurs}
+use Rattle.pd_host.specs.declared.peer_fins.PeerFin.TheVariants.{BeforeOurs, AfterOurs}
 use Rattle.pd_host.specs.declared.streams.Stream.{Stream}
 use Rattle.pd_host.specs.declared.streams.Stream.TheVariants as stream
 use Rattle.pd_host.proofs.Boards.{sure, written_ordered}
@@ -73,13 +73,13 @@ stream_ending : (d : Stream) (fin : Bool) (o : Option Established)
 stream_ending d fin None closed h = (closed, h.1)
 stream_ending d fin (Some e) closed h = (closed, h.1)
 
--- the FIN is noted as behind ours only where ours is queued
-noted_order : (fin : Bool) → (if fin then BehindOurs else BeforeOurs) ≡ BehindOurs → fin ≡ true
+-- the FIN is noted as after ours only where ours is queued
+noted_order : (fin : Bool) → (if fin then AfterOurs else BeforeOurs) ≡ AfterOurs → fin ≡ true
 noted_order true h = refl
 noted_order false h = absurd cc
 
 peer_ending : (fin : Bool) (o : Option Established) → IsEnding fin o
-    → IsEnding fin (option_map {T = Established} (λ e. record e { peer_fin = if fin then BehindOurs else BeforeOurs }) o)
+    → IsEnding fin (option_map {T = Established} (λ e. record e { peer_fin = if fin then AfterOurs else BeforeOurs }) o)
 peer_ending fin None h = h
 peer_ending fin (Some e) h = (h.0, noted_order fin)
 
@@ -98,7 +98,7 @@ clash x t f = cc
 
 module _ (b : Settings) (now : ℕ) where
   -- descriptor 4 is that far
-  restreamed : (d : Stream) (c : ControlBlock) → IsReached b now c
+  restreamed : (d : Stream) (c : ConnectionView) → IsReached b now c
       → (c.fin ≡ true → stream_in (option_map {T = Established} (λ e. record e { stream = d }) c.established) ≡ stream.Closed)
       → IsReached b now (with_stream d c)
   restreamed d c h fin = record {
@@ -112,12 +112,12 @@ module _ (b : Settings) (now : ℕ) where
     timed = h.timed;
   }
 
-  pub accepted_reached : (c : ControlBlock) → IsReached b now c → (is_some c.established && is_waiting (stream_of c)) ≡ true
+  pub accepted_reached : (c : ConnectionView) → IsReached b now c → (is_some c.established && is_waiting (stream_of c)) ≡ true
       → IsReached b now (with_stream stream.Open c)
   accepted_reached c h e =
       restreamed stream.Open c h (λ queued. absurd (not_waiting (stream_of c) (second_of_two (is_some c.established) _ e) (h.fin.0 queued)))
 
-  pub nagle_reached : (on : Bool) (c : ControlBlock) → IsReached b now c → IsReached b now (with_nagle on c)
+  pub nagle_reached : (on : Bool) (c : ConnectionView) → IsReached b now c → IsReached b now (with_nagle on c)
   nagle_reached on c h = record {
     agreed = h.agreed;
     board = h.board;
@@ -129,9 +129,9 @@ module _ (b : Settings) (now : ℕ) where
     timed = h.timed;
   }
 
-  pub finned_reached : (c : ControlBlock) → IsReached b now c → IsReached b now (with_peer_fin c)
+  pub finned_reached : (c : ConnectionView) → IsReached b now c → IsReached b now (with_peer_fin c)
   finned_reached c h =
-      let p : PeerFin = if c.fin then BehindOurs else BeforeOurs in
+      let p : PeerFin = if c.fin then AfterOurs else BeforeOurs in
       record {
         agreed = h.agreed;
         board = h.board;
@@ -146,10 +146,10 @@ module _ (b : Settings) (now : ℕ) where
       }
 
   -- no FIN is queued while descriptor 4 is open
-  unfinished : (c : ControlBlock) → IsReached b now c → is_open (stream_of c) ≡ true → c.fin ≡ false
+  unfinished : (c : ConnectionView) → IsReached b now c → is_open (stream_of c) ≡ true → c.fin ≡ false
   unfinished c h unclosed = sure c.fin (λ queued. not_open (stream_of c) unclosed (h.fin.0 queued))
 
-  pub queued_live : (n : ℕ) (c : ControlBlock) → IsReached b now c → is_open (stream_of c) ≡ true → c.reset ≡ false
+  pub queued_live : (n : ℕ) (c : ConnectionView) → IsReached b now c → is_open (stream_of c) ≡ true → c.reset ≡ false
       → IsLive b now (with_queued (min n (free_of b.sndbuf c)) c)
   queued_live n c h unclosed still =
       let none : fin_octets c.fin ≡ 0 = ap fin_octets (unfinished c h unclosed) in
@@ -169,7 +169,7 @@ module _ (b : Settings) (now : ℕ) where
       }
 
   -- our FIN is queued, and descriptor 4 is closed
-  fin_live : (c : ControlBlock) → IsReached b now c → is_open (stream_of c) ≡ true → c.reset ≡ false → IsLive b now (with_stream stream.Closed (with_fin c))
+  fin_live : (c : ConnectionView) → IsReached b now c → is_open (stream_of c) ≡ true → c.reset ≡ false → IsLive b now (with_stream stream.Closed (with_fin c))
   fin_live c h unclosed still =
       let none : fin_octets c.fin ≡ 0 = ap fin_octets (unfinished c h unclosed) in
       let k = opened_some c.established unclosed in
@@ -191,12 +191,12 @@ module _ (b : Settings) (now : ℕ) where
         live = still;
       }
 
-  pub finished_live : (c : ControlBlock) → IsReached b now c → is_open (stream_of c) ≡ true → c.reset ≡ false → IsLive b now (closed_stream c)
+  pub finished_live : (c : ConnectionView) → IsReached b now c → is_open (stream_of c) ≡ true → c.reset ≡ false → IsLive b now (closed_stream c)
   finished_live c h unclosed still =
-      by_test (λ (d : ControlBlock). IsLive b now (with_stream stream.Closed d)) c.reset c (with_fin c)
+      by_test (λ (d : ConnectionView). IsLive b now (with_stream stream.Closed d)) c.reset c (with_fin c)
       (λ was. absurd (clash c.reset was still)) (λ _. fin_live c h unclosed still)
 
-  pub abandoned_reached : (c : ControlBlock) → IsReached b now c → is_open (stream_of c) ≡ true → c.reset ≡ true → IsReached b now (closed_stream c)
+  pub abandoned_reached : (c : ConnectionView) → IsReached b now c → is_open (stream_of c) ≡ true → c.reset ≡ true → IsReached b now (closed_stream c)
   abandoned_reached c h unclosed was =
-      by_test (λ (d : ControlBlock). IsReached b now (with_stream stream.Closed d)) c.reset c (with_fin c)
+      by_test (λ (d : ConnectionView). IsReached b now (with_stream stream.Closed d)) c.reset c (with_fin c)
       (λ _. restreamed stream.Closed c h (λ _. closed_in c.established unclosed)) (λ still. absurd (clash c.reset was still))

@@ -5,14 +5,14 @@ use Rattle.std.proofs.lemmas.Option.{IfSome_then}
 use Rattle.std.proofs.lemmas.Bool.Decides.{nat_tests}
 use Rattle.pd_settings.specs.declared.fields.Settings.{Settings}
 use Rattle.pd_seg.specs.declared.sack_blocks.Span.{Span}
-use Rattle.pd_timer.specs.Timer.{Timer, started, restarted}
+use Rattle.pd_timer.specs.Rto.{RtoView, started, restarted}
 use Rattle.pd_recover.specs.Choice.{segment_of}
-use Rattle.pd_recover.specs.Congestion.{Congestion, entered_to}
+use Rattle.pd_recover.specs.Cong.{CongView, entered_to}
 use Rattle.pd_recover.specs.Laws.{IsWithin}
 use Rattle.pd_recover.specs.declared.segments.NextSegment.{NextSegment}
 use Rattle.pd_recover.specs.declared.segments.NextSegment.TheVariants.{Lost, New, Hole, Rescue}
 use Rattle.pd_host.specs.Acknowledgments.{sent_as, noted_by, noted_on, entered_on}
-use Rattle.pd_host.specs.ControlBlock.{ControlBlock}
+use Rattle.pd_host.specs.Connection.{ConnectionView}
 use Rattle.pd_host.specs.Invariants.{IsEnding, IsOfPhase, IsInBounds, IsTimed, IsReached}
 use Rattle.pd_host.specs.Sending.{past_sacked, sent_on}
 use Rattle.pd_host.specs.Timing.{overlaps, timed_after, clocked}
@@ -28,7 +28,7 @@ use Rattle.pd_host.proofs.Sendables.{CanLeave, IsNext, new_leaves, filling_fits,
 use Rattle.pd_host.proofs.AckedBelow.{IsBelow, lt, le}
 
 -- a connection that wasn't reset, while data is sent on it
-pub record IsLive (b : Settings) (now : ℕ) (c : ControlBlock) : Type 0 where
+pub record IsLive (b : Settings) (now : ℕ) (c : ConnectionView) : Type 0 where
   pub reached : IsReached b now c
   pub live : c.reset ≡ false
 
@@ -52,8 +52,8 @@ widened b smss top widest top' widest' e t w h = record {
 
 -- the timer
 
-pub started_runs : (now : ℕ) (t : Timer) → is_some (started now t).deadline ≡ true
-started_runs now t = by_test (λ (u : Timer). is_some u.deadline ≡ true) (is_some t.deadline) t (restarted now t) (λ e. e) (λ _. refl)
+pub started_runs : (now : ℕ) (t : RtoView) → is_some (started now t).deadline ≡ true
+started_runs now t = by_test (λ (u : RtoView). is_some u.deadline ≡ true) (is_some t.deadline) t (restarted now t) (λ e. e) (λ _. refl)
 
 pub outstanding : (una top : ℕ) (reset : Bool) → una < top → reset ≡ false → (nat_lt una top && not reset) ≡ true
 outstanding una top true u e = absurd cc
@@ -76,7 +76,7 @@ timed_then now una top top' segment (Some old) u t some h =
 
 module _ (b : Settings) (now : ℕ) where
   -- the sending place moves past SACKed octets
-  pub ready_reached : (c : ControlBlock) → IsReached b now c → IsReached b now (past_sacked c)
+  pub ready_reached : (c : ConnectionView) → IsReached b now c → IsReached b now (past_sacked c)
   ready_reached c h = record {
     agreed = h.agreed;
     board = skipped_ordered c.board h.board;
@@ -89,7 +89,7 @@ module _ (b : Settings) (now : ℕ) where
   }
 
   -- octets are sent again, from below top
-  pub clocked_live : (c : ControlBlock) (segment : Span) → IsLive b now c → c.board.una < c.board.top → segment.start < c.board.top
+  pub clocked_live : (c : ConnectionView) (segment : Span) → IsLive b now c → c.board.una < c.board.top → segment.start < c.board.top
       → IsLive b now (clocked now segment c)
   clocked_live c segment h out below = record {
     reached = record {
@@ -106,7 +106,7 @@ module _ (b : Settings) (now : ℕ) where
   }
 
   -- a segment leaves, and the sending place moves to its end
-  pub sent_live : (c : ControlBlock) (e : Established) (segment : Span) → IsLive b now c → c.established ≡ Some e → CanLeave c.board segment
+  pub sent_live : (c : ConnectionView) (e : Established) (segment : Span) → IsLive b now c → c.established ≡ Some e → CanLeave c.board segment
       → IsLive b now (sent_on now segment c)
   sent_live c e segment h is l = record {
     reached = record {
@@ -126,7 +126,7 @@ module _ (b : Settings) (now : ℕ) where
   }
 
   -- what ordinary sending finds is found on an established connection
-  found_leaves : (c : ControlBlock) (segment : Span) (o : Option Established) → IsLive b now c → c.established ≡ o → found_on c o ≡ Some segment
+  found_leaves : (c : ConnectionView) (segment : Span) (o : Option Established) → IsLive b now c → c.established ≡ o → found_on c o ≡ Some segment
       → IsLive b now (sent_on now segment c)
   found_leaves c segment None h is e = absurd cc
   found_leaves c segment (Some est) h is e = sent_live c est segment h is (ordinary_leaves c est h.reached.board segment e)
@@ -140,7 +140,7 @@ module _ (b : Settings) (now : ℕ) where
   }
 
   -- congestion control changes, within its bounds
-  pub congestion_live : (c : ControlBlock) (e : Established) (w : Congestion) → IsLive b now c → c.established ≡ Some e
+  pub congestion_live : (c : ConnectionView) (e : Established) (w : CongView) → IsLive b now c → c.established ≡ Some e
       → IsWithin c.board.smss b.initial_ssthresh w → IsBelow c.board.top w
       → IsLive b now (record c { established = Some (record e { congestion = w }) })
   congestion_live c e w h is within below = record {
@@ -164,7 +164,7 @@ module _ (b : Settings) (now : ℕ) where
   }
 
   -- the window and the threshold stay, and what loss recovery names was sent
-  renumbered : (c : ControlBlock) (e : Established) (w : Congestion) → IsLive b now c → c.established ≡ Some e
+  renumbered : (c : ConnectionView) (e : Established) (w : CongView) → IsLive b now c → c.established ≡ Some e
       → w.cwnd ≡ e.congestion.cwnd → w.ssthresh ≡ e.congestion.ssthresh → w.recovering ≡ e.congestion.recovering → IsBelow c.board.top w
       → IsLive b now (record c { established = Some (record e { congestion = w }) })
   renumbered c e w h is cwnd ssthresh recovering below =
@@ -177,13 +177,13 @@ module _ (b : Settings) (now : ℕ) where
         recovering = λ r. let low = k.windows.recovering (sym recovering ∙ r) in omega (arith, low, ssthresh);
       }) below
 
-  pub numbers : (c : ControlBlock) (e : Established) → IsLive b now c → c.established ≡ Some e → IsBelow c.board.top e.congestion
+  pub numbers : (c : ConnectionView) (e : Established) → IsLive b now c → c.established ≡ Some e → IsBelow c.board.top e.congestion
   numbers c e h is =
       let k : IsInBounds b c.board.smss c.board.top c.widest e = at_some (IsInBounds b c.board.smss c.board.top c.widest) c.established e is h.reached.bounds in
       record { recovery_point = k.recovery_point; high_rxt = k.high_rxt; rescue_rxt = k.rescue_rxt }
 
   -- what congestion control notes of a segment
-  noted_numbers : (filling : Filling) (sent : NextSegment) (top : ℕ) (w : Congestion) → IsBelow top w → (segment_of sent).end ≤ top
+  noted_numbers : (filling : Filling) (sent : NextSegment) (top : ℕ) (w : CongView) → IsBelow top w → (segment_of sent).end ≤ top
       → IsBelow top (noted_by filling sent w)
   noted_numbers NewData sent top w k to = record { recovery_point = k.recovery_point; high_rxt = k.high_rxt; rescue_rxt = k.rescue_rxt }
   noted_numbers NextSeg (New segment) top w k to = k
@@ -192,7 +192,7 @@ module _ (b : Settings) (now : ℕ) where
   noted_numbers NextSeg (Rescue segment) top w k to =
       record { recovery_point = k.recovery_point; high_rxt = k.high_rxt; rescue_rxt = k.recovery_point }
 
-  noted_windows : (filling : Filling) (sent : NextSegment) (w : Congestion)
+  noted_windows : (filling : Filling) (sent : NextSegment) (w : CongView)
       → ((noted_by filling sent w).cwnd ≡ w.cwnd) × ((noted_by filling sent w).ssthresh ≡ w.ssthresh)
       × ((noted_by filling sent w).recovering ≡ w.recovering)
   noted_windows NewData sent w = (refl, refl, refl)
@@ -201,7 +201,7 @@ module _ (b : Settings) (now : ℕ) where
   noted_windows NextSeg (Hole segment) w = (refl, refl, refl)
   noted_windows NextSeg (Rescue segment) w = (refl, refl, refl)
 
-  noted_too : (filling : Filling) (sent : NextSegment) (c : ControlBlock) (e : Established) → IsLive b now c → c.established ≡ Some e
+  noted_too : (filling : Filling) (sent : NextSegment) (c : ConnectionView) (e : Established) → IsLive b now c → c.established ≡ Some e
       → (segment_of sent).end ≤ c.board.top → IsLive b now (noted_on filling sent c (Some e))
   noted_too filling sent c e h is to =
       let same = noted_windows filling sent e.congestion in
@@ -209,7 +209,7 @@ module _ (b : Settings) (now : ℕ) where
       (noted_numbers filling sent c.board.top e.congestion (numbers c e h is) to)
 
   -- one segment that fills the room of the window
-  noted_live : (filling : Filling) (c : ControlBlock) (e : Established) (sent : NextSegment) → IsLive b now c → c.established ≡ Some e
+  noted_live : (filling : Filling) (c : ConnectionView) (e : Established) (sent : NextSegment) → IsLive b now c → c.established ≡ Some e
       → IsNext c.board sent → IsLive b now (noted_on filling sent (sent_as now sent c) (Some e))
   noted_live filling c e (New segment) h is fits =
       noted_too filling (New segment) (sent_on now segment c) e
@@ -221,14 +221,14 @@ module _ (b : Settings) (now : ℕ) where
   noted_live filling c e (Rescue segment) h is fits =
       noted_too filling (Rescue segment) (clocked now segment c) e (clocked_live c segment h fits.outstanding fits.start) is fits.end
 
-  pub filling_live : (filling : Filling) (pipe : ℕ) (c : ControlBlock) (sent : NextSegment) (o : Option Established) → IsLive b now c
+  pub filling_live : (filling : Filling) (pipe : ℕ) (c : ConnectionView) (sent : NextSegment) (o : Option Established) → IsLive b now c
       → c.established ≡ o → next_on filling pipe c o ≡ Some sent → IsLive b now (noted_on filling sent (sent_as now sent c) o)
   filling_live filling pipe c sent None h is e = absurd cc
   filling_live filling pipe c sent (Some est) h is e =
       noted_live filling c est sent h is (filling_fits filling pipe c est h.reached.board sent e)
 
   -- entry
-  pub entered_live : (segment : Span) (c : ControlBlock) (o : Option Established) → IsLive b now c → c.established ≡ o → segment.end ≤ c.board.top
+  pub entered_live : (segment : Span) (c : ConnectionView) (o : Option Established) → IsLive b now c → c.established ≡ o → segment.end ≤ c.board.top
       → IsLive b now (entered_on segment c o)
   entered_live segment c None h is to = h
   entered_live segment c (Some est) h is to =
@@ -236,10 +236,10 @@ module _ (b : Settings) (now : ℕ) where
       renumbered c est (entered_to segment.end est.congestion) h is refl refl refl
       (record { recovery_point = k.recovery_point; high_rxt = to; rescue_rxt = to })
 
-  first_to : (c : ControlBlock) → IsLive b now c → (first_run c).end ≤ c.board.top
+  first_to : (c : ConnectionView) → IsLive b now c → (first_run c).end ≤ c.board.top
   first_to c h = (run_within c.board.una c.board (omega (arith, h.reached.board.una_next, h.reached.board.next_top))).1
 
-  pub entry_live : (c : ControlBlock) → IsLive b now c → nat_lt (first_run c).start (first_run c).end ≡ true
+  pub entry_live : (c : ConnectionView) → IsLive b now c → nat_lt (first_run c).start (first_run c).end ≡ true
       → IsLive b now (entered_on (first_run c) (clocked now (first_run c) c) c.established)
   entry_live c h e =
       let to = first_to c h in
@@ -247,5 +247,5 @@ module _ (b : Settings) (now : ℕ) where
       entered_live (first_run c) (clocked now (first_run c) c) c.established
       (clocked_live c (first_run c) h (omega (arith, to, some)) (omega (arith, to, some))) refl to
 
-  pub entry_alone_live : (c : ControlBlock) → IsLive b now c → IsLive b now (entered_on (first_run c) c c.established)
+  pub entry_alone_live : (c : ConnectionView) → IsLive b now c → IsLive b now (entered_on (first_run c) c c.established)
   entry_alone_live c h = entered_live (first_run c) c c.established h refl (first_to c h)

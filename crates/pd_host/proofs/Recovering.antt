@@ -5,9 +5,9 @@ use Rattle.pd_seg.specs.declared.segments.Sent.{Sent}
 use Rattle.pd_recover.specs.Choice.{segment_of}
 use Rattle.pd_recover.specs.declared.segments.NextSegment.{NextSegment}
 use Rattle.pd_host.specs.Acknowledgments.{OnTheWay, next_found, sent_as, noted_on, one_filled, sender_of, pipe_of, filled_from, filled}
-use Rattle.pd_host.specs.ControlBlock.{ControlBlock}
+use Rattle.pd_host.specs.Connection.{ConnectionView}
 use Rattle.pd_host.specs.Packets.{data_of}
-use Rattle.pd_host.specs.Sender.{with_packet}
+use Rattle.pd_host.specs.Host.{with_packet}
 use Rattle.pd_host.specs.Sending.{repeated, places_left}
 use Rattle.pd_host.specs.declared.fillings.Filling.{Filling}
 use Rattle.pd_host.specs.declared.halts.Halt.{Halt}
@@ -33,7 +33,7 @@ nothing_filled now filling s none =
     ap sender_of (repeated-none (next filling) (fill now filling) (places_left s) (s, pipe_of s.endpoint.connection) (ap (next_found filling (pipe_of s.endpoint.connection)) none))
 
 -- one segment further
-pub filling_goes : (now : ℕ) (filling : Filling) (s : State) (c d : ControlBlock) (packets new : List Sent) (n m : ℕ) (sent : NextSegment) (segment : Span)
+pub filling_goes : (now : ℕ) (filling : Filling) (s : State) (c d : ConnectionView) (packets new : List Sent) (n m : ℕ) (sent : NextSegment) (segment : Span)
     → next_on filling n c c.established ≡ Some sent
     → segment ≡ segment_of sent
     → with_packet now (data_of c segment) packets ≡ Ok new
@@ -47,7 +47,7 @@ filling_goes now filling s c d packets new n m sent segment found same put left 
     let more : sender_filled now filling t ≡ sender_filled now filling after =
     ap sender_of (ap (λ (k : ℕ). repeated (next filling) (fill now filling) k t) (one_place_less now (data_of c (segment_of sent)) packets p.0) ∙ repeated-more (next filling) (fill now filling) (places_left after.0) t sent found) in
     ap (λ (x : ℕ). sender_filled now filling (holding d new s, x)) counted
-    ∙ ap (λ (x : ControlBlock). sender_filled now filling (holding x new s, n + (segment.end - segment.start))) left
+    ∙ ap (λ (x : ConnectionView). sender_filled now filling (holding x new s, n + (segment.end - segment.start))) left
     ∙ ap (λ (x : List Sent). sender_filled now filling (holding (noted_on filling sent (sent_as now sent c) c.established) x s, n + (segment.end - segment.start))) p.1
     ∙ ap (λ (x : Span). sender_filled now filling (holding (noted_on filling sent (sent_as now sent c) c.established) (and_packet now (data_of c x) packets) s, n + (x.end - x.start))) same
     ∙ sym more

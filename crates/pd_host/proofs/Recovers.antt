@@ -6,9 +6,9 @@ use Rattle.pd_seg.specs.declared.sack_blocks.Span.{Span}
 use Rattle.pd_seg.specs.declared.segments.Segment.{Segment}
 use Rattle.pd_board.proofs.Sets.{any-none}
 use Rattle.pd_board.specs.Octets.{contains}
-use Rattle.pd_board.specs.Scoreboard.{Scoreboard, covers, marked, has_new}
+use Rattle.pd_board.specs.Board.{BoardView, covers, marked, has_new}
 use Rattle.pd_recover.specs.Acks.{renewed, told, told_by_sack, selective_duplicate, counted, grown_by}
-use Rattle.pd_recover.specs.Congestion.{Congestion, entered_to}
+use Rattle.pd_recover.specs.Cong.{CongView, entered_to}
 use Rattle.pd_recover.specs.declared.feedback.Ack.{Ack}
 use Rattle.pd_recover.specs.declared.feedback.News.{News}
 use Rattle.pd_recover.specs.declared.responses.Then.{Then}
@@ -18,7 +18,7 @@ use Rattle.pd_board.specs.Loss.{is_lost}
 use Rattle.pd_host.specs.Acknowledgments.{newly_acked, with_number, is_block_sent, blocks_of, told_block, told_blocks, scored, with_timing, is_current, with_new_window, with_blocks, with_ack, news_of, ack_of_segment, answering, taking, sent_as, noted_by, noted_on, entered_on}
 use Rattle.pd_host.specs.Arrivals.{with_peer_fin}
 use Rattle.pd_host.specs.Calls.{with_stream, with_nagle}
-use Rattle.pd_host.specs.ControlBlock.{ControlBlock}
+use Rattle.pd_host.specs.Connection.{ConnectionView}
 use Rattle.pd_host.specs.Handshake.{looked_at}
 use Rattle.pd_host.specs.Invariants.{RecoversBelow, IsBelowPoint}
 use Rattle.pd_host.specs.Timing.{is_measured, measured, with_sample, with_timer_moved}
@@ -26,9 +26,10 @@ use Rattle.pd_host.specs.declared.established.Established.{Established}
 use Rattle.pd_host.specs.declared.fillings.Filling.{Filling}
 use Rattle.pd_host.specs.declared.fillings.Filling.TheVariants.{NextSeg, NewData}
 use Rattle.pd_host.specs.declared.peer_fins.PeerFin.{PeerFin}
-use Rattle.pd_host.specs.declared.peer_fins.PeerFin.TheVariants.{BeforeOurs, BehindOurs}
+use Rattle.pd_host.specs.declared.peer_fins.PeerFin.TheVariants.{BeforeOurs, AfterOurs}
 use Rattle.pd_host.specs.declared.streams.Stream.{Stream}
 use Rattle.pd_host.specs.declared.timings.Timing.{Timing}
+use Rattle.pd_recover.proofs.Cases.{selective_cases}
 use Rattle.pd_host.proofs.AckedBelow.{ge}
 use Rattle.pd_host.proofs.Kept.{by_test}
 
@@ -37,15 +38,15 @@ use Rattle.pd_host.proofs.Kept.{by_test}
 unlike : (b : Bool) → b ≡ true → b ≡ false → ⊥
 unlike b t f = cc
 
-new_within_so : (block : Span) (s : Scoreboard) (b : Bool) → nat_lt s.una s.top ≡ b → has_new block s ≡ true → s.una < s.top
+new_within_so : (block : Span) (s : BoardView) (b : Bool) → nat_lt s.una s.top ≡ b → has_new block s ≡ true → s.una < s.top
 new_within_so block s true e new = grind (arith, nat_tests)
 new_within_so block s false e new =
     absurd (unlike (has_new block s) new (any-none (λ x. covers block x && not (contains s.sacked x)) s.una s.top (ge s.una s.top e)))
 
-new_within : (block : Span) (s : Scoreboard) → has_new block s ≡ true → s.una < s.top
+new_within : (block : Span) (s : BoardView) → has_new block s ≡ true → s.una < s.top
 new_within block s new = new_within_so block s (nat_lt s.una s.top) refl new
 
-record TellsWithin (una top : ℕ) (told : Scoreboard × Bool) : Type 0 where
+record TellsWithin (una top : ℕ) (told : BoardView × Bool) : Type 0 where
   low : told.0.una ≡ una
   high : told.0.top ≡ top
   fresh : told.1 ≡ true → una < top
@@ -54,7 +55,7 @@ either : (a b : Bool) (una top : ℕ) → (a ≡ true → una < top) → (b ≡ 
 either true b una top first second e = first refl
 either false b una top first second e = second e
 
-tells_one : (una top : ℕ) (block : Span) (told : Scoreboard × Bool) → TellsWithin una top told → TellsWithin una top (told_block block told)
+tells_one : (una top : ℕ) (block : Span) (told : BoardView × Bool) → TellsWithin una top told → TellsWithin una top (told_block block told)
 tells_one una top block told h =
     by_test (TellsWithin una top) (is_block_sent told.0 block) (marked block told.0, told.1 || has_new block told.0) told
     (λ _. record {
@@ -64,11 +65,11 @@ tells_one una top block told h =
     })
     (λ _. h)
 
-tells_all : (una top : ℕ) (blocks : List Span) (told : Scoreboard × Bool) → TellsWithin una top told → TellsWithin una top (told_blocks blocks told)
+tells_all : (una top : ℕ) (blocks : List Span) (told : BoardView × Bool) → TellsWithin una top told → TellsWithin una top (told_blocks blocks told)
 tells_all una top [] told h = h
 tells_all una top (block ∷ blocks) told h = tells_all una top blocks (told_block block told) (tells_one una top block told h)
 
-scored_within : (segment : Segment) (c : ControlBlock) → TellsWithin c.board.una c.board.top (scored segment c)
+scored_within : (segment : Segment) (c : ConnectionView) → TellsWithin c.board.una c.board.top (scored segment c)
 scored_within segment c =
     let none : TellsWithin c.board.una c.board.top (c.board, false) = record { low = refl; high = refl; fresh = λ e. absurd cc } in
     by_test (TellsWithin c.board.una c.board.top) c.sack (told_blocks (blocks_of (looked_at segment.options)) (c.board, false)) (c.board, false)
@@ -76,49 +77,48 @@ scored_within segment c =
 
 -- What an ACK leaves
 
-abbrev HasBoard : Scoreboard → ControlBlock → Type 0
+abbrev HasBoard : BoardView → ConnectionView → Type 0
 HasBoard s c = c.board ≡ s
 
-module _ (s : Scoreboard) where
-  measured_board : (now granularity ack : ℕ) (c : ControlBlock) (o : Option Timing) → HasBoard s c → HasBoard s (measured now granularity ack c o)
+module _ (s : BoardView) where
+  measured_board : (now granularity ack : ℕ) (c : ConnectionView) (o : Option Timing) → HasBoard s c → HasBoard s (measured now granularity ack c o)
   measured_board now granularity ack c None h = h
   measured_board now granularity ack c (Some t) h =
       by_test (HasBoard s) (is_measured ack t) _ c (λ _. h) (λ _. h)
 
-  moved_board : (now : ℕ) (c : ControlBlock) → HasBoard s c → HasBoard s (with_timer_moved now c)
+  moved_board : (now : ℕ) (c : ConnectionView) → HasBoard s c → HasBoard s (with_timer_moved now c)
   moved_board now c h = h
 
-  timing_board : (now granularity n : ℕ) (c : ControlBlock) → HasBoard s c → HasBoard s (with_timing now granularity n c)
+  timing_board : (now granularity n : ℕ) (c : ConnectionView) → HasBoard s c → HasBoard s (with_timing now granularity n c)
   timing_board now granularity n c h =
       by_test (HasBoard s) (nat_lt 0 n) _ c
       (λ _. moved_board now (with_sample now granularity c.board.una c) (measured_board now granularity c.board.una c c.timed h)) (λ _. h)
 
-  window_board : (segment : Segment) (e : Established) (c : ControlBlock) → HasBoard s c → HasBoard s (with_new_window segment e c)
+  window_board : (segment : Segment) (e : Established) (c : ConnectionView) → HasBoard s c → HasBoard s (with_new_window segment e c)
   window_board segment e c h = by_test (HasBoard s) (is_current e segment) _ c (λ _. h) (λ _. h)
 
-ack_board : (now : ℕ) (segment : Segment) (e : Established) (c : ControlBlock) → HasBoard (scored segment (with_number segment c)).0 (with_ack now segment e c).0
+ack_board : (now : ℕ) (segment : Segment) (e : Established) (c : ConnectionView) → HasBoard (scored segment (with_number segment c)).0 (with_ack now segment e c).0
 ack_board now segment e c =
-    let s : Scoreboard = (scored segment (with_number segment c)).0 in
+    let s : BoardView = (scored segment (with_number segment c)).0 in
     window_board s segment e (with_timing now e.granularity_us (newly_acked c segment) (with_blocks segment (with_number segment c)))
     (timing_board s now e.granularity_us (newly_acked c segment) (with_blocks segment (with_number segment c)) refl)
 
 module _ (ack : Ack) where
-  abbrev Below : Congestion × Then → Type 0
+  abbrev Below : CongView × Then → Type 0
   Below step = step.0.recovering ≡ true → ack.una < step.0.recovery_point
 
   above : (recovering : Bool) (point una : ℕ) → (recovering && nat_le point una) ≡ false → recovering ≡ true → una < point
   above true point una e r = grind (arith, nat_tests)
   above false point una e r = absurd cc
 
-  grown_same : (w : Congestion) → (grown_by ack w).recovering ≡ w.recovering
-  grown_same w = by_test (λ (v : Congestion). v.recovering ≡ w.recovering) (nat_lt 0 ack.acked) _ w (λ _. refl) (λ _. refl)
+  grown_same : (w : CongView) → (grown_by ack w).recovering ≡ w.recovering
+  grown_same w = by_test (λ (v : CongView). v.recovering ≡ w.recovering) (nat_lt 0 ack.acked) _ w (λ _. refl) (λ _. refl)
 
-  duplicate_below : (lost : Bool) (w : Congestion) → w.recovering ≡ false → ack.una < ack.top → Below (selective_duplicate ack lost w)
+  duplicate_below : (lost : Bool) (w : CongView) → w.recovering ≡ false → ack.una < ack.top → Below (selective_duplicate ack lost w)
   duplicate_below lost w still out =
-      by_test Below (nat_lt ack.una w.recovery_point) _ _ (λ _ r. absurd (unlike w.recovering r still))
-      (λ _. by_test Below (nat_le 3 w.dup_acks || lost) _ _ (λ _ r. out) (λ _ r. absurd (unlike w.recovering r still)))
+      selective_cases Below ack lost w (λ r. absurd (unlike w.recovering r still)) (λ r. out) (λ r. absurd (unlike w.recovering r still))
 
-  sack_below : (news : News) (w : Congestion) → (news.fresh ≡ true → ack.una < ack.top) → Below (told_by_sack ack news w)
+  sack_below : (news : News) (w : CongView) → (news.fresh ≡ true → ack.una < ack.top) → Below (told_by_sack ack news w)
   sack_below news w out =
       by_test Below (w.recovering && nat_le w.recovery_point ack.una) _ _ (λ _ r. absurd cc)
       (λ below. by_test Below w.recovering _ _ (λ _ r. above w.recovering w.recovery_point ack.una below r)
@@ -126,7 +126,7 @@ module _ (ack : Ack) where
       (λ fresh. duplicate_below news.lost (counted (grown_by ack w)) (grown_same w ∙ still) (out fresh))
       (λ _ r. absurd (unlike w.recovering (sym (grown_same w) ∙ r) still))))
 
-answered_below : (segment : Segment) (n : ℕ) (fresh : Bool) (e : Established) (c : ControlBlock) (o : Option Established)
+answered_below : (segment : Segment) (n : ℕ) (fresh : Bool) (e : Established) (c : ConnectionView) (o : Option Established)
     → c.established ≡ o → (fresh ≡ true → c.board.una < c.board.top) → IsBelowPoint (answering segment n fresh e c o).0
 answered_below segment n fresh e c None is out sack = subst (RecoversBelow c.board.una) (sym is) tt
 answered_below segment n fresh e c (Some after) is out sack =
@@ -135,10 +135,10 @@ answered_below segment n fresh e c (Some after) is out sack =
     let told_so : news_of fresh c ≡ Some news = ap (λ (b : Bool). if b then Some news else None) sack in
     subst (λ (x : Option News). Below ack (told ack x (renewed ack after.congestion))) (sym told_so) (sack_below ack news (renewed ack after.congestion) out)
 
-moved_within : (s t : Scoreboard) → t ≡ s → s.una < s.top → t.una < t.top
-moved_within s t e h = subst (λ (x : Scoreboard). x.una < x.top) (sym e) h
+moved_within : (s t : BoardView) → t ≡ s → s.una < s.top → t.una < t.top
+moved_within s t e h = subst (λ (x : BoardView). x.una < x.top) (sym e) h
 
-pub taking_below : (now : ℕ) (segment : Segment) (c : ControlBlock) (o : Option Established) → IsBelowPoint c → IsBelowPoint (taking now segment c o).0
+pub taking_below : (now : ℕ) (segment : Segment) (c : ConnectionView) (o : Option Established) → IsBelowPoint c → IsBelowPoint (taking now segment c o).0
 taking_below now segment c None h = h
 taking_below now segment c (Some e) h =
     let told_at : TellsWithin segment.ack c.board.top (scored segment (with_number segment c)) = scored_within segment (with_number segment c) in
@@ -149,7 +149,7 @@ taking_below now segment c (Some e) h =
 
 -- What else changes congestion control
 
-recongested : (c : ControlBlock) (e : Established) (w : Congestion) → IsBelowPoint c → c.established ≡ Some e
+recongested : (c : ConnectionView) (e : Established) (w : CongView) → IsBelowPoint c → c.established ≡ Some e
     → w.recovering ≡ e.congestion.recovering → w.recovery_point ≡ e.congestion.recovery_point
     → IsBelowPoint (record c { established = Some (record e { congestion = w }) })
 recongested c e w h is r p sack recovering =
@@ -157,7 +157,7 @@ recongested c e w h is r p sack recovering =
     let low : c.board.una < e.congestion.recovery_point = k (sym r ∙ recovering) in
     omega (arith, low, p)
 
-noted_recovering : (filling : Filling) (sent : NextSegment) (w : Congestion)
+noted_recovering : (filling : Filling) (sent : NextSegment) (w : CongView)
     → ((noted_by filling sent w).recovering ≡ w.recovering) × ((noted_by filling sent w).recovery_point ≡ w.recovery_point)
 noted_recovering NewData sent w = (refl, refl)
 noted_recovering NextSeg (Lost segment) w = (refl, refl)
@@ -165,21 +165,21 @@ noted_recovering NextSeg (New segment) w = (refl, refl)
 noted_recovering NextSeg (Hole segment) w = (refl, refl)
 noted_recovering NextSeg (Rescue segment) w = (refl, refl)
 
-noted_too : (filling : Filling) (c : ControlBlock) (sent : NextSegment) (o : Option Established) → IsBelowPoint c → c.established ≡ o
+noted_too : (filling : Filling) (c : ConnectionView) (sent : NextSegment) (o : Option Established) → IsBelowPoint c → c.established ≡ o
     → IsBelowPoint (noted_on filling sent c o)
 noted_too filling c sent None h is = h
 noted_too filling c sent (Some e) h is =
     let same = noted_recovering filling sent e.congestion in
     recongested c e (noted_by filling sent e.congestion) h is same.0 same.1
 
-pub noted_below : (now : ℕ) (filling : Filling) (c : ControlBlock) (sent : NextSegment) (o : Option Established) → IsBelowPoint c
+pub noted_below : (now : ℕ) (filling : Filling) (c : ConnectionView) (sent : NextSegment) (o : Option Established) → IsBelowPoint c
     → c.established ≡ o → IsBelowPoint (noted_on filling sent (sent_as now sent c) o)
 noted_below now filling c (Lost segment) o h is = noted_too filling (sent_as now (Lost segment) c) (Lost segment) o h is
 noted_below now filling c (New segment) o h is = noted_too filling (sent_as now (New segment) c) (New segment) o h is
 noted_below now filling c (Hole segment) o h is = noted_too filling (sent_as now (Hole segment) c) (Hole segment) o h is
 noted_below now filling c (Rescue segment) o h is = noted_too filling (sent_as now (Rescue segment) c) (Rescue segment) o h is
 
-pub entered_below : (segment : Span) (c : ControlBlock) (o : Option Established) → IsBelowPoint c → c.established ≡ o → IsBelowPoint (entered_on segment c o)
+pub entered_below : (segment : Span) (c : ConnectionView) (o : Option Established) → IsBelowPoint c → c.established ≡ o → IsBelowPoint (entered_on segment c o)
 entered_below segment c None h is = h
 entered_below segment c (Some e) h is = recongested c e (entered_to segment.end e.congestion) h is refl refl
 
@@ -192,15 +192,15 @@ nagle_same : (una : ℕ) (on : Bool) (o : Option Established) → RecoversBelow 
 nagle_same una on None h = h
 nagle_same una on (Some e) h = h
 
-pub stream_below : (d : Stream) (c : ControlBlock) → IsBelowPoint c → IsBelowPoint (with_stream d c)
+pub stream_below : (d : Stream) (c : ConnectionView) → IsBelowPoint c → IsBelowPoint (with_stream d c)
 stream_below d c h sack = stream_same c.board.una d c.established (h sack)
 
-pub nagle_below : (on : Bool) (c : ControlBlock) → IsBelowPoint c → IsBelowPoint (with_nagle on c)
+pub nagle_below : (on : Bool) (c : ConnectionView) → IsBelowPoint c → IsBelowPoint (with_nagle on c)
 nagle_below on c h sack = nagle_same c.board.una on c.established (h sack)
 
 finned_same : (una : ℕ) (p : PeerFin) (o : Option Established) → RecoversBelow una o → RecoversBelow una (option_map {T = Established} (λ e. record e { peer_fin = p }) o)
 finned_same una p None h = h
 finned_same una p (Some e) h = h
 
-pub finned_below : (c : ControlBlock) → IsBelowPoint c → IsBelowPoint (with_peer_fin c)
-finned_below c h sack = finned_same c.board.una (if c.fin then BehindOurs else BeforeOurs) c.established (h sack)
+pub finned_below : (c : ConnectionView) → IsBelowPoint c → IsBelowPoint (with_peer_fin c)
+finned_below c h sack = finned_same c.board.una (if c.fin then AfterOurs else BeforeOurs) c.established (h sack)

@@ -2,13 +2,13 @@
 use Rattle.std.proofs.Common.{◌≡◌, ◌↔◌, ℕ, ◌<◌, ◌≤◌, ◌&&◌, Bool, true, false, if◌then◌else◌, Option, None, Some, is_some, Ok, refl, sym, subst, ap, ◌∙◌}
 use Rattle.pd_board.specs.Loss.{is_lost}
 use Rattle.pd_recover.specs.Acks.{acked}
-use Rattle.pd_recover.specs.Congestion.{Congestion}
+use Rattle.pd_recover.specs.Cong.{CongView}
 use Rattle.pd_recover.specs.Laws.{EndsInTime}
 use Rattle.pd_recover.specs.declared.feedback.Ack.{Ack}
 use Rattle.pd_recover.specs.declared.feedback.News.{News}
 use Rattle.pd_seg.specs.declared.segments.Segment.{Segment}
-use Rattle.pd_host.specs.Acknowledgments.{newly_acked, news_of, ack_of_segment, answering, with_ack, taking, taken}
-use Rattle.pd_host.specs.ControlBlock.{ControlBlock}
+use Rattle.pd_host.specs.Acknowledgments.{newly_acked, news_of, ack_of_segment, answering, with_ack, taking, ack_taken}
+use Rattle.pd_host.specs.Connection.{ConnectionView}
 use Rattle.pd_host.specs.Sending.{with_block, is_recovering}
 use Rattle.pd_host.specs.SendingLaws.{recovers, EndsRecovery}
 use Rattle.pd_host.specs.declared.established.Established.{Established}
@@ -23,7 +23,7 @@ rest_recovers : (o : Option Established) → is_recovering (at_rest o) ≡ is_re
 rest_recovers None = refl
 rest_recovers (Some e) = refl
 
-still_recovers : (o : Option ControlBlock) → recovers (stills o) ≡ recovers o
+still_recovers : (o : Option ConnectionView) → recovers (stills o) ≡ recovers o
 still_recovers None = refl
 still_recovers (Some c) = rest_recovers c.established
 
@@ -33,7 +33,7 @@ sent_recovers now s t h =
 
 -- Recovery ends where congestion control says so
 
-abbrev Ends : Ack → Congestion → Type 0 → Type 0
+abbrev Ends : Ack → CongView → Type 0 → Type 0
 Ends ack w X = ((acked ack w).0.recovering ≡ false) ↔ X
 
 -- what an ACK tells
@@ -42,7 +42,7 @@ record Tells (ack : Ack) (una n : ℕ) (news : Option News) : Type 0 where
   pub octets : ack.acked ≡ n
   pub blocks : ack.sack ≡ news
 
-answer_ends : (segment : Segment) (n : ℕ) (fresh : Bool) (before : Established) (d : ControlBlock) (o : Option Established) (w : Congestion) (X : Type 0)
+answer_ends : (segment : Segment) (n : ℕ) (fresh : Bool) (before : Established) (d : ConnectionView) (o : Option Established) (w : CongView) (X : Type 0)
     → congestions o ≡ Some w
     → ((ack : Ack) → Tells ack d.board.una n (news_of fresh d) → Ends ack w X)
     → (is_recovering (answering segment n fresh before d o).0.established ≡ false) ↔ X
@@ -50,43 +50,43 @@ answer_ends segment n fresh before d None w X has ends = absurd cc
 answer_ends segment n fresh before d (Some e) w X has ends =
     let same : e.congestion ≡ w = cc in
     let ack : Ack = ack_of_segment segment n fresh before e d in
-    subst (λ (v : Congestion). Ends ack v X) (sym same) (ends ack (record { number = refl; octets = refl; blocks = refl }))
+    subst (λ (v : CongView). Ends ack v X) (sym same) (ends ack (record { number = refl; octets = refl; blocks = refl }))
 
-taken_ends : (now : ℕ) (segment : Segment) (c : ControlBlock) (s t : State) (e : Established) (X : Type 0)
+taken_ends : (now : ℕ) (segment : Segment) (c : ConnectionView) (s t : State) (e : Established) (X : Type 0)
     → c.established ≡ Some e
     → ((ack : Ack) (fresh : Bool) → Tells ack segment.ack (newly_acked c segment) (news_of fresh (with_ack now segment e c).0) → Ends ack e.congestion X)
-    → taken now segment c s c.established ≡ Ok t
+    → ack_taken now segment c s c.established ≡ Ok t
     → (recovers t.endpoint.connection ≡ false) ↔ X
 taken_ends now segment c s t e X has ends h =
-    let after : ControlBlock × Bool = with_ack now segment e c in
-    let left : ControlBlock = (taking now segment c (Some e)).0 in
-    let same : taken now segment c s (Some e) ≡ Ok t = ap (taken now segment c s) (sym has) ∙ h in
-    let sent : IsSentOn now (with_block left s) t = came (IsSentOn now (with_block left s)) (taken now segment c s (Some e)) t same (taken_sends now segment c s (Some e)) in
-    let una : after.0.board.una ≡ segment.ack = ap (λ (x : ControlBlock). x.board.una) (ack_keeps now segment e c) in
+    let after : ConnectionView × Bool = with_ack now segment e c in
+    let left : ConnectionView = (taking now segment c (Some e)).0 in
+    let same : ack_taken now segment c s (Some e) ≡ Ok t = ap (ack_taken now segment c s) (sym has) ∙ h in
+    let sent : IsSentOn now (with_block left s) t = came (IsSentOn now (with_block left s)) (ack_taken now segment c s (Some e)) t same (taken_sends now segment c s (Some e)) in
+    let una : after.0.board.una ≡ segment.ack = ap (λ (x : ConnectionView). x.board.una) (ack_keeps now segment e c) in
     subst (λ (b : Bool). (b ≡ false) ↔ X) (sym (sent_recovers now (with_block left s) t sent))
     (answer_ends segment (newly_acked c segment) after.1 e after.0 after.0.established e.congestion X (ack_leaves_congestion now segment e c has)
     (λ ack tells. ends ack after.1 (record { number = tells.number ∙ una; octets = tells.octets; blocks = tells.blocks })))
 
 -- whether SACK was agreed
-agreed : (now : ℕ) (segment : Segment) (e : Established) (c : ControlBlock) → (with_ack now segment e c).0.sack ≡ c.sack
-agreed now segment e c = ap (λ (x : ControlBlock). x.sack) (ack_keeps now segment e c)
+agreed : (now : ℕ) (segment : Segment) (e : Established) (c : ConnectionView) → (with_ack now segment e c).0.sack ≡ c.sack
+agreed now segment e c = ap (λ (x : ConnectionView). x.sack) (ack_keeps now segment e c)
 
-abbrev news_if : Bool → Bool → ControlBlock → Option News
+abbrev news_if : Bool → Bool → ConnectionView → Option News
 news_if sack fresh d = if sack then Some (record { fresh = fresh; lost = fresh && is_lost d.board.una d.board }) else None
 
 pub ends_recovery : EndsInTime → EndsRecovery
 ends_recovery ends = record {
   with_sack = λ now segment c s t e has sack recovering h.
-      let w : Congestion = e.congestion in
-      let d : ControlBlock = (with_ack now segment e c).0 in
+      let w : CongView = e.congestion in
+      let d : ConnectionView = (with_ack now segment e c).0 in
       taken_ends now segment c s t e (w.recovery_point ≤ segment.ack) has
       (λ ack fresh tells.
       let told : is_some ack.sack ≡ true =
       ap is_some tells.blocks ∙ ap (λ (b : Bool). is_some (news_if b fresh d)) (agreed now segment e c ∙ sack) in
       subst (λ (n : ℕ). Ends ack w (w.recovery_point ≤ n)) tells.number (ends.with_sack ack w told recovering)) h;
   without_sack = λ now segment c s t e has sack recovering h.
-      let w : Congestion = e.congestion in
-      let d : ControlBlock = (with_ack now segment e c).0 in
+      let w : CongView = e.congestion in
+      let d : ConnectionView = (with_ack now segment e c).0 in
       taken_ends now segment c s t e (0 < newly_acked c segment) has
       (λ ack fresh tells.
       let none : ack.sack ≡ None =

@@ -4,9 +4,9 @@ use Rattle.std.specs.Prelude.{unwrap_or, option_map}
 use Rattle.pd_board.specs.Choice.{run_at, most_from, next_lost, next_hole, rescue, segment_to, after}
 use Rattle.pd_board.specs.Loss.{is_free}
 use Rattle.pd_board.specs.Octets.{contains, least_where, greatest_where}
-use Rattle.pd_board.specs.Scoreboard.{Scoreboard}
-use Rattle.pd_recover.specs.Choice.{segment_of, has_room, lost_run, new_data, hole_run, rescue_run, next_segment as next_seg, step_c_segment, limited_segment}
-use Rattle.pd_recover.specs.Congestion.{Congestion}
+use Rattle.pd_board.specs.Board.{BoardView}
+use Rattle.pd_recover.specs.Choice.{segment_of, has_room, lost_run, new_data, hole_run, rescue_run, next_send as next_seg, step_c_segment, limited_segment}
+use Rattle.pd_recover.specs.Cong.{CongView}
 use Rattle.pd_recover.specs.declared.segments.NextSegment.{NextSegment}
 use Rattle.pd_recover.specs.declared.segments.NextSegment.TheVariants.{Lost, New, Hole, Rescue}
 use Rattle.pd_recover.proofs.Chosen.{AllOf, one_of, either_of, map_of, allowed_of}
@@ -14,7 +14,7 @@ use Rattle.pd_recover.proofs.Found.{least}
 use Rattle.pd_seg.specs.declared.sack_blocks.Span.{Span}
 use Rattle.pd_seg.specs.declared.segments.Sent.{Sent}
 use Rattle.pd_host.specs.Acknowledgments.{OnTheWay, octets_of, next_by, next_found, sent_as, noted_on, one_filled, pipe_of, filled}
-use Rattle.pd_host.specs.ControlBlock.{ControlBlock}
+use Rattle.pd_host.specs.Connection.{ConnectionView}
 use Rattle.pd_host.specs.Packets.{data_of}
 use Rattle.pd_host.specs.Sending.{value_on, places_left, with_segment}
 use Rattle.pd_host.specs.SendingLaws.{end_with_fin, octets_in, cwnd_in, FillsWindow, KeepsToWindow}
@@ -33,7 +33,7 @@ use Rattle.pd_host.proofs.Rules.{next_on}
 abbrev IsShort : ℕ → Span → Type 0
 IsShort smss segment = octets_of segment ≤ smss
 
-run_short : (s : Scoreboard) (x : ℕ) → IsShort s.smss (run_at x s)
+run_short : (s : BoardView) (x : ℕ) → IsShort s.smss (run_at x s)
 run_short s x = by (least_where (contains s.sacked) x (most_from x s)) refl
   where
     by : (o : Option ℕ) → least_where (contains s.sacked) x (most_from x s) ≡ o → unwrap_or o (most_from x s) - x ≤ s.smss
@@ -43,7 +43,7 @@ run_short s x = by (least_where (contains s.sacked) x (most_from x s)) refl
 new_short : (top smss left : ℕ) → top + min smss left - top ≤ smss
 new_short top smss left = omega arith
 
-data_short : (rwnd : ℕ) (s : Scoreboard) → AllOf (IsShort s.smss) (new_data rwnd s)
+data_short : (rwnd : ℕ) (s : BoardView) → AllOf (IsShort s.smss) (new_data rwnd s)
 data_short rwnd s =
     let to : ℕ = s.top + min s.smss (s.end - s.top) in
     let segment : Span = record { start = s.top; end = to } in
@@ -53,12 +53,12 @@ data_short rwnd s =
 last_short : (una e smss n : ℕ) → e + 1 - max (max una (e + 1 - smss)) n ≤ smss
 last_short una e smss n = omega arith
 
-rescue_short : (s : Scoreboard) → AllOf (IsShort s.smss) (rescue s)
+rescue_short : (s : BoardView) → AllOf (IsShort s.smss) (rescue s)
 rescue_short s =
     map_of (IsShort s.smss) (segment_to s) (greatest_where (λ x. is_free x s) s.una s.top)
     (λ e f. last_short s.una e s.smss (after (greatest_where (contains s.sacked) s.una e)))
 
-next_short : (rwnd : ℕ) (s : Scoreboard) (w : Congestion) → AllOf (λ sent. IsShort s.smss (segment_of sent)) (next_seg rwnd s w)
+next_short : (rwnd : ℕ) (s : BoardView) (w : CongView) → AllOf (λ sent. IsShort s.smss (segment_of sent)) (next_seg rwnd s w)
 next_short rwnd s w =
     let P : NextSegment → Type 0 = λ sent. IsShort s.smss (segment_of sent) in
     either_of P (lost_run s w) _ (map_of P (λ x. Lost (run_at x s)) (next_lost w.high_rxt s) (λ x e. run_short s x))
@@ -69,7 +69,7 @@ next_short rwnd s w =
     (allowed_of P _ _ (λ _. map_of P (λ segment. Rescue segment) (rescue s) (rescue_short s)))))
 
 -- cwnd of a connection
-abbrev cwnd_on : ControlBlock → Option Established → ℕ
+abbrev cwnd_on : ConnectionView → Option Established → ℕ
 cwnd_on c o = value_on 0 (λ _ e. e.congestion.cwnd) c o
 
 -- a segment has room between what is on the way and the window
@@ -79,24 +79,24 @@ HasRoom cwnd pipe segment = octets_of segment ≤ cwnd - pipe
 fits : (octets smss room : ℕ) → octets ≤ smss → smss ≤ room → octets ≤ room
 fits octets smss room h k = omega (arith, h, k)
 
-c_room : (rwnd pipe : ℕ) (s : Scoreboard) (w : Congestion) → AllOf (λ sent. HasRoom w.cwnd pipe (segment_of sent)) (step_c_segment rwnd pipe s w)
+c_room : (rwnd pipe : ℕ) (s : BoardView) (w : CongView) → AllOf (λ sent. HasRoom w.cwnd pipe (segment_of sent)) (step_c_segment rwnd pipe s w)
 c_room rwnd pipe s w =
     allowed_of (λ sent. HasRoom w.cwnd pipe (segment_of sent)) (has_room pipe s w) (next_seg rwnd s w)
     (λ t sent e. fits (octets_of (segment_of sent)) s.smss (w.cwnd - pipe) (next_short rwnd s w sent e) (is_within s.smss (w.cwnd - pipe) t))
 
-limited_room : (rwnd pipe : ℕ) (s : Scoreboard) (w : Congestion) → AllOf (HasRoom w.cwnd pipe) (limited_segment rwnd pipe s w)
+limited_room : (rwnd pipe : ℕ) (s : BoardView) (w : CongView) → AllOf (HasRoom w.cwnd pipe) (limited_segment rwnd pipe s w)
 limited_room rwnd pipe s w =
     allowed_of (HasRoom w.cwnd pipe) (has_room pipe s w) (new_data rwnd s)
     (λ t segment e. fits (octets_of segment) s.smss (w.cwnd - pipe) (data_short rwnd s segment e) (is_within s.smss (w.cwnd - pipe) t))
 
-filling_room : (filling : Filling) (n : ℕ) (c : ControlBlock) (e : Established)
+filling_room : (filling : Filling) (n : ℕ) (c : ConnectionView) (e : Established)
     → AllOf (λ sent. HasRoom e.congestion.cwnd n (segment_of sent)) (next_by filling n c e)
 filling_room NextSeg n c e = c_room e.rwnd n c.board e.congestion
 filling_room NewData n c e =
     map_of (λ sent. HasRoom e.congestion.cwnd n (segment_of sent)) (λ segment. New segment) (limited_segment e.rwnd n c.board e.congestion)
     (limited_room e.rwnd n c.board e.congestion)
 
-room_on : (filling : Filling) (n : ℕ) (c : ControlBlock) (o : Option Established) (sent : NextSegment) → next_on filling n c o ≡ Some sent
+room_on : (filling : Filling) (n : ℕ) (c : ConnectionView) (o : Option Established) (sent : NextSegment) → next_on filling n c o ≡ Some sent
     → HasRoom (cwnd_on c o) n (segment_of sent)
 room_on filling n c None sent h = absurd cc
 room_on filling n c (Some e) sent h = filling_room filling n c e sent h
@@ -123,14 +123,14 @@ counted_more pipe before last start end n whole h k e = omega (arith, h, k, e)
 fuller : (pipe cwnd n octets : ℕ) → n ≤ max pipe cwnd → octets ≤ cwnd - n → n + octets ≤ max pipe cwnd
 fuller pipe cwnd n octets h k = omega (arith, h, k)
 
-rest_window : (c : ControlBlock) (o : Option Established) → cwnd_on (still c) (at_rest o) ≡ cwnd_on c o
+rest_window : (c : ConnectionView) (o : Option Established) → cwnd_on (still c) (at_rest o) ≡ cwnd_on c o
 rest_window c None = refl
 rest_window c (Some e) = refl
 
-same_window : (c d : ControlBlock) → still d ≡ still c → cwnd_in (Some d) ≡ cwnd_in (Some c)
-same_window c d h = sym (rest_window d d.established) ∙ ap (λ (x : ControlBlock). cwnd_in (Some x)) h ∙ rest_window c c.established
+same_window : (c d : ConnectionView) → still d ≡ still c → cwnd_in (Some d) ≡ cwnd_in (Some c)
+same_window c d h = sym (rest_window d d.established) ∙ ap (λ (x : ConnectionView). cwnd_in (Some x)) h ∙ rest_window c c.established
 
-one_filling : (pipe cwnd now : ℕ) (s : State) (t : OnTheWay) (segment : Span) (c d : ControlBlock) → t.0.endpoint.connection ≡ Some c
+one_filling : (pipe cwnd now : ℕ) (s : State) (t : OnTheWay) (segment : Span) (c d : ConnectionView) → t.0.endpoint.connection ≡ Some c
     → HasRoom (cwnd_in (Some c)) t.1 segment → still d ≡ still c → IsFilling pipe cwnd s t
     → IsFilling pipe cwnd s (with_segment now segment c d t.0, t.1 + octets_of segment)
 one_filling pipe cwnd now s t segment c d e room stays h =
@@ -145,7 +145,7 @@ one_filling pipe cwnd now s t segment c d e room stays h =
       window = same_window c d stays ∙ here;
     }
 
-fill_once : (filling : Filling) (pipe cwnd now : ℕ) (s : State) (t : OnTheWay) (sent : NextSegment) (o : Option ControlBlock)
+fill_once : (filling : Filling) (pipe cwnd now : ℕ) (s : State) (t : OnTheWay) (sent : NextSegment) (o : Option ConnectionView)
     → t.0.endpoint.connection ≡ o → next_found filling t.1 o ≡ Some sent → IsFilling pipe cwnd s t
     → IsFilling pipe cwnd s (one_filled now filling sent o t)
 fill_once filling pipe cwnd now s t sent None e f h = h

@@ -5,15 +5,15 @@ use Rattle.pd_seg.specs.declared.sack_blocks.Span.{Span}
 use Rattle.pd_board.specs.Choice.{run_at, next_lost, next_hole, rescue, segment_to, after}
 use Rattle.pd_board.specs.Loss.{is_free}
 use Rattle.pd_board.specs.Octets.{contains, greatest_where}
-use Rattle.pd_board.specs.Scoreboard.{Scoreboard}
+use Rattle.pd_board.specs.Board.{BoardView}
 use Rattle.pd_recover.specs.declared.segments.NextSegment.{NextSegment}
 use Rattle.pd_recover.specs.declared.segments.NextSegment.TheVariants.{Lost, New, Hole, Rescue}
-use Rattle.pd_recover.specs.Choice.{lost_run, new_data, hole_run, rescue_run, next_segment, step_c_segment, limited_segment, has_room}
-use Rattle.pd_recover.specs.Congestion.{Congestion}
+use Rattle.pd_recover.specs.Choice.{lost_run, new_data, hole_run, rescue_run, next_send, step_c_segment, limited_segment, has_room}
+use Rattle.pd_recover.specs.Cong.{CongView}
 use Rattle.pd_recover.proofs.Chosen.{AllOf, one_of, either_of, map_of, allowed_of}
 use Rattle.pd_recover.proofs.Found.{least, greatest}
 use Rattle.pd_host.specs.Acknowledgments.{next_by}
-use Rattle.pd_host.specs.ControlBlock.{ControlBlock}
+use Rattle.pd_host.specs.Connection.{ConnectionView}
 use Rattle.pd_host.specs.Invariants.{IsOrdered}
 use Rattle.pd_host.specs.Sending.{next_again, next_new, leaves_now, sendable, window_edge}
 use Rattle.pd_host.specs.Sending as sending
@@ -24,25 +24,25 @@ use Rattle.pd_host.proofs.Runs.{run_within}
 use Rattle.pd_host.proofs.AckedBelow.{first_of_two, lt, ge}
 
 -- octets that were sent and aren't acknowledged
-pub record IsAgain (s : Scoreboard) (segment : Span) : Type 0 where
+pub record IsAgain (s : BoardView) (segment : Span) : Type 0 where
   pub start : segment.start < s.top
   pub end : segment.end ≤ s.top
   pub outstanding : s.una < s.top
 
 -- octets that are queued and weren't sent
-pub record IsNew (s : Scoreboard) (segment : Span) : Type 0 where
+pub record IsNew (s : BoardView) (segment : Span) : Type 0 where
   pub start : segment.start ≡ s.top
   pub some : segment.start < segment.end
   pub end : segment.end ≤ s.end
 
 -- the sending place moves to the end of a segment
-pub record CanLeave (s : Scoreboard) (segment : Span) : Type 0 where
+pub record CanLeave (s : BoardView) (segment : Span) : Type 0 where
   pub from : s.una ≤ segment.end
   pub to : segment.end ≤ s.end
   pub outstanding : s.una < max s.top segment.end
   pub some : s.top ≤ segment.start → segment.start < segment.end
 
-pub new_leaves : (s : Scoreboard) (segment : Span) → IsOrdered s → IsNew s segment → CanLeave s segment
+pub new_leaves : (s : BoardView) (segment : Span) → IsOrdered s → IsNew s segment → CanLeave s segment
 new_leaves s segment h n = record {
   from = omega (arith, h.una_next, h.next_top, n.start, n.some);
   to = n.end;
@@ -52,30 +52,30 @@ new_leaves s segment h n = record {
 
 -- loss recovery
 
-abbrev pub IsNext : Scoreboard → NextSegment → Type 0
+abbrev pub IsNext : BoardView → NextSegment → Type 0
 IsNext s (Lost segment) = IsAgain s segment
 IsNext s (New segment) = IsNew s segment
 IsNext s (Hole segment) = IsAgain s segment
 IsNext s (Rescue segment) = IsAgain s segment
 
-run_again : (s : Scoreboard) (x : ℕ) → s.una ≤ x → x < s.top → IsAgain s (run_at x s)
+run_again : (s : BoardView) (x : ℕ) → s.una ≤ x → x < s.top → IsAgain s (run_at x s)
 run_again s x from to = record {
   start = to;
   end = (run_within x s (omega (arith, to))).1;
   outstanding = omega (arith, from, to);
 }
 
-pub data_new : (rwnd : ℕ) (s : Scoreboard) → AllOf (IsNew s) (new_data rwnd s)
+pub data_new : (rwnd : ℕ) (s : BoardView) → AllOf (IsNew s) (new_data rwnd s)
 data_new rwnd s =
     allowed_of (IsNew s) _ _ (λ passed.
     let some : s.top < s.top + min s.smss (s.end - s.top) = lt _ _ (first_of_two _ _ passed) in
     one_of (IsNew s) _ (record { start = refl; some = some; end = omega (arith, some) }))
 
-after_below : (s : Scoreboard) (e : ℕ) (o : Option ℕ) → greatest_where (contains s.sacked) s.una e ≡ o → after o ≤ e
+after_below : (s : BoardView) (e : ℕ) (o : Option ℕ) → greatest_where (contains s.sacked) s.una e ≡ o → after o ≤ e
 after_below s e None is = omega arith
 after_below s e (Some g) is = let h = greatest (contains s.sacked) s.una e g is in omega (arith, h.to)
 
-rescue_again : (s : Scoreboard) → 0 < s.smss → AllOf (IsAgain s) (rescue s)
+rescue_again : (s : BoardView) → 0 < s.smss → AllOf (IsAgain s) (rescue s)
 rescue_again s some =
     map_of (IsAgain s) (segment_to s) (greatest_where (λ x. is_free x s) s.una s.top) (λ e f.
     let h = greatest (λ x. is_free x s) s.una s.top e f in
@@ -85,27 +85,27 @@ rescue_again s some =
       outstanding = omega (arith, h.from, h.to);
     })
 
-pub next_fits : (rwnd : ℕ) (s : Scoreboard) (w : Congestion) → IsOrdered s → AllOf (IsNext s) (next_segment rwnd s w)
+pub next_fits : (rwnd : ℕ) (s : BoardView) (w : CongView) → IsOrdered s → AllOf (IsNext s) (next_send rwnd s w)
 next_fits rwnd s w known =
     either_of (IsNext s) (lost_run s w) _ (map_of (IsNext s) (λ x. Lost (run_at x s)) (next_lost w.high_rxt s) (λ x e. let h = least _ s.una s.top x e in run_again s x h.from h.to))
     (either_of (IsNext s) (option_map (λ segment. New segment) (new_data rwnd s)) _ (map_of (IsNext s) (λ segment. New segment) (new_data rwnd s) (data_new rwnd s))
     (either_of (IsNext s) (hole_run s w) (rescue_run s w) (map_of (IsNext s) (λ x. Hole (run_at x s)) (next_hole w.high_rxt s) (λ x e. let h = least _ s.una s.top x e in run_again s x h.from h.to))
     (allowed_of (IsNext s) _ _ (λ _. map_of (IsNext s) (λ segment. Rescue segment) (rescue s) (rescue_again s (omega (arith, known.smss_low)))))))
 
-step_c_fits : (rwnd pipe : ℕ) (s : Scoreboard) (w : Congestion) → IsOrdered s → AllOf (IsNext s) (step_c_segment rwnd pipe s w)
+step_c_fits : (rwnd pipe : ℕ) (s : BoardView) (w : CongView) → IsOrdered s → AllOf (IsNext s) (step_c_segment rwnd pipe s w)
 step_c_fits rwnd pipe s w known = allowed_of (IsNext s) (has_room pipe s w) _ (λ _. next_fits rwnd s w known)
 
-limited_new : (rwnd pipe : ℕ) (s : Scoreboard) (w : Congestion) → AllOf (IsNew s) (limited_segment rwnd pipe s w)
+limited_new : (rwnd pipe : ℕ) (s : BoardView) (w : CongView) → AllOf (IsNew s) (limited_segment rwnd pipe s w)
 limited_new rwnd pipe s w = allowed_of (IsNew s) (has_room pipe s w) _ (λ _. data_new rwnd s)
 
-pub filling_fits : (filling : Filling) (pipe : ℕ) (c : ControlBlock) (e : Established) → IsOrdered c.board → AllOf (IsNext c.board) (next_by filling pipe c e)
+pub filling_fits : (filling : Filling) (pipe : ℕ) (c : ConnectionView) (e : Established) → IsOrdered c.board → AllOf (IsNext c.board) (next_by filling pipe c e)
 filling_fits NextSeg pipe c e known = step_c_fits e.rwnd pipe c.board e.congestion known
 filling_fits NewData pipe c e known =
     map_of (IsNext c.board) (λ segment. New segment) (limited_segment e.rwnd pipe c.board e.congestion) (limited_new e.rwnd pipe c.board e.congestion)
 
 -- ordinary sending
 
-again_leaves : (c : ControlBlock) (e : Established) → IsOrdered c.board → c.board.next < c.board.top → AllOf (CanLeave c.board) (next_again c e)
+again_leaves : (c : ConnectionView) (e : Established) → IsOrdered c.board → c.board.next < c.board.top → AllOf (CanLeave c.board) (next_again c e)
 again_leaves c e h below =
     let run = run_within c.board.next c.board h.next_top in
     allowed_of (CanLeave c.board) (nat_le (run_at c.board.next c.board).end (window_edge c e)) _ (λ _. one_of (CanLeave c.board) _ (record {
@@ -115,7 +115,7 @@ again_leaves c e h below =
       some = λ no. absurd (omega (arith, no, below));
     }))
 
-new_can_leave : (c : ControlBlock) (e : Established) → IsOrdered c.board → c.board.top ≤ c.board.next → AllOf (CanLeave c.board) (next_new c e)
+new_can_leave : (c : ConnectionView) (e : Established) → IsOrdered c.board → c.board.top ≤ c.board.next → AllOf (CanLeave c.board) (next_new c e)
 new_can_leave c e h above =
     allowed_of (CanLeave c.board) (nat_lt 0 (sendable c e) && leaves_now c e) _ (λ passed.
     let some : 0 < sendable c e = lt _ _ (first_of_two _ _ passed) in
@@ -126,7 +126,7 @@ new_can_leave c e h above =
       some = λ _. omega (arith, some, h.smss_low);
     }))
 
-pub ordinary_leaves : (c : ControlBlock) (e : Established) → IsOrdered c.board → AllOf (CanLeave c.board) (sending.ordinary_segment c e)
+pub ordinary_leaves : (c : ConnectionView) (e : Established) → IsOrdered c.board → AllOf (CanLeave c.board) (sending.ordinary_segment c e)
 ordinary_leaves c e h = by_place (nat_lt c.board.next c.board.top) refl
   where
     by_place : (b : Bool) → nat_lt c.board.next c.board.top ≡ b → AllOf (CanLeave c.board) (if b then next_again c e else next_new c e)

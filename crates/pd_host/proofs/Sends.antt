@@ -2,7 +2,7 @@
 use Rattle.std.proofs.Common.{◌≡◌, ℕ, suc, ◌<◌, length, length-append, Option, None, Some, Result, Ok, Err, refl, sym, ◌∙◌, arith}
 use Rattle.pd_seg.specs.declared.sack_blocks.Span.{Span}
 use Rattle.pd_seg.specs.declared.segments.Sent.{Sent}
-use Rattle.pd_host.specs.ControlBlock.{ControlBlock}
+use Rattle.pd_host.specs.Connection.{ConnectionView}
 use Rattle.pd_host.specs.Expiries.{due_by, deadline_of, expired, advanced}
 use Rattle.pd_host.specs.Outcome.{Gives}
 use Rattle.pd_host.specs.Sending.{places_left, found, sent_ordinarily, sent_until_done}
@@ -21,12 +21,12 @@ gives_error a b OutOfMemory s t f g = tt
 
 -- Ordinary sending
 
-sent_is : (now : ℕ) (segment : Span) (s : State) (o : Option ControlBlock) → found o ≡ Some segment
+sent_is : (now : ℕ) (segment : Span) (s : State) (o : Option ConnectionView) → found o ≡ Some segment
     → sent_next now segment o s ≡ with_place s (sent_ordinarily now segment o s)
 sent_is now segment s None h = absurd cc
 sent_is now segment s (Some c) h = refl
 
-sent_one : (now : ℕ) (segment : Span) (s : State) (o : Option ControlBlock) → found o ≡ Some segment
+sent_one : (now : ℕ) (segment : Span) (s : State) (o : Option ConnectionView) → found o ≡ Some segment
     → length (sent_ordinarily now segment o s).endpoint.outbox ≡ suc (length s.endpoint.outbox)
 sent_one now segment s None h = absurd cc
 sent_one now segment s (Some c) h = omega (arith, length-append {A = Sent})
@@ -51,12 +51,12 @@ sending_done now s h =
 
 -- Expiries
 
-expired_is : (until at : ℕ) (s : State) (o : Option ControlBlock) → due_by until (deadline_on o) ≡ Some at
+expired_is : (until at : ℕ) (s : State) (o : Option ConnectionView) → due_by until (deadline_on o) ≡ Some at
     → expired_next at o s ≡ with_place s (expired at o s)
 expired_is until at s None h = absurd cc
 expired_is until at s (Some c) h = refl
 
-expired_one : (until at : ℕ) (s : State) (o : Option ControlBlock) → due_by until (deadline_on o) ≡ Some at
+expired_one : (until at : ℕ) (s : State) (o : Option ConnectionView) → due_by until (deadline_on o) ≡ Some at
     → length (expired at o s).endpoint.outbox ≡ suc (length s.endpoint.outbox)
 expired_one until at s None h = absurd cc
 expired_one until at s (Some c) h = omega (arith, length-append {A = Sent})

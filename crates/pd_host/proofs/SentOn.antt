@@ -1,4 +1,4 @@
--- What all sending leaves as it is, and that its packets stand behind the others.
+-- What all sending leaves as it is, and that its packets follow the others.
 use Rattle.std.proofs.Common.{◌≡◌, ℕ, nat_lt, List, [], ◌∷◌, ◌++◌, Option, None, Some, Result, Ok, Err, refl, sym, ap, ◌∙◌, append_assoc, append-nil}
 use Rattle.std.specs.List.{AllByRecursion}
 use Rattle.pd_board.specs.Choice.{run_at}
@@ -9,9 +9,9 @@ use Rattle.pd_recover.specs.declared.segments.NextSegment.TheVariants.{Lost, New
 use Rattle.pd_recover.specs.Choice.{segment_of}
 use Rattle.pd_seg.specs.declared.sack_blocks.Span.{Span}
 use Rattle.pd_seg.specs.declared.segments.Sent.{Sent}
-use Rattle.pd_timer.specs.Timer.{initial}
+use Rattle.pd_timer.specs.Rto.{initial}
 use Rattle.pd_host.specs.Acknowledgments.{OnTheWay, next_found, sent_as, noted_on, one_filled, sender_of, pipe_of, filled, put_segment, entered_on, entry, led_to}
-use Rattle.pd_host.specs.ControlBlock.{ControlBlock}
+use Rattle.pd_host.specs.Connection.{ConnectionView}
 use Rattle.pd_host.specs.Packets.{data_of}
 use Rattle.pd_host.specs.Places.{has_place}
 use Rattle.pd_host.specs.Sending.{places_left, with_block, past_sacked, sent_on, with_segment, found, sent_ordinarily, ready, sent_until_done, ordinary}
@@ -29,7 +29,7 @@ abbrev pub at_rest : Option Established → Option Established
 at_rest None = None
 at_rest (Some e) = Some (record e { congestion = record e.congestion { limited = 0; high_rxt = 0; rescue_rxt = 0 } })
 
-abbrev resting : ControlBlock → Option Established → ControlBlock
+abbrev resting : ConnectionView → Option Established → ConnectionView
 resting c e = record c {
   board = record c.board { next = 0; top = 0 };
   timer = initial 0 0;
@@ -38,14 +38,14 @@ resting c e = record c {
 }
 
 -- a connection without what sending moves
-abbrev pub still : ControlBlock → ControlBlock
+abbrev pub still : ConnectionView → ConnectionView
 still c = resting c c.established
 
-abbrev pub stills : Option ControlBlock → Option ControlBlock
+abbrev pub stills : Option ConnectionView → Option ConnectionView
 stills None = None
 stills (Some c) = Some (still c)
 
--- something was sent at a moment: packets stand behind the others, and all else is as it was
+-- something was sent at a moment: packets follow the others, and all else is as it was
 pub record IsSentOn (now : ℕ) (s t : State) : Type 0 where
   pub packets : List Sent
   pub moments : AllByRecursion (λ p. p.at ≡ now) packets
@@ -85,7 +85,7 @@ then_more now r s t a b = record {
 }
 
 -- a segment
-pub one_sent : (now : ℕ) (segment : Span) (before c : ControlBlock) (s : State) → stills (Some c) ≡ stills s.endpoint.connection
+pub one_sent : (now : ℕ) (segment : Span) (before c : ConnectionView) (s : State) → stills (Some c) ≡ stills s.endpoint.connection
     → IsSentOn now s (with_segment now segment before c s)
 one_sent now segment before c s same = record {
   packets = record { segment = data_of before segment; at = now } ∷ [];
@@ -98,7 +98,7 @@ one_sent now segment before c s same = record {
 }
 
 -- nothing, but the connection has moved
-pub only_moved : (now : ℕ) (c : ControlBlock) (s : State) → stills (Some c) ≡ stills s.endpoint.connection → IsSentOn now s (with_block c s)
+pub only_moved : (now : ℕ) (c : ConnectionView) (s : State) → stills (Some c) ≡ stills s.endpoint.connection → IsSentOn now s (with_block c s)
 only_moved now c s same = record {
   packets = [];
   moments = tt;
@@ -117,12 +117,12 @@ finds t = found t.endpoint.connection
 abbrev pub sends : ℕ → Span → State → State
 sends now segment t = sent_ordinarily now segment t.endpoint.connection t
 
-once : (now : ℕ) (segment : Span) (s : State) (o : Option ControlBlock) → s.endpoint.connection ≡ o
+once : (now : ℕ) (segment : Span) (s : State) (o : Option ConnectionView) → s.endpoint.connection ≡ o
     → IsSentOn now s (sent_ordinarily now segment o s)
 once now segment s None e = nothing_sent now s
 once now segment s (Some c) e = one_sent now segment c (past_sacked (sent_on now segment c)) s (sym (ap stills e))
 
-made_ready : (now : ℕ) (s : State) (o : Option ControlBlock) → s.endpoint.connection ≡ o → IsSentOn now s (ready o s)
+made_ready : (now : ℕ) (s : State) (o : Option ConnectionView) → s.endpoint.connection ≡ o → IsSentOn now s (ready o s)
 made_ready now s None e = nothing_sent now s
 made_ready now s (Some c) e = only_moved now (past_sacked c) s (sym (ap stills e))
 
@@ -145,19 +145,19 @@ fill_finds filling t = next_found filling t.1 t.0.endpoint.connection
 abbrev pub fill_sends : ℕ → Filling → NextSegment → OnTheWay → OnTheWay
 fill_sends now filling sent t = one_filled now filling sent t.0.endpoint.connection t
 
-sent_as_still : (now : ℕ) (sent : NextSegment) (c : ControlBlock) → still (sent_as now sent c) ≡ still c
+sent_as_still : (now : ℕ) (sent : NextSegment) (c : ConnectionView) → still (sent_as now sent c) ≡ still c
 sent_as_still now (Lost segment) c = refl
 sent_as_still now (New segment) c = refl
 sent_as_still now (Hole segment) c = refl
 sent_as_still now (Rescue segment) c = refl
 
-sent_as_established : (now : ℕ) (sent : NextSegment) (c : ControlBlock) → (sent_as now sent c).established ≡ c.established
+sent_as_established : (now : ℕ) (sent : NextSegment) (c : ConnectionView) → (sent_as now sent c).established ≡ c.established
 sent_as_established now (Lost segment) c = refl
 sent_as_established now (New segment) c = refl
 sent_as_established now (Hole segment) c = refl
 sent_as_established now (Rescue segment) c = refl
 
-noted_still : (filling : Filling) (sent : NextSegment) (c : ControlBlock) (o : Option Established) → c.established ≡ o
+noted_still : (filling : Filling) (sent : NextSegment) (c : ConnectionView) (o : Option Established) → c.established ≡ o
     → still (noted_on filling sent c o) ≡ still c
 noted_still filling sent c None e = refl
 noted_still NewData sent c (Some x) e = sym (ap (resting c) e)
@@ -167,17 +167,17 @@ noted_still NextSeg (Hole segment) c (Some x) e = sym (ap (resting c) e)
 noted_still NextSeg (Rescue segment) c (Some x) e = sym (ap (resting c) e)
 
 -- what they leave of the connection
-pub fill_still : (now : ℕ) (filling : Filling) (sent : NextSegment) (c : ControlBlock)
+pub fill_still : (now : ℕ) (filling : Filling) (sent : NextSegment) (c : ConnectionView)
     → still (noted_on filling sent (sent_as now sent c) c.established) ≡ still c
 fill_still now filling sent c =
     noted_still filling sent (sent_as now sent c) c.established (sent_as_established now sent c) ∙ sent_as_still now sent c
 
-fill_once : (now : ℕ) (filling : Filling) (sent : NextSegment) (t : OnTheWay) (o : Option ControlBlock) → t.0.endpoint.connection ≡ o
+fill_once : (now : ℕ) (filling : Filling) (sent : NextSegment) (t : OnTheWay) (o : Option ConnectionView) → t.0.endpoint.connection ≡ o
     → IsSentOn now t.0 (one_filled now filling sent o t).0
 fill_once now filling sent t None e = nothing_sent now t.0
 fill_once now filling sent t (Some c) e =
     one_sent now (segment_of sent) c (noted_on filling sent (sent_as now sent c) c.established) t.0
-    (ap (λ (d : ControlBlock). Some d) (fill_still now filling sent c) ∙ sym (ap stills e))
+    (ap (λ (d : ConnectionView). Some d) (fill_still now filling sent c) ∙ sym (ap stills e))
 
 pub sender_leaves : (P : State → Type 0) (r : Result OnTheWay Halt) → Leaves (λ t. P t.0) r → Leaves P (sender_of r)
 sender_leaves P (Ok t) holds = holds
@@ -192,27 +192,27 @@ filled_sends now filling r s h =
 
 -- What an ACK leads to
 
-put_sends : (now : ℕ) (segment : Span) (before c : ControlBlock) (s : State) → stills (Some c) ≡ stills s.endpoint.connection
+put_sends : (now : ℕ) (segment : Span) (before c : ConnectionView) (s : State) → stills (Some c) ≡ stills s.endpoint.connection
     → Leaves (IsSentOn now s) (put_segment now segment before c s)
 put_sends now segment before c s same =
     either (IsSentOn now s) (has_place s.endpoint.outbox) (Ok (with_segment now segment before c s)) (Err Limit)
     (one_sent now segment before c s same) tt
 
-pub entered_still : (segment : Span) (c : ControlBlock) (o : Option Established) → c.established ≡ o → still (entered_on segment c o) ≡ still c
+pub entered_still : (segment : Span) (c : ConnectionView) (o : Option Established) → c.established ≡ o → still (entered_on segment c o) ≡ still c
 entered_still segment c None e = refl
 entered_still segment c (Some x) e = sym (ap (resting c) e)
 
-entry_sends : (now : ℕ) (c : ControlBlock) (s : State) → s.endpoint.connection ≡ Some c → Leaves (IsSentOn now s) (entry now c s)
+entry_sends : (now : ℕ) (c : ConnectionView) (s : State) → s.endpoint.connection ≡ Some c → Leaves (IsSentOn now s) (entry now c s)
 entry_sends now c s e =
     let segment : Span = run_at c.board.una c.board in
-    let sent : ControlBlock = entered_on segment (clocked now segment c) c.established in
-    let moved : ControlBlock = entered_on segment c c.established in
+    let sent : ConnectionView = entered_on segment (clocked now segment c) c.established in
+    let moved : ConnectionView = entered_on segment c c.established in
     either (IsSentOn now s) (nat_lt segment.start segment.end) (put_segment now segment c sent s) (Ok (with_block moved s))
     (put_sends now segment c sent s
-    (ap (λ (d : ControlBlock). Some d) (entered_still segment (clocked now segment c) c.established refl) ∙ sym (ap stills e)))
-    (only_moved now moved s (ap (λ (d : ControlBlock). Some d) (entered_still segment c c.established refl) ∙ sym (ap stills e)))
+    (ap (λ (d : ConnectionView). Some d) (entered_still segment (clocked now segment c) c.established refl) ∙ sym (ap stills e)))
+    (only_moved now moved s (ap (λ (d : ConnectionView). Some d) (entered_still segment c c.established refl) ∙ sym (ap stills e)))
 
-pub led_to_sends : (now : ℕ) (c : ControlBlock) (s : State) (next : Then) → s.endpoint.connection ≡ Some c
+pub led_to_sends : (now : ℕ) (c : ConnectionView) (s : State) (next : Then) → s.endpoint.connection ≡ Some c
     → Leaves (IsSentOn now s) (led_to now c s next)
 led_to_sends now c s Ordinary e = ordinary_sends now s s (nothing_sent now s)
 led_to_sends now c s StepC e = filled_sends now NextSeg s s (nothing_sent now s)

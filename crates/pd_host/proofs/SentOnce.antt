@@ -8,15 +8,15 @@ use Rattle.pd_seg.specs.declared.answers.Answer.{Answer}
 use Rattle.pd_seg.specs.declared.sack_blocks.Span.{Span}
 use Rattle.pd_seg.specs.declared.segments.Segment.{Segment}
 use Rattle.pd_seg.specs.declared.segments.Sent.{Sent}
-use Rattle.pd_timer.specs.Timer.{sampled}
-use Rattle.pd_host.specs.Acknowledgments.{newly_acked, answering, with_blocks, with_number, with_ack, with_timing, is_current, taking, taken}
+use Rattle.pd_timer.specs.Rto.{sampled}
+use Rattle.pd_host.specs.Acknowledgments.{newly_acked, answering, with_blocks, with_number, with_ack, with_timing, is_current, taking, ack_taken}
 use Rattle.pd_host.specs.Arrivals.{ruled, arrived_on, arrived, ruling_of, reset_of, with_peer_fin}
 use Rattle.pd_host.specs.Calls.{called}
-use Rattle.pd_host.specs.ControlBlock.{ControlBlock}
+use Rattle.pd_host.specs.Connection.{ConnectionView}
 use Rattle.pd_host.specs.Expiries.{segment_again, block_expired, expired, advanced}
 use Rattle.pd_host.specs.Handshake.{is_opening, block_begun, answered_syn, syn_uses, syn_octet, established_by, establishment_uses, syn_acked, window_in, with_window}
 use Rattle.pd_host.specs.Packets.{data_of, ack_of, refusal_of, syn_ack_of}
-use Rattle.pd_host.specs.Sender.{beside, with_outbox}
+use Rattle.pd_host.specs.Host.{beside, with_outbox}
 use Rattle.pd_host.specs.Sending.{places_left, with_block, with_segment}
 use Rattle.pd_host.specs.SendingLaws.{sent_in, timed_in, end_with_flags, touches, AreApart, IsSentOnce, TimesNew, MeasuresWhatIsSentOnce}
 use Rattle.pd_host.specs.Timing.{overlaps, timed_after, is_measured, measured, with_sample, with_timer_moved}
@@ -173,7 +173,7 @@ further r s t a b = record {
   origin = λ x h. from_both r s x a.packets b.packets a.high a.below (a.origin x) (b.origin x h);
 }
 
-moved : (c d : ControlBlock) (s : State) → s.endpoint.connection ≡ Some c → IsMoved c d → IsTimed s (with_block d s)
+moved : (c d : ConnectionView) (s : State) → s.endpoint.connection ≡ Some c → IsMoved c d → IsTimed s (with_block d s)
 moved c d s e h = record {
   packets = [];
   outbox = sym (append-nil s.endpoint.outbox);
@@ -188,10 +188,10 @@ nothing : (x : Timing) → None ≡ Some x → ⊥
 nothing x e = cc
 
 -- octets that weren't sent are queued
-abbrev IsQueuedIfNew : ControlBlock → Span → Type 0
+abbrev IsQueuedIfNew : ConnectionView → Span → Type 0
 IsQueuedIfNew c segment = c.board.top ≤ segment.start → segment.start < segment.end → segment.end ≤ c.board.end
 
-newly_timed : (b : Bool) (now : ℕ) (segment : Span) (c : ControlBlock) (x : Timing) → IsQueuedIfNew c segment → nat_le c.board.top segment.start ≡ b
+newly_timed : (b : Bool) (now : ℕ) (segment : Span) (c : ConnectionView) (x : Timing) → IsQueuedIfNew c segment → nat_le c.board.top segment.start ≡ b
     → (if b then Some (record { segment = segment; sent_at = now }) else None) ≡ Some x
     → IsSentOnce c.board.top x (record { segment = data_of c segment; at = now } ∷ [])
 newly_timed true now segment c x queued t h =
@@ -212,7 +212,7 @@ newly_timed true now segment c x queued t h =
     })
 newly_timed false now segment c x queued t h = absurd (nothing x h)
 
-still_timed : (b : Bool) (now : ℕ) (segment : Span) (c : ControlBlock) (t x : Timing) → overlaps t.segment segment ≡ b
+still_timed : (b : Bool) (now : ℕ) (segment : Span) (c : ConnectionView) (t x : Timing) → overlaps t.segment segment ≡ b
     → (if b then None else Some t) ≡ Some x
     → (Some t ≡ Some x) × AreApart x (record { segment = data_of c segment; at = now } ∷ [])
 still_timed true now segment c t x o h = absurd (nothing x h)
@@ -224,7 +224,7 @@ still_timed false now segment c t x o h =
     refl refl (packet_ends c segment) o in
     (h, (subst (λ (y : Timing). touches y packet ≡ false) is apart, tt))
 
-one_origin : (now : ℕ) (segment : Span) (c : ControlBlock) (o : Option Timing) (x : Timing) → IsQueuedIfNew c segment → c.timed ≡ o
+one_origin : (now : ℕ) (segment : Span) (c : ConnectionView) (o : Option Timing) (x : Timing) → IsQueuedIfNew c segment → c.timed ≡ o
     → timed_after now segment c.board.top o ≡ Some x
     → ((c.timed ≡ Some x) × AreApart x (record { segment = data_of c segment; at = now } ∷ []))
     ⊎ IsSentOnce c.board.top x (record { segment = data_of c segment; at = now } ∷ [])
@@ -233,17 +233,17 @@ one_origin now segment c (Some t) x queued e h =
     let kept = still_timed (overlaps t.segment segment) now segment c t x refl h in
     inl (e ∙ kept.0, kept.1)
 
-sent : (now : ℕ) (segment : Span) (c d : ControlBlock) (s : State) → s.endpoint.connection ≡ Some c → IsSending now segment c d
+sent : (now : ℕ) (segment : Span) (c d : ConnectionView) (s : State) → s.endpoint.connection ≡ Some c → IsSending now segment c d
     → IsTimed s (with_segment now segment c d s)
 sent now segment c d s e h =
     let packet : Sent = record { segment = data_of c segment; at = now } in
     record {
       packets = packet ∷ [];
       outbox = refl;
-      high = subst (λ (o : Option ControlBlock). sent_in o ≤ d.board.top) (sym e) h.high;
+      high = subst (λ (o : Option ConnectionView). sent_in o ≤ d.board.top) (sym e) h.high;
       below = (λ lt. lower (end_with_flags packet.segment) segment.end d.board.top (packet_ends c segment) h.within, tt);
       origin = λ x k.
-          subst (λ (o : Option ControlBlock). ((timed_in o ≡ Some x) × AreApart x (packet ∷ [])) ⊎ IsSentOnce (sent_in o) x (packet ∷ [])) (sym e)
+          subst (λ (o : Option ConnectionView). ((timed_in o ≡ Some x) × AreApart x (packet ∷ [])) ⊎ IsSentOnce (sent_in o) x (packet ∷ [])) (sym e)
           (one_origin now segment c c.timed x h.queued refl (sym h.timed ∙ k));
     }
 
@@ -290,51 +290,51 @@ answered_more now segment s apart = one_more (nat_lt (length s.endpoint.outbox) 
 
 -- a measured segment isn't timed any more, and another one stays
 
-measured_so : (b : Bool) (now granularity : ℕ) (c : ControlBlock) (t x : Timing)
+measured_so : (b : Bool) (now granularity : ℕ) (c : ConnectionView) (t x : Timing)
     → (if b then record c { timer = sampled (now - t.sent_at) granularity c.timer; timed = None } else c).timed ≡ Some x → c.timed ≡ Some x
 measured_so true now granularity c t x h = absurd (nothing x h)
 measured_so false now granularity c t x h = h
 
-measured_timed : (now granularity ack : ℕ) (c : ControlBlock) (o : Option Timing) (x : Timing)
+measured_timed : (now granularity ack : ℕ) (c : ConnectionView) (o : Option Timing) (x : Timing)
     → (measured now granularity ack c o).timed ≡ Some x → c.timed ≡ Some x
 measured_timed now granularity ack c None x h = h
 measured_timed now granularity ack c (Some t) x h = measured_so (is_measured ack t) now granularity c t x h
 
-moved_so : (b : Bool) (now granularity : ℕ) (c : ControlBlock) (x : Timing)
+moved_so : (b : Bool) (now granularity : ℕ) (c : ConnectionView) (x : Timing)
     → (if b then with_timer_moved now (with_sample now granularity c.board.una c) else c).timed ≡ Some x → c.timed ≡ Some x
 moved_so true now granularity c x h = measured_timed now granularity c.board.una c c.timed x h
 moved_so false now granularity c x h = h
 
-window_so : (b : Bool) (segment : Segment) (e : Established) (c : ControlBlock) (x : Timing)
+window_so : (b : Bool) (segment : Segment) (e : Established) (c : ConnectionView) (x : Timing)
     → (if b then record c { widest = max c.widest (window_in c segment); established = Some (with_window (window_in c segment) segment e) } else c).timed ≡ Some x
     → c.timed ≡ Some x
 window_so true segment e c x h = h
 window_so false segment e c x h = h
 
-ack_timed : (now : ℕ) (segment : Segment) (e : Established) (c : ControlBlock) (x : Timing) → (with_ack now segment e c).0.timed ≡ Some x → c.timed ≡ Some x
+ack_timed : (now : ℕ) (segment : Segment) (e : Established) (c : ConnectionView) (x : Timing) → (with_ack now segment e c).0.timed ≡ Some x → c.timed ≡ Some x
 ack_timed now segment e c x h =
-    let told : ControlBlock = with_blocks segment (with_number segment c) in
+    let told : ConnectionView = with_blocks segment (with_number segment c) in
     let n : ℕ = newly_acked c segment in
     moved_so (nat_lt 0 n) now e.granularity_us told x
     (window_so (is_current e segment) segment e (with_timing now e.granularity_us n told) x h)
 
-answer_timed : (segment : Segment) (n : ℕ) (fresh : Bool) (before : Established) (c : ControlBlock) (o : Option Established)
+answer_timed : (segment : Segment) (n : ℕ) (fresh : Bool) (before : Established) (c : ConnectionView) (o : Option Established)
     → (answering segment n fresh before c o).0.timed ≡ c.timed
 answer_timed segment n fresh before c None = refl
 answer_timed segment n fresh before c (Some e) = refl
 
-taking_timed : (now : ℕ) (segment : Segment) (c : ControlBlock) (o : Option Established) (x : Timing) → (taking now segment c o).0.timed ≡ Some x → c.timed ≡ Some x
+taking_timed : (now : ℕ) (segment : Segment) (c : ConnectionView) (o : Option Established) (x : Timing) → (taking now segment c o).0.timed ≡ Some x → c.timed ≡ Some x
 taking_timed now segment c None x h = h
 taking_timed now segment c (Some e) x h =
-    let after : ControlBlock × Bool = with_ack now segment e c in
+    let after : ConnectionView × Bool = with_ack now segment e c in
     ack_timed now segment e c x (sym (answer_timed segment (newly_acked c segment) after.1 e after.0 after.0.established) ∙ h)
 
-taken_times_new : (now : ℕ) (segment : Segment) (c : ControlBlock) (s : State) (o : Option Established) → s.endpoint.connection ≡ Some c
-    → Leaves (TimesNew s) (taken now segment c s o)
+taken_times_new : (now : ℕ) (segment : Segment) (c : ConnectionView) (s : State) (o : Option Established) → s.endpoint.connection ≡ Some c
+    → Leaves (TimesNew s) (ack_taken now segment c s o)
 taken_times_new now segment c s o e =
-    let step : ControlBlock × Then = taking now segment c o in
+    let step : ConnectionView × Then = taking now segment c o in
     let u : State = with_block step.0 s in
-    leaves_too (IsTimed u) (TimesNew s) (taken now segment c s o)
+    leaves_too (IsTimed u) (TimesNew s) (ack_taken now segment c s o)
     (λ t run. (
       run.packets,
       run.outbox,
@@ -343,7 +343,7 @@ taken_times_new now segment c s o e =
     ))
     (led_to_goes now IsTimed (timed_rules now) step.0 u step.1 refl (taking_named now segment c o))
 
-by_ruling : (r : Option Ruling) (segment : Segment) (now : ℕ) (s : State) (c : ControlBlock) → s.endpoint.connection ≡ Some c
+by_ruling : (r : Option Ruling) (segment : Segment) (now : ℕ) (s : State) (c : ConnectionView) → s.endpoint.connection ≡ Some c
     → Leaves (TimesNew s) (ruled now segment c s r)
 by_ruling (Some NotRun) segment now s c e = tt
 by_ruling (Some StrayRst) segment now s c e = unchanged s s refl (λ x h. h)
@@ -361,7 +361,7 @@ by_ruling (Some OldAck) segment now s c e = unchanged s s refl (λ x h. h)
 by_ruling None segment now s c e = taken_times_new now segment c s c.established e
 
 -- our SYN is timed from the moment that it is put out at
-opened_so : (b : Bool) (now : ℕ) (c : ControlBlock) (s : State) → s.endpoint.connection ≡ None
+opened_so : (b : Bool) (now : ℕ) (c : ConnectionView) (s : State) → s.endpoint.connection ≡ None
     → c.timed ≡ Some (record { segment = syn_octet; sent_at = now })
     → Leaves (TimesNew s) (beside (record s { uses = syn_uses s.uses }) (with_outbox (record s.endpoint { connection = Some c }) (if b then Ok (s.endpoint.outbox ++ record { segment = syn_ack_of c; at = now } ∷ []) else Err Limit)))
 opened_so true now c s e timed =
@@ -371,7 +371,7 @@ opened_so true now c s e timed =
       refl,
       λ x h.
           let is : timing ≡ x = the_timing timing x (sym timed ∙ h) in
-          inr (subst (λ (o : Option ControlBlock). IsSentOnce (sent_in o) x (packet ∷ [])) (sym e)
+          inr (subst (λ (o : Option ConnectionView). IsSentOnce (sent_in o) x (packet ∷ [])) (sym e)
           (subst (λ (y : Timing). IsSentOnce 0 y (packet ∷ [])) is (record {
             above = same 0;
             before = [];
@@ -391,7 +391,7 @@ opened_so true now c s e timed =
 opened_so false now c s e timed = tt
 
 -- the ACK of the peer's FIN has none of its octets
-fin_times_new : (now : ℕ) (s u : State) (c : ControlBlock) → u.endpoint.connection ≡ Some c → TimesNew s u → TimesNew s (after_fin now c u)
+fin_times_new : (now : ℕ) (s u : State) (c : ConnectionView) → u.endpoint.connection ≡ Some c → TimesNew s u → TimesNew s (after_fin now c u)
 fin_times_new now s u c e h =
     let packet : Sent = record { segment = ack_of (with_peer_fin c); at = now } in (
       h.0 ++ packet ∷ [],
@@ -399,10 +399,10 @@ fin_times_new now s u c e h =
       λ x k. from_first s x h.0 (packet ∷ []) (empty_apart c.board.top x.segment.start x.segment.end, tt) (h.2 x (ap timed_in e ∙ k)),
     )
 
-on_connection : (o : Option ControlBlock) (segment : Segment) (now : ℕ) (s : State) → s.endpoint.connection ≡ o
+on_connection : (o : Option ConnectionView) (segment : Segment) (now : ℕ) (s : State) → s.endpoint.connection ≡ o
     → Leaves (TimesNew s) (arrived_on now segment s o)
 on_connection None segment now s e =
-    let c : ControlBlock = block_begun now s.settings segment in
+    let c : ConnectionView = block_begun now s.settings segment in
     either (TimesNew s) (is_opening s.endpoint.listener segment) (answered_syn now c s) (Err Unsupported)
     (opened_so (nat_lt (length s.endpoint.outbox) 1024) now c s e refl) tt
 on_connection (Some c) segment now s e =
@@ -417,11 +417,11 @@ record IsGivenUp (s t : State) : Type 0 where
   pub outbox : t.endpoint.outbox ≡ s.endpoint.outbox ++ packets
   pub timed : (x : Timing) → timed_in t.endpoint.connection ≡ Some x → (timed_in s.endpoint.connection ≡ Some x) × (packets ≡ [])
 
-expired_timed : (at : ℕ) (c : ControlBlock) (o : Option Established) → (block_expired at c o).timed ≡ None
+expired_timed : (at : ℕ) (c : ConnectionView) (o : Option Established) → (block_expired at c o).timed ≡ None
 expired_timed at c None = refl
 expired_timed at c (Some e) = refl
 
-one_given_up : (at : ℕ) (s t : State) (o : Option ControlBlock) → IsGivenUp s t → IsGivenUp s (expired at o t)
+one_given_up : (at : ℕ) (s t : State) (o : Option ConnectionView) → IsGivenUp s t → IsGivenUp s (expired at o t)
 one_given_up at s t None h = h
 one_given_up at s t (Some c) h =
     let packet : Sent = record { segment = segment_again c c.established; at = at } in

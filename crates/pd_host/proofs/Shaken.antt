@@ -4,12 +4,12 @@ use Rattle.std.specs.Prelude.{unwrap_or, IfSome}
 use Rattle.std.proofs.lemmas.Bool.Decides.{nat_tests}
 use Rattle.pd_settings.specs.declared.fields.Settings.{Settings}
 use Rattle.pd_seg.specs.declared.segments.Segment.{Segment}
-use Rattle.pd_board.specs.Scoreboard.{acknowledged}
-use Rattle.pd_timer.specs.Timer.{Timer, stopped, reinitialized, sampled}
+use Rattle.pd_board.specs.Board.{acknowledged}
+use Rattle.pd_timer.specs.Rto.{RtoView, stopped, reinitialized, sampled}
 use Rattle.pd_recover.specs.Laws.{StaysWithin}
 use Rattle.pd_host.specs.Arrivals.{ruling_of, reset_of}
 use Rattle.pd_host.specs.Calls.{stream_in}
-use Rattle.pd_host.specs.ControlBlock.{ControlBlock}
+use Rattle.pd_host.specs.Connection.{ConnectionView}
 use Rattle.pd_host.specs.Handshake.{is_listening, is_syn_alone, length_of, offered_mss, is_mss_run, is_opening, smss_of, offers_of, block_begun, window_in, established_with, established_by, syn_acked}
 use Rattle.pd_host.specs.Invariants.{IsOfPhase, IsTimed, IsReached}
 use Rattle.pd_host.specs.Timing.{is_measured, measured, with_timer_settled}
@@ -55,7 +55,7 @@ module _ (b : Settings) (now : ℕ) where
       }
 
   -- an RST ends it
-  pub reset_reached : (c : ControlBlock) → IsReached b now c → IsReached b now (reset_of c)
+  pub reset_reached : (c : ConnectionView) → IsReached b now c → IsReached b now (reset_of c)
   reset_reached c h = record {
     agreed = h.agreed;
     board = h.board;
@@ -69,7 +69,7 @@ module _ (b : Settings) (now : ℕ) where
 
   module _ (windows : StaysWithin) where
     -- our SYN is acknowledged, and the timer stops
-    settled : (segment : Segment) (c : ControlBlock) (t : Timer) (o : Option Timing) → IsReached b now c → c.reset ≡ false → c.established ≡ None
+    settled : (segment : Segment) (c : ConnectionView) (t : RtoView) (o : Option Timing) → IsReached b now c → c.reset ≡ false → c.established ≡ None
         → IfSome o (IsTimed now 1 c.board.top)
         → IsReached b now (record c {
           board = acknowledged 1 c.board;
@@ -87,7 +87,7 @@ module _ (b : Settings) (now : ℕ) where
           phase = omega arith;
           fin = (λ queued. ap stream_in (sym is) ∙ h.fin.0 queued, λ no. absurd cc);
           bounds = record {
-            windows = windows.first b.initial_window b.initial_ssthresh c.board.smss c.resent h.board.smss_high b.initial_ssthresh_in_range.1;
+            windows = windows.first b c.board.smss c.resent h.board.smss_high;
             widest = omega arith;
             recovery_point = omega arith;
             high_rxt = omega arith;
@@ -98,23 +98,23 @@ module _ (b : Settings) (now : ℕ) where
         }
 
     -- the same connection after its sample
-    abbrev finished : Segment → ControlBlock → ControlBlock → ControlBlock
+    abbrev finished : Segment → ConnectionView → ConnectionView → ConnectionView
     finished segment c d = record (with_timer_settled d) { widest = max c.widest (window_in c segment); established = Some (established_with b segment c) }
 
-    sampled_first : (segment : Segment) (c : ControlBlock) (o : Option Timing) → IsReached b now c → c.reset ≡ false → c.established ≡ None → c.timed ≡ o
+    sampled_first : (segment : Segment) (c : ConnectionView) (o : Option Timing) → IsReached b now c → c.reset ≡ false → c.established ≡ None → c.timed ≡ o
         → IfSome o (IsTimed now c.board.una c.board.top)
         → IsReached b now (finished segment c (measured now b.granularity_us 1 (syn_acked c) o))
     sampled_first segment c None h live is timed k =
         settled segment c (if c.resent then reinitialized c.timer else c.timer) c.timed h live is (subst (λ x. IfSome x (IsTimed now 1 c.board.top)) (sym timed) tt)
     sampled_first segment c (Some t) h live is timed k =
         let p : (c.board.una ≡ 0) × (c.board.top ≡ 1) × (c.board.end ≡ 1) = subst (λ x. IsOfPhase x c.board.una c.board.top c.board.end) is h.phase in
-        by_test (λ (d : ControlBlock). IsReached b now (finished segment c d)) (is_measured 1 t) _ (syn_acked c)
+        by_test (λ (d : ConnectionView). IsReached b now (finished segment c d)) (is_measured 1 t) _ (syn_acked c)
         (λ _. settled segment c
         (if c.resent then reinitialized (sampled (now - t.sent_at) b.granularity_us c.timer) else sampled (now - t.sent_at) b.granularity_us c.timer)
         None h live is tt)
         (λ waits. absurd (sooner t.segment.end c.board.top waits k.sent p.1))
 
-    pub established_reached : (segment : Segment) (c : ControlBlock) → IsReached b now c → ruling_of c segment ≡ Some FirstAck
+    pub established_reached : (segment : Segment) (c : ConnectionView) → IsReached b now c → ruling_of c segment ≡ Some FirstAck
         → IsReached b now (established_by now b segment c)
     established_reached segment c h ruling =
         let k = first_comes c segment ruling in

@@ -5,7 +5,7 @@ use Rattle.pd_settings.specs.declared.fields.Settings.{Settings}
 use Rattle.pd_timer.specs.Laws.{StaysWithin as Bounds}
 use Rattle.pd_recover.specs.Laws.{StaysWithin as Windows}
 use Rattle.pd_host.specs.Calls.{with_stream, with_fin, closed_stream}
-use Rattle.pd_host.specs.ControlBlock.{ControlBlock}
+use Rattle.pd_host.specs.Connection.{ConnectionView}
 use Rattle.pd_host.specs.Invariants.{IsReached, IsBelowPoint, IsLawful, StartsLawful, AdvancesStayLawful, ArrivalsStayLawful, CallsStayLawful, TakingStaysLawful}
 use Rattle.pd_host.specs.Laws.{AreInOrder}
 use Rattle.pd_host.specs.Timing.{clocked}
@@ -26,20 +26,20 @@ use Rattle.pd_host.proofs.Shaken.{begun_reached, reset_reached, established_reac
 use Rattle.pd_host.proofs.Timely.{IsTimely, first_timely, arrivals_timely, calls_timely}
 
 -- a connection between two inputs
-record IsKnown (b : Settings) (now : ℕ) (c : ControlBlock) : Type 0 where
+record IsKnown (b : Settings) (now : ℕ) (c : ConnectionView) : Type 0 where
   timely : IsTimely b now c.timer
   reached : IsReached b now c
   below : IsBelowPoint c
 
 -- one that data is sent on
-record IsSending (b : Settings) (now : ℕ) (c : ControlBlock) : Type 0 where
+record IsSending (b : Settings) (now : ℕ) (c : ConnectionView) : Type 0 where
   timely : IsTimely b now c.timer
   live : IsLive b now c
   below : IsBelowPoint c
 
-closed_below : (c : ControlBlock) → IsBelowPoint c → IsBelowPoint (closed_stream c)
+closed_below : (c : ConnectionView) → IsBelowPoint c → IsBelowPoint (closed_stream c)
 closed_below c h =
-    by_test (λ (d : ControlBlock). IsBelowPoint (with_stream stream.Closed d)) c.reset c (with_fin c) (λ _. stream_below stream.Closed c h)
+    by_test (λ (d : ConnectionView). IsBelowPoint (with_stream stream.Closed d)) c.reset c (with_fin c) (λ _. stream_below stream.Closed c h)
     (λ _. stream_below stream.Closed (with_fin c) h)
 
 module _ (bounds : Bounds) (windows : Windows) where
@@ -159,20 +159,20 @@ module _ (bounds : Bounds) (windows : Windows) where
 
 -- the record of a state, and what it is made of
 
-known : (b : Settings) (now : ℕ) (o : Option ControlBlock) → IfSome o (λ c. IsTimely b now c.timer) → IfSome o (IsReached b now)
+known : (b : Settings) (now : ℕ) (o : Option ConnectionView) → IfSome o (λ c. IsTimely b now c.timer) → IfSome o (IsReached b now)
     → IfSome o IsBelowPoint → IfSome o (IsKnown b now)
 known b now None t r p = tt
 known b now (Some c) t r p = record { timely = t; reached = r; below = p }
 
-timely_of : (b : Settings) (now : ℕ) (o : Option ControlBlock) → IfSome o (IsKnown b now) → IfSome o (λ c. IsTimely b now c.timer)
+timely_of : (b : Settings) (now : ℕ) (o : Option ConnectionView) → IfSome o (IsKnown b now) → IfSome o (λ c. IsTimely b now c.timer)
 timely_of b now None h = tt
 timely_of b now (Some c) h = h.timely
 
-reached_of : (b : Settings) (now : ℕ) (o : Option ControlBlock) → IfSome o (IsKnown b now) → IfSome o (IsReached b now)
+reached_of : (b : Settings) (now : ℕ) (o : Option ConnectionView) → IfSome o (IsKnown b now) → IfSome o (IsReached b now)
 reached_of b now None h = tt
 reached_of b now (Some c) h = h.reached
 
-below_of : (b : Settings) (now : ℕ) (o : Option ControlBlock) → IfSome o (IsKnown b now) → IfSome o IsBelowPoint
+below_of : (b : Settings) (now : ℕ) (o : Option ConnectionView) → IfSome o (IsKnown b now) → IfSome o IsBelowPoint
 below_of b now None h = tt
 below_of b now (Some c) h = h.below
 

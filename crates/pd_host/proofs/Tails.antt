@@ -3,12 +3,12 @@ use Rattle.std.proofs.Common.{◌≡◌, ℕ, Bool, true, false, nat_lt, if◌th
 use Rattle.pd_settings.specs.declared.fields.Settings.{Settings}
 use Rattle.pd_seg.specs.declared.segments.Segment.{Segment}
 use Rattle.pd_seg.specs.declared.segments.Sent.{Sent}
-use Rattle.pd_host.specs.Acknowledgments.{taking, taken}
+use Rattle.pd_host.specs.Acknowledgments.{taking, ack_taken}
 use Rattle.pd_host.specs.Arrivals.{ruled, passed_on, arrived_on, arrived, ruling_of}
-use Rattle.pd_host.specs.ControlBlock.{ControlBlock}
+use Rattle.pd_host.specs.Connection.{ConnectionView}
 use Rattle.pd_host.specs.Expiries.{block_expired, expired, advanced}
 use Rattle.pd_host.specs.Handshake.{established_by, syn_acked}
-use Rattle.pd_host.specs.Sender.{beside, with_outbox}
+use Rattle.pd_host.specs.Host.{beside, with_outbox}
 use Rattle.pd_host.specs.Sending.{places_left, with_block}
 use Rattle.pd_host.specs.declared.established.Established.{Established}
 use Rattle.pd_host.specs.declared.halts.Halt.TheVariants.{Limit}
@@ -22,14 +22,14 @@ use Rattle.pd_host.proofs.SentOn.{IsSentOn, stills}
 use Rattle.pd_host.proofs.Taken.{taking_keeps, taken_sends, measured_keeps}
 
 -- whether the last octet queued is the FIN, and the number after it
-abbrev tail : Option ControlBlock → Bool × ℕ
+abbrev tail : Option ConnectionView → Bool × ℕ
 tail None = (false, 0)
 tail (Some c) = (c.fin, c.board.end)
 
 abbrev Tail : Bool × ℕ → State → Type 0
 Tail x s = tail s.endpoint.connection ≡ x
 
-still_tail : (o : Option ControlBlock) → tail (stills o) ≡ tail o
+still_tail : (o : Option ConnectionView) → tail (stills o) ≡ tail o
 still_tail None = refl
 still_tail (Some c) = refl
 
@@ -38,20 +38,20 @@ sent_tail now s t h = sym (still_tail t.endpoint.connection) ∙ ap tail h.conne
 
 -- Arrivals
 
-taking_tail : (now : ℕ) (segment : Segment) (c : ControlBlock) (o : Option Established) → tail (Some (taking now segment c o).0) ≡ tail (Some c)
+taking_tail : (now : ℕ) (segment : Segment) (c : ConnectionView) (o : Option Established) → tail (Some (taking now segment c o).0) ≡ tail (Some c)
 taking_tail now segment c None = refl
-taking_tail now segment c (Some e) = ap (λ (x : ControlBlock). tail (Some x)) (taking_keeps now segment c e)
+taking_tail now segment c (Some e) = ap (λ (x : ConnectionView). tail (Some x)) (taking_keeps now segment c e)
 
-established_tail : (now : ℕ) (settings : Settings) (segment : Segment) (c : ControlBlock) → tail (Some (established_by now settings segment c)) ≡ tail (Some c)
+established_tail : (now : ℕ) (settings : Settings) (segment : Segment) (c : ConnectionView) → tail (Some (established_by now settings segment c)) ≡ tail (Some c)
 established_tail now settings segment c =
-    ap (λ (x : ControlBlock). tail (Some x)) (measured_keeps now settings.granularity_us 1 (syn_acked c) (syn_acked c).timed)
+    ap (λ (x : ConnectionView). tail (Some x)) (measured_keeps now settings.granularity_us 1 (syn_acked c) (syn_acked c).timed)
 
 answers : (b : Bool) (packets : List Sent) (s : State) (x : Bool × ℕ) → Tail x s
     → Leaves (Tail x) (beside s (with_outbox s.endpoint (if b then Ok packets else Err Limit)))
 answers true packets s x h = h
 answers false packets s x h = tt
 
-by_ruling : (r : Option Ruling) (segment : Segment) (now : ℕ) (s : State) (c : ControlBlock) → Tail (c.fin, c.board.end) s
+by_ruling : (r : Option Ruling) (segment : Segment) (now : ℕ) (s : State) (c : ConnectionView) → Tail (c.fin, c.board.end) s
     → Leaves (Tail (c.fin, c.board.end)) (ruled now segment c s r)
 by_ruling (Some NotRun) segment now s c h = tt
 by_ruling (Some StrayRst) segment now s c h = h
@@ -65,16 +65,16 @@ by_ruling (Some EarlyAck) segment now s c h = answers (nat_lt (length s.endpoint
 by_ruling (Some OldAck) segment now s c h = h
 by_ruling None segment now s c h =
     let left : State = with_block (taking now segment c c.established).0 s in
-    leaves_too (IsSentOn now left) (Tail (c.fin, c.board.end)) (taken now segment c s c.established)
+    leaves_too (IsSentOn now left) (Tail (c.fin, c.board.end)) (ack_taken now segment c s c.established)
     (λ t sent. sent_tail now left t sent ∙ taking_tail now segment c c.established) (taken_sends now segment c s c.established)
 
 -- the same tail on both connections
-both : (c d : ControlBlock) (t : State) → t.endpoint.connection ≡ Some d → Tail (c.fin, c.board.end) t → (d.fin ≡ c.fin) × (d.board.end ≡ c.board.end)
+both : (c d : ConnectionView) (t : State) → t.endpoint.connection ≡ Some d → Tail (c.fin, c.board.end) t → (d.fin ≡ c.fin) × (d.board.end ≡ c.board.end)
 both c d t hd h =
     let same : tail (Some d) ≡ tail (Some c) = sym (ap tail hd) ∙ h in
     (ap (λ (x : Bool × ℕ). x.0) same, ap (λ (x : Bool × ℕ). x.1) same)
 
-pub arrivals_queue_nothing : (segment : Segment) (now : ℕ) (s t : State) (c d : ControlBlock)
+pub arrivals_queue_nothing : (segment : Segment) (now : ℕ) (s t : State) (c d : ConnectionView)
     → s.endpoint.connection ≡ Some c → t.endpoint.connection ≡ Some d → arrived segment now s ≡ Ok t
     → (d.fin ≡ c.fin) × (d.board.end ≡ c.board.end)
 arrivals_queue_nothing segment now s t c d hc hd h =
@@ -85,15 +85,15 @@ arrivals_queue_nothing segment now s t c d hc hd h =
 
 -- Expiries
 
-expired_tail : (at : ℕ) (c : ControlBlock) (o : Option Established) → tail (Some (block_expired at c o)) ≡ tail (Some c)
+expired_tail : (at : ℕ) (c : ConnectionView) (o : Option Established) → tail (Some (block_expired at c o)) ≡ tail (Some c)
 expired_tail at c None = refl
 expired_tail at c (Some e) = refl
 
-one_tail : (x : Bool × ℕ) (at : ℕ) (t : State) (o : Option ControlBlock) → t.endpoint.connection ≡ o → Tail x t → Tail x (expired at o t)
+one_tail : (x : Bool × ℕ) (at : ℕ) (t : State) (o : Option ConnectionView) → t.endpoint.connection ≡ o → Tail x t → Tail x (expired at o t)
 one_tail x at t None e h = h
 one_tail x at t (Some c) e h = expired_tail at c c.established ∙ sym (ap tail e) ∙ h
 
-pub expiries_queue_nothing : (until : ℕ) (s t : State) (c d : ControlBlock)
+pub expiries_queue_nothing : (until : ℕ) (s t : State) (c d : ConnectionView)
     → s.endpoint.connection ≡ Some c → t.endpoint.connection ≡ Some d → advanced until s ≡ Ok t
     → (d.fin ≡ c.fin) × (d.board.end ≡ c.board.end)
 expiries_queue_nothing until s t c d hc hd h =

@@ -1,13 +1,13 @@
 -- What an ACK that is taken leaves of a connection.
 use Rattle.std.proofs.Common.{◌≡◌, ℕ, ◌-◌, ◌||◌, Bool, true, false, nat_lt, max, List, [], ◌∷◌, Option, None, Some, if◌then◌else◌, refl, ap, ◌∙◌}
-use Rattle.pd_board.specs.Scoreboard.{Scoreboard, marked, has_new}
-use Rattle.pd_recover.specs.Congestion.{Congestion}
+use Rattle.pd_board.specs.Board.{BoardView, marked, has_new}
+use Rattle.pd_recover.specs.Cong.{CongView}
 use Rattle.pd_recover.specs.declared.responses.Then.{Then}
 use Rattle.pd_seg.specs.declared.sack_blocks.Span.{Span}
 use Rattle.pd_seg.specs.declared.segments.Segment.{Segment}
-use Rattle.pd_timer.specs.Timer.{initial, sampled}
-use Rattle.pd_host.specs.Acknowledgments.{newly_acked, with_number, blocks_of, is_block_sent, told_block, told_blocks, scored, with_timing, is_current, with_new_window, answering, with_blocks, with_ack, taking, taken}
-use Rattle.pd_host.specs.ControlBlock.{ControlBlock}
+use Rattle.pd_timer.specs.Rto.{initial, sampled}
+use Rattle.pd_host.specs.Acknowledgments.{newly_acked, with_number, blocks_of, is_block_sent, told_block, told_blocks, scored, with_timing, is_current, with_new_window, answering, with_blocks, with_ack, taking, ack_taken}
+use Rattle.pd_host.specs.Connection.{ConnectionView}
 use Rattle.pd_host.specs.Handshake.{looked_at, window_in, with_window}
 use Rattle.pd_host.specs.Sending.{with_block}
 use Rattle.pd_host.specs.Timing.{is_measured, measured, with_sample, with_timer_moved}
@@ -23,34 +23,34 @@ same_either f false x y z first second = second
 
 -- blocks move only what is SACKed
 
-abbrev unsacked : Scoreboard → Scoreboard
+abbrev unsacked : BoardView → BoardView
 unsacked s = record s { sacked = [] }
 
-block_keeps : (block : Span) (told : Scoreboard × Bool) → unsacked (told_block block told).0 ≡ unsacked told.0
+block_keeps : (block : Span) (told : BoardView × Bool) → unsacked (told_block block told).0 ≡ unsacked told.0
 block_keeps block told =
-    same_either (λ (x : Scoreboard × Bool). unsacked x.0) (is_block_sent told.0 block) (marked block told.0, told.1 || has_new block told.0) told
+    same_either (λ (x : BoardView × Bool). unsacked x.0) (is_block_sent told.0 block) (marked block told.0, told.1 || has_new block told.0) told
     (unsacked told.0) refl refl
 
-blocks_keep : (blocks : List Span) (told : Scoreboard × Bool) → unsacked (told_blocks blocks told).0 ≡ unsacked told.0
+blocks_keep : (blocks : List Span) (told : BoardView × Bool) → unsacked (told_blocks blocks told).0 ≡ unsacked told.0
 blocks_keep [] told = refl
 blocks_keep (block ∷ blocks) told = blocks_keep blocks (told_block block told) ∙ block_keeps block told
 
-scored_keeps : (segment : Segment) (c : ControlBlock) → unsacked (scored segment c).0 ≡ unsacked c.board
+scored_keeps : (segment : Segment) (c : ConnectionView) → unsacked (scored segment c).0 ≡ unsacked c.board
 scored_keeps segment c =
-    same_either (λ (x : Scoreboard × Bool). unsacked x.0) c.sack (told_blocks (blocks_of (looked_at segment.options)) (c.board, false)) (c.board, false)
+    same_either (λ (x : BoardView × Bool). unsacked x.0) c.sack (told_blocks (blocks_of (looked_at segment.options)) (c.board, false)) (c.board, false)
     (unsacked c.board) (blocks_keep (blocks_of (looked_at segment.options)) (c.board, false)) refl
 
 -- the timer moves alone
 
-abbrev pub timeless : ControlBlock → ControlBlock
+abbrev pub timeless : ConnectionView → ConnectionView
 timeless c = record c { timer = initial 0 0; timed = None }
 
-pub measured_keeps : (now granularity ack : ℕ) (c : ControlBlock) (o : Option Timing) → timeless (measured now granularity ack c o) ≡ timeless c
+pub measured_keeps : (now granularity ack : ℕ) (c : ConnectionView) (o : Option Timing) → timeless (measured now granularity ack c o) ≡ timeless c
 measured_keeps now granularity ack c None = refl
 measured_keeps now granularity ack c (Some t) =
     same_either timeless (is_measured ack t) (record c { timer = sampled (now - t.sent_at) granularity c.timer; timed = None }) c (timeless c) refl refl
 
-pub timing_keeps : (now granularity n : ℕ) (c : ControlBlock) → timeless (with_timing now granularity n c) ≡ timeless c
+pub timing_keeps : (now granularity n : ℕ) (c : ConnectionView) → timeless (with_timing now granularity n c) ≡ timeless c
 timing_keeps now granularity n c =
     same_either timeless (nat_lt 0 n) (with_timer_moved now (with_sample now granularity c.board.una c)) c (timeless c)
     (measured_keeps now granularity c.board.una c c.timed) refl
@@ -58,28 +58,28 @@ timing_keeps now granularity n c =
 -- All of it
 
 -- a connection without what an ACK moves, but its numbers
-abbrev pub basic : ControlBlock → ControlBlock
+abbrev pub basic : ConnectionView → ConnectionView
 basic c = record c { board = unsacked c.board; timer = initial 0 0; timed = None; widest = 0; established = None }
 
-window_keeps : (segment : Segment) (e : Established) (c : ControlBlock) → basic (with_new_window segment e c) ≡ basic c
+window_keeps : (segment : Segment) (e : Established) (c : ConnectionView) → basic (with_new_window segment e c) ≡ basic c
 window_keeps segment e c =
     same_either basic (is_current e segment)
     (record c { widest = max c.widest (window_in c segment); established = Some (with_window (window_in c segment) segment e) }) c
     (basic c) refl refl
 
 -- the connection after the number, its blocks told
-abbrev told_to : Segment → ControlBlock → ControlBlock
+abbrev told_to : Segment → ConnectionView → ConnectionView
 told_to segment c = with_blocks segment (with_number segment c)
 
-told_keeps : (segment : Segment) (c : ControlBlock) → basic (told_to segment c) ≡ basic (with_number segment c)
+told_keeps : (segment : Segment) (c : ConnectionView) → basic (told_to segment c) ≡ basic (with_number segment c)
 told_keeps segment c =
-    ap (λ (b : Scoreboard). record (basic (with_number segment c)) { board = b }) (scored_keeps segment (with_number segment c))
+    ap (λ (b : BoardView). record (basic (with_number segment c)) { board = b }) (scored_keeps segment (with_number segment c))
 
-abbrev timed_to : ℕ → Segment → Established → ControlBlock → ControlBlock
+abbrev timed_to : ℕ → Segment → Established → ConnectionView → ConnectionView
 timed_to now segment e c = with_timing now e.granularity_us (newly_acked c segment) (told_to segment c)
 
 -- an ACK moves the number, and what isn't basic
-pub ack_keeps : (now : ℕ) (segment : Segment) (e : Established) (c : ControlBlock) → basic (with_ack now segment e c).0 ≡ basic (with_number segment c)
+pub ack_keeps : (now : ℕ) (segment : Segment) (e : Established) (c : ConnectionView) → basic (with_ack now segment e c).0 ≡ basic (with_number segment c)
 ack_keeps now segment e c =
     window_keeps segment e (timed_to now segment e c)
     ∙ ap basic (timing_keeps now e.granularity_us (newly_acked c segment) (told_to segment c))
@@ -87,35 +87,35 @@ ack_keeps now segment e c =
 
 -- congestion control's state is the one before it
 
-abbrev pub congestions : Option Established → Option Congestion
+abbrev pub congestions : Option Established → Option CongView
 congestions None = None
 congestions (Some e) = Some e.congestion
 
-pub ack_leaves_congestion : (now : ℕ) (segment : Segment) (e : Established) (c : ControlBlock) → c.established ≡ Some e
+pub ack_leaves_congestion : (now : ℕ) (segment : Segment) (e : Established) (c : ConnectionView) → c.established ≡ Some e
     → congestions (with_ack now segment e c).0.established ≡ Some e.congestion
 ack_leaves_congestion now segment e c has =
-    let d : ControlBlock = timed_to now segment e c in
+    let d : ConnectionView = timed_to now segment e c in
     let same : d.established ≡ c.established =
-    ap (λ (x : ControlBlock). x.established) (timing_keeps now e.granularity_us (newly_acked c segment) (told_to segment c)) in
-    same_either (λ (x : ControlBlock). congestions x.established) (is_current e segment)
+    ap (λ (x : ConnectionView). x.established) (timing_keeps now e.granularity_us (newly_acked c segment) (told_to segment c)) in
+    same_either (λ (x : ConnectionView). congestions x.established) (is_current e segment)
     (record d { widest = max d.widest (window_in d segment); established = Some (with_window (window_in d segment) segment e) }) d
     (Some e.congestion) refl (ap congestions (same ∙ has))
 
-answer_keeps : (segment : Segment) (n : ℕ) (fresh : Bool) (before : Established) (c : ControlBlock) (o : Option Established)
+answer_keeps : (segment : Segment) (n : ℕ) (fresh : Bool) (before : Established) (c : ConnectionView) (o : Option Established)
     → basic (answering segment n fresh before c o).0 ≡ basic c
 answer_keeps segment n fresh before c None = refl
 answer_keeps segment n fresh before c (Some e) = refl
 
 -- taking a segment on an established connection moves the number, and what isn't basic
-pub taking_keeps : (now : ℕ) (segment : Segment) (c : ControlBlock) (e : Established)
+pub taking_keeps : (now : ℕ) (segment : Segment) (c : ConnectionView) (e : Established)
     → basic (taking now segment c (Some e)).0 ≡ basic (with_number segment c)
 taking_keeps now segment c e =
-    let d : ControlBlock × Bool = with_ack now segment e c in
+    let d : ConnectionView × Bool = with_ack now segment e c in
     answer_keeps segment (newly_acked c segment) d.1 e d.0 d.0.established ∙ ack_keeps now segment e c
 
 -- what is sent after a segment was taken follows the connection that it left
-pub taken_sends : (now : ℕ) (segment : Segment) (c : ControlBlock) (s : State) (o : Option Established)
-    → Leaves (IsSentOn now (with_block (taking now segment c o).0 s)) (taken now segment c s o)
+pub taken_sends : (now : ℕ) (segment : Segment) (c : ConnectionView) (s : State) (o : Option Established)
+    → Leaves (IsSentOn now (with_block (taking now segment c o).0 s)) (ack_taken now segment c s o)
 taken_sends now segment c s o =
-    let t : ControlBlock × Then = taking now segment c o in
+    let t : ConnectionView × Then = taking now segment c o in
     led_to_sends now t.0 (with_block t.0 s) t.1 refl

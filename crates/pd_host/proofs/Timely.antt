@@ -5,12 +5,12 @@ use Rattle.pd_settings.specs.declared.fields.Settings.{Settings}
 use Rattle.pd_seg.specs.declared.sack_blocks.Span.{Span}
 use Rattle.pd_seg.specs.declared.segments.Segment.{Segment}
 use Rattle.pd_timer.specs.Laws.{GoesBy, StaysWithin}
-use Rattle.pd_timer.specs.Timer.{Timer, initial, sampled, started, restarted, stopped, backed_off, reinitialized}
+use Rattle.pd_timer.specs.Rto.{RtoView, initial, sampled, started, restarted, stopped, expired_rto, reinitialized}
 use Rattle.pd_recover.specs.declared.segments.NextSegment.{NextSegment}
 use Rattle.pd_recover.specs.declared.segments.NextSegment.TheVariants.{Lost, New, Hole, Rescue}
 use Rattle.pd_host.specs.Acknowledgments.{newly_acked, with_number, with_blocks, with_timing, is_current, with_new_window, with_ack, answering, taking, sent_as, noted_on, entered_on}
 use Rattle.pd_host.specs.Calls.{with_fin, closed_stream}
-use Rattle.pd_host.specs.ControlBlock.{ControlBlock}
+use Rattle.pd_host.specs.Connection.{ConnectionView}
 use Rattle.pd_host.specs.Handshake.{syn_acked}
 use Rattle.pd_host.specs.Timing.{clocked, is_measured, measured, with_sample, with_timer_moved}
 use Rattle.pd_host.specs.declared.established.Established.{Established}
@@ -24,7 +24,7 @@ abbrev pub IsAhead : Settings → ℕ → ℕ → Type 0
 IsAhead b now at = (now < at) × (at ≤ now + b.max_rto_us)
 
 -- the timer goes by the settings, and its expiry lies ahead
-pub record IsTimely (b : Settings) (now : ℕ) (t : Timer) : Type 0 where
+pub record IsTimely (b : Settings) (now : ℕ) (t : RtoView) : Type 0 where
   pub bounds : GoesBy b t
   pub deadline : IfSome t.deadline (IsAhead b now)
 
@@ -32,74 +32,74 @@ pub record IsTimely (b : Settings) (now : ℕ) (t : Timer) : Type 0 where
 least : (b : Settings) → 1000 ≤ b.min_rto_us
 least b = b.min_rto_us_in_range.0
 
-restarted_timely : (b : Settings) (now : ℕ) (t : Timer) → GoesBy b t → IsTimely b now (restarted now t)
+restarted_timely : (b : Settings) (now : ℕ) (t : RtoView) → GoesBy b t → IsTimely b now (restarted now t)
 restarted_timely b now t g = record {
   bounds = record { least = g.least; greatest = g.greatest; not_below = g.not_below; not_above = g.not_above };
   deadline = (omega (arith, least b, g.not_below), omega (arith, g.not_above));
 }
 
-pub started_timely : (b : Settings) (now : ℕ) (t : Timer) → IsTimely b now t → IsTimely b now (started now t)
+pub started_timely : (b : Settings) (now : ℕ) (t : RtoView) → IsTimely b now t → IsTimely b now (started now t)
 started_timely b now t h = by_test (IsTimely b now) (is_some t.deadline) t (restarted now t) (λ _. h) (λ _. restarted_timely b now t h.bounds)
 
-pub stopped_timely : (b : Settings) (now : ℕ) (t : Timer) → GoesBy b t → IsTimely b now (stopped t)
+pub stopped_timely : (b : Settings) (now : ℕ) (t : RtoView) → GoesBy b t → IsTimely b now (stopped t)
 stopped_timely b now t g = record {
   bounds = record { least = g.least; greatest = g.greatest; not_below = g.not_below; not_above = g.not_above };
   deadline = tt;
 }
 
 module _ (within : StaysWithin) where
-  pub backed_off_timely : (b : Settings) (now : ℕ) (t : Timer) → GoesBy b t → IsTimely b now (backed_off now t)
+  pub backed_off_timely : (b : Settings) (now : ℕ) (t : RtoView) → GoesBy b t → IsTimely b now (expired_rto now t)
   backed_off_timely b now t g =
-      let k : GoesBy b (backed_off now t) = within.expiry now b t g in
+      let k : GoesBy b (expired_rto now t) = within.expiry now b t g in
       restarted_timely b now (record t { rto = min (2 * t.rto) t.max_rto_us }) (record { least = k.least; greatest = k.greatest; not_below = k.not_below; not_above = k.not_above })
 
   pub initial_timely : (b : Settings) (now : ℕ) → IsTimely b now (started now (initial b.min_rto_us b.max_rto_us))
   initial_timely b now = restarted_timely b now (initial b.min_rto_us b.max_rto_us) (within.first b)
 
-  sampled_timely : (b : Settings) (now r granularity : ℕ) (t : Timer) → IsTimely b now t → IsTimely b now (sampled r granularity t)
+  sampled_timely : (b : Settings) (now r granularity : ℕ) (t : RtoView) → IsTimely b now t → IsTimely b now (sampled r granularity t)
   sampled_timely b now r granularity t h = record { bounds = within.measured r granularity b t h.bounds; deadline = h.deadline }
 
-  settled_timely : (b : Settings) (now : ℕ) (resent : Bool) (t : Timer) → IsTimely b now t
+  settled_timely : (b : Settings) (now : ℕ) (resent : Bool) (t : RtoView) → IsTimely b now t
       → IsTimely b now (stopped (if resent then reinitialized t else t))
   settled_timely b now resent t h =
       stopped_timely b now _ (by_test (GoesBy b) resent (reinitialized t) t (λ _. within.establishment b t h.bounds) (λ _. h.bounds))
 
   -- the connection's timer
-  abbrev Timely : Settings → ℕ → ControlBlock → Type 0
+  abbrev Timely : Settings → ℕ → ConnectionView → Type 0
   Timely b now c = IsTimely b now c.timer
 
-  measured_timely : (b : Settings) (now granularity ack : ℕ) (c : ControlBlock) (o : Option Timing) → Timely b now c
+  measured_timely : (b : Settings) (now granularity ack : ℕ) (c : ConnectionView) (o : Option Timing) → Timely b now c
       → Timely b now (measured now granularity ack c o)
   measured_timely b now granularity ack c None h = h
   measured_timely b now granularity ack c (Some t) h =
       by_test (Timely b now) (is_measured ack t) _ c (λ _. sampled_timely b now (now - t.sent_at) granularity c.timer h) (λ _. h)
 
-  moved_timely : (b : Settings) (now : ℕ) (c : ControlBlock) → Timely b now c → Timely b now (with_timer_moved now c)
+  moved_timely : (b : Settings) (now : ℕ) (c : ConnectionView) → Timely b now c → Timely b now (with_timer_moved now c)
   moved_timely b now c h =
       by_test (IsTimely b now) (c.board.una == c.board.top) (stopped c.timer) (restarted now c.timer)
       (λ _. stopped_timely b now c.timer h.bounds) (λ _. restarted_timely b now c.timer h.bounds)
 
-  timing_timely : (b : Settings) (now granularity n : ℕ) (c : ControlBlock) → Timely b now c → Timely b now (with_timing now granularity n c)
+  timing_timely : (b : Settings) (now granularity n : ℕ) (c : ConnectionView) → Timely b now c → Timely b now (with_timing now granularity n c)
   timing_timely b now granularity n c h =
       by_test (Timely b now) (nat_lt 0 n) _ c
       (λ _. moved_timely b now (with_sample now granularity c.board.una c) (measured_timely b now granularity c.board.una c c.timed h)) (λ _. h)
 
-  window_timely : (b : Settings) (now : ℕ) (segment : Segment) (e : Established) (c : ControlBlock) → Timely b now c
+  window_timely : (b : Settings) (now : ℕ) (segment : Segment) (e : Established) (c : ConnectionView) → Timely b now c
       → Timely b now (with_new_window segment e c)
   window_timely b now segment e c h = by_test (Timely b now) (is_current e segment) _ c (λ _. h) (λ _. h)
 
-  ack_timely : (b : Settings) (now : ℕ) (segment : Segment) (e : Established) (c : ControlBlock) → Timely b now c
+  ack_timely : (b : Settings) (now : ℕ) (segment : Segment) (e : Established) (c : ConnectionView) → Timely b now c
       → Timely b now (with_ack now segment e c).0
   ack_timely b now segment e c h =
       window_timely b now segment e _
       (timing_timely b now e.granularity_us (newly_acked c segment) (with_blocks segment (with_number segment c)) h)
 
-  answering_timely : (b : Settings) (now : ℕ) (segment : Segment) (n : ℕ) (fresh : Bool) (e : Established) (c : ControlBlock) (o : Option Established)
+  answering_timely : (b : Settings) (now : ℕ) (segment : Segment) (n : ℕ) (fresh : Bool) (e : Established) (c : ConnectionView) (o : Option Established)
       → Timely b now c → Timely b now (answering segment n fresh e c o).0
   answering_timely b now segment n fresh e c None h = h
   answering_timely b now segment n fresh e c (Some after) h = h
 
-  taking_timely : (b : Settings) (now : ℕ) (segment : Segment) (c : ControlBlock) (o : Option Established) → Timely b now c
+  taking_timely : (b : Settings) (now : ℕ) (segment : Segment) (c : ConnectionView) (o : Option Established) → Timely b now c
       → Timely b now (taking now segment c o).0
   taking_timely b now segment c None h = h
   taking_timely b now segment c (Some e) h =
@@ -107,26 +107,26 @@ module _ (within : StaysWithin) where
       (with_ack now segment e c).0.established (ack_timely b now segment e c h)
 
   -- what is noted of loss recovery leaves the timer
-  noted_timely : (b : Settings) (now : ℕ) (filling : Filling) (sent : NextSegment) (c : ControlBlock) (o : Option Established) → Timely b now c
+  noted_timely : (b : Settings) (now : ℕ) (filling : Filling) (sent : NextSegment) (c : ConnectionView) (o : Option Established) → Timely b now c
       → Timely b now (noted_on filling sent c o)
   noted_timely b now filling sent c None h = h
   noted_timely b now filling sent c (Some e) h = h
 
-  entered_timely : (b : Settings) (now : ℕ) (segment : Span) (c : ControlBlock) (o : Option Established) → Timely b now c
+  entered_timely : (b : Settings) (now : ℕ) (segment : Span) (c : ConnectionView) (o : Option Established) → Timely b now c
       → Timely b now (entered_on segment c o)
   entered_timely b now segment c None h = h
   entered_timely b now segment c (Some e) h = h
 
-  clocked_timely : (b : Settings) (now : ℕ) (segment : Span) (c : ControlBlock) → Timely b now c → Timely b now (clocked now segment c)
+  clocked_timely : (b : Settings) (now : ℕ) (segment : Span) (c : ConnectionView) → Timely b now c → Timely b now (clocked now segment c)
   clocked_timely b now segment c h = started_timely b now c.timer h
 
-  sent_timely : (b : Settings) (now : ℕ) (sent : NextSegment) (c : ControlBlock) → Timely b now c → Timely b now (sent_as now sent c)
+  sent_timely : (b : Settings) (now : ℕ) (sent : NextSegment) (c : ConnectionView) → Timely b now c → Timely b now (sent_as now sent c)
   sent_timely b now (Lost segment) c h = clocked_timely b now segment c h
   sent_timely b now (New segment) c h = clocked_timely b now segment c h
   sent_timely b now (Hole segment) c h = clocked_timely b now segment c h
   sent_timely b now (Rescue segment) c h = clocked_timely b now segment c h
 
-  closed_timely : (b : Settings) (now : ℕ) (c : ControlBlock) → Timely b now c → Timely b now (closed_stream c)
+  closed_timely : (b : Settings) (now : ℕ) (c : ConnectionView) → Timely b now c → Timely b now (closed_stream c)
   closed_timely b now c h = by_test (Timely b now) c.reset c (with_fin c) (λ _. h) (λ _. h)
 
   sending_timely : (b : Settings) (now : ℕ) → KeptBySending now (Timely b now)

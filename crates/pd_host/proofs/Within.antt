@@ -3,7 +3,7 @@ use Rattle.std.proofs.Common.{◌≡◌, ℕ, ◌+◌, ◌≤◌, min, List, [],
 use Rattle.std.specs.List.{AllByRecursion}
 use Rattle.pd_seg.specs.declared.sack_blocks.Span.{Span}
 use Rattle.pd_seg.specs.declared.segments.Sent.{Sent}
-use Rattle.pd_host.specs.ControlBlock.{ControlBlock}
+use Rattle.pd_host.specs.Connection.{ConnectionView}
 use Rattle.pd_host.specs.Packets.{data_of}
 use Rattle.pd_host.specs.Sending.{value_on, places_left, window_edge, past_sacked, sent_on, found, sent_ordinarily, ready, ordinary}
 use Rattle.pd_host.specs.SendingLaws.{end_with_fin, edge_of}
@@ -28,10 +28,10 @@ one_more : (edge : ℕ) (packets : List Sent) (p : Sent) → end_with_fin p.segm
 one_more edge [] p le h = (le, tt)
 one_more edge (q ∷ packets) p le h = (h.0, one_more edge packets p le h.1)
 
-abbrev edge_on : ControlBlock → Option Established → ℕ
+abbrev edge_on : ConnectionView → Option Established → ℕ
 edge_on c o = value_on 0 window_edge c o
 
-same_edge : (c d : ControlBlock) (o : Option Established) → d.board.una ≡ c.board.una → edge_on d o ≡ edge_on c o
+same_edge : (c d : ConnectionView) (o : Option Established) → d.board.una ≡ c.board.una → edge_on d o ≡ edge_on c o
 same_edge c d None same = refl
 same_edge c d (Some e) same = ap (λ (n : ℕ). n + min e.congestion.cwnd e.rwnd) same
 
@@ -39,11 +39,11 @@ lower : (x m n : ℕ) → x ≤ m → m ≤ n → x ≤ n
 lower x m n h k = omega (arith, h, k)
 
 -- what is found ends below the edge
-found_below : (c : ControlBlock) (o : Option Established) (segment : Span) → found_on c o ≡ Some segment → segment.end ≤ edge_on c o
+found_below : (c : ConnectionView) (o : Option Established) (segment : Span) → found_on c o ≡ Some segment → segment.end ≤ edge_on c o
 found_below c None segment h = absurd cc
 found_below c (Some e) segment h = chosen_within c e segment h
 
-one_below : (edge now : ℕ) (segment : Span) (s t : State) (o : Option ControlBlock) → t.endpoint.connection ≡ o → found o ≡ Some segment
+one_below : (edge now : ℕ) (segment : Span) (s t : State) (o : Option ConnectionView) → t.endpoint.connection ≡ o → found o ≡ Some segment
     → EndsBelow edge s t → EndsBelow edge s (sent_ordinarily now segment o t)
 one_below edge now segment s t None e f h = h
 one_below edge now segment s t (Some c) e f h =
@@ -57,7 +57,7 @@ one_below edge now segment s t (Some c) e f h =
       stays = same_edge c (past_sacked (sent_on now segment c)) c.established refl ∙ here;
     }
 
-made_ready : (s : State) (o : Option ControlBlock) → s.endpoint.connection ≡ o → EndsBelow (edge_of o) s (ready o s)
+made_ready : (s : State) (o : Option ConnectionView) → s.endpoint.connection ≡ o → EndsBelow (edge_of o) s (ready o s)
 made_ready s None e = record { packets = []; ends = tt; outbox = sym (append-nil s.endpoint.outbox); stays = ap edge_of e }
 made_ready s (Some c) e = record {
   packets = [];

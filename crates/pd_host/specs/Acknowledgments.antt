@@ -6,20 +6,20 @@ use Rattle.pd_seg.specs.declared.sack_blocks.Span.{Span}
 use Rattle.pd_seg.specs.declared.segments.Segment.{Segment}
 use Rattle.pd_board.specs.Choice.{run_at}
 use Rattle.pd_board.specs.Loss.{is_lost, pipe}
-use Rattle.pd_board.specs.Scoreboard.{Scoreboard, acknowledged, marked, has_new}
+use Rattle.pd_board.specs.Board.{BoardView, acknowledged, marked, has_new}
 use Rattle.pd_recover.specs.Acks.{acked}
 use Rattle.pd_recover.specs.Choice.{segment_of, step_c_segment, limited_segment, noted}
-use Rattle.pd_recover.specs.Congestion.{Congestion, entered_to, with_limited}
+use Rattle.pd_recover.specs.Cong.{CongView, entered_to, with_limited}
 use Rattle.pd_recover.specs.declared.feedback.Ack.{Ack}
 use Rattle.pd_recover.specs.declared.feedback.News.{News}
 use Rattle.pd_recover.specs.declared.responses.Then.{Then}
 use Rattle.pd_recover.specs.declared.responses.Then.TheVariants.{Ordinary, StepC, Entry, LimitedTransmit, NewSegment, FastRetransmit, Nothing}
 use Rattle.pd_recover.specs.declared.segments.NextSegment.{NextSegment}
 use Rattle.pd_recover.specs.declared.segments.NextSegment.TheVariants.{New}
-use Rattle.pd_host.specs.ControlBlock.{ControlBlock}
+use Rattle.pd_host.specs.Connection.{ConnectionView}
 use Rattle.pd_host.specs.Handshake.{looked_at, window_in, with_window}
 use Rattle.pd_host.specs.Places.{has_place}
-use Rattle.pd_host.specs.Sender.{then_on}
+use Rattle.pd_host.specs.Host.{then_on}
 use Rattle.pd_host.specs.Sending.{value_in, repeated, places_left, with_block, with_segment, sent_on, ordinary}
 use Rattle.pd_host.specs.Timing.{clocked, with_sample, with_timer_moved}
 use Rattle.pd_host.specs.declared.established.Established.{Established}
@@ -32,11 +32,11 @@ use Rattle.pd_host.specs.declared.sender_state.State.{State}
 -- The ack number and the SACK blocks
 
 -- N: how many octets the segment acknowledges that weren't acknowledged
-abbrev pub newly_acked : ControlBlock → Segment → ℕ
+abbrev pub newly_acked : ConnectionView → Segment → ℕ
 newly_acked c segment = segment.ack - c.board.una
 
 -- SND.UNA becomes SEG.ACK (RFC 9293, section 3.10.7.4, fifth check): all below it is acknowledged, and is sent no more
-abbrev pub with_number : Segment → ControlBlock → ControlBlock
+abbrev pub with_number : Segment → ConnectionView → ConnectionView
 with_number segment c = record c { board = acknowledged segment.ack c.board }
 
 -- the blocks of a SACK option (RFC 2018, section 3); another option has none
@@ -50,27 +50,27 @@ blocks_of [] = []
 blocks_of (option ∷ options) = blocks_in option ++ blocks_of options
 
 -- a block has octets, and ends at or below the number after all that was sent
-abbrev pub is_block_sent : Scoreboard → Span → Bool
+abbrev pub is_block_sent : BoardView → Span → Bool
 is_block_sent s block = nat_lt block.start block.end && nat_le block.end s.top
 
 -- the scoreboard with one block more, and whether a block has told a new octet; one beyond what was sent is left out
-abbrev pub told_block : Span → Scoreboard × Bool → Scoreboard × Bool
+abbrev pub told_block : Span → BoardView × Bool → BoardView × Bool
 told_block block told =
     if is_block_sent told.0 block then (marked block told.0, told.1 || has_new block told.0) else told
 
 -- the same with several blocks, one after the other
-abbrev pub told_blocks : List Span → Scoreboard × Bool → Scoreboard × Bool
+abbrev pub told_blocks : List Span → BoardView × Bool → BoardView × Bool
 told_blocks [] told = told
 told_blocks (block ∷ blocks) told = told_blocks blocks (told_block block told)
 
 -- the scoreboard after the blocks of a segment, up to the end of its options, and whether they told a new octet; without
 -- SACK they tell nothing
-abbrev pub scored : Segment → ControlBlock → Scoreboard × Bool
+abbrev pub scored : Segment → ConnectionView → BoardView × Bool
 scored segment c =
     if c.sack then told_blocks (blocks_of (looked_at segment.options)) (c.board, false) else (c.board, false)
 
 -- the timer: only an ACK of new octets samples the round trip and moves the timer (RFC 6298, sections 5.2 and 5.3)
-abbrev pub with_timing : ℕ → ℕ → ℕ → ControlBlock → ControlBlock
+abbrev pub with_timing : ℕ → ℕ → ℕ → ConnectionView → ConnectionView
 with_timing now granularity n c =
     if nat_lt 0 n then with_timer_moved now (with_sample now granularity c.board.una c) else c
 
@@ -82,7 +82,7 @@ abbrev pub is_current : Established → Segment → Bool
 is_current e segment = nat_lt e.wl1 segment.start || (e.wl1 == segment.start && nat_le e.wl2 segment.ack)
 
 -- the window is taken unless the segment is old (RFC 9293, section 3.10.7.4: SND.WL1 and SND.WL2)
-abbrev pub with_new_window : Segment → Established → ControlBlock → ControlBlock
+abbrev pub with_new_window : Segment → Established → ConnectionView → ConnectionView
 with_new_window segment e c =
     if is_current e segment
     then record c { widest = max c.widest (window_in c segment); established = Some (with_window (window_in c segment) segment e) }
@@ -91,11 +91,11 @@ with_new_window segment e c =
 -- What congestion control makes of the ACK
 
 -- what the blocks tell, where SACK was agreed; fresh says whether they told a new octet
-abbrev pub news_of : Bool → ControlBlock → Option News
+abbrev pub news_of : Bool → ConnectionView → Option News
 news_of fresh c = if c.sack then Some (record { fresh = fresh; lost = fresh && is_lost c.board.una c.board }) else None
 
--- what the ACK tells congestion control: where the connection stands after it
-abbrev pub ack_of_segment : Segment → ℕ → Bool → Established → Established → ControlBlock → Ack
+-- what the ACK tells congestion control: where the connection is after it
+abbrev pub ack_of_segment : Segment → ℕ → Bool → Established → Established → ConnectionView → Ack
 ack_of_segment segment n fresh before after c = record {
   smss = c.board.smss;
   una = c.board.una;
@@ -109,31 +109,31 @@ ack_of_segment segment n fresh before after c = record {
 }
 
 -- congestion control takes the ACK: the connection afterwards, and what follows
-abbrev pub responding : ControlBlock → Established → Ack → ControlBlock × Then
+abbrev pub responding : ConnectionView → Established → Ack → ConnectionView × Then
 responding c e ack =
     let response = acked ack e.congestion in
     (record c { established = Some (record e { congestion = response.0 }) }, response.1)
 
 -- the same of a segment, on the connection after it: nothing follows before the end of the handshake
-abbrev pub answering : Segment → ℕ → Bool → Established → ControlBlock → Option Established → ControlBlock × Then
+abbrev pub answering : Segment → ℕ → Bool → Established → ConnectionView → Option Established → ConnectionView × Then
 answering segment n fresh before c None = (c, Nothing)
 answering segment n fresh before c (Some after) = responding c after (ack_of_segment segment n fresh before after c)
 
 -- A segment that passed all checks, on a connection
 
 -- the octets of its blocks are SACKed (RFC 2018, section 5)
-abbrev pub with_blocks : Segment → ControlBlock → ControlBlock
+abbrev pub with_blocks : Segment → ConnectionView → ConnectionView
 with_blocks segment c = record c { board = (scored segment c).0 }
 
 -- the connection after the ack number, the SACK blocks, the timer and the window, and whether the blocks told a new octet
-abbrev pub with_ack : ℕ → Segment → Established → ControlBlock → ControlBlock × Bool
+abbrev pub with_ack : ℕ → Segment → Established → ConnectionView → ConnectionView × Bool
 with_ack now segment e c =
     let numbered = with_number segment c in
     let timed = with_timing now e.granularity_us (newly_acked c segment) (with_blocks segment numbered) in
     (with_new_window segment e timed, (scored segment numbered).1)
 
 -- a segment that passed all checks is taken: the connection afterwards, and what follows
-abbrev pub taking : ℕ → Segment → ControlBlock → Option Established → ControlBlock × Then
+abbrev pub taking : ℕ → Segment → ConnectionView → Option Established → ConnectionView × Then
 taking now segment c None = (c, Nothing)
 taking now segment c (Some e) =
     let after = with_ack now segment e c in
@@ -149,16 +149,16 @@ OnTheWay = State × ℕ
 -- limited transmit new octets alone (RFC 6675, section 5, step 3; RFC 3042)
 
 -- the segment that is sent next on a connection at this pipe: within the peer's window, while cwnd - pipe is at least SMSS
-abbrev pub next_by : Filling → ℕ → ControlBlock → Established → Option NextSegment
+abbrev pub next_by : Filling → ℕ → ConnectionView → Established → Option NextSegment
 next_by NextSeg on_the_way c e = step_c_segment e.rwnd on_the_way c.board e.congestion
 next_by NewData on_the_way c e = option_map (λ segment. New segment) (limited_segment e.rwnd on_the_way c.board e.congestion)
 
 -- the same; none before the end of the handshake
-abbrev pub next_found : Filling → ℕ → Option ControlBlock → Option NextSegment
+abbrev pub next_found : Filling → ℕ → Option ConnectionView → Option NextSegment
 next_found filling on_the_way connection = value_in None (next_by filling on_the_way) connection
 
 -- such a segment was sent at a moment: new octets move the sending place (SND.NXT), octets sent again leave it
-abbrev pub sent_as : ℕ → NextSegment → ControlBlock → ControlBlock
+abbrev pub sent_as : ℕ → NextSegment → ConnectionView → ConnectionView
 sent_as now (New segment) c = sent_on now segment c
 sent_as now sent c = clocked now (segment_of sent) c
 
@@ -169,17 +169,17 @@ octets_of segment = segment.end - segment.start
 -- what congestion control notes: where octets were sent again, HighRxt or RescueRxt moves (RFC 6675, section 4, NextSeg, rule
 -- 4, and section 5, step C.2); those of limited transmit are counted: ssthresh is set without them (RFC 5681, section 3.2,
 -- step 2)
-abbrev pub noted_by : Filling → NextSegment → Congestion → Congestion
+abbrev pub noted_by : Filling → NextSegment → CongView → CongView
 noted_by NextSeg sent w = noted sent w
 noted_by NewData sent w = with_limited (octets_of (segment_of sent)) w
 
 -- the same on a connection
-abbrev pub noted_on : Filling → NextSegment → ControlBlock → Option Established → ControlBlock
+abbrev pub noted_on : Filling → NextSegment → ConnectionView → Option Established → ConnectionView
 noted_on filling sent c None = c
 noted_on filling sent c (Some e) = record c { established = Some (record e { congestion = noted_by filling sent e.congestion }) }
 
 -- one such segment is put out at a moment, and its octets count as on the way (RFC 6675, section 5, steps 3 and C.4)
-abbrev pub one_filled : ℕ → Filling → NextSegment → Option ControlBlock → OnTheWay → OnTheWay
+abbrev pub one_filled : ℕ → Filling → NextSegment → Option ConnectionView → OnTheWay → OnTheWay
 one_filled now filling sent None t = t
 one_filled now filling sent (Some c) t = (
   with_segment now (segment_of sent) c (noted_on filling sent (sent_as now sent c) c.established) t.0,
@@ -192,7 +192,7 @@ sender_of (Ok t) = Ok t.0
 sender_of (Err halt) = Err halt
 
 -- Pipe of a connection, by its HighRxt (RFC 6675, section 4, SetPipe); 0 where it has none
-abbrev pub pipe_of : Option ControlBlock → ℕ
+abbrev pub pipe_of : Option ConnectionView → ℕ
 pipe_of connection = value_in 0 (λ c e. pipe e.congestion.high_rxt c.board) connection
 
 -- segments are sent at a moment from such a state on, until none is found (RFC 6675, section 5, step C.5)
@@ -206,17 +206,17 @@ abbrev pub filled : ℕ → Filling → State → Result State Halt
 filled now filling s = sender_of (filled_from now filling (s, pipe_of s.endpoint.connection))
 
 -- one segment is put out at a moment, where the outbox has a place for it
-abbrev pub put_segment : ℕ → Span → ControlBlock → ControlBlock → State → Result State Halt
+abbrev pub put_segment : ℕ → Span → ConnectionView → ConnectionView → State → Result State Halt
 put_segment now segment before after s =
     if has_place s.endpoint.outbox then Ok (with_segment now segment before after s) else Err Limit
 
 -- an entry into loss recovery has sent this segment again: HighRxt and RescueRxt are its end (RFC 6675, section 5, step 4.3)
-abbrev pub entered_on : Span → ControlBlock → Option Established → ControlBlock
+abbrev pub entered_on : Span → ConnectionView → Option Established → ConnectionView
 entered_on segment c None = c
 entered_on segment c (Some e) = record c { established = Some (record e { congestion = entered_to segment.end e.congestion }) }
 
 -- recovery begins: the segment at SND.UNA is sent again, unless its first octet is SACKed (RFC 6675, section 5, step 4.3)
-abbrev pub entry : ℕ → ControlBlock → State → Result State Halt
+abbrev pub entry : ℕ → ConnectionView → State → Result State Halt
 entry now c s =
     let segment = run_at c.board.una c.board in
     if nat_lt segment.start segment.end
@@ -225,7 +225,7 @@ entry now c s =
 
 -- what an ACK leads to, on the connection that it left: an entry is followed by step C (RFC 6675, section 5, step 4.5), a
 -- fast retransmit (RFC 5681, section 3.2, step 3) by ordinary sending
-abbrev pub led_to : ℕ → ControlBlock → State → Then → Result State Halt
+abbrev pub led_to : ℕ → ConnectionView → State → Then → Result State Halt
 led_to now c s Ordinary = ordinary now s
 led_to now c s StepC = filled now NextSeg s
 led_to now c s Entry = then_on (filled now NextSeg) (entry now c s)
@@ -235,7 +235,7 @@ led_to now c s (FastRetransmit segment) = then_on (ordinary now) (put_segment no
 led_to now c s Nothing = Ok s
 
 -- a segment that passed all checks is taken, and what follows is sent; its FIN comes after that
-abbrev pub taken : ℕ → Segment → ControlBlock → State → Option Established → Result State Halt
-taken now segment c s e =
+abbrev pub ack_taken : ℕ → Segment → ConnectionView → State → Option Established → Result State Halt
+ack_taken now segment c s e =
     let t = taking now segment c e in
     led_to now t.0 (with_block t.0 s) t.1

@@ -5,21 +5,21 @@ use Rattle.pd_host.specs.declared.halts.Halt.{Halt}
 use Rattle.pd_host.specs.declared.halts.Halt.TheVariants.{Unsupported}
 use Rattle.pd_host.specs.declared.rulings.Ruling.{Ruling}
 use Rattle.pd_host.specs.declared.rulings.Ruling.TheVariants.{NotRun, StrayRst, OutsideWindow, ExactRst, ChallengedRst, WithoutAck, FirstAck, RefusedAck, EarlyAck, OldAck}
-use Rattle.pd_timer.specs.Timer.{stopped}
-use Rattle.pd_host.specs.Acknowledgments.{taken}
+use Rattle.pd_timer.specs.Rto.{stopped}
+use Rattle.pd_host.specs.Acknowledgments.{ack_taken}
 use Rattle.pd_host.specs.Handshake.{length_of, opened_by, established_by, establishment_uses}
 use Rattle.pd_host.specs.Packets.{ack_of, refusal_of}
 use Rattle.pd_host.specs.ConnStates.{state_of, is_closed}
-use Rattle.pd_host.specs.ControlBlock.{ControlBlock, peer_fin_in, rcv_nxt}
+use Rattle.pd_host.specs.Connection.{ConnectionView, peer_fin_in, rcv_nxt}
 use Rattle.pd_host.specs.declared.endpoint.Endpoint.{Endpoint}
 use Rattle.pd_host.specs.declared.established.Established.{Established}
 use Rattle.pd_host.specs.declared.peer_fins.PeerFin.{PeerFin}
-use Rattle.pd_host.specs.declared.peer_fins.PeerFin.TheVariants.{Awaited, BeforeOurs, BehindOurs}
+use Rattle.pd_host.specs.declared.peer_fins.PeerFin.TheVariants.{Awaited, BeforeOurs, AfterOurs}
 use Rattle.pd_host.specs.declared.sender_state.State.{State}
-use Rattle.pd_host.specs.Sender.{beside, put_out, then_on}
+use Rattle.pd_host.specs.Host.{beside, put_out, then_on}
 
 -- the sequence number lies in the receive window
-abbrev pub is_in_window : ControlBlock → Segment → Bool
+abbrev pub is_in_window : ConnectionView → Segment → Bool
 is_in_window c segment = nat_le (rcv_nxt c) segment.start && nat_lt segment.start (rcv_nxt c + c.rcv_wnd)
 
 -- no FIN of the peer was taken
@@ -28,16 +28,16 @@ is_awaited Awaited = true
 is_awaited _ = false
 
 -- the peer's FIN is the next octet: it is the first, and nothing is missing before it
-abbrev pub is_next_fin : ControlBlock → Segment → Bool
+abbrev pub is_next_fin : ConnectionView → Segment → Bool
 is_next_fin c segment = is_awaited (peer_fin_in c.established) && segment.start == rcv_nxt c
 
 -- another FIN in the receive window
-abbrev pub is_stray_fin : ControlBlock → Segment → Bool
+abbrev pub is_stray_fin : ConnectionView → Segment → Bool
 is_stray_fin c segment = segment.flags.fin && (is_in_window c segment && not (is_next_fin c segment))
 
 -- the contents: data, a SYN, a FIN in the receive window that isn't the next octet, and whatever comes to a closed
 -- connection isn't run (own profile)
-abbrev pub check_contents : ControlBlock → Segment → Option Ruling
+abbrev pub check_contents : ConnectionView → Segment → Option Ruling
 check_contents c segment =
     if nat_lt 0 (length_of segment) || (segment.flags.syn || (is_stray_fin c segment || is_closed (state_of c)))
     then Some NotRun
@@ -45,13 +45,13 @@ check_contents c segment =
 
 -- the sequence number: outside the receive window an RST is dropped; any other segment is answered by an ACK and dropped
 -- (RFC 9293, section 3.10.7.4, first check)
-abbrev pub check_window : ControlBlock → Segment → Option Ruling
+abbrev pub check_window : ConnectionView → Segment → Option Ruling
 check_window c segment =
     if is_in_window c segment then None else Some (if segment.flags.rst then StrayRst else OutsideWindow)
 
 -- the RST flag: an RST at RCV.NXT resets the connection; elsewhere in the window it is answered by an ACK and dropped
 -- (RFC 9293, section 3.10.7.4, second check; RFC 5961, section 3.2)
-abbrev pub check_rst : ControlBlock → Segment → Option Ruling
+abbrev pub check_rst : ConnectionView → Segment → Option Ruling
 check_rst c segment =
     if segment.flags.rst then Some (if segment.start == rcv_nxt c then ExactRst else ChallengedRst) else None
 
@@ -61,14 +61,14 @@ check_ack_flag segment = if segment.flags.ack then None else Some WithoutAck
 
 -- the handshake: an ACK of our SYN, above SND.UNA and not of more than was sent, establishes the connection, and its FIN is
 -- looked at; any other is refused by an RST (RFC 9293, section 3.10.7.4, fifth check, SYN-RECEIVED)
-abbrev pub check_handshake : ControlBlock → Segment → Option Ruling
+abbrev pub check_handshake : ConnectionView → Segment → Option Ruling
 check_handshake c segment =
     if is_some c.established then None
     else Some (if nat_lt c.board.una segment.ack && nat_le segment.ack c.board.top then FirstAck else RefusedAck)
 
 -- the ack number: an ACK of what wasn't sent is answered by an ACK and dropped; of one below SND.UNA the FIN alone is looked
 -- at (RFC 9293, section 3.10.7.4, fifth check, ESTABLISHED)
-abbrev pub check_ack : ControlBlock → Segment → Option Ruling
+abbrev pub check_ack : ConnectionView → Segment → Option Ruling
 check_ack c segment =
     if nat_lt c.board.top segment.ack then Some EarlyAck
     else if nat_lt segment.ack c.board.una then Some OldAck
@@ -81,22 +81,22 @@ first_ruling (Some ruling ∷ checks) = Some ruling
 first_ruling (None ∷ checks) = first_ruling checks
 
 -- what becomes of a later segment; one that passes all checks has no ruling
-abbrev pub ruling_of : ControlBlock → Segment → Option Ruling
+abbrev pub ruling_of : ConnectionView → Segment → Option Ruling
 ruling_of c segment = first_ruling (
     check_contents c segment ∷ check_window c segment ∷ check_rst c segment
     ∷ check_ack_flag segment ∷ check_handshake c segment ∷ check_ack c segment ∷ [])
 
 -- an RST ends the connection for good (RFC 9293, section 3.10.7.4, second check; in the handshake too: own profile): its
 -- timer stops, and nothing is sent any more
-abbrev pub reset_of : ControlBlock → ControlBlock
+abbrev pub reset_of : ConnectionView → ConnectionView
 reset_of c = record c { reset = true; timer = stopped c.timer; timed = None }
 
 -- the endpoint with this connection
-abbrev pub with_connection : ControlBlock → Endpoint → Endpoint
+abbrev pub with_connection : ConnectionView → Endpoint → Endpoint
 with_connection c e = record e { connection = Some c }
 
 -- what comes of a segment that a check rules out, on the connection c of the state; one that passed them all is taken
-abbrev pub ruled : ℕ → Segment → ControlBlock → State → Option Ruling → Result State Halt
+abbrev pub ruled : ℕ → Segment → ConnectionView → State → Option Ruling → Result State Halt
 ruled now segment c s (Some NotRun) = Err Unsupported
 ruled now segment c s (Some StrayRst) = Ok s
 ruled now segment c s (Some OutsideWindow) = beside s (put_out now (ack_of c) s.endpoint)
@@ -110,7 +110,7 @@ ruled now segment c s (Some FirstAck) = Ok (record s {
 ruled now segment c s (Some RefusedAck) = beside s (put_out now (refusal_of segment.ack) s.endpoint)
 ruled now segment c s (Some EarlyAck) = beside s (put_out now (ack_of c) s.endpoint)
 ruled now segment c s (Some OldAck) = Ok s
-ruled now segment c s None = taken now segment c s c.established
+ruled now segment c s None = ack_taken now segment c s c.established
 
 -- The FIN (RFC 9293, section 3.10.7.4, eighth check)
 
@@ -122,15 +122,15 @@ goes_on (Some OldAck) = true
 goes_on None = true
 goes_on _ = false
 
--- the peer's FIN is taken: RCV.NXT lies behind it, and it came before ours or behind it (RFC 9293, section 3.10.7.4, eighth
+-- the peer's FIN is taken: RCV.NXT lies after it, and it came before ours or after it (RFC 9293, section 3.10.7.4, eighth
 -- check)
-abbrev pub with_peer_fin : ControlBlock → ControlBlock
+abbrev pub with_peer_fin : ConnectionView → ConnectionView
 with_peer_fin c = record c {
-  established = option_map {T = Established} (λ e. record e { peer_fin = if c.fin then BehindOurs else BeforeOurs }) c.established;
+  established = option_map {T = Established} (λ e. record e { peer_fin = if c.fin then AfterOurs else BeforeOurs }) c.established;
 }
 
 -- it is taken and answered by an ACK at a moment
-abbrev pub finished_on : ℕ → State → Option ControlBlock → Result State Halt
+abbrev pub finished_on : ℕ → State → Option ConnectionView → Result State Halt
 finished_on now s None = Ok s
 finished_on now s (Some c) = beside s (put_out now (ack_of (with_peer_fin c)) (with_connection (with_peer_fin c) s.endpoint))
 
@@ -139,11 +139,11 @@ abbrev pub finished_by : ℕ → Segment → Option Ruling → State → Result 
 finished_by now segment r s = if goes_on r && segment.flags.fin then finished_on now s s.endpoint.connection else Ok s
 
 -- a later segment: the ruling, and then the FIN
-abbrev pub passed_on : ℕ → Segment → ControlBlock → State → Option Ruling → Result State Halt
+abbrev pub passed_on : ℕ → Segment → ConnectionView → State → Option Ruling → Result State Halt
 passed_on now segment c s r = then_on (finished_by now segment r) (ruled now segment c s r)
 
 -- an arrival, by whether a connection was begun
-abbrev pub arrived_on : ℕ → Segment → State → Option ControlBlock → Result State Halt
+abbrev pub arrived_on : ℕ → Segment → State → Option ConnectionView → Result State Halt
 arrived_on now segment s None = opened_by now segment s
 arrived_on now segment s (Some c) = passed_on now segment c s (ruling_of c segment)
 

@@ -20,8 +20,8 @@ use Rattle.pd_host.specs.declared.streams.Stream.{Stream}
 use Rattle.pd_host.specs.declared.streams.Stream.TheVariants as stream
 use Rattle.pd_host.specs.Requests.{request_of}
 use Rattle.pd_settings.specs.declared.use_set.UseSet.{UseSet}
-use Rattle.pd_board.specs.Scoreboard.{written}
-use Rattle.pd_host.specs.ControlBlock.{ControlBlock}
+use Rattle.pd_board.specs.Board.{written}
+use Rattle.pd_host.specs.Connection.{ConnectionView}
 use Rattle.pd_host.specs.Sending.{ordinary_outside_recovery}
 use Rattle.pd_host.specs.declared.endpoint.Endpoint.{Endpoint}
 use Rattle.pd_host.specs.declared.sender_state.State.{State}
@@ -39,7 +39,7 @@ abbrev pub with_listener : Listener → State → State
 with_listener l s = record s { endpoint = record s.endpoint { listener = l } }
 
 -- the state with another connection
-abbrev pub with_stored : Option ControlBlock → State → State
+abbrev pub with_stored : Option ConnectionView → State → State
 with_stored c s = record s { endpoint = record s.endpoint { connection = c } }
 
 -- whether descriptor 3 is open
@@ -64,16 +64,16 @@ stream_in None = stream.Waiting
 stream_in (Some e) = e.stream
 
 -- descriptor 4 of a connection
-abbrev pub stream_of : ControlBlock → Stream
+abbrev pub stream_of : ConnectionView → Stream
 stream_of c = stream_in c.established
 
 -- whether descriptor 4 is open, on a connection if one was begun
-abbrev pub is_stream_open : Option ControlBlock → Bool
+abbrev pub is_stream_open : Option ConnectionView → Bool
 is_stream_open None = false
 is_stream_open (Some c) = is_open (stream_of c)
 
 -- whether a connection was begun that isn't accepted
-abbrev pub is_pending : Option ControlBlock → Bool
+abbrev pub is_pending : Option ConnectionView → Bool
 is_pending None = false
 is_pending (Some c) = is_waiting (stream_of c)
 
@@ -101,11 +101,11 @@ listen_reply s Listens Listening = answered s (Number 0)
 listen_reply s _ _ = answered s (Error Einval)
 
 -- the connection with descriptor 4 that far
-abbrev pub with_stream : Stream → ControlBlock → ControlBlock
+abbrev pub with_stream : Stream → ConnectionView → ConnectionView
 with_stream d c = record c { established = option_map {T = Established} (λ e. record e { stream = d }) c.established }
 
 -- `accept` hands out 4 where the connection was established, also if it was reset since, and isn't accepted; else EAGAIN
-abbrev pub handed_out : State → Option ControlBlock → Reply
+abbrev pub handed_out : State → Option ConnectionView → Reply
 handed_out s None = answered s (Error Eagain)
 handed_out s (Some c) =
     if is_some c.established && is_waiting (stream_of c)
@@ -118,7 +118,7 @@ accept_reply s Listens Listening = handed_out s s.endpoint.connection
 accept_reply s _ _ = answered s (Error Einval)
 
 -- Nagle's algorithm is switched on or off (RFC 9293, section 3.7.4)
-abbrev pub with_nagle : Bool → ControlBlock → ControlBlock
+abbrev pub with_nagle : Bool → ConnectionView → ConnectionView
 with_nagle on c = record c { established = option_map {T = Established} (λ e. record e { nagle = on }) c.established }
 
 -- `setsockopt` with `TCP_NODELAY`: 0; on 4 Nagle's algorithm is off where it is set
@@ -136,11 +136,11 @@ with_answer answer (Ok s) = Ok (s, answer)
 with_answer answer (Err halt) = Err halt
 
 -- how many octets `write` may still queue, by the setting `sndbuf`
-abbrev pub free_of : ℕ → ControlBlock → ℕ
+abbrev pub free_of : ℕ → ConnectionView → ℕ
 free_of sndbuf c = sndbuf - (c.board.end - c.board.una)
 
 -- the connection with octets more queued
-abbrev pub with_queued : ℕ → ControlBlock → ControlBlock
+abbrev pub with_queued : ℕ → ConnectionView → ConnectionView
 with_queued n c = record c { board = written n c.board }
 
 -- the settings that a `write` of some octets consults
@@ -148,13 +148,13 @@ abbrev pub write_uses : UseSet → UseSet
 write_uses uses = record uses { sndbuf = true }
 
 -- octets are queued, as many as there is room for, and sent as the windows let them; without room EAGAIN
-abbrev pub queued : ℕ → ℕ → ℕ → ControlBlock → State → Reply
+abbrev pub queued : ℕ → ℕ → ℕ → ConnectionView → State → Reply
 queued now n free c s =
     if free == 0 then answered s (Error Eagain)
     else with_answer (Number (min n free)) (ordinary_outside_recovery now c (with_stored (Some (with_queued (min n free) c)) s))
 
 -- `write` on an open 4: EPIPE after a reset, 0 for no octets
-abbrev pub written_on : ℕ → ℕ → Option ControlBlock → State → Reply
+abbrev pub written_on : ℕ → ℕ → Option ConnectionView → State → Reply
 written_on now n None s = answered s (Error Ebadf)
 written_on now n (Some c) s =
     if c.reset then answered s (Error Epipe)
@@ -166,16 +166,16 @@ abbrev pub write_reply : ℕ → State → ℕ → Descriptor → Reply
 write_reply now s n Listening = answered s (Error Einval)
 write_reply now s n Connected = written_on now n s.endpoint.connection s
 
--- our FIN is queued behind the data (RFC 9293, section 3.10.4)
-abbrev pub with_fin : ControlBlock → ControlBlock
+-- our FIN is queued after the data (RFC 9293, section 3.10.4)
+abbrev pub with_fin : ConnectionView → ConnectionView
 with_fin c = record (with_queued 1 c) { fin = true }
 
 -- the connection whose descriptor is closed; a FIN is queued unless it was reset
-abbrev pub closed_stream : ControlBlock → ControlBlock
+abbrev pub closed_stream : ConnectionView → ConnectionView
 closed_stream c = with_stream stream.Closed (if c.reset then c else with_fin c)
 
 -- `close` on an open 4: 0, and the FIN is sent as the windows let it
-abbrev pub closed_on : ℕ → Option ControlBlock → State → Reply
+abbrev pub closed_on : ℕ → Option ConnectionView → State → Reply
 closed_on now None s = answered s (Error Ebadf)
 closed_on now (Some c) s =
     let closed = with_stored (Some (closed_stream c)) s in

@@ -1,13 +1,13 @@
 -- The state of the sender by its name (RFC 9293, section 3.3.2).
 use Rattle.std.specs.Prelude.{◌==◌, Bool, true, false, Option, None, Some, if◌then◌else◌}
-use Rattle.pd_host.specs.ControlBlock.{ControlBlock}
+use Rattle.pd_host.specs.Connection.{ConnectionView}
 use Rattle.pd_host.specs.Handshake.{is_listening}
 use Rattle.pd_host.specs.declared.conn_states.ConnState.{ConnState}
 use Rattle.pd_host.specs.declared.conn_states.ConnState.TheVariants.{Closed, Listen, SynReceived, Established, FinWait1, FinWait2, CloseWait, Closing, LastAck, TimeWait}
 use Rattle.pd_host.specs.declared.established.Established as conn
 use Rattle.pd_host.specs.declared.listeners.Listener.{Listener}
 use Rattle.pd_host.specs.declared.peer_fins.PeerFin.{PeerFin}
-use Rattle.pd_host.specs.declared.peer_fins.PeerFin.TheVariants.{Awaited, BeforeOurs, BehindOurs}
+use Rattle.pd_host.specs.declared.peer_fins.PeerFin.TheVariants.{Awaited, BeforeOurs, AfterOurs}
 use Rattle.pd_host.specs.declared.sender_state.State.{State}
 
 -- from the end of the handshake on: by the peer's FIN, by whether ours is queued, and by whether all that is queued is
@@ -19,20 +19,20 @@ synchronized Awaited true true = FinWait2
 synchronized _ false acked = CloseWait
 synchronized BeforeOurs true false = LastAck
 synchronized BeforeOurs true true = Closed
-synchronized BehindOurs true false = Closing
-synchronized BehindOurs true true = TimeWait
+synchronized AfterOurs true false = Closing
+synchronized AfterOurs true true = TimeWait
 
 -- by whether the handshake has come to its end
-abbrev pub state_since : ControlBlock → Option conn.Established → ConnState
+abbrev pub state_since : ConnectionView → Option conn.Established → ConnState
 state_since c None = SynReceived
 state_since c (Some e) = synchronized e.peer_fin c.fin (c.board.una == c.board.end)
 
 -- the state of a connection that a SYN has begun; after an RST it is CLOSED, in the handshake too (own profile)
-abbrev pub state_of : ControlBlock → ConnState
+abbrev pub state_of : ConnectionView → ConnState
 state_of c = if c.reset then Closed else state_since c c.established
 
 -- the state by the listener and the connection
-abbrev pub state_on : Listener → Option ControlBlock → ConnState
+abbrev pub state_on : Listener → Option ConnectionView → ConnState
 state_on listener None = if is_listening listener then Listen else Closed
 state_on _ (Some c) = state_of c
 

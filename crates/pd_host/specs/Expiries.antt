@@ -3,10 +3,10 @@ use Rattle.std.specs.Prelude.{ℕ, nat_le, true, Option, Some, None, Result, if�
 use Rattle.pd_seg.specs.declared.sack_blocks.Span.{Span}
 use Rattle.pd_seg.specs.declared.segments.Segment.{Segment}
 use Rattle.pd_board.specs.Choice.{run_at}
-use Rattle.pd_board.specs.Scoreboard.{sent_to, unmarked}
-use Rattle.pd_recover.specs.Congestion.{timed_out}
-use Rattle.pd_timer.specs.Timer.{backed_off}
-use Rattle.pd_host.specs.ControlBlock.{ControlBlock}
+use Rattle.pd_board.specs.Board.{sent_to, unmarked}
+use Rattle.pd_recover.specs.Cong.{timed_out}
+use Rattle.pd_timer.specs.Rto.{expired_rto}
+use Rattle.pd_host.specs.Connection.{ConnectionView}
 use Rattle.pd_host.specs.Packets.{data_of, syn_ack_of}
 use Rattle.pd_host.specs.Sending.{repeated, places_left, with_packet_sent, with_block}
 use Rattle.pd_host.specs.declared.established.Established.{Established}
@@ -23,48 +23,48 @@ due_by until None = None
 due_by until (Some at) = if nat_le at until then Some at else None
 
 -- RTO is doubled, the timer starts anew, and what is sent again isn't timed (RFC 6298, sections 3, 5.5 and 5.6)
-abbrev pub with_backoff : ℕ → ControlBlock → ControlBlock
-with_backoff at c = record c { timer = backed_off at c.timer; timed = None }
+abbrev pub with_backoff : ℕ → ConnectionView → ConnectionView
+with_backoff at c = record c { timer = expired_rto at c.timer; timed = None }
 
 -- in the handshake the SYN/ACK is sent again, which is noted (RFC 5681, section 3.1; RFC 6298, section 5.7)
-abbrev pub resent_by : ℕ → ControlBlock → ControlBlock
+abbrev pub resent_by : ℕ → ConnectionView → ConnectionView
 resent_by at c = record (with_backoff at c) { resent = true }
 
 -- later the window shrinks to one segment, and no octet counts as SACKed (RFC 5681, section 3.1; RFC 2018, section 5;
 -- RFC 6675, section 5.1)
-abbrev pub collapsed : Established → ControlBlock → ControlBlock
+abbrev pub collapsed : Established → ConnectionView → ConnectionView
 collapsed e c = record c {
   board = unmarked c.board;
   established = Some (record e { congestion = timed_out c.board.smss c.board.una c.board.top e.congestion });
 }
 
 -- the segment that is sent again: the one at SND.UNA, of which no octet counts as SACKed (RFC 6298, section 5.4)
-abbrev pub first_again : ControlBlock → Span
+abbrev pub first_again : ConnectionView → Span
 first_again c = run_at c.board.una (unmarked c.board)
 
--- the connection after an expiry behind the handshake: the window collapses, and sending goes on behind the segment that is
+-- the connection after an expiry after the handshake: the window collapses, and sending goes on after the segment that is
 -- sent again (RFC 6298, section 5.4)
-abbrev pub expired_by : ℕ → Established → ControlBlock → ControlBlock
+abbrev pub expired_by : ℕ → Established → ConnectionView → ConnectionView
 expired_by at e c =
     let d = collapsed e (with_backoff at c) in
     record d { board = sent_to (first_again c).end d.board }
 
 -- which segment an expiry sends again
-abbrev pub segment_again : ControlBlock → Option Established → Segment
+abbrev pub segment_again : ConnectionView → Option Established → Segment
 segment_again c None = syn_ack_of c
 segment_again c (Some e) = data_of c (first_again c)
 
 -- the connection after an expiry at a moment
-abbrev pub block_expired : ℕ → ControlBlock → Option Established → ControlBlock
+abbrev pub block_expired : ℕ → ConnectionView → Option Established → ConnectionView
 block_expired at c None = resent_by at c
 block_expired at c (Some e) = expired_by at e c
 
 -- an expiry on a connection
-abbrev pub expired_on : ℕ → ControlBlock → Option Established → State → State
+abbrev pub expired_on : ℕ → ConnectionView → Option Established → State → State
 expired_on at c e s = with_packet_sent at (segment_again c e) (with_block (block_expired at c e) s)
 
 -- an expiry at a moment
-abbrev pub expired : ℕ → Option ControlBlock → State → State
+abbrev pub expired : ℕ → Option ConnectionView → State → State
 expired at None s = s
 expired at (Some c) s = expired_on at c c.established s
 

@@ -1,8 +1,8 @@
 -- The numbers of a connection, as those who observe it see them.
 use Rattle.std.specs.Prelude.{Bool, true, false, ℕ, Option, option_map}
 use Rattle.pd_board.specs.Loss.{pipe}
-use Rattle.pd_recover.specs.Congestion.{Congestion}
-use Rattle.pd_host.specs.ControlBlock.{ControlBlock}
+use Rattle.pd_recover.specs.Cong.{CongView}
+use Rattle.pd_host.specs.Connection.{ConnectionView}
 use Rattle.pd_host.specs.Holds.{wanted}
 use Rattle.pd_host.specs.Sending.{past_sacked}
 use Rattle.pd_host.specs.declared.established.Established.{Established}
@@ -13,7 +13,7 @@ use Rattle.pd_host.specs.declared.figures.Windows.{Windows}
 use Rattle.pd_host.specs.declared.sender_state.State.{State}
 
 -- the recovery that goes on: with SACK that of RFC 6675, by its pipe, else that of RFC 5681, section 3.2
-abbrev pub recovery_of : ControlBlock → Congestion → Recovery
+abbrev pub recovery_of : ConnectionView → CongView → Recovery
 recovery_of c w = by w.recovering c.sack
   where
     by : Bool → Bool → Recovery
@@ -22,7 +22,7 @@ recovery_of c w = by w.recovering c.sack
     by true false = WithoutSack
 
 -- the windows, from the end of the handshake on
-abbrev pub windows_of : ControlBlock → Option Windows
+abbrev pub windows_of : ConnectionView → Option Windows
 windows_of c = option_map {T = Established} windows c.established
   where
     windows : Established → Windows
@@ -35,7 +35,7 @@ windows_of c = option_map {T = Established} windows c.established
     }
 
 -- the numbers of a connection (RFC 9293, section 3.3.1; RFC 6298, section 2)
-abbrev pub figures_of : ControlBlock → Figures
+abbrev pub figures_of : ConnectionView → Figures
 figures_of c = record {
   smss = c.board.smss;
   una = c.board.una;
@@ -49,9 +49,9 @@ figures_of c = record {
 
 -- the same of the sender, once a SYN has begun a connection
 abbrev pub figures_in : State → Option Figures
-figures_in s = option_map {T = ControlBlock} figures_of s.endpoint.connection
+figures_in s = option_map {T = ConnectionView} figures_of s.endpoint.connection
 
 -- once a SYN has begun a connection, the octet that has to lie within the windows for its next segment to leave, its sending
 -- place past SACKed octets
 abbrev pub wanted_in : State → Option ℕ
-wanted_in s = option_map {T = ControlBlock} (λ c. wanted (past_sacked c)) s.endpoint.connection
+wanted_in s = option_map {T = ConnectionView} (λ c. wanted (past_sacked c)) s.endpoint.connection

@@ -7,7 +7,7 @@ use Rattle.pd_host.specs.Arrivals.{arrived}
 use Rattle.pd_host.specs.Calls.{called}
 use Rattle.pd_host.specs.Expiries.{advanced}
 use Rattle.pd_host.specs.Requests.{request_of}
-use Rattle.pd_host.specs.Sender.{queued_to}
+use Rattle.pd_host.specs.Host.{queued_to}
 use Rattle.pd_host.specs.declared.requests.Operation.TheVariants.{Write, Close}
 use Rattle.pd_host.specs.declared.requests.Request.{Request}
 use Rattle.pd_host.specs.declared.requests.Request.TheVariants.{On}

@@ -18,13 +18,13 @@ use Rattle.pd_host.specs.declared.scaling.Scaling.{Scaling}
 use Rattle.pd_host.specs.declared.streams.Stream.TheVariants.{Waiting}
 use Rattle.pd_host.specs.Packets.{peer_count, syn_ack_of}
 use Rattle.pd_seg.specs.declared.sack_blocks.Span.{Span}
-use Rattle.pd_board.specs.Scoreboard.{opened, acknowledged}
-use Rattle.pd_recover.specs.Congestion as congestion
-use Rattle.pd_timer.specs.Timer.{initial, started}
+use Rattle.pd_board.specs.Board.{opened, acknowledged}
+use Rattle.pd_recover.specs.Cong as congestion
+use Rattle.pd_timer.specs.Rto.{initial, started}
 use Rattle.pd_host.specs.Timing.{with_sample, with_timer_settled}
-use Rattle.pd_host.specs.ControlBlock.{ControlBlock}
+use Rattle.pd_host.specs.Connection.{ConnectionView}
 use Rattle.pd_host.specs.declared.sender_state.State.{State}
-use Rattle.pd_host.specs.Sender.{beside, put_out}
+use Rattle.pd_host.specs.Host.{beside, put_out}
 
 -- the octets of data in a segment
 abbrev pub length_of : Segment → ℕ
@@ -106,7 +106,7 @@ syn_octet = record { start = 0; end = 1 }
 
 -- the connection after a SYN at a moment: our SYN is sent, which starts the timer, and timed (RFC 6298, sections 3 and
 -- 5.1), and the window of the peer's SYN isn't shifted (RFC 7323, section 2.2)
-abbrev pub block_begun : ℕ → Settings → Segment → ControlBlock
+abbrev pub block_begun : ℕ → Settings → Segment → ConnectionView
 block_begun now settings syn = record {
   announced = settings.mss;
   sack = is_sack_agreed settings (offers_of syn.options);
@@ -127,7 +127,7 @@ abbrev pub syn_uses : UseSet → UseSet
 syn_uses uses = record uses { mss = true; sack = true; wscale = true; rcv_wnd = true; min_rto_us = true; max_rto_us = true }
 
 -- the connection begins, and the SYN/ACK is put out
-abbrev pub answered_syn : ℕ → ControlBlock → State → Result State Halt
+abbrev pub answered_syn : ℕ → ConnectionView → State → Result State Halt
 answered_syn now c s =
     beside (record s { uses = syn_uses s.uses }) (put_out now (syn_ack_of c) (record s.endpoint { connection = Some c }))
 
@@ -139,7 +139,7 @@ opened_by now segment s =
     else Err Unsupported
 
 -- the window that a later segment tells, shifted by the peer's count (RFC 7323, section 2.3)
-abbrev pub window_in : ControlBlock → Segment → ℕ
+abbrev pub window_in : ConnectionView → Segment → ℕ
 window_in c segment = segment.win * 2 ^ peer_count c.scaling
 
 -- the window is taken from a segment (RFC 9293, section 3.10.7.4: SND.WND, SND.WL1 and SND.WL2)
@@ -149,25 +149,25 @@ with_window window segment e = record e { rwnd = window; wl1 = segment.start; wl
 -- what a connection has from the end of its handshake on: the window, Nagle's algorithm and the clock's granularity as the
 -- settings say, the initial congestion window (RFC 5681, section 3.1; RFC 6928, section 2), a descriptor that `accept` has
 -- still to hand out, and the peer's FIN still to come
-abbrev pub established_with : Settings → Segment → ControlBlock → Established
+abbrev pub established_with : Settings → Segment → ConnectionView → Established
 established_with settings segment c = record {
   rwnd = window_in c segment;
   wl1 = segment.start;
   wl2 = segment.ack;
   nagle = settings.nagle;
   granularity_us = settings.granularity_us;
-  congestion = congestion.begun settings.initial_window settings.initial_ssthresh c.board.smss c.resent;
+  congestion = congestion.begun settings c.board.smss c.resent;
   stream = Waiting;
   peer_fin = Awaited;
 }
 
 -- our SYN is acknowledged
-abbrev pub syn_acked : ControlBlock → ControlBlock
+abbrev pub syn_acked : ConnectionView → ConnectionView
 syn_acked c = record c { board = acknowledged 1 c.board }
 
 -- the handshake is finished at a moment: our SYN is acknowledged, which gives the first sample unless it was sent again, the
 -- timer stops, and the window is taken (RFC 9293, section 3.10.7.4, fifth check, SYN-RECEIVED)
-abbrev pub established_by : ℕ → Settings → Segment → ControlBlock → ControlBlock
+abbrev pub established_by : ℕ → Settings → Segment → ConnectionView → ConnectionView
 established_by now settings segment c = record (with_timer_settled (with_sample now settings.granularity_us 1 (syn_acked c))) {
   widest = max c.widest (window_in c segment);
   established = Some (established_with settings segment c);
@@ -175,4 +175,4 @@ established_by now settings segment c = record (with_timer_settled (with_sample 
 
 -- the settings that the establishment consults
 abbrev pub establishment_uses : UseSet → UseSet
-establishment_uses uses = record uses { nagle = true; initial_ssthresh = true; initial_window = true; granularity_us = true }
+establishment_uses uses = congestion.begun_uses (record uses { nagle = true; granularity_us = true })

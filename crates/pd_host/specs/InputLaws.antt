@@ -9,42 +9,42 @@ use Rattle.pd_seg.specs.declared.segments.Segment.{Segment}
 use Rattle.pd_seg.specs.declared.segments.Sent.{Sent}
 use Rattle.pd_host.specs.Arrivals.{is_in_window, arrived}
 use Rattle.pd_host.specs.Calls.{called}
-use Rattle.pd_host.specs.ControlBlock.{ControlBlock, rcv_nxt}
+use Rattle.pd_host.specs.Connection.{ConnectionView, rcv_nxt}
 use Rattle.pd_host.specs.Expiries.{advanced}
 use Rattle.pd_host.specs.Laws.{AreInOrder, IsUpTo}
-use Rattle.pd_host.specs.Sender.{Sender}
+use Rattle.pd_host.specs.Host.{HostView}
 use Rattle.pd_host.specs.declared.sender_state.State.{State}
 
 -- a segment with a number outside the receive window leaves the connection as it is (RFC 9293, section 3.10.7.4;
 -- RFC 5961, section 3.2)
 abbrev pub OutsideIsHarmless : Type 0
 OutsideIsHarmless =
-    (segment : Segment) (now : ℕ) (s t : State) (c : ControlBlock) → s.endpoint.connection ≡ Some c
+    (segment : Segment) (now : ℕ) (s t : State) (c : ConnectionView) → s.endpoint.connection ≡ Some c
     → is_in_window c segment ≡ false → arrived segment now s ≡ Ok t → t.endpoint.connection ≡ Some c
 
 -- nothing but an RST at RCV.NXT resets a connection (RFC 5961, section 3)
 abbrev pub OnlyAnExactRstResets : Type 0
 OnlyAnExactRstResets =
-    (segment : Segment) (now : ℕ) (s t : State) (c d : ControlBlock) → s.endpoint.connection ≡ Some c
+    (segment : Segment) (now : ℕ) (s t : State) (c d : ConnectionView) → s.endpoint.connection ≡ Some c
     → t.endpoint.connection ≡ Some d → c.reset ≡ false → d.reset ≡ true → arrived segment now s ≡ Ok t
     → (segment.flags.rst ≡ true) × (segment.start ≡ rcv_nxt c)
 
--- what was put out at a moment stands behind the packets that nobody has taken, and carries that moment
-abbrev pub IsBehind : ℕ → State → State → Type 0
-IsBehind now s t =
+-- what was put out at a moment follows the packets that nobody has taken, and carries that moment
+abbrev pub IsAfter : ℕ → State → State → Type 0
+IsAfter now s t =
     (packets : List Sent) × AllByRecursion (λ p. p.at ≡ now) packets × (t.endpoint.outbox ≡ s.endpoint.outbox ++ packets)
 
 -- so does what an arrival puts out
-abbrev pub PutsOutBehind : Type 0
-PutsOutBehind = (segment : Segment) (now : ℕ) (s t : State) → arrived segment now s ≡ Ok t → IsBehind now s t
+abbrev pub PutsOutAfter : Type 0
+PutsOutAfter = (segment : Segment) (now : ℕ) (s t : State) → arrived segment now s ≡ Ok t → IsAfter now s t
 
 -- and what a call puts out
-abbrev pub CallsPutOutBehind : Type 0
-CallsPutOutBehind = (call : Call) (now : ℕ) (s t : State) (answer : Answer) → called call now s ≡ Ok (t, answer) → IsBehind now s t
+abbrev pub CallsPutOutAfter : Type 0
+CallsPutOutAfter = (call : Call) (now : ℕ) (s t : State) (answer : Answer) → called call now s ≡ Ok (t, answer) → IsAfter now s t
 
--- what the expiries up to a moment put out stands behind the others, in the order of its moments, none of them later
-abbrev pub AdvancesPutOutBehind : Type 0
-AdvancesPutOutBehind =
+-- what the expiries up to a moment put out follows the others, in the order of its moments, none of them later
+abbrev pub AdvancesPutOutAfter : Type 0
+AdvancesPutOutAfter =
     (until : ℕ) (s t : State) → advanced until s ≡ Ok t
     → (packets : List Sent) × AreInOrder until packets × (t.endpoint.outbox ≡ s.endpoint.outbox ++ packets)
 
@@ -53,7 +53,7 @@ abbrev pub rebound : Settings → State → State
 rebound settings s = record s { settings = settings }
 
 -- the same host with other settings held
-abbrev pub rebound_host : Settings → Sender → Sender
+abbrev pub rebound_host : Settings → HostView → HostView
 rebound_host settings host = record host { state = rebound settings host.state }
 
 -- other settings that are held leave a connection's timer and the packets as they are

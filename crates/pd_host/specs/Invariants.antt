@@ -5,17 +5,17 @@ use Rattle.pd_script.specs.declared.calls.Call.{Call}
 use Rattle.pd_seg.specs.declared.answers.Answer.{Answer}
 use Rattle.pd_seg.specs.declared.segments.Segment.{Segment}
 use Rattle.pd_board.specs.Octets.{contains, octets_where}
-use Rattle.pd_board.specs.Scoreboard.{Scoreboard, IsScoreboard}
+use Rattle.pd_board.specs.Board.{BoardView, IsBoardView}
 use Rattle.pd_recover.specs.Laws.{IsWithin}
 use Rattle.pd_host.specs.Arrivals.{arrived}
 use Rattle.pd_host.specs.Calls.{called, stream_in}
-use Rattle.pd_host.specs.ControlBlock.{ControlBlock, peer_fin_in}
+use Rattle.pd_host.specs.Connection.{ConnectionView, peer_fin_in}
 use Rattle.pd_host.specs.Expiries.{advanced}
 use Rattle.pd_host.specs.Laws.{IsUpTo}
-use Rattle.pd_host.specs.Sender.{Sender, fresh, without_oldest, queued_to, IsShort}
+use Rattle.pd_host.specs.Host.{HostView, fresh_host, without_oldest, queued_to, IsShort}
 use Rattle.pd_host.specs.declared.established.Established.{Established}
 use Rattle.pd_host.specs.declared.halts.Halt.TheVariants.{Unsupported}
-use Rattle.pd_host.specs.declared.peer_fins.PeerFin.TheVariants.{BehindOurs}
+use Rattle.pd_host.specs.declared.peer_fins.PeerFin.TheVariants.{AfterOurs}
 use Rattle.pd_host.specs.declared.sender_state.State.{State}
 use Rattle.pd_host.specs.declared.streams.Stream.TheVariants as stream
 use Rattle.pd_host.specs.declared.timings.Timing.{Timing}
@@ -26,14 +26,14 @@ pub record IsAgreed (b : Settings) (announced smss rcv_wnd : ℕ) : Type 0 where
   pub no_longer : smss ≤ b.mss
   pub window : rcv_wnd ≡ b.rcv_wnd
 
--- where our FIN is queued descriptor 4 is closed, so that nothing is queued behind it (RFC 9293, section 3.10.4); where a
--- FIN of the peer is noted as behind ours, ours is queued
+-- where our FIN is queued descriptor 4 is closed, so that nothing is queued after it (RFC 9293, section 3.10.4); where a
+-- FIN of the peer is noted as after ours, ours is queued
 abbrev pub IsEnding : Bool → Option Established → Type 0
-IsEnding fin o = (fin ≡ true → stream_in o ≡ stream.Closed) × (peer_fin_in o ≡ BehindOurs → fin ≡ true)
+IsEnding fin o = (fin ≡ true → stream_in o ≡ stream.Closed) × (peer_fin_in o ≡ AfterOurs → fin ≡ true)
 
 -- the numbers that are sent by are in order, and what is SACKed was sent and isn't acknowledged (RFC 9293, section 3.3.1;
 -- RFC 2018, section 3)
-pub record IsOrdered (s : Scoreboard) : Type 0 where
+pub record IsOrdered (s : BoardView) : Type 0 where
   pub smss_low : 64 ≤ s.smss
   pub smss_high : s.smss ≤ 65495
   pub una_next : s.una ≤ s.next
@@ -69,7 +69,7 @@ pub record IsTimed (now una top : ℕ) (t : Timing) : Type 0 where
   pub past : t.sent_at ≤ now
 
 -- a connection that the rules reach at a moment
-pub record IsReached (b : Settings) (now : ℕ) (c : ControlBlock) : Type 0 where
+pub record IsReached (b : Settings) (now : ℕ) (c : ConnectionView) : Type 0 where
   pub agreed : IsAgreed b c.announced c.board.smss c.rcv_wnd
   pub board : IsOrdered c.board
   -- no more is queued than the setting `sndbuf` and our FIN
@@ -89,7 +89,7 @@ abbrev pub RecoversBelow : ℕ → Option Established → Type 0
 RecoversBelow una o = IfSome o (λ e. e.congestion.recovering ≡ true → una < e.congestion.recovery_point)
 
 -- so it is on a connection where SACK was agreed
-abbrev pub IsBelowPoint : ControlBlock → Type 0
+abbrev pub IsBelowPoint : ConnectionView → Type 0
 IsBelowPoint c = c.sack ≡ true → RecoversBelow c.board.una c.established
 
 -- a state that the rules reach at a moment
@@ -100,7 +100,7 @@ pub record IsLawful (now : ℕ) (s : State) : Type 0 where
 
 -- so is the first,
 abbrev pub StartsLawful : Type 0
-StartsLawful = (settings : Settings) → IsLawful 0 (fresh settings).state
+StartsLawful = (settings : Settings) → IsLawful 0 (fresh_host settings).state
 
 -- and each that comes of the expiries up to a later moment,
 abbrev pub AdvancesStayLawful : Type 0
@@ -118,13 +118,13 @@ CallsStayLawful =
 
 -- and of taking the oldest packet
 abbrev pub TakingStaysLawful : Type 0
-TakingStaysLawful = (now : ℕ) (sender : Sender) → IsLawful now sender.state → IsLawful now (without_oldest sender).state
+TakingStaysLawful = (now : ℕ) (sender : HostView) → IsLawful now sender.state → IsLawful now (without_oldest sender).state
 
 -- while its numbers are below 2^31 a connection's board is one of those that the scoreboard's laws speak of
-abbrev pub BoardsAreScoreboards : Type 0
-BoardsAreScoreboards =
-    (now : ℕ) (s : State) (c : ControlBlock) → IsLawful now s → s.endpoint.connection ≡ Some c → c.board.end < 2 ^ 31
-    → IsScoreboard c.board
+abbrev pub BoardsAreLawful : Type 0
+BoardsAreLawful =
+    (now : ℕ) (s : State) (c : ConnectionView) → IsLawful now s → s.endpoint.connection ≡ Some c → c.board.end < 2 ^ 31
+    → IsBoardView c.board
 
 -- and where a call may be made, they are so after it
 abbrev pub CallsStayInRange : Type 0
@@ -136,12 +136,12 @@ CallsStayInRange =
 -- section 3.10.7.4, second check)
 pub record EndsForGood : Type 0 where
   pub arrivals :
-      (segment : Segment) (now : ℕ) (s : State) (c : ControlBlock) → s.endpoint.connection ≡ Some c
+      (segment : Segment) (now : ℕ) (s : State) (c : ConnectionView) → s.endpoint.connection ≡ Some c
       → c.reset ≡ true → arrived segment now s ≡ Err Unsupported
   pub expiries :
-      (now until : ℕ) (s : State) (c : ControlBlock) → IsLawful now s
+      (now until : ℕ) (s : State) (c : ConnectionView) → IsLawful now s
       → s.endpoint.connection ≡ Some c → c.reset ≡ true → advanced until s ≡ Ok s
   pub calls :
-      (call : Call) (now : ℕ) (s t : State) (answer : Answer) (c d : ControlBlock) → s.endpoint.connection ≡ Some c
+      (call : Call) (now : ℕ) (s t : State) (answer : Answer) (c d : ConnectionView) → s.endpoint.connection ≡ Some c
       → t.endpoint.connection ≡ Some d → c.reset ≡ true → called call now s ≡ Ok (t, answer)
       → (d.reset ≡ true) × (t.endpoint.outbox ≡ s.endpoint.outbox)

@@ -9,12 +9,12 @@ use Rattle.pd_seg.specs.declared.segments.Sent.{Sent}
 use Rattle.pd_timer.specs.Laws.{GoesBy}
 use Rattle.pd_host.specs.Arrivals.{arrived}
 use Rattle.pd_host.specs.Calls.{called}
-use Rattle.pd_host.specs.ControlBlock.{ControlBlock}
+use Rattle.pd_host.specs.Connection.{ConnectionView}
 use Rattle.pd_host.specs.Expiries.{advanced, deadline_of}
-use Rattle.pd_host.specs.Sender.{Sender, fresh, without_oldest}
+use Rattle.pd_host.specs.Host.{HostView, fresh_host, without_oldest}
 use Rattle.pd_host.specs.declared.sender_state.State.{State}
 
--- packets stand in the order of their moments, none of which is later than this one
+-- packets are in the order of their moments, none of which is later than this one
 abbrev pub AreInOrder : ℕ → List Sent → Type 0
 AreInOrder now [] = ⊤
 AreInOrder now (p ∷ packets) = (p.at ≤ now) × (AllByRecursion (λ q. p.at ≤ q.at) packets × AreInOrder now packets)
@@ -28,13 +28,13 @@ pub record IsUpTo (b : Settings) (now : ℕ) (s : State) : Type 0 where
   pub deadline : IfSome (deadline_of s) (λ at. (now < at) × (at ≤ now + b.max_rto_us))
 
 -- the settings that the connection goes by which one more input leaves: those held where the input begins it, else its own
-abbrev pub begun_under : (held b : Settings) → Option ControlBlock → Settings
+abbrev pub begun_under : (held b : Settings) → Option ConnectionView → Settings
 begun_under held b None = held
 begun_under held b (Some c) = b
 
 -- so it is at the start, where no connection was begun,
 abbrev pub StartsUpToDate : Type 0
-StartsUpToDate = (settings : Settings) → IsUpTo settings 0 (fresh settings).state
+StartsUpToDate = (settings : Settings) → IsUpTo settings 0 (fresh_host settings).state
 
 -- at a later moment after all expiries up to it,
 abbrev pub AdvancesKeepUp : Type 0
@@ -56,4 +56,4 @@ CallsKeepUp =
 
 -- and without its oldest packet
 abbrev pub TakingKeepsUp : Type 0
-TakingKeepsUp = (b : Settings) (now : ℕ) (sender : Sender) → IsUpTo b now sender.state → IsUpTo b now (without_oldest sender).state
+TakingKeepsUp = (b : Settings) (now : ℕ) (sender : HostView) → IsUpTo b now sender.state → IsUpTo b now (without_oldest sender).state

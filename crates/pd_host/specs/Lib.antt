@@ -1,8 +1,8 @@
 -- The definitions that the contracts cite.
 pub use Rattle.pd_settings.specs.Settings
-pub mod ControlBlock
+pub mod Connection
 pub mod Places
-pub mod Sender
+pub mod Host
 pub mod Packets
 pub mod Timing
 pub mod Requests

@@ -6,7 +6,7 @@ use Rattle.pd_seg.specs.declared.option_list.SegOption.TheVariants.{Mss, Wscale,
 use Rattle.pd_seg.specs.declared.sack_blocks.Span.{Span}
 use Rattle.pd_seg.specs.declared.segments.Segment.{Segment}
 use Rattle.pd_host.specs.declared.scaling.Scaling.{Scaling}
-use Rattle.pd_host.specs.ControlBlock.{ControlBlock, rcv_nxt, data_end}
+use Rattle.pd_host.specs.Connection.{ConnectionView, rcv_nxt, data_end}
 
 -- a segment without flags
 abbrev pub no_flags : Flags
@@ -24,11 +24,11 @@ peer_count (Some s) = s.peer
 
 -- the window field of a segment that is no SYN: the receive window, shifted by our count, as far as 16 bits hold it
 -- (RFC 7323, section 2.3)
-abbrev pub shifted_window : ControlBlock → ℕ
+abbrev pub shifted_window : ConnectionView → ℕ
 shifted_window c = min (c.rcv_wnd / 2 ^ own_count c.scaling) 65535
 
 -- an ACK: `. top:top(0)` (RFC 9293, section 3.10.7.4)
-abbrev pub ack_of : ControlBlock → Segment
+abbrev pub ack_of : ConnectionView → Segment
 ack_of c = record {
   flags = record no_flags { ack = true };
   start = c.board.top;
@@ -39,15 +39,15 @@ ack_of c = record {
 }
 
 -- the segment covers our FIN, the last octet queued
-abbrev pub covers_fin : ControlBlock → Span → Bool
+abbrev pub covers_fin : ConnectionView → Span → Bool
 covers_fin c segment = c.fin && (nat_lt segment.start c.board.end && nat_le c.board.end segment.end)
 
 -- it carries the last octet of data that is queued (RFC 9293, section 3.9.1.2: PUSH)
-abbrev pub ends_data : ControlBlock → Span → Bool
+abbrev pub ends_data : ConnectionView → Span → Bool
 ends_data c segment = nat_lt segment.start (data_end c) && nat_le (data_end c) segment.end
 
 -- a segment with these octets of data; our FIN has no part in its written end and length (RFC 9293, section 3.4)
-abbrev pub data_of : ControlBlock → Span → Segment
+abbrev pub data_of : ConnectionView → Span → Segment
 data_of c segment = record {
   flags = record no_flags { fin = covers_fin c segment; psh = ends_data c segment; ack = true };
   start = segment.start;
@@ -68,7 +68,7 @@ scale_options None = []
 scale_options (Some s) = Nop ∷ Wscale s.own ∷ []
 
 -- the SYN/ACK: its window isn't shifted (RFC 9293, section 3.10.7.2; RFC 7323, section 2.2)
-abbrev pub syn_ack_of : ControlBlock → Segment
+abbrev pub syn_ack_of : ConnectionView → Segment
 syn_ack_of c = record {
   flags = record no_flags { syn = true; ack = true };
   start = 0;

@@ -1,4 +1,4 @@
--- How many packets stand in the outbox.
+-- How many packets are in the outbox.
 use Rattle.std.specs.Prelude.{ℕ, nat_lt, Bool, List, length}
 use Rattle.pd_seg.specs.declared.segments.Sent.{Sent}
 

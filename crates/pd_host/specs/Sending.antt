@@ -3,8 +3,8 @@ use Rattle.std.specs.Prelude.{ℕ, ◌+◌, ◌-◌, ◌*◌, nat_lt, nat_le, mi
 use Rattle.pd_seg.specs.declared.sack_blocks.Span.{Span}
 use Rattle.pd_seg.specs.declared.segments.Segment.{Segment}
 use Rattle.pd_board.specs.Choice.{run_at}
-use Rattle.pd_board.specs.Scoreboard.{sent_to, skipped}
-use Rattle.pd_host.specs.ControlBlock.{ControlBlock}
+use Rattle.pd_board.specs.Board.{sent_to, skipped}
+use Rattle.pd_host.specs.Connection.{ConnectionView}
 use Rattle.pd_host.specs.Packets.{data_of, covers_fin}
 use Rattle.pd_host.specs.Places.{most_packets}
 use Rattle.pd_host.specs.Timing.{clocked}
@@ -16,12 +16,12 @@ use Rattle.pd_host.specs.declared.sender_state.State.{State}
 -- Before the end of the handshake
 
 -- a value of a connection, another one before the end of the handshake
-abbrev pub value_on : {A : Type 0} → A → (ControlBlock → Established → A) → ControlBlock → Option Established → A
+abbrev pub value_on : {A : Type 0} → A → (ConnectionView → Established → A) → ConnectionView → Option Established → A
 value_on before value c None = before
 value_on before value c (Some e) = value c e
 
 -- the same, that other one also where no connection was begun
-abbrev pub value_in : {A : Type 0} → A → (ControlBlock → Established → A) → Option ControlBlock → A
+abbrev pub value_in : {A : Type 0} → A → (ConnectionView → Established → A) → Option ConnectionView → A
 value_in before value None = before
 value_in before value (Some c) = value_on before value c c.established
 
@@ -38,7 +38,7 @@ with_packet_sent now segment s = record s {
 }
 
 -- the state with this connection
-abbrev pub with_block : ControlBlock → State → State
+abbrev pub with_block : ConnectionView → State → State
 with_block c s = record s { endpoint = record s.endpoint { connection = Some c } }
 
 -- what was found is done, and the rest follows; where nothing is found, all is done
@@ -54,85 +54,85 @@ repeated find act (suc n) s = on_found (repeated find act n) act s (find s)
 -- Which segment is next
 
 -- below this number the congestion window and the peer's window let octets leave (RFC 5681, section 3.1)
-abbrev pub window_edge : ControlBlock → Established → ℕ
+abbrev pub window_edge : ConnectionView → Established → ℕ
 window_edge c e = c.board.una + min e.congestion.cwnd e.rwnd
 
 -- U: how many octets from the sending place on they let leave (RFC 9293, section 3.8.6.2.1)
-abbrev pub usable : ControlBlock → Established → ℕ
+abbrev pub usable : ConnectionView → Established → ℕ
 usable c e = window_edge c e - c.board.next
 
 -- D: how many octets are queued from there on (RFC 9293, section 3.8.6.2.1)
-abbrev pub unsent : ControlBlock → ℕ
+abbrev pub unsent : ConnectionView → ℕ
 unsent c = c.board.end - c.board.next
 
 -- how many octets can leave: min(D, U) (RFC 9293, section 3.8.6.2.1)
-abbrev pub sendable : ControlBlock → Established → ℕ
+abbrev pub sendable : ConnectionView → Established → ℕ
 sendable c e = min (unsent c) (usable c e)
 
 -- the segment of new octets that could leave, SMSS octets at most
-abbrev pub unsent_segment : ControlBlock → Established → Span
+abbrev pub unsent_segment : ConnectionView → Established → Span
 unsent_segment c e = record { start = c.board.next; end = c.board.next + min (sendable c e) c.board.smss }
 
 -- a full segment can leave (RFC 9293, section 3.8.6.2.1, rule 1)
-abbrev pub is_full : ControlBlock → Established → Bool
+abbrev pub is_full : ConnectionView → Established → Bool
 is_full c e = nat_le c.board.smss (sendable c e)
 
 -- all that is queued can leave (RFC 9293, section 3.8.6.2.1, rule 2: D <= U; each write counts as pushed)
-abbrev pub is_all : ControlBlock → Established → Bool
+abbrev pub is_all : ConnectionView → Established → Bool
 is_all c e = nat_le (unsent c) (usable c e)
 
 -- at least half of the largest window seen can leave (RFC 9293, section 3.8.6.2.1, rule 3)
-abbrev pub is_half_window : ControlBlock → Established → Bool
+abbrev pub is_half_window : ConnectionView → Established → Bool
 is_half_window c e = nat_le c.widest (2 * sendable c e)
 
 -- Nagle's algorithm holds a segment that isn't full while octets are outstanding (RFC 9293, section 3.7.4), but not our FIN
 -- (own profile)
-abbrev pub is_held_back : ControlBlock → Established → Bool
+abbrev pub is_held_back : ConnectionView → Established → Bool
 is_held_back c e = e.nagle && (nat_lt c.board.una c.board.top && not (covers_fin c (unsent_segment c e)))
 
 -- a segment of new octets leaves
-abbrev pub leaves_now : ControlBlock → Established → Bool
+abbrev pub leaves_now : ConnectionView → Established → Bool
 leaves_now c e = is_full c e || ((is_all c e || is_half_window c e) && not (is_held_back c e))
 
 -- new octets: the next segment, where one leaves
-abbrev pub next_new : ControlBlock → Established → Option Span
+abbrev pub next_new : ConnectionView → Established → Option Span
 next_new c e = if nat_lt 0 (sendable c e) && leaves_now c e then Some (unsent_segment c e) else None
 
 -- octets that were sent before: the next segment, where the windows let all of it leave
-abbrev pub next_again : ControlBlock → Established → Option Span
+abbrev pub next_again : ConnectionView → Established → Option Span
 next_again c e =
     let segment = run_at c.board.next c.board in
     if nat_le segment.end (window_edge c e) then Some segment else None
 
 -- the segment that ordinary sending sends next, on a board whose sending place isn't SACKed
-abbrev pub ordinary_segment : ControlBlock → Established → Option Span
+abbrev pub ordinary_segment : ConnectionView → Established → Option Span
 ordinary_segment c e = if nat_lt c.board.next c.board.top then next_again c e else next_new c e
 
 -- How a segment is sent
 
 -- the sending place moves past SACKed octets (RFC 2018, section 5)
-abbrev pub past_sacked : ControlBlock → ControlBlock
+abbrev pub past_sacked : ConnectionView → ConnectionView
 past_sacked c = record c { board = skipped c.board }
 
--- a segment was sent at a moment from the sending place, which moves behind it
-abbrev pub sent_on : ℕ → Span → ControlBlock → ControlBlock
+-- a segment was sent at a moment from the sending place, which moves after it
+abbrev pub sent_on : ℕ → Span → ConnectionView → ConnectionView
 sent_on now segment c = record (clocked now segment c) { board = sent_to segment.end c.board }
 
 -- a segment is put out at a moment, and leaves this connection
-abbrev pub with_segment : ℕ → Span → ControlBlock → ControlBlock → State → State
+abbrev pub with_segment : ℕ → Span → ConnectionView → ConnectionView → State → State
 with_segment now segment before after s = with_packet_sent now (data_of before segment) (with_block after s)
 
 -- the segment that ordinary sending sends next; none before the end of the handshake
-abbrev pub found : Option ControlBlock → Option Span
+abbrev pub found : Option ConnectionView → Option Span
 found connection = value_in None ordinary_segment connection
 
--- that segment is put out at a moment, and the sending place moves behind it and past SACKed octets
-abbrev pub sent_ordinarily : ℕ → Span → Option ControlBlock → State → State
+-- that segment is put out at a moment, and the sending place moves after it and past SACKed octets
+abbrev pub sent_ordinarily : ℕ → Span → Option ConnectionView → State → State
 sent_ordinarily now segment None s = s
 sent_ordinarily now segment (Some c) s = with_segment now segment c (past_sacked (sent_on now segment c)) s
 
 -- before anything is sent, the sending place moves past SACKed octets (RFC 2018, section 5)
-abbrev pub ready : Option ControlBlock → State → State
+abbrev pub ready : Option ConnectionView → State → State
 ready None s = s
 ready (Some c) s = with_block (past_sacked c) s
 
@@ -150,6 +150,6 @@ abbrev pub is_recovering : Option Established → Bool
 is_recovering None = false
 is_recovering (Some e) = e.congestion.recovering
 
--- ordinary sending after a call: not in recovery (own; RFC 6675, section 5, goes on behind an ACK)
-abbrev pub ordinary_outside_recovery : ℕ → ControlBlock → State → Result State Halt
+-- ordinary sending after a call: not in recovery (own; RFC 6675, section 5, goes on after an ACK)
+abbrev pub ordinary_outside_recovery : ℕ → ConnectionView → State → Result State Halt
 ordinary_outside_recovery now c s = if is_recovering c.established then Ok s else ordinary now s

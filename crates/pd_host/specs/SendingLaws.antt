@@ -2,10 +2,10 @@
 use Rattle.std.specs.Prelude.{◌≡◌, ◌↔◌, ℕ, ◌+◌, ◌-◌, ◌<◌, ◌≤◌, ◌⊎◌, ◌&&◌, nat_lt, max, Bool, true, false, List, [], ◌∷◌, ◌++◌, Option, Some, None, Ok, if◌then◌else◌, unwrap_or, option_map, option_and_then}
 use Rattle.std.specs.List.{AllByRecursion}
 use Rattle.pd_board.specs.Choice.{run_at}
-use Rattle.pd_board.specs.Scoreboard.{Scoreboard, IsScoreboard}
+use Rattle.pd_board.specs.Board.{BoardView, IsBoardView}
 use Rattle.pd_recover.specs.Acks.{acked}
 use Rattle.pd_recover.specs.Choice.{segment_of}
-use Rattle.pd_recover.specs.Congestion.{Congestion}
+use Rattle.pd_recover.specs.Cong.{CongView}
 use Rattle.pd_recover.specs.Laws.{IsSpared}
 use Rattle.pd_recover.specs.declared.feedback.Ack.{Ack}
 use Rattle.pd_recover.specs.declared.responses.Then.TheVariants.{NewSegment}
@@ -15,10 +15,10 @@ use Rattle.pd_seg.specs.declared.answers.Answer.{Answer}
 use Rattle.pd_seg.specs.declared.sack_blocks.Span.{Span}
 use Rattle.pd_seg.specs.declared.segments.Segment.{Segment}
 use Rattle.pd_seg.specs.declared.segments.Sent.{Sent}
-use Rattle.pd_host.specs.Acknowledgments.{OnTheWay, newly_acked, next_by, next_found, one_filled, pipe_of, filled_from, filled, taken}
+use Rattle.pd_host.specs.Acknowledgments.{OnTheWay, newly_acked, next_by, next_found, one_filled, pipe_of, filled_from, filled, ack_taken}
 use Rattle.pd_host.specs.Arrivals.{arrived}
 use Rattle.pd_host.specs.Calls.{called, stream_of}
-use Rattle.pd_host.specs.ControlBlock.{ControlBlock, data_end}
+use Rattle.pd_host.specs.Connection.{ConnectionView, data_end}
 use Rattle.pd_host.specs.Expiries.{deadline_of, due_by, block_expired, expired_by, expired, advanced}
 use Rattle.pd_host.specs.Packets.{data_of}
 use Rattle.pd_host.specs.Requests.{request_of}
@@ -35,32 +35,32 @@ use Rattle.pd_host.specs.declared.timings.Timing.{Timing}
 -- Flow control (RFC 9293, section 3.8.6)
 
 -- a segment with octets that weren't sent before has no others, and ends where the peer's window does at most
-abbrev pub IsInPeersWindow : Scoreboard → ℕ → Span → Type 0
+abbrev pub IsInPeersWindow : BoardView → ℕ → Span → Type 0
 IsInPeersWindow s rwnd segment = s.top < segment.end → (segment.start ≡ s.top) × (segment.end ≤ s.una + rwnd)
 
 -- so is each segment that is chosen; what is sent again has no such octets
 pub record ControlsFlow : Type 0 where
   pub ordinary :
-      (c : ControlBlock) (e : Established) (segment : Span) → c.board.next ≤ c.board.top
+      (c : ConnectionView) (e : Established) (segment : Span) → c.board.next ≤ c.board.top
       → ordinary_segment c e ≡ Some segment → IsInPeersWindow c.board e.rwnd segment
   pub filling :
-      (filling : Filling) (on_the_way : ℕ) (c : ControlBlock) (e : Established) (sent : NextSegment)
+      (filling : Filling) (on_the_way : ℕ) (c : ConnectionView) (e : Established) (sent : NextSegment)
       → next_by filling on_the_way c e ≡ Some sent → IsInPeersWindow c.board e.rwnd (segment_of sent)
   pub duplicate :
-      (ack : Ack) (w : Congestion) (segment : Span)
+      (ack : Ack) (w : CongView) (segment : Span)
       → (acked ack w).1 ≡ NewSegment segment → (segment.start ≡ ack.top) × (segment.end ≤ ack.una + ack.rwnd)
-  pub again : (s : Scoreboard) (start : ℕ) → (run_at start s).end ≤ s.top
+  pub again : (s : BoardView) (start : ℕ) → (run_at start s).end ≤ s.top
 
 -- the number after the highest octet that was sent
-abbrev pub sent_in : Option ControlBlock → ℕ
+abbrev pub sent_in : Option ConnectionView → ℕ
 sent_in connection = unwrap_or (option_map (λ c. c.board.top) connection) 0
 
 -- the number after the last octet that the peer's window takes, 0 where there is none yet
-abbrev pub taken_in : Option ControlBlock → ℕ
+abbrev pub taken_in : Option ConnectionView → ℕ
 taken_in connection = value_in 0 (λ c e. c.board.una + e.rwnd) connection
 
 -- the segment that is timed, if one is
-abbrev pub timed_in : Option ControlBlock → Option Timing
+abbrev pub timed_in : Option ConnectionView → Option Timing
 timed_in connection = option_and_then (λ c. c.timed) connection
 
 -- the number after the last octet of a segment, a FIN counted (RFC 9293, section 3.4)
@@ -87,14 +87,14 @@ pub record StaysInWindow : Type 0 where
 -- Congestion control (RFC 5681, section 3.1; RFC 6675, section 5)
 
 -- below this number both windows let octets leave, 0 where there are none yet
-abbrev pub edge_of : Option ControlBlock → ℕ
+abbrev pub edge_of : Option ConnectionView → ℕ
 edge_of connection = value_in 0 window_edge connection
 
 -- ordinary sending chooses nothing that ends beyond the congestion window, and so puts nothing out that does; step C and
 -- limited transmit choose where it has room for a full segment beside what is on the way
 pub record ControlsCongestion : Type 0 where
   pub chosen :
-      (c : ControlBlock) (e : Established) (segment : Span)
+      (c : ConnectionView) (e : Established) (segment : Span)
       → ordinary_segment c e ≡ Some segment → segment.end ≤ c.board.una + e.congestion.cwnd
   pub ordinary :
       (now : ℕ) (s t : State) → ordinary now s ≡ Ok t
@@ -102,7 +102,7 @@ pub record ControlsCongestion : Type 0 where
       × AllByRecursion (λ p. end_with_fin p.segment ≤ edge_of s.endpoint.connection) packets
       × (t.endpoint.outbox ≡ s.endpoint.outbox ++ packets)
   pub filling :
-      (filling : Filling) (on_the_way : ℕ) (c : ControlBlock) (e : Established) (sent : NextSegment)
+      (filling : Filling) (on_the_way : ℕ) (c : ConnectionView) (e : Established) (sent : NextSegment)
       → next_by filling on_the_way c e ≡ Some sent → c.board.smss ≤ e.congestion.cwnd - on_the_way
 
 -- how many octets packets have
@@ -111,7 +111,7 @@ octets_in [] = 0
 octets_in (p ∷ packets) = (end_with_fin p.segment - p.segment.start) + octets_in packets
 
 -- cwnd, 0 where there is none yet
-abbrev pub cwnd_in : Option ControlBlock → ℕ
+abbrev pub cwnd_in : Option ConnectionView → ℕ
 cwnd_in connection = value_in 0 (λ c e. e.congestion.cwnd) connection
 
 -- what was put out has no more octets than the congestion window has room for beside what was on the way
@@ -127,7 +127,7 @@ KeepsToWindow = (now : ℕ) (filling : Filling) (s t : State) → filled now fil
 
 -- All that may leave does
 
--- one packet more stands behind those that nobody has taken
+-- one packet more follows those that nobody has taken
 abbrev pub PutsOutOne : State → State → Type 0
 PutsOutOne s t = (packet : Sent) × (t.endpoint.outbox ≡ s.endpoint.outbox ++ packet ∷ [])
 
@@ -161,16 +161,16 @@ pub record SendsAllThatMay : Type 0 where
 -- timed, from the moment that they are sent at; after an expiry nothing is timed
 pub record TimesOnce : Type 0 where
   pub given_up :
-      (now : ℕ) (segment : Span) (c : ControlBlock) (t : Timing)
+      (now : ℕ) (segment : Span) (c : ConnectionView) (t : Timing)
       → c.timed ≡ Some t → overlaps t.segment segment ≡ true → (clocked now segment c).timed ≡ None
   pub kept :
-      (now : ℕ) (segment : Span) (c : ControlBlock) (t : Timing)
+      (now : ℕ) (segment : Span) (c : ConnectionView) (t : Timing)
       → c.timed ≡ Some t → overlaps t.segment segment ≡ false → (clocked now segment c).timed ≡ Some t
   pub begun :
-      (now : ℕ) (segment : Span) (c : ControlBlock) (t : Timing) → c.timed ≡ None
+      (now : ℕ) (segment : Span) (c : ConnectionView) (t : Timing) → c.timed ≡ None
       → (clocked now segment c).timed ≡ Some t
       → (t.segment ≡ segment) × (t.sent_at ≡ now) × (c.board.top ≤ segment.start)
-  pub expiry : (at : ℕ) (c : ControlBlock) → (block_expired at c c.established).timed ≡ None
+  pub expiry : (at : ℕ) (c : ConnectionView) → (block_expired at c c.established).timed ≡ None
 
 -- the number after the last octet of a segment, a SYN and a FIN counted (RFC 9293, section 3.4)
 abbrev pub end_with_flags : Segment → ℕ
@@ -218,26 +218,26 @@ pub record MeasuresWhatIsSentOnce : Type 0 where
 
 -- The FIN (RFC 9293, section 3.10.4)
 
--- it is on a segment that covers the last octet queued, and no octet of data stands behind it; only `close` queues it, and
+-- it is on a segment that covers the last octet queued, and no octet of data follows it; only `close` queues it, and
 -- nothing is queued then any more, neither by a call nor by an arrival or an expiry
 pub record EndsWithFin : Type 0 where
   pub covered :
-      (c : ControlBlock) (segment : Span) → (data_of c segment).flags.fin ≡ true
+      (c : ConnectionView) (segment : Span) → (data_of c segment).flags.fin ≡ true
       → (c.fin ≡ true) × (segment.start < c.board.end) × (c.board.end ≤ segment.end)
-  pub before : (c : ControlBlock) (segment : Span) → (data_of c segment).end ≤ data_end c
+  pub before : (c : ConnectionView) (segment : Span) → (data_of c segment).end ≤ data_end c
   pub closed :
-      (call : Call) (now : ℕ) (s t : State) (answer : Answer) (c d : ControlBlock) → s.endpoint.connection ≡ Some c
+      (call : Call) (now : ℕ) (s t : State) (answer : Answer) (c d : ConnectionView) → s.endpoint.connection ≡ Some c
       → t.endpoint.connection ≡ Some d → c.fin ≡ false → d.fin ≡ true → called call now s ≡ Ok (t, answer)
       → request_of call ≡ Some (On 4 Close)
   pub last :
-      (call : Call) (now : ℕ) (s t : State) (answer : Answer) (c : ControlBlock) → s.endpoint.connection ≡ Some c
+      (call : Call) (now : ℕ) (s t : State) (answer : Answer) (c : ConnectionView) → s.endpoint.connection ≡ Some c
       → stream_of c ≡ stream.Closed → called call now s ≡ Ok (t, answer) → t.endpoint.connection ≡ Some c
   pub arrivals :
-      (segment : Segment) (now : ℕ) (s t : State) (c d : ControlBlock) → s.endpoint.connection ≡ Some c
+      (segment : Segment) (now : ℕ) (s t : State) (c d : ConnectionView) → s.endpoint.connection ≡ Some c
       → t.endpoint.connection ≡ Some d → arrived segment now s ≡ Ok t
       → (d.fin ≡ c.fin) × (d.board.end ≡ c.board.end)
   pub expiries :
-      (until : ℕ) (s t : State) (c d : ControlBlock) → s.endpoint.connection ≡ Some c
+      (until : ℕ) (s t : State) (c d : ConnectionView) → s.endpoint.connection ≡ Some c
       → t.endpoint.connection ≡ Some d → advanced until s ≡ Ok t
       → (d.fin ≡ c.fin) × (d.board.end ≡ c.board.end)
 
@@ -246,17 +246,17 @@ pub record EndsWithFin : Type 0 where
 -- no octet of a segment that is chosen is SACKed
 pub record SparesWhatArrived : Type 0 where
   pub ordinary :
-      (c : ControlBlock) (e : Established) (segment : Span) → IsScoreboard c.board
+      (c : ConnectionView) (e : Established) (segment : Span) → IsBoardView c.board
       → ordinary_segment c e ≡ Some segment → IsSpared c.board segment
   pub filling :
-      (filling : Filling) (on_the_way : ℕ) (c : ControlBlock) (e : Established) (sent : NextSegment) → IsScoreboard c.board
+      (filling : Filling) (on_the_way : ℕ) (c : ConnectionView) (e : Established) (sent : NextSegment) → IsBoardView c.board
       → next_by filling on_the_way c e ≡ Some sent → IsSpared c.board (segment_of sent)
-  pub entry : (c : ControlBlock) → IsSpared c.board (run_at c.board.una c.board)
+  pub entry : (c : ConnectionView) → IsSpared c.board (run_at c.board.una c.board)
 
 -- The end of loss recovery (RFC 6675, section 5; RFC 5681, section 3.2)
 
 -- whether it goes on
-abbrev pub recovers : Option ControlBlock → Bool
+abbrev pub recovers : Option ConnectionView → Bool
 recovers None = false
 recovers (Some c) = is_recovering c.established
 
@@ -264,11 +264,11 @@ recovers (Some c) = is_recovering c.established
 -- an expiry always does
 pub record EndsRecovery : Type 0 where
   pub with_sack :
-      (now : ℕ) (segment : Segment) (c : ControlBlock) (s t : State) (e : Established) → c.established ≡ Some e
-      → c.sack ≡ true → e.congestion.recovering ≡ true → taken now segment c s c.established ≡ Ok t
+      (now : ℕ) (segment : Segment) (c : ConnectionView) (s t : State) (e : Established) → c.established ≡ Some e
+      → c.sack ≡ true → e.congestion.recovering ≡ true → ack_taken now segment c s c.established ≡ Ok t
       → (recovers t.endpoint.connection ≡ false) ↔ (e.congestion.recovery_point ≤ segment.ack)
   pub without_sack :
-      (now : ℕ) (segment : Segment) (c : ControlBlock) (s t : State) (e : Established) → c.established ≡ Some e
-      → c.sack ≡ false → e.congestion.recovering ≡ true → taken now segment c s c.established ≡ Ok t
+      (now : ℕ) (segment : Segment) (c : ConnectionView) (s t : State) (e : Established) → c.established ≡ Some e
+      → c.sack ≡ false → e.congestion.recovering ≡ true → ack_taken now segment c s c.established ≡ Ok t
       → (recovers t.endpoint.connection ≡ false) ↔ (0 < newly_acked c segment)
-  pub expiry : (at : ℕ) (e : Established) (c : ControlBlock) → is_recovering (expired_by at e c).established ≡ false
+  pub expiry : (at : ℕ) (e : Established) (c : ConnectionView) → is_recovering (expired_by at e c).established ≡ false

@@ -1,8 +1,8 @@
 -- Which segment's round trip is measured, and how segments that are sent and ACKs move the timer (RFC 6298).
 use Rattle.std.specs.Prelude.{ℕ, ◌-◌, ◌==◌, nat_lt, nat_le, Bool, ◌&&◌, Option, Some, None, if◌then◌else◌}
 use Rattle.pd_seg.specs.declared.sack_blocks.Span.{Span}
-use Rattle.pd_timer.specs.Timer.{sampled, started, restarted, stopped, reinitialized}
-use Rattle.pd_host.specs.ControlBlock.{ControlBlock}
+use Rattle.pd_timer.specs.Rto.{sampled, started, restarted, stopped, reinitialized}
+use Rattle.pd_host.specs.Connection.{ConnectionView}
 use Rattle.pd_host.specs.declared.timings.Timing.{Timing}
 
 -- two runs of octets have one in common
@@ -17,7 +17,7 @@ timed_after now segment top None = if nat_le top segment.start then Some (record
 timed_after now segment top (Some t) = if overlaps t.segment segment then None else Some t
 
 -- a segment was sent at a moment: the timer runs from now on, if it didn't (RFC 6298, section 5.1)
-abbrev pub clocked : ℕ → Span → ControlBlock → ControlBlock
+abbrev pub clocked : ℕ → Span → ConnectionView → ConnectionView
 clocked now segment c = record c {
   timer = started now c.timer;
   timed = timed_after now segment c.board.top c.timed;
@@ -28,7 +28,7 @@ abbrev pub is_measured : ℕ → Timing → Bool
 is_measured ack t = nat_le t.segment.end ack
 
 -- its round trip is measured, where it is acknowledged at a moment (RFC 6298, section 2)
-abbrev pub measured : ℕ → ℕ → ℕ → ControlBlock → Option Timing → ControlBlock
+abbrev pub measured : ℕ → ℕ → ℕ → ConnectionView → Option Timing → ConnectionView
 measured now granularity ack c None = c
 measured now granularity ack c (Some t) =
     if is_measured ack t
@@ -36,14 +36,14 @@ measured now granularity ack c (Some t) =
     else c
 
 -- an ACK of new octets gives a sample, if the timed segment is acknowledged (RFC 6298, section 3)
-abbrev pub with_sample : ℕ → ℕ → ℕ → ControlBlock → ControlBlock
+abbrev pub with_sample : ℕ → ℕ → ℕ → ConnectionView → ConnectionView
 with_sample now granularity ack c = measured now granularity ack c c.timed
 
 -- and it starts the timer anew, or stops it where all that was sent is acknowledged (RFC 6298, sections 5.2 and 5.3)
-abbrev pub with_timer_moved : ℕ → ControlBlock → ControlBlock
+abbrev pub with_timer_moved : ℕ → ConnectionView → ConnectionView
 with_timer_moved now c =
     record c { timer = if c.board.una == c.board.top then stopped c.timer else restarted now c.timer }
 
 -- the timer at the end of the handshake: it stops, and after an expiry RTO is 3 seconds (RFC 6298, sections 5.2 and 5.7)
-abbrev pub with_timer_settled : ControlBlock → ControlBlock
+abbrev pub with_timer_settled : ConnectionView → ConnectionView
 with_timer_settled c = record c { timer = stopped (if c.resent then reinitialized c.timer else c.timer) }

@@ -3,7 +3,7 @@ ghost use Rattle.std.specs.Prelude.{◌≡◌, ◌<◌, ◌^◌};
 ghost use Rattle.pd_host.specs.Acknowledgments.{filled};
 ghost use Rattle.pd_host.specs.Outcome.{Gives};
 ghost use Rattle.pd_host.specs.Packets.{data_of};
-ghost use Rattle.pd_host.specs.Sender.{with_packet};
+ghost use Rattle.pd_host.specs.Host.{with_packet};
 ghost use Rattle.pd_host.specs.Steps.{IsQueuedOn, put_new, put_again, entry_on, led_on, FollowsQueuedOn};
 
 use crate::connection::Connection;

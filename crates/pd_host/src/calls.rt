@@ -2,7 +2,7 @@
 ghost use Rattle.std.specs.Prelude.{◌≡◌, ◌<◌, ◌^◌, Ok};
 ghost use Rattle.pd_host.specs.Calls.{open_descriptor, is_stream_open, is_pending, socket_reply, bind_reply, listen_reply, accept_reply, handed_out, no_delay_reply, write_reply, close_reply, closed_on, operated, reply_to};
 ghost use Rattle.pd_host.specs.Outcome.{GivesAnswer};
-ghost use Rattle.pd_host.specs.Sender.{IsShort};
+ghost use Rattle.pd_host.specs.Host.{IsShort};
 
 use crate::descriptors::Descriptor;
 use crate::endpoint::Endpoint;

@@ -5,7 +5,7 @@ ghost use Rattle.pd_host.specs.ConnStates.{is_closed};
 /// The state of the sender (RFC 9293, section 3.3.2). It never opens a connection itself, so that SYN-SENT isn't among them.
 #[derive(Clone, Copy, Debug, PartialEq, Eq)]
 pub enum ConnState {
-    /// Nothing listens, or the connection has ended: by an RST, or by the ACK of our FIN behind the peer's.
+    /// Nothing listens, or the connection has ended: by an RST, or by the ACK of our FIN after the peer's.
     Closed,
     Listen,
     SynReceived,
@@ -16,9 +16,9 @@ pub enum ConnState {
     FinWait2,
     /// The peer's FIN was taken.
     CloseWait,
-    /// The peer's FIN was taken behind ours, which isn't acknowledged.
+    /// The peer's FIN was taken after ours, which isn't acknowledged.
     Closing,
-    /// Our FIN is queued behind the peer's.
+    /// Our FIN is queued after the peer's.
     LastAck,
     /// Both FINs were acknowledged, ours queued first. It lasts to the end of the run.
     TimeWait,

@@ -2,7 +2,7 @@
 ghost use Rattle.std.specs.Prelude.{◌≡◌, ◌+◌, ◌≤◌, ◌<◌, ◌^◌, true, is_some, max, Some};
 ghost use Rattle.pd_host.specs.Arrivals.{reset_of, with_peer_fin};
 ghost use Rattle.pd_host.specs.Calls.{stream_of, with_stream, with_nagle, free_of, with_queued, with_fin};
-ghost use Rattle.pd_host.specs.ControlBlock.{peer_fin_in, rcv_nxt};
+ghost use Rattle.pd_host.specs.Connection.{peer_fin_in, rcv_nxt};
 ghost use Rattle.pd_host.specs.Inner.{IsScalable};
 ghost use Rattle.pd_host.specs.Handshake.{offered_mss, is_mss_run, smss_of, scaling_of, block_begun, window_in, syn_acked, established_with, established_by};
 ghost use Rattle.pd_host.specs.Sending.{is_recovering};
@@ -71,10 +71,10 @@ pub struct Connection {
 }
 
 impl Model for Connection {
-    ghost use Rattle.pd_host.specs.ControlBlock.{ControlBlock};
+    ghost use Rattle.pd_host.specs.Connection.{ConnectionView};
     ghost use Rattle.pd_host.specs.Inner.{IsConnection};
 
-    ghost Value = { ControlBlock };
+    ghost Value = { ConnectionView };
 
     ghost view = { λ c. record { announced = c.announced; sack = c.sack; scaling = c.scaling; rcv_wnd = c.rcv_wnd; board = c.board; fin = c.fin; timer = c.timer; timed = c.timed; widest = c.widest; resent = c.resent; established = c.established; reset = c.reset } };
 
@@ -231,7 +231,7 @@ impl Connection {
     {
         if let Some(established) = &mut self.established {
             established.peer_fin = if self.fin {
-                PeerFin::BehindOurs
+                PeerFin::AfterOurs
             } else {
                 PeerFin::BeforeOurs
             };
@@ -280,7 +280,7 @@ impl Connection {
         self.board.write(count);
     }
 
-    /// Queues our FIN behind them.
+    /// Queues our FIN after them.
     pub fn queue_fin(&mut self)
         requires small { self.old.board.end + 1 < 2 ^ 31 }
         ensures { self.new ≡ with_fin self.old }

@@ -1,6 +1,6 @@
 //! What the sender's rules work on.
 ghost use Rattle.std.specs.Prelude.{◌≡◌};
-ghost use Rattle.pd_host.specs.Sender.{fresh_endpoint};
+ghost use Rattle.pd_host.specs.Host.{fresh_endpoint};
 
 use crate::connection::Connection;
 use crate::listeners::Listener;

@@ -8,28 +8,28 @@ use crate::outbox::Outbox;
 use pd_board::Board;
 use std::alloc::AllocError;
 
-/// Copies of what of an endpoint takes memory: the scoreboard of its connection, and the packets that stand untaken.
+/// Copies of what of an endpoint takes memory: the scoreboard of its connection, and the packets that are untaken.
 #[derive(Drop)]
-pub struct Held {
+pub struct HeldCopies {
     /// The scoreboard of the connection, once it was begun.
     pub board: Option<Board>,
-    /// The packets that stand untaken.
+    /// The packets that are untaken.
     pub outbox: Outbox,
 }
 
-impl Held {
+impl HeldCopies {
     /// What this endpoint holds.
     ///
     /// # Errors
     /// `AllocError` where a growth is refused, or the scoreboard has found no memory before.
     #[inline(always)]
-    pub fn of(endpoint: &Endpoint) -> Result<Held, AllocError>
+    pub fn of(endpoint: &Endpoint) -> Result<HeldCopies, AllocError>
         ensures board { IfOk result (λ held. held.board ≡ board_of endpoint.now.connection) }
         ensures outbox { IfOk result (λ held. held.outbox ≡ endpoint.now.outbox) }
     {
         let board = board_copy(&endpoint.connection)?;
         let outbox = endpoint.outbox.copy()?;
-        Ok(Held { board, outbox })
+        Ok(HeldCopies { board, outbox })
     }
 }
 
@@ -48,12 +48,12 @@ fn board_copy(connection: &Option<Connection>) -> Result<Option<Board>, AllocErr
 impl Endpoint {
     /// The same endpoint, with equal copies of what it holds. Takes no memory.
     #[inline(always)]
-    pub fn with_held(&self, held: Held) -> Endpoint
+    pub fn with_held(&self, held: HeldCopies) -> Endpoint
         requires board { held.board ≡ board_of self.now.connection }
         requires outbox { held.outbox ≡ self.now.outbox }
         ensures { result ≡ self.now }
     {
-        let Held { board, outbox } = held;
+        let HeldCopies { board, outbox } = held;
         let connection = match (&self.connection, board) {
             (Some(connection), Some(board)) => Some(connection.with_board(board)),
             _ => None,

@@ -9,14 +9,14 @@ ghost use Rattle.pd_host.specs.Expiries.{advanced, deadline_of};
 ghost use Rattle.pd_host.specs.Figures.{figures_in, wanted_in};
 ghost use Rattle.pd_host.specs.Holds.{hold_in};
 ghost use Rattle.pd_host.specs.InputLaws.{rebound_host};
-ghost use Rattle.pd_host.specs.Sender.{IsShort, fresh, without_oldest, exhausted, end_of};
+ghost use Rattle.pd_host.specs.Host.{IsShort, fresh_host, without_oldest, exhausted, end_of};
 ghost use Rattle.pd_host.specs.declared.halts.Ending.TheVariants.{OutOfMemory};
 
 use crate::conn_states::ConnState;
 use crate::endpoint::Endpoint;
 use crate::figures::Figures;
 use crate::halts::{Ending, Halt};
-use crate::held::Held;
+use crate::held::HeldCopies;
 use crate::holds::Hold;
 use crate::outbox::Outbox;
 use crate::requests::Request;
@@ -39,9 +39,9 @@ pub struct Host {
 }
 
 impl Model for Host {
-    ghost use Rattle.pd_host.specs.Sender.{Sender};
+    ghost use Rattle.pd_host.specs.Host.{HostView};
 
-    ghost Value = { Sender };
+    ghost Value = { HostView };
 
     ghost view = { λ h. record { state = h.state; ended = h.ended } };
 }
@@ -49,7 +49,7 @@ impl Model for Host {
 impl Host {
     /// A host that nothing has happened to.
     pub fn new(alloc: Global, settings: &Settings) -> Host
-        ensures { result ≡ fresh settings.now }
+        ensures { result ≡ fresh_host settings.now }
     {
         Host {
             state: State {
@@ -106,7 +106,7 @@ impl Host {
     /// Performs all expiries up to a moment, in order.
     ///
     /// # Errors
-    /// What ended the host before; else `Halted` where more than 1,024 packets would stand untaken, and `OutOfMemory`.
+    /// What ended the host before; else `Halted` where more than 1,024 packets would be untaken, and `OutOfMemory`.
     #[inline(always)]
     pub fn advance(&mut self, until: u64) -> Result<(), Ending>
         requires early { until < 2 ^ 62 }
@@ -241,7 +241,7 @@ impl Host {
         Ok(self.with_held(held))
     }
 
-    /// Whether nothing has ended it, no connection was begun and no packet stands untaken.
+    /// Whether nothing has ended it, no connection was begun and no packet is untaken.
     #[inline(always)]
     pub fn is_bare(&self) -> bool
         ensures { result ≡ is_bare self.now }
@@ -276,7 +276,7 @@ impl Host {
     /// # Errors
     /// `AllocError` where the host has ended for want of memory, or a growth is refused.
     #[inline(always)]
-    pub fn held(&self) -> Result<Held, AllocError>
+    pub fn held(&self) -> Result<HeldCopies, AllocError>
         ensures board { IfOk result (λ held. held.board ≡ board_of self.now.state.endpoint.connection) }
         ensures outbox { IfOk result (λ held. held.outbox ≡ self.now.state.endpoint.outbox) }
         ensures again { self.now.ended ≡ Some OutOfMemory → IsErr result }
@@ -284,13 +284,13 @@ impl Host {
         if let Some(Ending::OutOfMemory) = self.ended {
             return Err(AllocError);
         }
-        let held = Held::of(&self.state.endpoint)?;
+        let held = HeldCopies::of(&self.state.endpoint)?;
         Ok(held)
     }
 
     /// The same host once more, with equal copies of what of it takes memory. Takes none itself.
     #[inline(always)]
-    pub fn with_held(&self, held: Held) -> Host
+    pub fn with_held(&self, held: HeldCopies) -> Host
         requires board { held.board ≡ board_of self.now.state.endpoint.connection }
         requires outbox { held.outbox ≡ self.now.state.endpoint.outbox }
         ensures { result ≡ self.now }

@@ -3,8 +3,8 @@ ghost use Rattle.pd_host.specs.Growth.{ExpiriesQueueNothing, ArrivalsQueueOurSyn
 ghost use Rattle.pd_host.specs.Figure.{FollowsFigure};
 ghost use Rattle.pd_host.specs.Holds.{OpenHoldsSend};
 ghost use Rattle.pd_host.specs.Laws.{StartsUpToDate, AdvancesKeepUp, ArrivalsKeepUp, CallsKeepUp, TakingKeepsUp};
-ghost use Rattle.pd_host.specs.Invariants.{StartsLawful, AdvancesStayLawful, ArrivalsStayLawful, CallsStayLawful, TakingStaysLawful, BoardsAreScoreboards, CallsStayInRange, EndsForGood};
-ghost use Rattle.pd_host.specs.InputLaws.{OutsideIsHarmless, OnlyAnExactRstResets, PutsOutBehind, OnlyUsesMatter, RebindingKeepsUp, CallsPutOutBehind, CallsOnlyUse, AdvancesPutOutBehind, AdvancesUseNone, ArrivalsNote, CallsNote, AdvancesNote};
+ghost use Rattle.pd_host.specs.Invariants.{StartsLawful, AdvancesStayLawful, ArrivalsStayLawful, CallsStayLawful, TakingStaysLawful, BoardsAreLawful, CallsStayInRange, EndsForGood};
+ghost use Rattle.pd_host.specs.InputLaws.{OutsideIsHarmless, OnlyAnExactRstResets, PutsOutAfter, OnlyUsesMatter, RebindingKeepsUp, CallsPutOutAfter, CallsOnlyUse, AdvancesPutOutAfter, AdvancesUseNone, ArrivalsNote, CallsNote, AdvancesNote};
 ghost use Rattle.pd_host.specs.SendingLaws.{ControlsFlow, StaysInWindow, ControlsCongestion, KeepsToWindow, SendsOneByOne, SendsAllThatMay, TimesOnce, MeasuresWhatIsSentOnce, EndsWithFin, SparesWhatArrived, EndsRecovery};
 
 use pd_recover::recovery_is_lawful;
@@ -14,21 +14,21 @@ use pd_timer::timers_are_lawful;
 pub fn arrivals_are_lawful()
     ensures outside { OutsideIsHarmless }
     ensures resets { OnlyAnExactRstResets }
-    ensures packets { PutsOutBehind }
+    ensures packets { PutsOutAfter }
     ensures settings { OnlyUsesMatter }
     ensures uses { ArrivalsNote }
 {}
 
 /// What holds of every call, whatever it asks.
 pub fn calls_are_lawful()
-    ensures packets { CallsPutOutBehind }
+    ensures packets { CallsPutOutAfter }
     ensures settings { CallsOnlyUse }
     ensures uses { CallsNote }
 {}
 
 /// What holds of all expiries up to a moment.
 pub fn advances_are_lawful()
-    ensures packets { AdvancesPutOutBehind }
+    ensures packets { AdvancesPutOutAfter }
     ensures settings { AdvancesUseNone }
     ensures uses { AdvancesNote }
 {}
@@ -73,7 +73,7 @@ pub fn states_are_lawful()
     ensures arrivals { ArrivalsStayLawful }
     ensures calls { CallsStayLawful }
     ensures taking { TakingStaysLawful }
-    ensures boards { BoardsAreScoreboards }
+    ensures boards { BoardsAreLawful }
     ensures range { CallsStayInRange }
     ensures resets { EndsForGood }
     ensures figure { FollowsFigure }

@@ -33,7 +33,7 @@ mod uses;
 pub use conn_states::ConnState;
 pub use figures::{Figures, Recovery, Windows};
 pub use halts::{Ending, Halt};
-pub use held::Held;
+pub use held::HeldCopies;
 pub use holds::Hold;
 pub use host::Host;
 pub use laws::{

@@ -1,4 +1,4 @@
-//! What the options of a SYN offer. Options behind `eol` aren't looked at; of a repeated one the first counts.
+//! What the options of a SYN offer. Options after `eol` aren't looked at; of a repeated one the first counts.
 ghost use Rattle.std.specs.Prelude.{◌≡◌};
 ghost use Rattle.pd_host.specs.Handshake.{offers_of, is_mss_run};
 ghost use Rattle.pd_host.specs.Steps.{offered_too};

@@ -2,7 +2,7 @@
 ghost use Rattle.std.specs.Prelude.{◌≡◌, ◌==◌, [], not, length, option_copied, slice_get, drop, IfOk};
 ghost use Rattle.pd_host.specs.Outcome.{Gives};
 ghost use Rattle.pd_host.specs.Places.{has_place};
-ghost use Rattle.pd_host.specs.Sender.{with_packet};
+ghost use Rattle.pd_host.specs.Host.{with_packet};
 
 use crate::halts::{Ending, Halt};
 use pd_seg::{Segment, Sent};
@@ -10,7 +10,7 @@ use std::alloc::{AllocError, Global};
 use std::collections::VecDeque;
 use std::marker::Model;
 
-/// The most packets that stand untaken.
+/// The most packets that are untaken.
 const MAX_PACKETS: usize = 1_024;
 
 /// The packets that were put out and not yet taken, the oldest first: at most 1,024.
@@ -42,14 +42,14 @@ impl Outbox {
         }
     }
 
-    /// How many packets stand untaken, at most 1,024.
+    /// How many packets are untaken, at most 1,024.
     pub fn len(&self) -> usize
         ensures { result ≡ length self.now }
     {
         self.packets.len()
     }
 
-    /// Whether no packet stands untaken.
+    /// Whether no packet is untaken.
     pub fn is_empty(&self) -> bool
         ensures { result ≡ (length self.now == 0) }
     {
@@ -63,7 +63,7 @@ impl Outbox {
         self.packets.len() >= MAX_PACKETS
     }
 
-    /// Puts a segment out at a moment, behind the others.
+    /// Puts a segment out at a moment, after the others.
     ///
     /// # Errors
     /// `Halted` by `Limit` where the outbox is full, else `OutOfMemory` where a growth is refused.

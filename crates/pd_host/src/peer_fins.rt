@@ -1,7 +1,7 @@
 //! The peer's FIN.
 ghost use Rattle.std.specs.Prelude.{◌≡◌, ◌≤◌};
 ghost use Rattle.pd_host.specs.Arrivals.{is_awaited};
-ghost use Rattle.pd_host.specs.ControlBlock.{next_from};
+ghost use Rattle.pd_host.specs.Connection.{next_from};
 
 /// The peer's FIN: whether it was taken, and whether ours was queued then (RFC 9293, section 3.6).
 #[derive(Clone, Copy, PartialEq, Eq)]
@@ -10,8 +10,8 @@ pub enum PeerFin {
     Awaited,
     /// It was taken before ours was queued.
     BeforeOurs,
-    /// It was taken behind that.
-    BehindOurs,
+    /// It was taken after that.
+    AfterOurs,
 }
 
 impl PeerFin {
@@ -29,7 +29,7 @@ impl PeerFin {
     {
         match self {
             PeerFin::Awaited => 1,
-            PeerFin::BeforeOurs | PeerFin::BehindOurs => 2,
+            PeerFin::BeforeOurs | PeerFin::AfterOurs => 2,
         }
     }
 }

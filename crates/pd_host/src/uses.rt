@@ -3,6 +3,7 @@ ghost use Rattle.std.specs.Prelude.{◌≡◌};
 ghost use Rattle.pd_host.specs.Calls.{write_uses};
 ghost use Rattle.pd_host.specs.Handshake.{syn_uses, establishment_uses};
 
+use pd_recover::Cong;
 use pd_settings::UseSet;
 
 /// With those that an answered SYN consults.
@@ -24,13 +25,11 @@ pub fn with_syn(uses: UseSet) -> UseSet
 pub fn with_establishment(uses: UseSet) -> UseSet
     ensures { result ≡ establishment_uses uses }
 {
-    UseSet {
+    Cong::with_uses(UseSet {
         nagle: true,
-        initial_ssthresh: true,
-        initial_window: true,
         granularity_us: true,
         ..uses
-    }
+    })
 }
 
 /// With the one that a `write` of some octets consults.

@@ -6,7 +6,7 @@ at_front : (line : List ℕ) (lines : List (List ℕ)) (n : ℕ) → 0 < n → t
 at_front line lines zero h = absurd (omega (arith, h))
 at_front line lines (suc n) h = ap (λ (m : ℕ). line ∷ take m lines) (omega arith)
 
--- the first line of a block, and the block behind it
+-- the first line of a block, and the block after it
 pub block_next : (text : List (List ℕ)) (from to : ℕ) (line : List ℕ) → from < to → slice_get text from ≡ Some line → block text from to ≡ line ∷ block text (from + 1) to
 block_next [] from to line less h = absurd cc
 block_next (x ∷ xs) zero to line less h =
@@ -21,7 +21,7 @@ block_next (x ∷ xs) (suc from) to line less h =
     ∙ ap (λ (n : ℕ). line ∷ take n (drop (from + 1) xs)) (sym next)
     ∙ ap (λ (n : ℕ). line ∷ take (to - (suc from + 1)) (drop n (x ∷ xs))) (sym more)
 
--- a block behind the last line
+-- a block after the last line
 pub block_none : (text : List (List ℕ)) (from to : ℕ) → slice_get text from ≡ None → block text from to ≡ []
 block_none [] from to h = ap (λ (list : List (List ℕ)). take (to - from) list) (nothing from) ∙ none (to - from)
   where

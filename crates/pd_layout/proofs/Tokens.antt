@@ -5,28 +5,27 @@ use Rattle.std.proofs.lemmas.List.Sums.{sum_by-cons}
 use Rattle.pd_text.specs.Text.{FitsText, octets_of}
 use Rattle.pd_lex.specs.declared.token.Place.{Place}
 use Rattle.pd_lex.specs.declared.token.Token.{Token}
+use Rattle.pd_lex.specs.declared.token.Lexed.{Lexed}
+use Rattle.pd_lex.specs.declared.token.Lexed.TheVariants as lexed
 use Rattle.pd_lex.specs.Kinds.{stays_in_line}
-use Rattle.pd_lex.specs.Lexing.{followed, items_within, items, lexeme_of}
+use Rattle.pd_lex.specs.Lexing.{followed, items_within, items, lexeme_of, IsNext}
 use Rattle.pd_lex.specs.Pieces.{Front, nothing, gap, token, stray, front}
 use Rattle.pd_lex.specs.Places.{standing, octets_from, joined, place_after, before, between}
 use Rattle.pd_lex.specs.Tokens.{Item, lexeme}
 use Rattle.pd_script.specs.Brackets.{opened_by, is_closing}
-use Rattle.pd_script.specs.Cursor.{shown}
+use Rattle.pd_script.specs.Cursor.{left, shown}
 use Rattle.pd_script.specs.Items.{is_symbol}
 use Rattle.pd_script.specs.Next.{place_of}
 use Rattle.pd_script.proofs.Taking.{alike}
-use Rattle.pd_layout.specs.Laid.{depth_behind, outside}
+use Rattle.pd_layout.specs.Laid.{depth_after, outside}
 
 -- ---- one item
 
-pub goes_past : (test : Item → Bool) (depth : ℕ) (t : Item) (ts : List Item) → (test t && depth_behind depth t == 0) ≡ false → outside test depth (t ∷ ts) ≡ outside test (depth_behind depth t) ts
+pub goes_past : (test : Item → Bool) (depth : ℕ) (t : Item) (ts : List Item) → (test t && depth_after depth t == 0) ≡ false → outside test depth (t ∷ ts) ≡ outside test (depth_after depth t) ts
 goes_past test depth t ts none = rw none refl
 
-pub stops_at : (test : Item → Bool) (depth : ℕ) (t : Item) (ts : List Item) → (test t && depth_behind depth t == 0) ≡ true → outside test depth (t ∷ ts) ≡ Some (place_of t)
+pub stops_at : (test : Item → Bool) (depth : ℕ) (t : Item) (ts : List Item) → (test t && depth_after depth t == 0) ≡ true → outside test depth (t ∷ ts) ≡ Some (place_of t)
 stops_at test depth t ts found = rw found refl
-
-pub no_symbol : (found : Bool) (now : ℕ) → found ≡ false → (found && now == 0) ≡ false
-no_symbol found now h = rw h refl
 
 none_of : (found : Bool) → (found && false) ≡ false
 none_of true = refl
@@ -38,7 +37,7 @@ in_brackets found now h =
     rw more (none_of found)
 
 -- a token opens one bracket at most
-one_more : (depth : ℕ) (t : Item) → depth_behind depth t ≤ depth + 1
+one_more : (depth : ℕ) (t : Item) → depth_after depth t ≤ depth + 1
 one_more depth t = by (is_some (opened_by t)) (is_closing t)
   where
     by : (opens closes : Bool) → (if opens then depth + 1 else (if closes then depth - 1 else depth)) ≤ depth + 1
@@ -53,29 +52,33 @@ module _ (lines : List (List ℕ)) (t : Token) (h : stays_in_line t.kind ≡ tru
   unfolding lexeme_of
   symbol_alike octet = alike (λ (i : Item). is_symbol octet i) t.kind (between lines t.from t.to) t.text.now t.from (λ stays. sym (h stays)) refl refl refl
 
-  depth_alike : (depth : ℕ) → depth_behind depth (lexeme (lexeme_of lines t)) ≡ depth_behind depth (shown t)
+  depth_alike : (depth : ℕ) → depth_after depth (lexeme (lexeme_of lines t)) ≡ depth_after depth (shown t)
   unfolding lexeme_of
-  depth_alike depth = alike (λ (i : Item). depth_behind depth i) t.kind (between lines t.from t.to) t.text.now t.from (λ stays. sym (h stays)) refl refl refl
+  depth_alike depth = alike (λ (i : Item). depth_after depth i) t.kind (between lines t.from t.to) t.text.now t.from (λ stays. sym (h stays)) refl refl refl
 
-  module _ (p : Place) (next : items lines p ≡ lexeme (lexeme_of lines t) ∷ items lines t.to) (octet depth now : ℕ) (is : now ≡ depth_behind depth (shown t)) where
-    tested : (b : Bool) → (is_symbol octet (shown t) && now == 0) ≡ b → (is_symbol octet (lexeme (lexeme_of lines t)) && depth_behind depth (lexeme (lexeme_of lines t)) == 0) ≡ b
+  module _ (octet depth now : ℕ) (is : now ≡ depth_after depth (shown t)) where
+    tested : (b : Bool) → (is_symbol octet (shown t) && now == 0) ≡ b → (is_symbol octet (lexeme (lexeme_of lines t)) && depth_after depth (lexeme (lexeme_of lines t)) == 0) ≡ b
     tested b e = rw (symbol_alike octet, depth_alike depth, ← is) e
 
-    pub goes_on : (is_symbol octet (shown t) && now == 0) ≡ false → outside (is_symbol octet) depth (items lines p) ≡ outside (is_symbol octet) now (items lines t.to)
+    pub goes_on : (is_symbol octet (shown t) && now == 0) ≡ false → outside (is_symbol octet) depth (left lines (lexed.Token t)) ≡ outside (is_symbol octet) now (items lines t.to)
     goes_on none =
-        ap (λ (ts : List Item). outside (is_symbol octet) depth ts) next
-        ∙ goes_past (is_symbol octet) depth (lexeme (lexeme_of lines t)) (items lines t.to) (tested false none)
+        goes_past (is_symbol octet) depth (lexeme (lexeme_of lines t)) (items lines t.to) (tested false none)
         ∙ ap (λ (k : ℕ). outside (is_symbol octet) k (items lines t.to)) (depth_alike depth ∙ sym is)
 
-    pub finds : (is_symbol octet (shown t) && now == 0) ≡ true → outside (is_symbol octet) depth (items lines p) ≡ Some t.from
+    pub finds : (is_symbol octet (shown t) && now == 0) ≡ true → outside (is_symbol octet) depth (left lines (lexed.Token t)) ≡ Some t.from
     unfolding lexeme_of
     finds found =
-        ap (λ (ts : List Item). outside (is_symbol octet) depth ts) next
-        ∙ stops_at (is_symbol octet) depth (lexeme (lexeme_of lines t)) (items lines t.to) (tested true found)
+        stops_at (is_symbol octet) depth (lexeme (lexeme_of lines t)) (items lines t.to) (tested true found)
 
     -- one item fewer is left, and one bracket more may be open
-    pub fewer : now + length (items lines t.to) ≤ depth + length (items lines p)
-    fewer = omega (arith, is, one_more depth (shown t), ap length next)
+    pub fewer : now + length (items lines t.to) ≤ depth + length (left lines (lexed.Token t))
+    fewer = omega (arith, is, one_more depth (shown t))
+
+-- what the lexer answered is what is left
+pub what_is_left : (lines : List (List ℕ)) (p : Place) (next : Lexed) → IsNext lines p next → items lines p ≡ left lines next
+what_is_left lines p (lexed.Token t) next = next
+what_is_left lines p lexed.End next = next
+what_is_left lines p (lexed.Bad line) next = next
 
 -- ---- a text has few items
 

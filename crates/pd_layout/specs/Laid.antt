@@ -32,9 +32,9 @@ use Rattle.pd_print.specs.Packets.{event_text}
 use Rattle.pd_print.specs.declared.packet_texts.Direction.TheVariants.{Inbound, Outbound}
 use Rattle.pd_layout.specs.Traces.{is_trace}
 
--- octets stand at the front of a line, and what follows them passes a test
-abbrev pub behind : List ℕ → (List ℕ → Bool) → List ℕ → Bool
-behind octets test line = bytes_eq (take (length octets) line) octets && test (drop (length octets) line)
+-- octets are at the front of a line, and what follows them passes a test
+abbrev pub after_octets : List ℕ → (List ℕ → Bool) → List ℕ → Bool
+after_octets octets test line = bytes_eq (take (length octets) line) octets && test (drop (length octets) line)
 
 -- ---- comments and empty lines
 
@@ -48,25 +48,25 @@ after_end (a ∷ b ∷ s) = if a == 42 && b == 47 then Some s else after_end (b 
 abbrev pub within : List ℕ → Option Bool
 within line = option_map_or (λ rest. if length rest == 0 then Some false else None) (after_end line) (Some true)
 
--- a comment alone in its line, behind one blank where it looks like a line of a trace: whether it goes on in the next line;
+-- a comment alone in its line, after one blank where it looks like a line of a trace: whether it goes on in the next line;
 -- None where the line is no such comment
 abbrev pub comment : List ℕ → Option Bool
 comment line =
-    if behind (codes " ") is_trace line then Some false
-    else (if behind (codes "//") (λ _. not (is_trace line)) line then Some false
-    else (if behind (codes "/*") (λ _. true) line then within (drop 2 line) else None))
+    if after_octets (codes " ") is_trace line then Some false
+    else (if after_octets (codes "//") (λ _. not (is_trace line)) line then Some false
+    else (if after_octets (codes "/*") (λ _. true) line then within (drop 2 line) else None))
 
 -- a line in front of an event: an empty one or a comment; or a line within a comment
 abbrev pub alone : Bool → List ℕ → Option Bool
 alone true line = within line
 alone false line = if length line == 0 then Some false else comment line
 
--- lines in front of an event, the first of which may stand within a comment
+-- lines in front of an event, the first of which may be within a comment
 abbrev pub lead : Bool → List (List ℕ) → Bool
 lead inside [] = not inside
 lead inside (line ∷ lines) = option_map_or (λ more. lead more lines) (alone inside line) false
 
--- what stands behind an event in its line: comments, each behind one blank, or the rest of one and further ones; whether the
+-- what follows an event in its line: comments, each after one blank, or the rest of one and further ones; whether the
 -- last of them goes on in the next line
 abbrev pub trail : Bool → List ℕ → Option Bool
 trail true [] = Some true
@@ -77,22 +77,22 @@ trail false (a ∷ []) = None
 trail false (a ∷ b ∷ []) = None
 trail false (a ∷ b ∷ c ∷ s) = if a == 32 && b == 47 then (if c == 47 then Some false else (if c == 42 then trail true s else None)) else None
 
--- what stands behind an event up to the next one: comments in its line, and lines in front of the next one
+-- what follows an event up to the next one: comments in its line, and lines in front of the next one
 abbrev pub gap : List (List ℕ) → List ℕ → Bool
 gap lines rest = option_map_or (λ inside. lead inside lines) (trail false rest) false
 
 -- ---- calls
 
--- how many brackets are open behind an item, where so many are before it
-abbrev pub depth_behind : ℕ → Item → ℕ
-depth_behind depth t = if is_some (opened_by t) then depth + 1 else (if is_closing t then depth - 1 else depth)
+-- how many brackets are open after an item, where so many are before it
+abbrev pub depth_after : ℕ → Item → ℕ
+depth_after depth t = if is_some (opened_by t) then depth + 1 else (if is_closing t then depth - 1 else depth)
 
 -- where the first of some items stands that passes a test and leaves no bracket open, where so many are open before them; None
 -- where there is none
 abbrev pub outside : (Item → Bool) → ℕ → List Item → Option Place
 outside test depth [] = None
 outside test depth (t ∷ ts) =
-    let now = depth_behind depth t in if test t && now == 0 then Some (place_of t) else outside test now ts
+    let now = depth_after depth t in if test t && now == 0 then Some (place_of t) else outside test now ts
 
 -- the first of some lines passes a test
 abbrev pub first_line : (List (List ℕ) → List ℕ → Bool) → List (List ℕ) → Bool
@@ -103,31 +103,31 @@ first_line test (line ∷ lines) = test lines line
 abbrev pub block : List (List ℕ) → ℕ → ℕ → List (List ℕ)
 block text from to = take (to - from) (drop from text)
 
--- what is left of a line at a place, and the lines behind it up to another, pass a test
+-- what is left of a line at a place, and the lines after it up to another, pass a test
 abbrev pub stands_at : (List (List ℕ) → List ℕ → Bool) → List (List ℕ) → ℕ → Place → Bool
 stands_at test text until place = first_line (λ lines line. test lines (drop place.at line)) (block text (place.line - 1) until)
 
 -- the end of a note, and a gap
 abbrev pub note_end : List (List ℕ) → List ℕ → Bool
-note_end lines = behind (codes ")") (gap lines)
+note_end lines = after_octets (codes ")") (gap lines)
 
--- what stands behind an answer: a gap; or a note up to the bracket that closes it, and a gap
+-- what follows an answer: a gap; or a note up to the bracket that closes it, and a gap
 abbrev pub noted : List (List ℕ) → ℕ → Option Place → List (List ℕ) → List ℕ → Bool
 noted text until closing lines rest =
-    gap lines rest || behind (codes " (") (λ note. option_map_or (stands_at note_end text until) closing false) rest
+    gap lines rest || after_octets (codes " (") (λ note. option_map_or (stands_at note_end text until) closing false) rest
 
--- an equals sign at a place, an answer, and what stands behind it
+-- an equals sign at a place, an answer, and what follows it
 abbrev pub answered_at : List ℕ → List (List ℕ) → ℕ → Place → Bool
 answered_at answer text until place =
     let closing = outside (is_symbol (sign ")")) 0 (items text place) in
-    stands_at (λ lines. behind (codes "= ") (behind answer (noted text until closing lines))) text until place
+    stands_at (λ lines. after_octets (codes "= ") (after_octets answer (noted text until closing lines))) text until place
 
 -- what begins with a letter, a digit or `_`
 abbrev pub begins_word : List ℕ → Bool
 begins_word [] = false
 begins_word (b ∷ s) = is_ascii_alphanumeric b || b == 95
 
--- a call in some lines of a text: what begins a word, and its answer at the first equals sign that stands outside of brackets
+-- a call in some lines of a text: what begins a word, and its answer at the first equals sign that is outside of brackets
 abbrev pub call_octets : List ℕ → List (List ℕ) → ℕ → ℕ → List ℕ → Bool
 call_octets answer text from until rest =
     begins_word rest
@@ -152,14 +152,14 @@ answer_of (Negative n (Some name)) = if n == 1 then option_map (λ error. Error 
 -- the script expects, and a gap
 abbrev pub call_line : List (List ℕ) → ℕ → ℕ → Time → Outcome → List ℕ → Bool
 call_line text from until time result line =
-    option_map_or (λ answer. behind (time_text time) (behind (codes " ") (call_octets (answer_text answer) text from until)) line) (answer_of result) false
+    option_map_or (λ answer. after_octets (time_text time) (after_octets (codes " ") (call_octets (answer_text answer) text from until)) line) (answer_of result) false
 
 -- ---- events and header items
 
 -- an event, which goes on up to a line: a packet in its one form, or a call, and a gap
 abbrev pub action_line : List (List ℕ) → ℕ → ℕ → Time → Action → List (List ℕ) → List ℕ → Bool
-action_line text from until time (actions.Inbound packet) lines line = behind (event_text time Inbound packet) (gap lines) line
-action_line text from until time (actions.Outbound packet) lines line = behind (event_text time Outbound packet) (gap lines) line
+action_line text from until time (actions.Inbound packet) lines line = after_octets (event_text time Inbound packet) (gap lines) line
+action_line text from until time (actions.Outbound packet) lines line = after_octets (event_text time Outbound packet) (gap lines) line
 action_line text from until time (actions.Call call) lines line = call_line text from until time call.result line
 action_line text from until time actions.Command lines line = false
 action_line text from until time actions.Code lines line = false
@@ -184,7 +184,7 @@ events_laid text (event ∷ others) =
     let until = events_at text others in
     first_line (action_line text event.line until event.time event.action) (block text (event.line - 1) until) && events_laid text others
 
--- where the first of some header items begins, with these events behind them
+-- where the first of some header items begins, with these events after them
 abbrev pub items_at : List (List ℕ) → List Event → List HeaderItem → ℕ
 items_at text events [] = events_at text events
 items_at text events (item ∷ others) = item.line - 1

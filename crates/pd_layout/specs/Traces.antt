@@ -62,12 +62,12 @@ are_facts words = list_all is_fact (slice_split (λ octet. octet == 32) words)
 abbrev pub blank_at : List ℕ → Option ℕ
 blank_at octets = position (λ octet. octet == 32) octets
 
--- a state, and facts behind a blank
+-- a state, and facts after a blank
 abbrev pub is_standing_at : Option ℕ → List ℕ → Bool
 is_standing_at None words = is_state words
 is_standing_at (Some at) words = is_state (take at words) && are_facts (drop (at + 1) words)
 
--- a moment, and behind a blank a state and facts
+-- a moment, and after a blank a state and facts
 abbrev pub are_told_at : Option ℕ → List ℕ → Bool
 are_told_at None words = false
 are_told_at (Some at) words = let rest = drop (at + 1) words in is_moment (take at words) && is_standing_at (blank_at rest) rest

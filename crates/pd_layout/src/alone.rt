@@ -1,9 +1,9 @@
-//! Events that stand alone on their lines, without comments: their parts by octets, as their tokens would tell them.
+//! Events that are alone on their lines, without comments: their parts by octets, as their tokens would tell them.
 use crate::extents::Extent;
 use pd_lex::Place;
 use pd_text::Lines;
 
-/// The parts of an event that stands alone on its line.
+/// The parts of an event that is alone on its line.
 #[derive(Clone, Copy)]
 pub struct Parts {
     /// The octets of a call up to `=`; none for a packet.
@@ -14,7 +14,7 @@ pub struct Parts {
 
 /// What of an event was read last.
 #[derive(Clone, Copy)]
-enum Reading {
+enum LinePart {
     /// Its time.
     Time,
     /// A packet.
@@ -30,10 +30,10 @@ enum Reading {
 /// The parts of an event while its line is read, as places of the line.
 #[derive(Clone, Copy)]
 struct Draft {
-    reading: Reading,
+    reading: LinePart,
     /// How many brackets are open.
     depth: usize,
-    /// Whether a blank stands before the next octet.
+    /// Whether a blank is before the next octet.
     is_apart: bool,
     /// Where the own octets of a call begin and end.
     from: usize,
@@ -52,7 +52,7 @@ pub fn parts_alone(lines: &Lines, from: Place, until: Place) -> Option<Parts> {
     }
     let line = lines.line(from.line)?;
     let mut draft = Draft {
-        reading: Reading::Time,
+        reading: LinePart::Time,
         depth: 0,
         is_apart: true,
         from: from.at,
@@ -76,21 +76,21 @@ pub fn parts_alone(lines: &Lines, from: Place, until: Place) -> Option<Parts> {
 }
 
 impl Draft {
-    /// Reads an octet that is no blank; false where it may stand in the middle of a token that begins a call.
+    /// Reads an octet that is no blank; false where it may be in the middle of a token that begins a call.
     fn read(&mut self, octet: u8, at: usize) -> bool {
         let is_apart = self.is_apart;
         self.is_apart = false;
         self.end = at.saturating_add(1);
         match self.reading {
-            Reading::Time => return self.read_in_time(octet, at, is_apart),
-            Reading::Call => self.read_in_call(octet, at),
-            Reading::Result => {
+            LinePart::Time => return self.read_in_time(octet, at, is_apart),
+            LinePart::Call => self.read_in_call(octet, at),
+            LinePart::Result => {
                 if octet == b'(' {
-                    self.reading = Reading::Note;
+                    self.reading = LinePart::Note;
                     self.note = at;
                 }
             }
-            Reading::Packet | Reading::Note => {}
+            LinePart::Packet | LinePart::Note => {}
         }
         true
     }
@@ -98,9 +98,9 @@ impl Draft {
     /// Reads an octet of a time, or the one after it.
     fn read_in_time(&mut self, octet: u8, at: usize, is_apart: bool) -> bool {
         if matches!(octet, b'<' | b'>') {
-            self.reading = Reading::Packet;
+            self.reading = LinePart::Packet;
         } else if octet == b'_' || octet.is_ascii_alphabetic() {
-            self.reading = Reading::Call;
+            self.reading = LinePart::Call;
             self.from = at;
             return is_apart;
         }
@@ -113,7 +113,7 @@ impl Draft {
             b'(' | b'[' | b'{' => self.depth = self.depth.saturating_add(1),
             b')' | b']' | b'}' => self.depth = self.depth.saturating_sub(1),
             b'=' if self.depth == 0 => {
-                self.reading = Reading::Result;
+                self.reading = LinePart::Result;
                 self.to = at.saturating_add(1);
             }
             _ => {}
@@ -123,7 +123,7 @@ impl Draft {
     /// The parts, in a line.
     fn parts(&self, line: usize) -> Parts {
         let note = match self.reading {
-            Reading::Note => Some(extent(line, self.note, self.end)),
+            LinePart::Note => Some(extent(line, self.note, self.end)),
             _ => None,
         };
         Parts {

@@ -24,7 +24,7 @@ impl<'a> Block<'a> {
         Block { lines, from, until }
     }
 
-    /// The first line and those behind it; nothing where there is none.
+    /// The first line and those after it; nothing where there is none.
     #[inline(always)]
     pub fn split_first(self) -> Option<(&'a [u8], Block<'a>)>
         ensures { MatchOption result (lines_of self.entry ≡ []) (λ x. lines_of self.entry ≡ x.0.now ∷ lines_of x.1) }

@@ -6,7 +6,7 @@ ghost use Rattle.pd_layout.specs.Inner.{lines_of};
 use crate::blocks::Block;
 use crate::traces::is_trace;
 
-/// Whether these octets stand behind an event in its line, and lines up to the next event behind them.
+/// Whether these octets follow an event in its line, and lines up to the next event after them.
 pub fn is_gap(rest: &[u8], lines: Block<'_>) -> bool
     ensures { result ≡ gap (lines_of lines.entry) rest.now }
 {
@@ -22,17 +22,17 @@ pub fn is_lead(inside: bool, lines: Block<'_>) -> bool
 {
     let mut inside = inside;
     let mut left = lines;
-    while let Some((line, behind)) = left.split_first() {
+    while let Some((line, after)) = left.split_first() {
         match alone(inside, line) {
             Some(more) => inside = more,
             None => return false,
         }
-        left = behind;
+        left = after;
     }
     !inside
 }
 
-/// Whether a comment goes on behind a line in front of an event, which may stand within one; nothing where the line is neither
+/// Whether a comment goes on after a line in front of an event, which may be within one; nothing where the line is neither
 /// empty nor a comment.
 fn alone(inside: bool, line: &[u8]) -> Option<bool>
     ensures { result ≡ alone inside line.now }
@@ -46,7 +46,7 @@ fn alone(inside: bool, line: &[u8]) -> Option<bool>
     }
 }
 
-/// Whether a comment alone in its line goes on behind it; nothing where the line is none.
+/// Whether a comment alone in its line goes on after it; nothing where the line is none.
 fn comment(line: &[u8]) -> Option<bool>
     ensures { result ≡ comment line.now }
 {
@@ -62,7 +62,7 @@ fn comment(line: &[u8]) -> Option<bool>
     }
 }
 
-/// Whether a comment that a line stands in goes on behind the line; nothing where something follows its end.
+/// Whether a comment that a line is in goes on after the line; nothing where something follows its end.
 fn within(line: &[u8]) -> Option<bool>
     ensures { result ≡ within line.now }
 {
@@ -72,14 +72,14 @@ fn within(line: &[u8]) -> Option<bool>
     }
 }
 
-/// Whether the last comment behind an event in its line goes on in the next one; nothing where something else stands there.
+/// Whether the last comment after an event in its line goes on in the next one; nothing where something else is there.
 fn trail(line: &[u8]) -> Option<bool>
     ensures { result ≡ trail false line.now }
 {
     let mut rest = line;
     while let Some(comment) = rest.strip_prefix(b" /*") {
         match after_end(comment) {
-            Some(behind) => rest = behind,
+            Some(after) => rest = after,
             None => return Some(true),
         }
     }
@@ -96,11 +96,11 @@ fn after_end(line: &[u8]) -> Option<&[u8]>
     ensures shorter { IfSome result (λ rest. length rest.now ≤ length line.now) }
 {
     let mut rest = line;
-    while let [_, behind @ ..] = rest {
+    while let [_, others @ ..] = rest {
         if let Some(after) = rest.strip_prefix(b"*/") {
             return Some(after);
         }
-        rest = behind;
+        rest = others;
     }
     None
 }

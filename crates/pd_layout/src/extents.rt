@@ -12,7 +12,7 @@ pub struct Extent {
     pub to: Place,
 }
 
-/// Whether a place stands before another.
+/// Whether a place is before another.
 pub fn is_before(place: Place, other: Place) -> bool {
     place.line < other.line || (place.line == other.line && place.at < other.at)
 }

@@ -1,24 +1,24 @@
-//! What stands between the tokens of a text: comments and blank lines.
+//! What is between the tokens of a text: comments and blank lines.
 use crate::extents::{Extent, is_before};
 use pd_lex::Place;
 use pd_text::{Lines, MAX_OCTETS};
 use std::alloc::AllocError;
 
-/// What stands in a gap between tokens.
+/// What is in a gap between tokens.
 #[derive(Clone, Copy)]
-pub enum Piece {
+pub enum GapPart {
     /// A comment.
     Comment(Extent),
     /// A line with nothing but blanks.
     Blank,
 }
 
-/// Adds the comments of a gap and its blank lines. The line of its first place is blank only where nothing stands before
+/// Adds the comments of a gap and its blank lines. The line of its first place is blank only where nothing is before
 /// that place, and the line of its last place never is.
 ///
 /// # Errors
 /// `AllocError` where a growth is refused.
-pub fn put_gap(pieces: &mut Vec<Piece>, lines: &Lines, gap: Extent) -> Result<(), AllocError> {
+pub fn put_gap(pieces: &mut Vec<GapPart>, lines: &Lines, gap: Extent) -> Result<(), AllocError> {
     let mut place = gap.from;
     let mut is_blank = gap.from.at == 0;
     for _ in 0..=2 * MAX_OCTETS {
@@ -32,7 +32,7 @@ pub fn put_gap(pieces: &mut Vec<Piece>, lines: &Lines, gap: Extent) -> Result<()
         }
         if at >= line.len() {
             if is_blank {
-                pieces.push(Piece::Blank)?;
+                pieces.push(GapPart::Blank)?;
             }
             place = Place::line_start(place.line.saturating_add(1));
             is_blank = true;
@@ -40,7 +40,7 @@ pub fn put_gap(pieces: &mut Vec<Piece>, lines: &Lines, gap: Extent) -> Result<()
         }
         is_blank = false;
         let to = comment_end(lines, place, line);
-        pieces.push(Piece::Comment(Extent { from: place, to }))?;
+        pieces.push(GapPart::Comment(Extent { from: place, to }))?;
         place = to;
     }
     Ok(())
@@ -67,7 +67,7 @@ fn comment_end(lines: &Lines, place: Place, line: &[u8]) -> Place {
     }
 }
 
-/// The place after the next `*/` that stands at least two octets after a place.
+/// The place after the next `*/` that is at least two octets after a place.
 fn closing(lines: &Lines, place: Place) -> Place {
     let mut from = place.at.saturating_add(2);
     for number in place.line..=lines.len() {

@@ -1,14 +1,14 @@
 //! Whether texts are laid out as recordings are.
 ghost use Rattle.std.specs.Prelude.{◌≡◌, ◌-◌, ◌≤◌, ◌<◌, IfOk, IfSome, length};
 ghost use Rattle.std.specs.List.{position};
-ghost use Rattle.pd_layout.specs.Laid.{action_line, behind, block, events_at, events_laid, first_line, gap, is_laid, item_end, item_line, items_at, items_laid};
+ghost use Rattle.pd_layout.specs.Laid.{action_line, after_octets, block, events_at, events_laid, first_line, gap, is_laid, item_end, item_line, items_at, items_laid};
 ghost use Rattle.pd_lex.specs.Octets.{is_blank};
 ghost use Rattle.pd_print.specs.Packets.{event_text};
 ghost use Rattle.pd_layout.specs.Inner.{lines_of};
 
 use crate::blocks::Block;
 use crate::comments::{is_gap, is_lead};
-use crate::laid_calls::{has_gap_behind, is_call_line};
+use crate::laid_calls::{has_gap_after, is_call_line};
 use pd_print::{Direction, put_event};
 use pd_script::{Action, Event, HeaderItem, Packet, Time};
 use pd_text::Lines;
@@ -34,7 +34,7 @@ pub fn is_laid(
     }
 }
 
-/// Where the first of some header items begins, with these events behind them, counted from 0.
+/// Where the first of some header items begins, with these events after them, counted from 0.
 fn items_at(lines: &Lines, items: &[HeaderItem], events: &[Event]) -> usize
     ensures { result ≡ items_at lines.now events.now items.now }
 {
@@ -54,7 +54,7 @@ fn events_at(lines: &Lines, events: &[Event]) -> usize
     }
 }
 
-/// Whether header items are laid out, with these events behind them.
+/// Whether header items are laid out, with these events after them.
 fn are_items_laid(lines: &Lines, items: &[HeaderItem], events: &[Event]) -> bool
     ensures { result ≡ items_laid lines.now events.now items.now }
 {
@@ -74,7 +74,7 @@ fn is_item_laid(lines: Block<'_>) -> bool
     ensures { result ≡ first_line item_line (lines_of lines.entry) }
 {
     match lines.split_first() {
-        Some((line, behind)) => is_gap(&line[item_end(line)..], behind),
+        Some((line, after)) => is_gap(&line[item_end(line)..], after),
         None => false,
     }
 }
@@ -130,7 +130,7 @@ fn is_event_laid(
     ensures { IfOk result (λ laid. laid ≡ first_line (action_line lines.now event.now.line until event.now.time event.now.action) (block lines.now (event.now.line - 1) until)) }
 {
     let block = Block::new(lines, event.line.saturating_sub(1), until);
-    let Some((line, behind)) = block.split_first() else {
+    let Some((line, after)) = block.split_first() else {
         return Ok(false);
     };
     match &event.action {
@@ -140,7 +140,7 @@ fn is_event_laid(
             Direction::Inbound,
             packet,
             line,
-            behind,
+            after,
         ),
         Action::Outbound(packet) => is_packet_line(
             text,
@@ -148,14 +148,14 @@ fn is_event_laid(
             Direction::Outbound,
             packet,
             line,
-            behind,
+            after,
         ),
         Action::Call(call) => is_call_line(text, lines, until, event, call.result, line),
         Action::Command | Action::Code => Ok(false),
     }
 }
 
-/// Whether a line is, with lines behind it, a packet that arrives or leaves at a time, in its one form, and a gap.
+/// Whether a line is, with lines after it, a packet that arrives or leaves at a time, in its one form, and a gap.
 fn is_packet_line(
     text: &mut Vec<u8>,
     time: Time,
@@ -164,9 +164,9 @@ fn is_packet_line(
     line: &[u8],
     lines: Block<'_>,
 ) -> Result<bool, AllocError>
-    ensures { IfOk result (λ laid. laid ≡ behind (event_text time direction packet.now) (gap (lines_of lines.entry)) line.now) }
+    ensures { IfOk result (λ laid. laid ≡ after_octets (event_text time direction packet.now) (gap (lines_of lines.entry)) line.now) }
 {
     text.clear();
     put_event(text, time, direction, packet)?;
-    Ok(has_gap_behind(text.as_slice(), line, lines))
+    Ok(has_gap_after(text.as_slice(), line, lines))
 }

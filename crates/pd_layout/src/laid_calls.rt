@@ -1,6 +1,6 @@
 //! Calls as they stand in recordings.
 ghost use Rattle.std.specs.Prelude.{◌≡◌, IfOk, drop};
-ghost use Rattle.pd_layout.specs.Laid.{gap, behind, stands_at, note_end, noted, answered_at, begins_word, call_octets, call_line, error_of, answer_of};
+ghost use Rattle.pd_layout.specs.Laid.{gap, after_octets, stands_at, note_end, noted, answered_at, begins_word, call_octets, call_line, error_of, answer_of};
 ghost use Rattle.pd_layout.specs.Inner.{lines_of, closing_of};
 
 use crate::blocks::Block;
@@ -13,9 +13,9 @@ use pd_seg::{Answer, Errno};
 use pd_text::Lines;
 use std::alloc::AllocError;
 
-/// Whether octets stand at the front of a line, and a gap behind them.
-pub fn has_gap_behind(octets: &[u8], line: &[u8], lines: Block<'_>) -> bool
-    ensures { result ≡ behind octets.now (gap (lines_of lines.entry)) line.now }
+/// Whether octets are at the front of a line, and a gap after them.
+pub fn has_gap_after(octets: &[u8], line: &[u8], lines: Block<'_>) -> bool
+    ensures { result ≡ after_octets octets.now (gap (lines_of lines.entry)) line.now }
 {
     match line.strip_prefix(octets) {
         Some(rest) => is_gap(rest, lines),
@@ -23,28 +23,28 @@ pub fn has_gap_behind(octets: &[u8], line: &[u8], lines: Block<'_>) -> bool
     }
 }
 
-/// What is left of a line behind so many octets.
-fn left_behind(line: &[u8], at: usize) -> &[u8]
+/// What is left of a line after so many octets.
+fn left_after(line: &[u8], at: usize) -> &[u8]
     ensures { result.now ≡ drop at line.now }
 {
     if at < line.len() { &line[at..] } else { &[] }
 }
 
-/// Whether the end of a note stands at a place, and a gap up to a line.
+/// Whether the end of a note is at a place, and a gap up to a line.
 fn is_note_end(lines: &Lines, until: usize, place: Place) -> bool
     ensures { result ≡ stands_at note_end lines.now until place }
 {
     match Block::new(lines, place.line.saturating_sub(1), until).split_first() {
-        Some((line, behind)) => has_gap_behind(b")", left_behind(line, place.at), behind),
+        Some((line, after)) => has_gap_after(b")", left_after(line, place.at), after),
         None => false,
     }
 }
 
-/// Whether a gap stands behind the answer to an equals sign at a place, or a note and a gap up to a line.
-fn is_noted(lines: &Lines, until: usize, equals: Place, rest: &[u8], behind: Block<'_>) -> bool
-    ensures { result ≡ noted lines.now until (closing_of lines.now equals) (lines_of behind.entry) rest.now }
+/// Whether a gap follows the answer to an equals sign at a place, or a note and a gap up to a line.
+fn is_noted(lines: &Lines, until: usize, equals: Place, rest: &[u8], after: Block<'_>) -> bool
+    ensures { result ≡ noted lines.now until (closing_of lines.now equals) (lines_of after.entry) rest.now }
 {
-    if is_gap(rest, behind) {
+    if is_gap(rest, after) {
         return true;
     }
     if !rest.starts_with(b" (") {
@@ -56,19 +56,19 @@ fn is_noted(lines: &Lines, until: usize, equals: Place, rest: &[u8], behind: Blo
     }
 }
 
-/// Whether an equals sign stands at a place, an answer, a note or none, and a gap up to a line.
+/// Whether an equals sign is at a place, an answer, a note or none, and a gap up to a line.
 fn is_answered(answer: &[u8], lines: &Lines, until: usize, equals: Place) -> bool
     ensures { result ≡ answered_at answer.now lines.now until equals }
 {
     let block = Block::new(lines, equals.line.saturating_sub(1), until);
-    let Some((line, behind)) = block.split_first() else {
+    let Some((line, after)) = block.split_first() else {
         return false;
     };
-    let Some(rest) = left_behind(line, equals.at).strip_prefix(b"= ") else {
+    let Some(rest) = left_after(line, equals.at).strip_prefix(b"= ") else {
         return false;
     };
     match rest.strip_prefix(answer) {
-        Some(rest) => is_noted(lines, until, equals, rest, behind),
+        Some(rest) => is_noted(lines, until, equals, rest, after),
         None => false,
     }
 }

@@ -1,7 +1,7 @@
 //! How a script stands in its text: the octets of its parts, with the comments and blank lines around them.
 use crate::alone::{Parts, parts_alone};
 use crate::extents::{Extent, end_of, is_before};
-use crate::gaps::{Piece, put_gap};
+use crate::gaps::{GapPart, put_gap};
 use pd_lex::{Lexed, Place, Token, TokenKind, next_token};
 use pd_text::{Lines, MAX_OCTETS};
 use std::alloc::{AllocError, Global};
@@ -11,20 +11,20 @@ use std::mem::replace;
 #[derive(Drop)]
 pub struct Layout {
     /// The comments and blank lines before it and within it, those of its own octets and its note left out.
-    pub lead: Vec<Piece>,
+    pub lead: Vec<GapPart>,
     /// The octets of a header item, or of a call up to `=`.
     pub own: Extent,
     /// The note of a call.
     pub note: Option<Extent>,
     /// The comments and blank lines within that note.
-    pub noted: Vec<Piece>,
+    pub noted: Vec<GapPart>,
     /// The comments after it on its line.
-    pub trail: Vec<Piece>,
+    pub trail: Vec<GapPart>,
 }
 
 impl Layout {
     /// With these parts, and no comment within the part or after it.
-    fn of(alloc: Global, lead: Vec<Piece>, parts: Parts) -> Layout {
+    fn of(alloc: Global, lead: Vec<GapPart>, parts: Parts) -> Layout {
         Layout {
             lead,
             own: parts.own,
@@ -41,13 +41,13 @@ pub struct LayoutReader<'a> {
     lines: &'a Lines,
     /// Where the next part begins.
     next: Place,
-    /// What stands before it.
-    lead: Vec<Piece>,
+    /// What is before it.
+    lead: Vec<GapPart>,
 }
 
 /// What of an event was read last.
 #[derive(Clone, Copy, PartialEq, Eq)]
-enum Reading {
+enum TextPart {
     /// Nothing yet.
     Nothing,
     /// Its time, or a header item.
@@ -66,7 +66,7 @@ enum Reading {
 #[derive(Drop)]
 struct Draft {
     layout: Layout,
-    reading: Reading,
+    reading: TextPart,
     /// How many brackets are open.
     depth: usize,
     /// Where its last token ends.
@@ -116,7 +116,7 @@ impl<'a> LayoutReader<'a> {
         self.read_part(alloc, after)
     }
 
-    /// Reads the tokens of the next part, which stand before a place, that of the token after them.
+    /// Reads the tokens of the next part, which are before a place, that of the token after them.
     fn read_part(&mut self, alloc: Global, until: Place) -> Result<Layout, AllocError> {
         let lead = replace(&mut self.lead, Vec::new(alloc));
         let mut place = replace(&mut self.next, until);
@@ -138,19 +138,19 @@ impl<'a> LayoutReader<'a> {
         Ok(draft.layout)
     }
 
-    /// What stands after the last part.
-    pub fn rest(self) -> Vec<Piece> {
+    /// What is after the last part.
+    pub fn rest(self) -> Vec<GapPart> {
         self.lead
     }
 
-    /// Reads what stands after a part: what begins in its line stays there, where no further token stands in that line.
+    /// Reads what is after a part: what begins in its line stays there, where no further token is in that line.
     fn read_gap(&mut self, part: &mut Layout, gap: Extent) -> Result<(), AllocError> {
         let is_last = gap.to.line > gap.from.line;
         let mut pieces = Vec::new(*self.lead.allocator());
         put_gap(&mut pieces, self.lines, gap)?;
         for piece in &pieces {
             match piece {
-                Piece::Comment(extent) if is_last && extent.from.line == gap.from.line => {
+                GapPart::Comment(extent) if is_last && extent.from.line == gap.from.line => {
                     part.trail.push(*piece)?;
                 }
                 _ => self.lead.push(*piece)?,
@@ -170,7 +170,7 @@ fn gap_after(lines: &Lines, place: Place) -> Extent {
 }
 
 impl Draft {
-    fn new(alloc: Global, lead: Vec<Piece>, place: Place) -> Draft {
+    fn new(alloc: Global, lead: Vec<GapPart>, place: Place) -> Draft {
         let nothing = Extent {
             from: place,
             to: place,
@@ -181,24 +181,24 @@ impl Draft {
         };
         Draft {
             layout: Layout::of(alloc, lead, parts),
-            reading: Reading::Nothing,
+            reading: TextPart::Nothing,
             depth: 0,
             to: place,
         }
     }
 
-    /// Takes the next token, with what stands before it.
+    /// Takes the next token, with what is before it.
     fn take(&mut self, lines: &Lines, token: &Token<'_>) -> Result<(), AllocError> {
         let gap = Extent {
             from: self.to,
             to: token.from,
         };
         match self.reading {
-            Reading::Nothing | Reading::Call => {}
-            Reading::Time | Reading::Packet | Reading::Result => {
+            TextPart::Nothing | TextPart::Call => {}
+            TextPart::Time | TextPart::Packet | TextPart::Result => {
                 put_gap(&mut self.layout.lead, lines, gap)?;
             }
-            Reading::Note => put_gap(&mut self.layout.noted, lines, gap)?,
+            TextPart::Note => put_gap(&mut self.layout.noted, lines, gap)?,
         }
         self.read(token);
         self.to = token.to;
@@ -212,26 +212,26 @@ impl Draft {
             to: token.to,
         };
         match (self.reading, token.kind) {
-            (Reading::Nothing, _) => {
-                self.reading = Reading::Time;
+            (TextPart::Nothing, _) => {
+                self.reading = TextPart::Time;
                 self.layout.own = extent;
             }
-            (Reading::Time, TokenKind::Word) => {
-                self.reading = Reading::Call;
+            (TextPart::Time, TokenKind::Word) => {
+                self.reading = TextPart::Call;
                 self.layout.own = extent;
             }
-            (Reading::Time, TokenKind::Symbol) if matches!(token.symbol, b'<' | b'>') => {
-                self.reading = Reading::Packet;
+            (TextPart::Time, TokenKind::Symbol) if matches!(token.symbol, b'<' | b'>') => {
+                self.reading = TextPart::Packet;
             }
-            (Reading::Call, _) => {
+            (TextPart::Call, _) => {
                 self.layout.own.to = token.to;
                 self.read_in_call(token);
             }
-            (Reading::Result, TokenKind::Symbol) if token.symbol == b'(' => {
-                self.reading = Reading::Note;
+            (TextPart::Result, TokenKind::Symbol) if token.symbol == b'(' => {
+                self.reading = TextPart::Note;
                 self.layout.note = Some(extent);
             }
-            (Reading::Note, _) => {
+            (TextPart::Note, _) => {
                 if let Some(note) = &mut self.layout.note {
                     note.to = token.to;
                 }
@@ -249,7 +249,7 @@ impl Draft {
         match symbol {
             b'(' | b'[' | b'{' => self.depth = self.depth.saturating_add(1),
             b')' | b']' | b'}' => self.depth = self.depth.saturating_sub(1),
-            b'=' if self.depth == 0 => self.reading = Reading::Result,
+            b'=' if self.depth == 0 => self.reading = TextPart::Result,
             _ => {}
         }
     }

@@ -19,7 +19,7 @@ mod sameness;
 mod traces;
 
 pub use extents::{Extent, put_extent};
-pub use gaps::Piece;
+pub use gaps::GapPart;
 pub use laid::is_laid;
 pub use laws::answers_stand_outside;
 pub use layouts::{Layout, LayoutReader};

@@ -1,11 +1,11 @@
 //! Symbols outside of brackets.
-ghost use Rattle.std.specs.Prelude.{◌≡◌, ◌+◌, ◌^◌, ◌<◌};
-ghost use Rattle.pd_layout.specs.Laid.{depth_behind, outside};
+ghost use Rattle.std.specs.Prelude.{◌≡◌, ◌==◌, ◌&&◌, ◌+◌, ◌^◌, ◌<◌};
+ghost use Rattle.pd_layout.specs.Laid.{depth_after, outside};
 ghost use Rattle.pd_lex.specs.Lexing.{items};
 ghost use Rattle.pd_script.specs.Cursor.{shown};
 ghost use Rattle.pd_script.specs.Items.{is_symbol};
 
-use pd_lex::{Lexed, Place, Token, TokenKind, next_token};
+use pd_lex::{Lexed, Place, Token, TokenKind, look_ahead, read_along};
 use pd_text::Lines;
 
 /// Where the first of the tokens from a place on stands that is the symbol of an octet and leaves no bracket open.
@@ -14,24 +14,24 @@ pub fn find_outside(lines: &Lines, from: Place, octet: u8) -> Option<Place>
 {
     // A look at a line tells that a text has few octets, and so few brackets.
     let _first = lines.line(1);
-    let mut place = from;
+    let mut ahead = look_ahead(lines, from);
     let mut depth = 0;
     'tokens: loop {
-        let Lexed::Token(token) = next_token(lines, place) else {
+        let Lexed::Token(token) = ahead.next else {
             return None;
         };
-        depth = depth_behind(depth, &token);
-        if is_symbol(&token, octet) && depth == 0 {
+        depth = depth_after(depth, &token);
+        if is_outside(depth, &token, octet) {
             return Some(token.from);
         }
-        place = token.to;
+        read_along(lines, token.to, &mut ahead);
     }
 }
 
-/// How many brackets are open behind a token.
-fn depth_behind(depth: usize, token: &Token<'_>) -> usize
+/// How many brackets are open after a token.
+fn depth_after(depth: usize, token: &Token<'_>) -> usize
     requires { depth + 1 < 2 ^ 64 }
-    ensures { result ≡ depth_behind depth (shown token.now) }
+    ensures { result ≡ depth_after depth (shown token.now) }
 {
     if is_symbol(token, b'(') || is_symbol(token, b'[') || is_symbol(token, b'{') {
         depth + 1
@@ -40,6 +40,13 @@ fn depth_behind(depth: usize, token: &Token<'_>) -> usize
     } else {
         depth
     }
+}
+
+/// Whether a token is the symbol of an octet and is outside of brackets, of which so many are open after it.
+fn is_outside(depth: usize, token: &Token<'_>, octet: u8) -> bool
+    ensures { result ≡ is_symbol octet (shown token.now) && depth == 0 }
+{
+    is_symbol(token, octet) && depth == 0
 }
 
 /// The symbol of this octet.

@@ -1,4 +1,4 @@
-//! Whether two events are the same, the lines on which they stand apart.
+//! Whether two events are the same, the lines on which they are apart.
 ghost use Rattle.std.specs.Prelude.{◌≡◌, ◌↔◌, IsTrue};
 ghost use Rattle.pd_layout.specs.Sameness.{unplaced};
 

@@ -10,6 +10,10 @@ const OPENING: &[u8] = b"//= at ";
 pub fn is_trace(line: &[u8]) -> bool
     ensures { result ≡ is_trace line.now }
 {
+    // The first octet tells of most lines that they are none.
+    let [b'/', ..] = line else {
+        return false;
+    };
     match line.strip_prefix(OPENING) {
         Some(told) => are_told(told),
         None => false,

@@ -22,9 +22,9 @@ use Rattle.pd_lex.proofs.Texts.{standing_is_place}
 use Rattle.pd_lex.proofs.Spelled.{before_is}
 use Rattle.pd_lex.proofs.Rests.{octets_in_line}
 use Rattle.pd_lex.proofs.Fronts.{piece_within, IsRest, IsRest-cut, IsRest-shorter}
-use Rattle.pd_lex.proofs.Order.{by_line, left_behind, gap_rest, token_rest, items_behind_gap, items_behind_token, nothing_left, items_rise, standing_rises}
+use Rattle.pd_lex.proofs.Order.{by_line, left_after, gap_rest, token_rest, items_after_gap, items_after_token, nothing_left, items_rise, standing_rises}
 
--- the front of a text that goes on behind a newline: the piece ends before it, whatever follows, or behind it
+-- the front of a text that goes on after a newline: the piece ends before it, whatever follows, or after it
 abbrev pub GoesOn : List ℕ → List ℕ → Front → Front → Type 0
 GoesOn x y nothing f = Unit {0}
 GoesOn x y (gap rest) f = (length rest ≤ length x) ⊎ ((r : List ℕ) × (rest ≡ r ++ 10 ∷ x) × (f ≡ gap (r ++ 10 ∷ y)))
@@ -69,7 +69,7 @@ front_goes_on x y (b ∷ c) =
     let w = piece_within b c in
     rw (piece_in_line b c x, piece_in_line b c y) (piece_goes_on x y (b ∷ c) (piece (b ∷ c)) w.fits)
 
--- far behind the first lines nothing is claimed
+-- long after the first lines nothing is claimed
 far : (same n last : ℕ) (xs others : List Item) → same < n → IsInOrder n last xs → AgreeTo same xs others
 far same n last [] others lt h = tt
 far same n last (lexeme x ∷ xs) others lt h = λ le. absurd (omega (arith, h.0, h.2))
@@ -122,11 +122,11 @@ module _ (cs xs ys : List (List ℕ)) (plain_x : list_all is_line (cs ++ xs) ≡
       omega (arith, ap length s, ap length left, length-append e.0 (10 ∷ joined xs))
 
   -- a piece that ends in the first lines ends at the same place in both
-  same_behind : (p : Place) (rest : List ℕ) (A : List ℕ → Type 0) → IsPlace cs p → p.line ≤ length cs → IsRest (octets_from (cs ++ xs) p) rest → (place_after p (before (octets_from (cs ++ xs) p) rest)).line ≤ length cs → ((length rest ≤ length (joined xs)) ⊎ ((r : List ℕ) × (rest ≡ r ++ 10 ∷ joined xs) × A (r ++ 10 ∷ joined ys))) → (other : List ℕ) × A other × (before (octets_from (cs ++ ys) p) other ≡ before (octets_from (cs ++ xs) p) rest)
-  same_behind p rest A h le left near (inl short) =
-      let q = left_behind (cs ++ xs) plain_x p (place_in_whole cs xs p h le) rest left in
+  same_after : (p : Place) (rest : List ℕ) (A : List ℕ → Type 0) → IsPlace cs p → p.line ≤ length cs → IsRest (octets_from (cs ++ xs) p) rest → (place_after p (before (octets_from (cs ++ xs) p) rest)).line ≤ length cs → ((length rest ≤ length (joined xs)) ⊎ ((r : List ℕ) × (rest ≡ r ++ 10 ∷ joined xs) × A (r ++ 10 ∷ joined ys))) → (other : List ℕ) × A other × (before (octets_from (cs ++ ys) p) other ≡ before (octets_from (cs ++ xs) p) rest)
+  same_after p rest A h le left near (inl short) =
+      let q = left_after (cs ++ xs) plain_x p (place_in_whole cs xs p h le) rest left in
       absurd (some_left (place_after p (before (octets_from (cs ++ xs) p) rest)) rest (place_in_front cs xs (place_after p (before (octets_from (cs ++ xs) p) rest)) q.place near) near q.left short)
-  same_behind p rest A h le left near (inr (r, is, a)) =
+  same_after p rest A h le left near (inr (r, is, a)) =
       let e = front_end cs p h le in
       let sx = octets_then cs xs p h le e.0 e.1 in
       let sy = octets_then cs ys p h le e.0 e.1 in
@@ -152,12 +152,12 @@ module _ (cs xs ys : List (List ℕ)) (plain_x : list_all is_line (cs ++ xs) ≡
       let hy = place_in_whole cs ys p h le in
       let r = gap_rest (cs ++ xs) plain_x p hx rest e in
       let less = IsRest-shorter (octets_from (cs ++ xs) p) rest r in
-      let q = left_behind (cs ++ xs) plain_x p hx rest r in
+      let q = left_after (cs ++ xs) plain_x p hx rest r in
       let there = place_after p (before (octets_from (cs ++ xs) p) rest) in
-      let is = items_behind_gap (cs ++ xs) plain_x p hx rest e in
+      let is = items_after_gap (cs ++ xs) plain_x p hx rest e in
       let near : there.line ≤ length cs → AgreeTo (length cs) (items (cs ++ xs) there) (items (cs ++ ys) p) = λ near.
-      let b = same_behind p rest (λ (o : List ℕ). front (octets_from (cs ++ ys) p) ≡ gap o) h le r near (goes_on p h le (gap rest) e) in
-      let other = items_behind_gap (cs ++ ys) plain_y p hy b.0 b.1 in
+      let b = same_after p rest (λ (o : List ℕ). front (octets_from (cs ++ ys) p) ≡ gap o) h le r near (goes_on p h le (gap rest) e) in
+      let other = items_after_gap (cs ++ ys) plain_y p hy b.0 b.1 in
       rw (other, b.2) (ih there (place_in_front cs xs there q.place near) near (omega (arith, ap length q.left)))
       in
       let beyond : length cs < there.line → AgreeTo (length cs) (items (cs ++ xs) there) (items (cs ++ ys) p) = λ lt. far (length cs) there.line (max 1 (length (cs ++ xs))) (items (cs ++ xs) there) (items (cs ++ ys) p) lt (items_rise (cs ++ xs) plain_x there q.place) in
@@ -167,12 +167,12 @@ module _ (cs xs ys : List (List ℕ)) (plain_x : list_all is_line (cs ++ xs) ≡
       let hy = place_in_whole cs ys p h le in
       let r = token_rest (cs ++ xs) plain_x p hx rest kind e in
       let less = IsRest-shorter (octets_from (cs ++ xs) p) rest r in
-      let q = left_behind (cs ++ xs) plain_x p hx rest r in
+      let q = left_after (cs ++ xs) plain_x p hx rest r in
       let there = place_after p (before (octets_from (cs ++ xs) p) rest) in
-      let is = items_behind_token (cs ++ xs) plain_x p hx rest kind e in
+      let is = items_after_token (cs ++ xs) plain_x p hx rest kind e in
       rw is (λ near.
-      let b = same_behind p rest (λ (o : List ℕ). front (octets_from (cs ++ ys) p) ≡ token kind o) h le r near (goes_on p h le (token kind rest) e) in
-      let other = items_behind_token (cs ++ ys) plain_y p hy b.0 kind b.1 in
+      let b = same_after p rest (λ (o : List ℕ). front (octets_from (cs ++ ys) p) ≡ token kind o) h le r near (goes_on p h le (token kind rest) e) in
+      let other = items_after_token (cs ++ ys) plain_y p hy b.0 kind b.1 in
       (items (cs ++ ys) there, other ∙ rw b.2 refl, ih there (place_in_front cs xs there q.place near) near (omega (arith, ap length q.left))))
   agree_by k p h le short ih stray e = rw (items_at_stray (cs ++ xs) plain_x p (place_in_whole cs xs p h le) e) tt
 

@@ -27,7 +27,7 @@ not_zero n h = grind (arith, nat_tests)
 min_is : (a b : ℕ) → b ≤ a → min a b ≡ b
 min_is a b h = omega arith
 
--- from the second place the text goes on as from the first: only blanks and comments stand between them
+-- from the second place the text goes on as from the first: only blanks and comments are between them
 pub record GoesOn (lines : List (List ℕ)) (p q : Place) : Type 0 where
   pub place : IsPlace lines q
   pub same : items lines p ≡ items lines q
@@ -118,7 +118,7 @@ module _ (lines : List (List ℕ)) (plain : list_all is_line lines ≡ true) (p 
       let on = to_newline n e ge in
       then_shorter lines plain p (record { line = p.line; at = length (line_at lines p.line) }) (record { line = p.line + 1; at = 0 }) on (newline_gap on.place).1
 
--- what stands at the second place stands at the first, where the text goes on from it as from there
+-- what is at the second place is at the first, where the text goes on from it as from there
 module _ (lines : List (List ℕ)) (p q : Place) (same : items lines p ≡ items lines q) (skipped : Skips (octets_from lines p) (octets_from lines q)) where
   pub next_on : (next : Lexed) → IsNext lines q next → IsNext lines p next
   next_on (lexed.Token t) h = same ∙ h
@@ -126,6 +126,6 @@ module _ (lines : List (List ℕ)) (p q : Place) (same : items lines p ≡ items
   next_on (lexed.Bad line) h = same ∙ h
 
   pub cut_on : (next : Lexed) → IsCut lines q next → IsCut lines p next
-  cut_on (lexed.Token t) h = record { skipped = Skips-over skipped h.skipped; longest = h.longest; from = h.from; behind = h.behind }
+  cut_on (lexed.Token t) h = record { skipped = Skips-over skipped h.skipped; longest = h.longest; from = h.from; after = h.after }
   cut_on lexed.End h = Skips-over skipped h
   cut_on (lexed.Bad line) h = record { at = h.at; skipped = Skips-over skipped h.skipped; stuck = h.stuck; place = h.place; line_is = h.line_is }

@@ -11,7 +11,7 @@ use Rattle.pd_lex.specs.Scanned.{wrapped_digit}
 abbrev pub most : ℕ
 most = 2 ^ 64 - 1
 
--- digits behind a number don't make it less
+-- digits after a number don't make it less
 grows : (r n : ℕ) (ds : List ℕ) → 1 ≤ r → n ≤ digits_value_after r n ds
 grows r n [] h = omega arith
 grows r n (d ∷ ds) h =
@@ -51,7 +51,7 @@ capped_is r ds h = fold-capped_digit r 0 ds h (omega arith)
 digit_small : (d : ℕ) → digit_value d ≤ 36
 digit_small d = grind (arith, nat_tests)
 
--- the greatest number behind which so many digits more write none above the greatest of 64 bits
+-- the greatest number after which so many digits more write none above the greatest of 64 bits
 abbrev roomy : ℕ → ℕ
 roomy zero = most
 roomy (suc k) = (roomy k - 36) / 10

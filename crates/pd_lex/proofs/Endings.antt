@@ -1,4 +1,4 @@
--- The end of what was opened: in a line, or in the lines after it; and what is left behind it is the last part of the text.
+-- The end of what was opened: in a line, or in the lines after it; and what is left after it is the last part of the text.
 use Rattle.std.proofs.Common.{◌≡◌, ℕ, suc, ◌≤◌, Bool, true, false, ◌&&◌, cond, eqb, List, [], ◌∷◌, ◌++◌, length, drop, Option, Some, None, refl, arith}
 use Rattle.pd_lex.specs.declared.scan.Opener.{Opener}
 use Rattle.pd_lex.specs.declared.scan.Opener.TheVariants.{Comment, Quote, Backquote, Brace}

@@ -174,7 +174,7 @@ within_shape b s p (at_stray other h) = record { some = omega arith; fits = omeg
 pub piece_within : (b : ℕ) (s : List ℕ) → IsWithin (b ∷ s) (piece (b ∷ s))
 piece_within b s = within_shape b s (piece (b ∷ s)) (shaped b s)
 
--- what is left behind some octets, one at least
+-- what is left after some octets, one at least
 pub record IsRest (s rest : List ℕ) : Type 0 where
   pub taken : ℕ
   pub some : 0 < taken
@@ -206,8 +206,8 @@ closed_leaves s Quote (Some rest) h = h rest refl
 closed_leaves s Backquote (Some rest) h = h rest refl
 closed_leaves s Brace (Some rest) h = h rest refl
 
-rest_behind_end : (s : List ℕ) (o : Opener) → IsWithin s (Open o) → (rest : List ℕ) → after_end o (drop (opener_len o) s) ≡ Some rest → IsRest s rest
-rest_behind_end s o h rest e =
+rest_after_end : (s : List ℕ) (o : Opener) → IsWithin s (Open o) → (rest : List ℕ) → after_end o (drop (opener_len o) s) ≡ Some rest → IsRest s rest
+rest_after_end s o h rest e =
     let last = end_suffix o (drop (opener_len o) s) rest e in
     let n = length-drop (opener_len o) s in
     record { taken = opener_len o + last.0; some = omega (arith, h.some); fits = omega (arith, h.fits, last.1, n); left = last.2 ∙ rw drop-drop refl }
@@ -215,7 +215,7 @@ rest_behind_end s o h rest e =
 parted_leaves : (s : List ℕ) (p : Piece) → IsWithin s p → LeavesRest s (parted s p)
 parted_leaves s (Blank n) h = record { taken = n; some = h.some; fits = h.fits; left = refl }
 parted_leaves s (Whole kind n) h = record { taken = n; some = h.some; fits = h.fits; left = refl }
-parted_leaves s (Open o) h = closed_leaves s o (after_end o (drop (opener_len o) s)) (rest_behind_end s o h)
+parted_leaves s (Open o) h = closed_leaves s o (after_end o (drop (opener_len o) s)) (rest_after_end s o h)
 parted_leaves s Stray h = tt
 
 pub front_leaves : (s : List ℕ) → LeavesRest s (front s)

@@ -51,9 +51,9 @@ module _ (lines : List (List ℕ)) (plain : list_all is_line lines ≡ true) whe
   unfolding items items_within
   items_past p h = rw (octets_past lines p h) refl
 
-  -- the place behind a piece
-  behind : (p q : Place) → IsPlace lines p → IsPlace lines q → IsRest (octets_from lines p) (octets_from lines q) → place_after p (before (octets_from lines p) (octets_from lines q)) ≡ q
-  behind p q h g r =
+  -- the place after a piece
+  after : (p q : Place) → IsPlace lines p → IsPlace lines q → IsRest (octets_from lines p) (octets_from lines q) → place_after p (before (octets_from lines p) (octets_from lines q)) ≡ q
+  after p q h g r =
       let on = advance lines plain p (before (octets_from lines p) (octets_from lines q)) (octets_from lines q) h (IsRest-cut (octets_from lines p) (octets_from lines q) r) in
       same_place lines (place_after p (before (octets_from lines p) (octets_from lines q))) q on.place g (ap length on.left)
 
@@ -68,12 +68,12 @@ module _ (lines : List (List ℕ)) (plain : list_all is_line lines ≡ true) whe
 
   pub items_over_gap : (p q : Place) → IsPlace lines p → IsPlace lines q → front (octets_from lines p) ≡ gap (octets_from lines q) → items lines p ≡ items lines q
   items_over_gap p q h g e =
-      let there = behind p q h g (rest_of_gap (octets_from lines p) (octets_from lines q) e) in
+      let there = after p q h g (rest_of_gap (octets_from lines p) (octets_from lines q) e) in
       items_at p h ∙ one_piece (max 1 (length lines)) p (octets_from lines p) ∙ rw (e, there) (sym (items_at q g))
 
   pub items_at_token : (p q : Place) (kind : TokenKind) → IsPlace lines p → IsPlace lines q → front (octets_from lines p) ≡ token kind (octets_from lines q) → items lines p ≡ lexeme (record { kind = kind; text = before (octets_from lines p) (octets_from lines q); from = p }) ∷ items lines q
   items_at_token p q kind h g e =
-      let there = behind p q h g (rest_of_token (octets_from lines p) (octets_from lines q) kind e) in
+      let there = after p q h g (rest_of_token (octets_from lines p) (octets_from lines q) kind e) in
       items_at p h ∙ one_piece (max 1 (length lines)) p (octets_from lines p) ∙ rw (e, there, items_at q g) refl
 
   pub items_at_end : (p : Place) → IsPlace lines p → octets_from lines p ≡ [] → items lines p ≡ ending (max 1 (length lines)) ∷ []

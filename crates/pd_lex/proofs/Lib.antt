@@ -16,6 +16,6 @@ pub mod Spelled
 pub mod Longest
 pub mod Order
 pub mod Agreement
-pub mod Behind
+pub mod After
 pub mod KindOf
 pub mod Cut

@@ -35,13 +35,13 @@ after_rises p (b ∷ text) = by_test (b == 10) (after_rises (record { line = p.l
     by_test true next same = omega (arith, next)
     by_test false next same = same
 
--- the place behind the first piece, and the items from there on
+-- the place after the first piece, and the items from there on
 module _ (lines : List (List ℕ)) (plain : list_all is_line lines ≡ true) (p : Place) (h : IsPlace lines p) (rest : List ℕ) where
-  behind : Place
-  behind = place_after p (before (octets_from lines p) rest)
+  after : Place
+  after = place_after p (before (octets_from lines p) rest)
 
-  pub left_behind : IsRest (octets_from lines p) rest → IsLeftAt lines (place_after p (before (octets_from lines p) rest)) rest
-  left_behind r = advance lines plain p (before (octets_from lines p) rest) rest h (IsRest-cut (octets_from lines p) rest r)
+  pub left_after : IsRest (octets_from lines p) rest → IsLeftAt lines (place_after p (before (octets_from lines p) rest)) rest
+  left_after r = advance lines plain p (before (octets_from lines p) rest) rest h (IsRest-cut (octets_from lines p) rest r)
 
   pub gap_rest : front (octets_from lines p) ≡ gap rest → IsRest (octets_from lines p) rest
   gap_rest e = subst (LeavesRest (octets_from lines p)) e (front_leaves (octets_from lines p))
@@ -49,14 +49,14 @@ module _ (lines : List (List ℕ)) (plain : list_all is_line lines ≡ true) (p 
   pub token_rest : (kind : TokenKind) → front (octets_from lines p) ≡ token kind rest → IsRest (octets_from lines p) rest
   token_rest kind e = subst (LeavesRest (octets_from lines p)) e (front_leaves (octets_from lines p))
 
-  pub items_behind_gap : front (octets_from lines p) ≡ gap rest → items lines p ≡ items lines (place_after p (before (octets_from lines p) rest))
-  items_behind_gap e =
-      let q = left_behind (gap_rest e) in
+  pub items_after_gap : front (octets_from lines p) ≡ gap rest → items lines p ≡ items lines (place_after p (before (octets_from lines p) rest))
+  items_after_gap e =
+      let q = left_after (gap_rest e) in
       items_over_gap lines plain p (place_after p (before (octets_from lines p) rest)) h q.place (e ∙ ap gap (sym q.left))
 
-  pub items_behind_token : (kind : TokenKind) → front (octets_from lines p) ≡ token kind rest → items lines p ≡ lexeme (record { kind = kind; text = before (octets_from lines p) rest; from = p }) ∷ items lines (place_after p (before (octets_from lines p) rest))
-  items_behind_token kind e =
-      let q = left_behind (token_rest kind e) in
+  pub items_after_token : (kind : TokenKind) → front (octets_from lines p) ≡ token kind rest → items lines p ≡ lexeme (record { kind = kind; text = before (octets_from lines p) rest; from = p }) ∷ items lines (place_after p (before (octets_from lines p) rest))
+  items_after_token kind e =
+      let q = left_after (token_rest kind e) in
       items_at_token lines plain p (place_after p (before (octets_from lines p) rest)) kind h q.place (e ∙ ap (token kind) (sym q.left)) ∙ rw q.left refl
 
 pub by_line : (n m : ℕ) (A : Type 0) → (n < m → A) → (m ≤ n → A) → A
@@ -99,7 +99,7 @@ module _ (lines : List (List ℕ)) (plain : list_all is_line lines ≡ true) (p 
       let left : rest ≡ drop n (b ∷ s) ++ more = sym (rest_of f) ∙ drop-append-le n (b ∷ s) more w.fits in
       let fits : n ≤ length (drop p.at (line_at lines p.line)) = omega (arith, w.fits, ap length is) in
       let on = further_in_line lines p h le n fits in
-      let there = left_behind lines plain p h rest (token_rest lines plain p h rest kind e) in
+      let there = left_after lines plain p h rest (token_rest lines plain p h rest kind e) in
       let same : length (octets_from lines (place_after p (before (octets_from lines p) rest))) ≡ length (octets_from lines (record { line = p.line; at = p.at + n })) = ap length (there.left ∙ left ∙ ap (λ (l : List ℕ). drop n l ++ more) is ∙ sym on.left) in
       ap (λ (x : Place). x.line) (same_place lines (place_after p (before (octets_from lines p) rest)) (record { line = p.line; at = p.at + n }) there.place on.place same)
   piece_stays le b s is (Open o) w f = absurd (closed_leaves_line o (after_end o (drop (opener_len o) (b ∷ s ++ 10 ∷ joined (drop p.line lines)))) kind rest f stays)
@@ -142,17 +142,17 @@ module _ (lines : List (List ℕ)) (plain : list_all is_line lines ≡ true) whe
   rises_by k p h le ih nothing e = rw (items_at_end lines plain p h (nothing_left (octets_from lines p) e)) refl
   rises_by k p h le ih (gap rest) e =
       let r = gap_rest lines plain p h rest e in
-      let q = left_behind lines plain p h rest r in
+      let q = left_after lines plain p h rest r in
       let less = IsRest-shorter (octets_from lines p) rest r in
       let more = ih (place_after p (before (octets_from lines p) rest)) q.place (omega (arith, ap length q.left)) in
-      rw (items_behind_gap lines plain p h rest e) (rises_from p.line (place_after p (before (octets_from lines p) rest)).line (max 1 (length lines)) (items lines (place_after p (before (octets_from lines p) rest))) (after_rises p (before (octets_from lines p) rest)) more)
+      rw (items_after_gap lines plain p h rest e) (rises_from p.line (place_after p (before (octets_from lines p) rest)).line (max 1 (length lines)) (items lines (place_after p (before (octets_from lines p) rest))) (after_rises p (before (octets_from lines p) rest)) more)
   rises_by k p h le ih (token kind rest) e =
       let r = token_rest lines plain p h rest kind e in
-      let q = left_behind lines plain p h rest r in
+      let q = left_after lines plain p h rest r in
       let less = IsRest-shorter (octets_from lines p) rest r in
       let more = ih (place_after p (before (octets_from lines p) rest)) q.place (omega (arith, ap length q.left)) in
       let here = line_within lines plain p h (omega (arith, less)) in
-      rw (items_behind_token lines plain p h rest kind e) (omega arith, omega (arith, here.1), after_rises p (before (octets_from lines p) rest), token_stays lines plain p h rest kind e, more)
+      rw (items_after_token lines plain p h rest kind e) (omega arith, omega (arith, here.1), after_rises p (before (octets_from lines p) rest), token_stays lines plain p h rest kind e, more)
   rises_by k p h le ih stray e =
       let here = line_within lines plain p h (not_empty (octets_from lines p) e) in
       rw (items_at_stray lines plain p h e) (omega arith, omega (arith, here.1))
@@ -164,7 +164,7 @@ module _ (lines : List (List ℕ)) (plain : list_all is_line lines ≡ true) whe
   pub items_rise : (p : Place) → IsPlace lines p → IsInOrder p.line (max 1 (length lines)) (items lines p)
   items_rise p h = rises_within (length (octets_from lines p)) p h (omega arith)
 
--- a place stands no earlier than it says
+-- a place is no earlier than it says
 pub standing_rises : (lines : List (List ℕ)) (p : Place) → p.line ≤ (standing lines p).line
 unfolding standing
 standing_rises lines p = by_test (p.line == 0) refl

@@ -39,7 +39,7 @@ pub word_piece_is : (b : ℕ) (s : List ℕ) → is_word b ≡ true → word_pie
 unfolding piece
 word_piece_is b s h = rw (no_blank b h, h) refl
 
--- an Int, where no run and no point goes on behind its digits
+-- an Int, where no run and no point goes on after its digits
 pub int_piece : (s : List ℕ) → 0 < prefix_len is_digit s → fraction_len (drop (prefix_len is_digit s) s) ≡ 0 → prefix_len is_word (drop (prefix_len is_digit s) s) ≡ 0 → Whole Int (prefix_len is_digit s) ≡ piece s
 int_piece [] h f w = absurd (omega (arith, h))
 int_piece (b ∷ s) h f w = by_first (is_digit b) refl
@@ -48,7 +48,7 @@ int_piece (b ∷ s) h f w = by_first (is_digit b) refl
     by_first true d = int_is (b ∷ s) f w ∙ word_piece_is b s (digit_is_word b d)
     by_first false d = absurd (omega (arith, h, digits_stop b s d))
 
--- a Decimal, where a point and digits go on behind its digits
+-- a Decimal, where a point and digits go on after its digits
 pub decimal_piece : (s : List ℕ) → 0 < prefix_len is_digit s → 0 < fraction_len (drop (prefix_len is_digit s) s) → Whole Decimal (prefix_len is_digit s + fraction_len (drop (prefix_len is_digit s) s)) ≡ piece s
 decimal_piece [] h f = absurd (omega (arith, h))
 decimal_piece (b ∷ s) h f = by_first (is_digit b) refl

@@ -28,7 +28,7 @@ pub octets_at : (lines : List (List ℕ)) (p : Place) → IsPlace lines p → oc
 unfolding octets_from
 octets_at lines p h = rw (standing_place lines p h) refl
 
--- what is left in a line, and behind the last
+-- what is left in a line, and after the last
 pub octets_in_line : (lines : List (List ℕ)) (p : Place) → IsPlace lines p → p.line ≤ length lines → octets_from lines p ≡ drop p.at (line_at lines p.line) ++ 10 ∷ joined (drop p.line lines)
 octets_in_line lines p h le =
     let lt : p.line - 1 < length lines = omega (arith, h.from_one) in
@@ -106,7 +106,7 @@ module _ (lines : List (List ℕ)) (plain : list_all is_line lines ≡ true) whe
   step_on p b rest h e (inr le) = step_in_line p b rest h le (drop p.at (line_at lines p.line)) refl (sym e ∙ octets_in_line lines p h le)
   step_on p b rest h e (inl lt) = absurd (let n : [] ≡ b ∷ rest = sym (octets_past lines p lt) ∙ e in cc)
 
-  -- what is left behind some octets
+  -- what is left after some octets
   pub advance : (p : Place) (text rest : List ℕ) → IsPlace lines p → octets_from lines p ≡ text ++ rest → IsLeftAt lines (place_after p text) rest
   advance p [] rest h e = record { place = h; left = e }
   advance p (b ∷ text) rest h e =

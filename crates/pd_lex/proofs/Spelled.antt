@@ -226,12 +226,12 @@ quote_last b r e (inl t) = let g : Some [] ≡ Some r = rw t.0 at e in ([], cc (
 quote_last b r e (inr f) = absurd (let g = rw f.0 at e in cc)
 
 quote_step : (b c : ℕ) (s r : List ℕ) → after_quote (b ∷ c ∷ s) ≡ Some r → (after_quote s ≡ Some r → QuotedBefore s r) → (after_quote (c ∷ s) ≡ Some r → QuotedBefore (c ∷ s) r) → Tells b 34 → Tells b 92 → QuotedBefore (b ∷ c ∷ s) r
-quote_step b c s r e behind next (inl t) u = let g : Some (c ∷ s) ≡ Some r = rw t.0 at e in ([], cc (t.1), empty)
-quote_step b c s r e behind next (inr f) (inl t) =
+quote_step b c s r e after next (inl t) u = let g : Some (c ∷ s) ≡ Some r = rw t.0 at e in ([], cc (t.1), empty)
+quote_step b c s r e after next (inr f) (inl t) =
     let g : after_quote s ≡ Some r = rw (f.0, t.0) at e in
-    let q = behind g in
+    let q = after g in
     (92 ∷ c ∷ q.0, ap (λ (n : ℕ). n ∷ c ∷ s) t.1 ∙ ap (λ (l : List ℕ). 92 ∷ c ∷ l) q.1, escaped q.2)
-quote_step b c s r e behind next (inr f) (inr g) =
+quote_step b c s r e after next (inr f) (inr g) =
     let h : after_quote (c ∷ s) ≡ Some r = rw (f.0, g.0) at e in
     let q = next h in
     (b ∷ q.0, ap (λ (l : List ℕ). b ∷ l) q.1, plain f.1 g.1 q.2)

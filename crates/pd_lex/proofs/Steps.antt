@@ -7,8 +7,8 @@ use Rattle.pd_lex.specs.declared.token.TokenKind.TheVariants.{Str, Cmd, Code}
 use Rattle.pd_lex.specs.declared.scan.Opener.{Opener}
 use Rattle.pd_lex.specs.declared.scan.Opener.TheVariants.{Comment, Quote, Backquote, Brace}
 use Rattle.pd_lex.specs.declared.scan.Piece.TheVariants.{Blank, Whole, Open, Stray}
-use Rattle.pd_lex.specs.declared.step.Step.{Step}
-use Rattle.pd_lex.specs.declared.step.Step.TheVariants as steps
+use Rattle.pd_lex.specs.declared.step.LexStep.{LexStep}
+use Rattle.pd_lex.specs.declared.step.LexStep.TheVariants as steps
 use Rattle.pd_lex.specs.Kinds.{stays_in_line}
 use Rattle.pd_lex.specs.Places.{joined, line_at, octets_from, between, IsPlace}
 use Rattle.pd_lex.specs.Pieces.{piece, after_end, opener_len, gap, token, closed, parted, front}
@@ -48,14 +48,14 @@ module _ (lines : List (List ℕ)) (p : Place) (h : IsPlace lines p) (le : p.lin
       let next = next_line lines p h le in
       (next.place, rw (octets_in_line lines p h le, e, next.left) refl)
 
-  -- a piece of the line, and the place behind it
-  behind_piece : (s : List ℕ) (n : ℕ) → s ≡ drop p.at (line_at lines p.line) → n ≤ length s → IsLeftAt lines (record { line = p.line; at = p.at + n }) (drop n (s ++ 10 ∷ joined (drop p.line lines)))
-  behind_piece s n e fits = rw (drop-append-le n s (10 ∷ joined (drop p.line lines)) fits, e) (further_in_line lines p h le n (rw (← e) fits))
+  -- a piece of the line, and the place after it
+  after_piece : (s : List ℕ) (n : ℕ) → s ≡ drop p.at (line_at lines p.line) → n ≤ length s → IsLeftAt lines (record { line = p.line; at = p.at + n }) (drop n (s ++ 10 ∷ joined (drop p.line lines)))
+  after_piece s n e fits = rw (drop-append-le n s (10 ∷ joined (drop p.line lines)) fits, e) (further_in_line lines p h le n (rw (← e) fits))
 
   pub step_blank : (s : List ℕ) (n : ℕ) → s ≡ drop p.at (line_at lines p.line) → Blank n ≡ piece s → 0 < length s → n ≤ length s → IsStep lines p (steps.Gap (record { line = p.line; at = p.at + n }))
   step_blank [] n e is some fits = absurd (omega arith)
   step_blank (b ∷ s) n e is some fits =
-      let there = behind_piece (b ∷ s) n e fits in
+      let there = after_piece (b ∷ s) n e fits in
       (there.place, front_is b s e ∙ rw (← is, there.left) refl)
 
   -- the octets of a piece of the line
@@ -65,12 +65,12 @@ module _ (lines : List (List ℕ)) (p : Place) (h : IsPlace lines p) (le : p.lin
       let more = 10 ∷ joined (drop p.line lines) in
       let whole : octets_from lines p ≡ s ++ more = octets_in_line lines p h le ∙ rw e refl in
       let k : length (s ++ more) - length (drop n (s ++ more)) ≡ n = omega (arith, length-drop n (s ++ more), length-append s more) in
-      rw (whole, (behind_piece s n e fits).left, k, take-append-le n s more fits) refl
+      rw (whole, (after_piece s n e fits).left, k, take-append-le n s more fits) refl
 
   pub step_whole : (s : List ℕ) (kind : TokenKind) (n : ℕ) → s ≡ drop p.at (line_at lines p.line) → Whole kind n ≡ piece s → 0 < length s → n ≤ length s → let q : Place = record { line = p.line; at = p.at + n } in IsPlace lines q × (front (octets_from lines p) ≡ token kind (octets_from lines q)) × (stays_in_line kind ≡ true → q.line ≡ p.line) × (stays_in_line kind ≡ true → take n s ≡ between lines p q)
   step_whole [] kind n e is some fits = absurd (omega arith)
   step_whole (b ∷ s) kind n e is some fits =
-      let there = behind_piece (b ∷ s) n e fits in
+      let there = after_piece (b ∷ s) n e fits in
       (there.place, front_is b s e ∙ rw (← is, there.left) refl, λ _. refl, λ _. piece_text (b ∷ s) n e fits)
 
   pub step_stray : (s : List ℕ) → s ≡ drop p.at (line_at lines p.line) → Stray ≡ piece s → 0 < length s → IsStep lines p steps.Stray
@@ -79,12 +79,12 @@ module _ (lines : List (List ℕ)) (p : Place) (h : IsPlace lines p) (le : p.lin
 
   -- what was opened, and the place inside
   pub inside_place : (s : List ℕ) (o : Opener) → s ≡ drop p.at (line_at lines p.line) → opener_len o ≤ length s → IsPlace lines (record { line = p.line; at = p.at + opener_len o })
-  inside_place s o e fits = (behind_piece s (opener_len o) e fits).place
+  inside_place s o e fits = (after_piece s (opener_len o) e fits).place
 
   open_front : (s : List ℕ) (o : Opener) → s ≡ drop p.at (line_at lines p.line) → Open o ≡ piece s → 0 < length s → opener_len o ≤ length s → front (octets_from lines p) ≡ closed o (after_end o (octets_from lines (record { line = p.line; at = p.at + opener_len o })))
   open_front [] o e is some fits = absurd (omega arith)
   open_front (b ∷ s) o e is some fits =
-      let there = behind_piece (b ∷ s) (opener_len o) e fits in
+      let there = after_piece (b ∷ s) (opener_len o) e fits in
       front_is b s e ∙ rw (← is, there.left) refl
 
   over_token : (o : Opener) (kind : TokenKind) (rest : List ℕ) (q : Place) → opener_kind o ≡ Some kind → front (octets_from lines p) ≡ closed o (Some rest) → IsLeftAt lines q rest → (front (octets_from lines p) ≡ token kind (octets_from lines q)) × (stays_in_line kind ≡ true → ⊥)
@@ -99,7 +99,7 @@ module _ (lines : List (List ℕ)) (p : Place) (h : IsPlace lines p) (le : p.lin
   over_gap Backquote rest q is e c = absurd cc
   over_gap Brace rest q is e c = absurd cc
 
-  step_over : (o : Opener) (r : Option (List ℕ)) (q : Place) (step : Step) → IsClosing o q step → front (octets_from lines p) ≡ closed o r → IsClosed lines r (Some q) → IsStep lines p step
+  step_over : (o : Opener) (r : Option (List ℕ)) (q : Place) (step : LexStep) → IsClosing o q step → front (octets_from lines p) ≡ closed o r → IsClosed lines r (Some q) → IsStep lines p step
   step_over o None q step is e c = absurd c
   step_over o (Some rest) q (steps.Gap r) is e c = rw is.1 (c.place, over_gap o rest q is.0 e c)
   step_over o (Some rest) q (steps.Token kind text r) is e c =
@@ -111,7 +111,7 @@ module _ (lines : List (List ℕ)) (p : Place) (h : IsPlace lines p) (le : p.lin
   step_unclosed o None e c = e
   step_unclosed o (Some rest) e c = absurd c
 
-  pub step_closed : (s : List ℕ) (o : Opener) → s ≡ drop p.at (line_at lines p.line) → Open o ≡ piece s → 0 < length s → opener_len o ≤ length s → (q : Place) → IsClosed lines (after_end o (octets_from lines (record { line = p.line; at = p.at + opener_len o }))) (Some q) → (step : Step) → IsClosing o q step → IsStep lines p step
+  pub step_closed : (s : List ℕ) (o : Opener) → s ≡ drop p.at (line_at lines p.line) → Open o ≡ piece s → 0 < length s → opener_len o ≤ length s → (q : Place) → IsClosed lines (after_end o (octets_from lines (record { line = p.line; at = p.at + opener_len o }))) (Some q) → (step : LexStep) → IsClosing o q step → IsStep lines p step
   step_closed s o e is some fits q c step closing = step_over o _ q step closing (open_front s o e is some fits) c
 
   pub step_open : (s : List ℕ) (o : Opener) → s ≡ drop p.at (line_at lines p.line) → Open o ≡ piece s → 0 < length s → opener_len o ≤ length s → IsClosed lines (after_end o (octets_from lines (record { line = p.line; at = p.at + opener_len o }))) None → IsStep lines p steps.Stray

@@ -9,7 +9,7 @@ use Rattle.pd_lex.specs.Octets.{is_digit, is_word}
 use Rattle.pd_lex.specs.Pieces.{fraction_len, word_piece}
 use Rattle.pd_lex.specs.Scanned.{begins_name, run_piece}
 
--- a run goes on behind the octets at its front that pass a narrower test
+-- a run goes on after the octets at its front that pass a narrower test
 module _ (p q : ℕ → Bool) (within : (b : ℕ) → p b ≡ true → q b ≡ true) where
   narrow_first : (s : List ℕ) → prefix_len q s ≡ prefix_len p s + prefix_len q (drop (prefix_len p s) s)
   narrow_first [] = refl
@@ -19,7 +19,7 @@ module _ (p q : ℕ → Bool) (within : (b : ℕ) → p b ≡ true → q b ≡ t
       by_first true h more = rw (h, within b h, one-add (prefix_len p s)) (omega (arith, more))
       by_first false h more = rw h (omega arith)
 
-  -- all of it passes that test where nothing of it is left behind them
+  -- all of it passes that test where nothing of it is left after them
   narrow_all : (s : List ℕ) → list_all p (take (prefix_len q s) s) ≡ (prefix_len q (drop (prefix_len p s) s) == 0)
   narrow_all [] = refl
   narrow_all (b ∷ s) = by_first (p b) (q b) refl refl (narrow_all s)

@@ -7,7 +7,7 @@ use Rattle.pd_lex.specs.Places.{place_after}
 use Rattle.pd_lex.specs.Tokens.{Lexeme, Item, lexeme, ending, bad}
 use Rattle.pd_lex.specs.Lexing.{items}
 
--- the line of the place behind a token
+-- the line of the place after a token
 abbrev pub last_line : Lexeme → ℕ
 last_line x = (place_after x.from x.text).line
 

@@ -14,7 +14,7 @@ ItemsAreLongest = (lines : List (List ℕ)) → AreItemsOf lines (items lines fi
 abbrev pub NoOthersAreLongest : Type 0
 NoOthersAreLongest = (lines : List (List ℕ)) (others : List Item) → AreItemsOf lines others → others ≡ items lines first_place
 
--- behind a token stand the items from the place behind it
+-- after a token stand the items from the place after it
 abbrev pub GoOn : List (List ℕ) → List Item → Type 0
 GoOn lines those = (x : Lexeme) (rest : List Item) → those ≡ lexeme x ∷ rest → rest ≡ items lines (place_after x.from x.text)
 

@@ -8,7 +8,7 @@ use Rattle.pd_lex.specs.Places.{standing, octets_from, place_after, before, betw
 use Rattle.pd_lex.specs.Tokens.{Lexeme, Item, lexeme, ending, bad}
 use Rattle.pd_lex.specs.Pieces.{Front, nothing, gap, token, stray, front}
 
--- the items from a place on, when it is known what stands there and what the items of less are
+-- the items from a place on, when it is known what is there and what the items of less are
 abbrev pub followed : (Place → List ℕ → List Item) → ℕ → Place → List ℕ → Front → List Item
 followed items last p s nothing = ending last ∷ []
 followed items last p s (gap rest) = items (place_after p (before s rest)) rest
@@ -29,7 +29,7 @@ items lines p = items_within (length (octets_from lines p)) (max 1 (length lines
 unfoldable pub lexeme_of : List (List ℕ) → Token → Lexeme
 lexeme_of lines t = record { kind = t.kind; text = between lines t.from t.to; from = t.from }
 
--- the answer is the next item, and the others follow from the place behind it
+-- the answer is the next item, and the others follow from the place after it
 abbrev pub IsNext : List (List ℕ) → Place → Lexed → Type 0
 IsNext lines p (lexed.Token t) = items lines p ≡ lexeme (lexeme_of lines t) ∷ items lines t.to
 IsNext lines p lexed.End = items lines p ≡ ending (max 1 (length lines)) ∷ []

@@ -6,17 +6,17 @@ use Rattle.pd_lex.specs.declared.token.Lexed.{Lexed}
 use Rattle.pd_lex.specs.declared.token.Lexed.TheVariants as lexed
 use Rattle.pd_lex.specs.Places.{IsPlace, octets_from, between, line_at}
 use Rattle.pd_lex.specs.Kinds.{stays_in_line}
-use Rattle.pd_lex.specs.Lexing.{lexeme_of}
+use Rattle.pd_lex.specs.Lexing.{IsNext, lexeme_of}
 use Rattle.pd_lex.specs.Spellings.{IsLongest, IsStuck, Skips}
 
--- behind blanks and comments the token is the longest piece, from its first place up to its last, both places of the text
+-- after blanks and comments the token is the longest piece, from its first place up to its last, both places of the text
 pub record IsTokenAt (lines : List (List ℕ)) (p : Place) (t : Token) : Type 0 where
   pub skipped : Skips (octets_from lines p) (octets_from lines t.from)
   pub longest : IsLongest (octets_from lines t.from) (Some t.kind) (between lines t.from t.to) (octets_from lines t.to)
   pub from : IsPlace lines t.from
-  pub behind : IsPlace lines t.to
+  pub after : IsPlace lines t.to
 
--- behind blanks and comments, in this line, no piece fits
+-- after blanks and comments, in this line, no piece fits
 pub record IsBadAt (lines : List (List ℕ)) (p : Place) (line : ℕ) : Type 0 where
   pub at : Place
   pub skipped : Skips (octets_from lines p) (octets_from lines at)
@@ -24,7 +24,7 @@ pub record IsBadAt (lines : List (List ℕ)) (p : Place) (line : ℕ) : Type 0 w
   pub place : IsPlace lines at
   pub line_is : at.line ≡ line
 
--- the token, the end of the text behind blanks and comments alone, or the bad line
+-- the token, the end of the text after blanks and comments alone, or the bad line
 abbrev pub IsCut : List (List ℕ) → Place → Lexed → Type 0
 IsCut lines p (lexed.Token t) = IsTokenAt lines p t
 IsCut lines p lexed.End = Skips (octets_from lines p) []
@@ -42,8 +42,16 @@ HasText lines (lexed.Token t) = stays_in_line t.kind ≡ true → t.text.now ≡
 HasText lines lexed.End = Unit {0}
 HasText lines (lexed.Bad line) = Unit {0}
 
--- these are the octets of the line in which the place behind a token lies
-abbrev pub HasLineBehind : List (List ℕ) → Lexed → List ℕ → Type 0
-HasLineBehind lines (lexed.Token t) octets = (1 ≤ t.to.line) × (octets ≡ line_at lines t.to.line)
-HasLineBehind lines lexed.End octets = Unit {0}
-HasLineBehind lines (lexed.Bad line) octets = Unit {0}
+-- these are the octets of the line in which the place after a token lies
+abbrev pub HasLineAfter : List (List ℕ) → Lexed → List ℕ → Type 0
+HasLineAfter lines (lexed.Token t) octets = (1 ≤ t.to.line) × (octets ≡ line_at lines t.to.line)
+HasLineAfter lines lexed.End octets = Unit {0}
+HasLineAfter lines (lexed.Bad line) octets = Unit {0}
+
+-- what is read at a place, and the octets of the line in which it ends
+pub record IsReadAt (lines : List (List ℕ)) (p : Place) (found : Lexed) (octets : List ℕ) : Type 0 where
+  pub next : IsNext lines p found
+  pub cut : IsCut lines p found
+  pub line : HasLine lines found
+  pub text : HasText lines found
+  pub after : HasLineAfter lines found octets

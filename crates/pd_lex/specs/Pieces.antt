@@ -1,4 +1,4 @@
--- What stands at the front of a text: a blank, a comment or a token.
+-- What is at the front of a text: a blank, a comment or a token.
 use Rattle.std.specs.Prelude.{ℕ, ◌+◌, Bool, ◌&&◌, nat_lt, nat_eq, ◌==◌, List, [], ◌∷◌, length, take, drop, codes, Option, Some, None, if◌then◌else◌}
 use Rattle.std.specs.List.{prefix_len, list_all, starts_with}
 use Rattle.pd_lex.specs.declared.token.TokenKind.{TokenKind}
@@ -60,7 +60,7 @@ piece (b ∷ s) =
     else (if starts_with nat_eq (b ∷ s) (codes "%{") then Open openers.Brace
     else (if is_printable b then Whole Symbol 1 else Stray)))))))))
 
--- what follows the first place where these two octets stand one behind the other
+-- what follows the first place where these two octets come one after the other
 abbrev pub after_pair : ℕ → ℕ → List ℕ → Option (List ℕ)
 after_pair x y [] = None
 after_pair x y (b ∷ s) = if starts_with nat_eq (b ∷ s) (x ∷ y ∷ []) then Some (drop 1 s) else after_pair x y s
@@ -94,15 +94,15 @@ opener_text openers.Brace = codes "%{"
 abbrev pub opener_len : Opener → ℕ
 opener_len o = length (opener_text o)
 
--- what can stand at the front of a text: nothing, a blank or a comment, a token, or what begins nothing; and what is left
--- behind it
+-- what can be at the front of a text: nothing, a blank or a comment, a token, or what begins nothing; and what is left
+-- after it
 pub data Front : Type 0 where
   nothing : Front
   gap : List ℕ → Front
   token : TokenKind → List ℕ → Front
   stray : Front
 
--- what was opened, when it is known what is left behind its end
+-- what was opened, when it is known what is left after its end
 abbrev pub closed : Opener → Option (List ℕ) → Front
 closed o None = stray
 closed openers.Comment (Some rest) = gap rest
@@ -117,7 +117,7 @@ parted s (Whole kind n) = token kind (drop n s)
 parted s (Open o) = closed o (after_end o (drop (opener_len o) s))
 parted s Stray = stray
 
--- what stands at the front of a text: nothing where it ends, else what its first piece makes
+-- what is at the front of a text: nothing where it ends, else what its first piece makes
 unfoldable pub front : List ℕ → Front
 front [] = nothing
 front (b ∷ s) = parted (b ∷ s) (piece (b ∷ s))

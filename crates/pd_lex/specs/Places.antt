@@ -16,7 +16,7 @@ joined (line ∷ lines) = line ++ newline ∷ joined lines
 abbrev pub line_at : List (List ℕ) → ℕ → List ℕ
 line_at lines n = get_or lines (n - 1) []
 
--- a place of the text or just behind it
+-- a place of the text or just after it
 pub record IsPlace (lines : List (List ℕ)) (p : Place) : Type 0 where
   pub from_one : 1 ≤ p.line
   pub within : p.line ≤ length lines + 1
@@ -30,12 +30,12 @@ standing lines p = if p.line == 0 then first_place else record { line = p.line; 
 unfoldable pub octets_from : List (List ℕ) → Place → List ℕ
 octets_from lines p = drop (standing lines p).at (joined (drop ((standing lines p).line - 1) lines))
 
--- the place behind some octets: a newline leads to the start of the next line
+-- the place after some octets: a newline leads to the start of the next line
 abbrev pub place_after : Place → List ℕ → Place
 place_after p [] = p
 place_after p (b ∷ s) = place_after (if b == newline then record { line = p.line + 1; at = 0 } else record { line = p.line; at = p.at + 1 }) s
 
--- what stands before the last part of a list
+-- what is before the last part of a list
 abbrev pub before : List ℕ → List ℕ → List ℕ
 before s rest = take (length s - length rest) s
 

@@ -8,8 +8,8 @@ use Rattle.pd_lex.specs.declared.scan.Piece.{Piece}
 use Rattle.pd_lex.specs.declared.scan.Piece.TheVariants as pieces
 use Rattle.pd_lex.specs.declared.scan.Opener.{Opener}
 use Rattle.pd_lex.specs.declared.scan.Opener.TheVariants as openers
-use Rattle.pd_lex.specs.declared.step.Step.{Step}
-use Rattle.pd_lex.specs.declared.step.Step.TheVariants as steps
+use Rattle.pd_lex.specs.declared.step.LexStep.{LexStep}
+use Rattle.pd_lex.specs.declared.step.LexStep.TheVariants as steps
 use Rattle.pd_lex.specs.Kinds.{stays_in_line}
 use Rattle.pd_lex.specs.Octets.{is_digit, is_word, is_inside_line}
 use Rattle.pd_lex.specs.Places.{octets_from, between, line_at, IsPlace}
@@ -28,7 +28,7 @@ pub record IsLeftAt (lines : List (List ℕ)) (p : Place) (rest : List ℕ) : Ty
   pub place : IsPlace lines p
   pub left : octets_from lines p ≡ rest
 
--- the place behind an end, where there is one
+-- the place after an end, where there is one
 abbrev pub IsClosed : List (List ℕ) → Option (List ℕ) → Option Place → Type 0
 IsClosed lines None None = Unit {0}
 IsClosed lines (Some rest) (Some p) = IsLeftAt lines p rest
@@ -43,7 +43,7 @@ pub record IsLeftInLine (lines : List (List ℕ)) (p : Place) (rest : List ℕ) 
   pub some : 0 < length rest
   pub small : p.at + length rest < 2 ^ 64
 
--- a letter or `_` stands at the front
+-- a letter or `_` is at the front
 abbrev pub begins_name : List ℕ → Bool
 begins_name [] = false
 begins_name (b ∷ s) = is_word b && not (is_digit b)
@@ -60,8 +60,8 @@ slash_piece s = if starts_with nat_eq s (codes "//") then pieces.Blank (prefix_l
 abbrev pub percent_piece : List ℕ → Piece
 percent_piece s = if starts_with nat_eq s (codes "%{") then pieces.Open openers.Brace else pieces.Whole Symbol 1
 
--- one step: what stands at a place, and the place behind it
-abbrev pub IsStep : List (List ℕ) → Place → Step → Type 0
+-- one step: what is at a place, and the place after it
+abbrev pub IsStep : List (List ℕ) → Place → LexStep → Type 0
 IsStep lines p (steps.Gap q) = IsPlace lines q × (front (octets_from lines p) ≡ gap (octets_from lines q))
 IsStep lines p (steps.Token kind text q) = IsPlace lines q × (front (octets_from lines p) ≡ token kind (octets_from lines q)) × (stays_in_line kind ≡ true → q.line ≡ p.line) × (stays_in_line kind ≡ true → text.now ≡ between lines p q)
 IsStep lines p steps.Stray = front (octets_from lines p) ≡ stray
@@ -73,8 +73,8 @@ opener_kind openers.Quote = Some Str
 opener_kind openers.Backquote = Some Cmd
 opener_kind openers.Brace = Some Code
 
--- the step over what was opened, to the place behind its end
-abbrev pub IsClosing : Opener → Place → Step → Type 0
+-- the step over what was opened, to the place after its end
+abbrev pub IsClosing : Opener → Place → LexStep → Type 0
 IsClosing o q (steps.Gap r) = (opener_kind o ≡ None) × (r ≡ q)
 IsClosing o q (steps.Token kind text r) = (opener_kind o ≡ Some kind) × (r ≡ q)
 IsClosing o q steps.Stray = ⊥

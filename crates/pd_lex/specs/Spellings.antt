@@ -1,4 +1,4 @@
--- How blanks, comments and tokens are spelled, and which of them stands at the front of a text: the longest.
+-- How blanks, comments and tokens are spelled, and which of them is at the front of a text: the longest.
 use Rattle.std.specs.Prelude.{◌≡◌, ◌≢◌, ℕ, ◌≤◌, ◌<◌, Bool, false, IsTrue, List, [], ◌∷◌, ◌++◌, length, codes, Option, Some, None, ◌⊎◌}
 use Rattle.std.specs.List.{list_all}
 use Rattle.pd_lex.specs.declared.token.TokenKind.{TokenKind}
@@ -33,7 +33,7 @@ IsValue text = (text ≡ []) ⊎ ((value : List ℕ) × (text ≡ codes "=" ++ v
 abbrev pub IsOpt : List ℕ → Type 0
 IsOpt text = (name : List ℕ) × (value : List ℕ) × (text ≡ codes "--" ++ name ++ value) × AreSome is_word name × IsValue value
 
--- what may stand in a string: any octet but `"` and a backslash, and a backslash with any octet behind it
+-- what may be in a string: any octet but `"` and a backslash, and a backslash with any octet after it
 pub data IsQuoted : List ℕ → Type 0 where
   empty : IsQuoted []
   plain : {b : ℕ} {text : List ℕ} → b ≢ quote → b ≢ backslash → IsQuoted text → IsQuoted (b ∷ text)
@@ -47,7 +47,7 @@ IsStr text = (body : List ℕ) × (text ≡ codes "\"" ++ body ++ codes "\"") ×
 abbrev pub IsCmd : List ℕ → Type 0
 IsCmd text = (body : List ℕ) × (text ≡ codes "`" ++ body ++ codes "`") × AreAll is_no_backquote body
 
--- these octets stand nowhere in the text, one behind the other
+-- these octets are nowhere in the text, one after the other
 abbrev pub HasNo : List ℕ → List ℕ → Type 0
 HasNo octets text = (front back : List ℕ) → text ≢ front ++ (octets ++ back)
 
@@ -89,7 +89,7 @@ abbrev pub IsPiece : Option TokenKind → List ℕ → Type 0
 IsPiece None text = IsBlank text ⊎ IsLineComment text ⊎ IsBlockComment text
 IsPiece (Some kind) text = IsSpelled kind text
 
--- `/*`, `"`, a backquote or `%{` stands at the front: what it opens must be closed, and it is never a symbol
+-- `/*`, `"`, a backquote or `%{` is at the front: what it opens must be closed, and it is never a symbol
 abbrev pub IsOpened : List ℕ → Type 0
 IsOpened s = (more : List ℕ) × ((s ≡ codes "/*" ++ more) ⊎ (s ≡ codes "\"" ++ more) ⊎ (s ≡ codes "`" ++ more) ⊎ (s ≡ codes "%{" ++ more))
 
@@ -100,7 +100,7 @@ pub record Fits (s : List ℕ) (kind : Option TokenKind) (text : List ℕ) : Typ
   pub spelled : IsPiece kind text
   pub unopened : kind ≡ Some Symbol → ¬ IsOpened s
 
--- the longest of them, what is left behind it, and no other kind is spelled so
+-- the longest of them, what is left after it, and no other kind is spelled so
 pub record IsLongest (s : List ℕ) (kind : Option TokenKind) (text rest : List ℕ) : Type 0 where
   pub cut : s ≡ text ++ rest
   pub fits : Fits s kind text

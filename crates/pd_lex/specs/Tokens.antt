@@ -27,7 +27,7 @@ line_of (bad line) = line
 -- token, and they end with the text, in its last line, or in the line where no piece fits
 pub data AreItems (last : ℕ) : Place → List ℕ → List Item → Type 0 where
   at_end : {p : Place} → AreItems last p [] (ending last ∷ [])
-  behind_gap : {p : Place} {s text rest : List ℕ} {more : List Item} → IsLongest s None text rest → AreItems last (place_after p text) rest more → AreItems last p s more
+  after_gap : {p : Place} {s text rest : List ℕ} {more : List Item} → IsLongest s None text rest → AreItems last (place_after p text) rest more → AreItems last p s more
   at_token : {p : Place} {s text rest : List ℕ} {kind : TokenKind} {more : List Item} → IsLongest s (Some kind) text rest → AreItems last (place_after p text) rest more → AreItems last p s (lexeme (record { kind = kind; text = text; from = p }) ∷ more)
   at_stuck : {p : Place} {s : List ℕ} → IsStuck s → AreItems last p s (bad p.line ∷ [])
 

@@ -5,7 +5,7 @@ ghost use Rattle.pd_lex.specs.Pieces.{after_pair, after_quote, after_backquote, 
 use crate::scan::Opener;
 
 /// What follows the first pair of these two octets.
-fn behind_pair(s: &[u8], x: u8, y: u8) -> Option<&[u8]>
+fn after_pair(s: &[u8], x: u8, y: u8) -> Option<&[u8]>
     ensures after { option_copied result ≡ after_pair x y s.now }
 {
     let mut rest = s;
@@ -19,7 +19,7 @@ fn behind_pair(s: &[u8], x: u8, y: u8) -> Option<&[u8]>
 }
 
 /// What follows the first backquote.
-fn behind_backquote(s: &[u8]) -> Option<&[u8]>
+fn after_backquote(s: &[u8]) -> Option<&[u8]>
     ensures after { option_copied result ≡ after_backquote s.now }
 {
     let mut rest = s;
@@ -33,7 +33,7 @@ fn behind_backquote(s: &[u8]) -> Option<&[u8]>
 }
 
 /// What follows the first `"` that no backslash takes.
-fn behind_quote(s: &[u8]) -> Option<&[u8]>
+fn after_quote(s: &[u8]) -> Option<&[u8]>
     ensures after { option_copied result ≡ after_quote s.now }
 {
     let mut rest = s;
@@ -48,13 +48,13 @@ fn behind_quote(s: &[u8]) -> Option<&[u8]>
 }
 
 /// What follows the end of what was opened.
-pub fn behind_end(opener: Opener, s: &[u8]) -> Option<&[u8]>
+pub fn after_end(opener: Opener, s: &[u8]) -> Option<&[u8]>
     ensures after { option_copied result ≡ after_end opener s.now }
 {
     match opener {
-        Opener::Comment => behind_pair(s, b'*', b'/'),
-        Opener::Quote => behind_quote(s),
-        Opener::Backquote => behind_backquote(s),
-        Opener::Brace => behind_pair(s, b'}', b'%'),
+        Opener::Comment => after_pair(s, b'*', b'/'),
+        Opener::Quote => after_quote(s),
+        Opener::Backquote => after_backquote(s),
+        Opener::Brace => after_pair(s, b'}', b'%'),
     }
 }

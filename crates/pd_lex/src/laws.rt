@@ -16,7 +16,7 @@ pub fn longest_pieces()
     ensures only { NoOthersAreLongest }
 {}
 
-/// A law, and no work: the items behind a token are those from the place behind it.
-pub fn items_behind_tokens()
+/// A law, and no work: the items after a token are those from the place after it.
+pub fn items_after_tokens()
     ensures { ItemsGoOn }
 {}

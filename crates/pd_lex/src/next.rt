@@ -7,18 +7,18 @@ ghost use Rattle.pd_lex.specs.declared.scan.Piece.TheVariants.{Whole};
 ghost use Rattle.pd_lex.specs.declared.token.TokenKind.TheVariants.{Int, Symbol};
 ghost use Rattle.pd_lex.specs.Lexing.{IsNext};
 ghost use Rattle.pd_text.specs.Text.{AreLines};
-ghost use Rattle.pd_lex.specs.Next.{IsCut, HasLine, HasText, HasLineBehind};
+ghost use Rattle.pd_lex.specs.Next.{IsCut, IsReadAt, HasLine, HasText, HasLineAfter};
 ghost use Rattle.pd_lex.specs.Places.{line_at};
 
 use crate::classes::{Class, class_of};
 use crate::numbers::number_of;
 use crate::plain::{Plain, name, number_at, point, symbol_at};
-use crate::standing::{behind_blanks, octets_of_line};
-use crate::step::{Step, step_at};
+use crate::standing::{after_blanks, octets_of_line};
+use crate::step::{LexStep, step_at};
 use crate::token::{Ahead, Lexed, Place, Token};
-use pd_text::{Lines, have_lines};
+use pd_text::Lines;
 
-/// The first token from a place on, with the place behind it: blanks and comments are passed over.
+/// The first token from a place on, with the place after it: blanks and comments are passed over.
 /// At a place of line 0 it starts at the text's first octet, past the end of a line at that line's
 /// newline. It ends at the text's end, or at the line where no token can be read: at an octet that
 /// begins none, or where a comment, a string, a command or code is opened and never closed.
@@ -31,13 +31,13 @@ pub fn next_token<'a>(lines: &'a Lines, place: Place) -> Lexed<'a>
     look_ahead(lines, place).next
 }
 
-/// `next_token`, with the line of the place behind it.
+/// `next_token`, with the line of the place after it.
 pub fn look_ahead<'a>(lines: &'a Lines, place: Place) -> Ahead<'a>
     ensures next { IsNext lines.now place result.next }
     ensures cut { IsCut lines.now place result.next }
     ensures line { HasLine lines.now result.next }
     ensures text { HasText lines.now result.next }
-    ensures behind { HasLineBehind lines.now result.next result.line.now }
+    ensures after { HasLineAfter lines.now result.next result.line.now }
 {
     let mut ahead = Ahead {
         line: &[],
@@ -56,11 +56,11 @@ pub fn read_along<'a>(lines: &'a Lines, place: Place, ahead: &mut Ahead<'a>)
     ensures cut { IsCut lines.now place ahead.new.next }
     ensures line { HasLine lines.now ahead.new.next }
     ensures text { HasText lines.now ahead.new.next }
-    ensures behind { HasLineBehind lines.now ahead.new.next ahead.new.line.now }
+    ensures after { HasLineAfter lines.now ahead.new.next ahead.new.line.now }
 {
-    have_lines(lines);
+    lines.facts();
     let octets = ahead.line;
-    let at = behind_blanks(octets, place.at);
+    let at = after_blanks(octets, place.at);
     if at >= octets.len() {
         return read_past(lines, place, ahead);
     }
@@ -71,21 +71,17 @@ pub fn read_along<'a>(lines: &'a Lines, place: Place, ahead: &mut Ahead<'a>)
     read_at(lines, from, &octets[at..], ahead);
 }
 
-/// Looks lines up until one has more than blanks. It stands apart, since it comes once a line.
+/// Looks lines up until one has more than blanks. It is apart, since it comes once a line.
 #[inline(never)]
 fn read_past<'a>(lines: &'a Lines, place: Place, ahead: &mut Ahead<'a>)
-    ensures next { IsNext lines.now place ahead.new.next }
-    ensures cut { IsCut lines.now place ahead.new.next }
-    ensures line { HasLine lines.now ahead.new.next }
-    ensures text { HasText lines.now ahead.new.next }
-    ensures behind { HasLineBehind lines.now ahead.new.next ahead.new.line.now }
+    ensures { IsReadAt lines.now place ahead.new.next ahead.new.line.now }
 {
     let mut here = place;
     'lines: loop {
         let Some(octets) = lines.line(here.line) else {
             return read_on(lines, here, ahead);
         };
-        let at = behind_blanks(octets, here.at);
+        let at = after_blanks(octets, here.at);
         if at >= octets.len() {
             here = Place::line_start(here.line + 1);
             continue;
@@ -105,11 +101,7 @@ fn read_at<'a>(lines: &'a Lines, from: Place, rest: &'a [u8], ahead: &mut Ahead<
     requires left { IsLeftInLine lines.now from rest.now }
     requires plain { AreLines lines.now }
     requires known { ahead.old.line.now ≡ line_at lines.now from.line }
-    ensures next { IsNext lines.now from ahead.new.next }
-    ensures cut { IsCut lines.now from ahead.new.next }
-    ensures line { HasLine lines.now ahead.new.next }
-    ensures text { HasText lines.now ahead.new.next }
-    ensures behind { HasLineBehind lines.now ahead.new.next ahead.new.line.now }
+    ensures { IsReadAt lines.now from ahead.new.next ahead.new.line.now }
 {
     match class_of(rest[0]) {
         Class::Symbol => put(lines, from, rest, symbol_at(rest), ahead),
@@ -117,18 +109,14 @@ fn read_at<'a>(lines: &'a Lines, from: Place, rest: &'a [u8], ahead: &mut Ahead<
     }
 }
 
-/// Reads a token that its first octet doesn't tell for a symbol. It stands apart, since a symbol
+/// Reads a token that its first octet doesn't tell for a symbol. It is apart, since a symbol
 /// needs fewer registers.
 #[inline(never)]
 fn read_longer<'a>(lines: &'a Lines, from: Place, rest: &'a [u8], ahead: &mut Ahead<'a>)
     requires left { IsLeftInLine lines.now from rest.now }
     requires plain { AreLines lines.now }
     requires known { ahead.old.line.now ≡ line_at lines.now from.line }
-    ensures next { IsNext lines.now from ahead.new.next }
-    ensures cut { IsCut lines.now from ahead.new.next }
-    ensures line { HasLine lines.now ahead.new.next }
-    ensures text { HasText lines.now ahead.new.next }
-    ensures behind { HasLineBehind lines.now ahead.new.next ahead.new.line.now }
+    ensures { IsReadAt lines.now from ahead.new.next ahead.new.line.now }
 {
     match class_of(rest[0]) {
         Class::Letter => put(lines, from, rest, name(rest), ahead),
@@ -137,17 +125,13 @@ fn read_longer<'a>(lines: &'a Lines, from: Place, rest: &'a [u8], ahead: &mut Ah
     }
 }
 
-/// Reads what begins with a digit. It stands apart, since a word needs fewer registers.
+/// Reads what begins with a digit. It is apart, since a word needs fewer registers.
 #[inline(never)]
 fn read_number<'a>(lines: &'a Lines, from: Place, rest: &'a [u8], ahead: &mut Ahead<'a>)
     requires left { IsLeftInLine lines.now from rest.now }
     requires plain { AreLines lines.now }
     requires known { ahead.old.line.now ≡ line_at lines.now from.line }
-    ensures next { IsNext lines.now from ahead.new.next }
-    ensures cut { IsCut lines.now from ahead.new.next }
-    ensures line { HasLine lines.now ahead.new.next }
-    ensures text { HasText lines.now ahead.new.next }
-    ensures behind { HasLineBehind lines.now ahead.new.next ahead.new.line.now }
+    ensures { IsReadAt lines.now from ahead.new.next ahead.new.line.now }
 {
     put(lines, from, rest, number_at(rest), ahead);
 }
@@ -158,11 +142,7 @@ fn read_point<'a>(lines: &'a Lines, from: Place, rest: &'a [u8], ahead: &mut Ahe
     requires left { IsLeftInLine lines.now from rest.now }
     requires plain { AreLines lines.now }
     requires known { ahead.old.line.now ≡ line_at lines.now from.line }
-    ensures next { IsNext lines.now from ahead.new.next }
-    ensures cut { IsCut lines.now from ahead.new.next }
-    ensures line { HasLine lines.now ahead.new.next }
-    ensures text { HasText lines.now ahead.new.next }
-    ensures behind { HasLineBehind lines.now ahead.new.next ahead.new.line.now }
+    ensures { IsReadAt lines.now from ahead.new.next ahead.new.line.now }
 {
     put(lines, from, rest, point(rest), ahead);
 }
@@ -184,11 +164,7 @@ fn put<'a>(
     requires within { IfSome found (λ p. p.len ≤ length rest.now) }
     requires number { IfSome found (λ p. p.kind ≡ Int → p.number ≡ capped_number (take p.len rest.now)) }
     requires symbol { IfSome found (λ p. p.kind ≡ Symbol → take p.len rest.now ≡ p.symbol ∷ []) }
-    ensures next { IsNext lines.now from ahead.new.next }
-    ensures cut { IsCut lines.now from ahead.new.next }
-    ensures line { HasLine lines.now ahead.new.next }
-    ensures text { HasText lines.now ahead.new.next }
-    ensures behind { HasLineBehind lines.now ahead.new.next ahead.new.line.now }
+    ensures { IsReadAt lines.now from ahead.new.next ahead.new.line.now }
 {
     let Some(plain) = found else {
         return read_on(lines, from, ahead);
@@ -206,14 +182,10 @@ fn put<'a>(
     });
 }
 
-/// Reads any token, also behind comments.
+/// Reads any token, also after comments.
 #[inline(never)]
 fn read_on<'a>(lines: &'a Lines, place: Place, ahead: &mut Ahead<'a>)
-    ensures next { IsNext lines.now place ahead.new.next }
-    ensures cut { IsCut lines.now place ahead.new.next }
-    ensures line { HasLine lines.now ahead.new.next }
-    ensures text { HasText lines.now ahead.new.next }
-    ensures behind { HasLineBehind lines.now ahead.new.next ahead.new.line.now }
+    ensures { IsReadAt lines.now place ahead.new.next ahead.new.line.now }
 {
     let mut here = if place.line == 0 {
         Place::first()
@@ -225,7 +197,7 @@ fn read_on<'a>(lines: &'a Lines, place: Place, ahead: &mut Ahead<'a>)
             ahead.next = Lexed::End;
             return;
         };
-        let at = behind_blanks(line, here.at);
+        let at = after_blanks(line, here.at);
         if at >= line.len() {
             here = Place::line_start(here.line + 1);
             continue;
@@ -235,8 +207,8 @@ fn read_on<'a>(lines: &'a Lines, place: Place, ahead: &mut Ahead<'a>)
             at,
         };
         match step_at(lines, from, &line[at..]) {
-            Step::Gap(after) => here = after,
-            Step::Token(kind, text, to) => {
+            LexStep::Gap(after) => here = after,
+            LexStep::Token(kind, text, to) => {
                 ahead.line = octets_of_line(lines, to.line);
                 ahead.next = Lexed::Token(Token {
                     kind,
@@ -248,7 +220,7 @@ fn read_on<'a>(lines: &'a Lines, place: Place, ahead: &mut Ahead<'a>)
                 });
                 return;
             }
-            Step::Stray => {
+            LexStep::Stray => {
                 ahead.next = Lexed::Bad(from.line);
                 return;
             }

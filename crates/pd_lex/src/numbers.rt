@@ -21,7 +21,7 @@ pub fn digit_value(octet: u8) -> u64
     }
 }
 
-/// The number that the digits write behind those of `value`; one above the greatest `u64` stands as that.
+/// The number that the digits write after those of `value`; one above the greatest `u64` counts as that.
 pub fn value_after(radix: u64, value: u64, digits: &[u8]) -> u64
     ensures { result ≡ fold (capped_digit radix) value digits.now }
 {
@@ -33,7 +33,7 @@ pub fn value_after(radix: u64, value: u64, digits: &[u8]) -> u64
     )
 }
 
-/// The number in digits; one above the greatest `u64` stands as that.
+/// The number in digits; one above the greatest `u64` counts as that.
 #[tactic(auto, using(crate::proofs::Capped::capping))]
 pub fn number(digits: &[u8]) -> u64
     ensures { result ≡ capped_number digits.now }

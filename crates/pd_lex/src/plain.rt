@@ -29,7 +29,7 @@ pub struct Plain {
 /// So many digits write no number above the greatest `u64`.
 const FEW: usize = 9;
 
-/// How many digits stand at the front, and the number that they write modulo 2^64.
+/// How many digits are at the front, and the number that they write modulo 2^64.
 #[inline(always)]
 fn digits_at(s: &[u8]) -> (usize, u64)
     ensures len { result.0 ≡ prefix_len is_digit s.now }

@@ -59,7 +59,7 @@ fn hex_digit(b: u8) -> bool
     b.is_ascii_hexdigit()
 }
 
-/// Whether an octet may stand in a word: a digit, a letter or an underscore.
+/// Whether an octet may be in a word: a digit, a letter or an underscore.
 pub fn word(b: u8) -> bool
     ensures { result ≡ is_word b }
 {
@@ -93,7 +93,7 @@ fn digits_len(s: &[u8]) -> usize
     s.iter().take_while(|b| digit(**b)).count()
 }
 
-/// How many octets of a word stand at the front.
+/// How many octets of a word are at the front.
 #[inline(always)]
 pub fn word_len(s: &[u8]) -> usize
     ensures len { result ≡ prefix_len is_word s.now }
@@ -144,7 +144,7 @@ fn hex(s: &[u8]) -> bool
     }
 }
 
-/// How many octets a point and the digits behind it have at the front; 0 where no point or no digit stands there.
+/// How many octets a point and the digits after it have at the front; 0 where no point or no digit is there.
 #[inline(always)]
 pub fn fraction(s: &[u8]) -> usize
     ensures len { result ≡ fraction_len s.now }

@@ -8,10 +8,10 @@ use crate::scan::blank;
 use crate::token::Place;
 use pd_text::Lines;
 
-/// How many octets of a line stand before the first that is no blank, from one on; no fewer than
+/// How many octets of a line are before the first that is no blank, from one on; no fewer than
 /// before that one.
 #[inline(always)]
-pub fn behind_blanks(line: &[u8], at: usize) -> usize
+pub fn after_blanks(line: &[u8], at: usize) -> usize
     ensures place { result ≡ at + prefix_len is_blank (drop at line.now) }
     ensures small { length line.now < 2 ^ 64 }
 {

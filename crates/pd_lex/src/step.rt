@@ -4,15 +4,15 @@ ghost use Rattle.pd_lex.specs.Places.{octets_from, IsPlace};
 ghost use Rattle.pd_lex.specs.Pieces.{after_end};
 ghost use Rattle.pd_lex.specs.Scanned.{IsClosed, IsClosing, IsLeftInLine, IsStep};
 
-use crate::ending::behind_end;
+use crate::ending::after_end;
 use crate::scan::{Opener, Piece, piece_at};
 use crate::standing::rest_of_line;
 use crate::token::{Place, TokenKind};
 use pd_text::Lines;
 
-/// What stands at a place, and the place behind it.
+/// What is at a place, and the place after it.
 #[derive(Clone, Copy)]
-pub enum Step<'a> {
+pub enum LexStep<'a> {
     /// A blank or a comment.
     Gap(Place),
     /// A token, with its octets if its kind stays in its line.
@@ -21,15 +21,15 @@ pub enum Step<'a> {
     Stray,
 }
 
-/// The place behind the end of what was opened before a place, if it ends.
-fn place_behind_end(lines: &Lines, opener: Opener, place: Place) -> Option<Place>
+/// The place after the end of what was opened before a place, if it ends.
+fn place_after_end(lines: &Lines, opener: Opener, place: Place) -> Option<Place>
     requires { IsPlace lines.now place }
     ensures { IsClosed lines.now (after_end opener (octets_from lines.now place)) result }
 {
     let mut at = place.at;
     for line in place.line..lines.len() + 1 {
         let rest = rest_of_line(lines, Place { line, at })?;
-        if let Some(after) = behind_end(opener, rest) {
+        if let Some(after) = after_end(opener, rest) {
             return Some(Place {
                 line,
                 at: at + (rest.len() - after.len()),
@@ -40,37 +40,37 @@ fn place_behind_end(lines: &Lines, opener: Opener, place: Place) -> Option<Place
     None
 }
 
-/// The step over what was opened, to the place behind its end.
-fn closed<'a>(opener: Opener, after: Place) -> Step<'a>
+/// The step over what was opened, to the place after its end.
+fn closed<'a>(opener: Opener, after: Place) -> LexStep<'a>
     ensures { IsClosing opener after result }
 {
     match opener {
-        Opener::Comment => Step::Gap(after),
-        Opener::Quote => Step::Token(TokenKind::Str, &[], after),
-        Opener::Backquote => Step::Token(TokenKind::Cmd, &[], after),
-        Opener::Brace => Step::Token(TokenKind::Code, &[], after),
+        Opener::Comment => LexStep::Gap(after),
+        Opener::Quote => LexStep::Token(TokenKind::Str, &[], after),
+        Opener::Backquote => LexStep::Token(TokenKind::Cmd, &[], after),
+        Opener::Brace => LexStep::Token(TokenKind::Code, &[], after),
     }
 }
 
 /// The step at a place within a line, of which this much is left.
-pub fn step_at<'a>(lines: &'a Lines, place: Place, rest: &'a [u8]) -> Step<'a>
+pub fn step_at<'a>(lines: &'a Lines, place: Place, rest: &'a [u8]) -> LexStep<'a>
     requires { IsLeftInLine lines.now place rest.now }
     ensures { IsStep lines.now place result }
 {
     let Place { line, at } = place;
     match piece_at(rest) {
-        Piece::Blank(n) => Step::Gap(Place { line, at: at + n }),
-        Piece::Whole(kind, n) => Step::Token(kind, &rest[..n], Place { line, at: at + n }),
+        Piece::Blank(n) => LexStep::Gap(Place { line, at: at + n }),
+        Piece::Whole(kind, n) => LexStep::Token(kind, &rest[..n], Place { line, at: at + n }),
         Piece::Open(opener) => {
             let inside = Place {
                 line,
                 at: at + opener.len(),
             };
-            match place_behind_end(lines, opener, inside) {
+            match place_after_end(lines, opener, inside) {
                 Some(after) => closed(opener, after),
-                None => Step::Stray,
+                None => LexStep::Stray,
             }
         }
-        Piece::Stray => Step::Stray,
+        Piece::Stray => LexStep::Stray,
     }
 }

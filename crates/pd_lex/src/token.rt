@@ -56,27 +56,27 @@ impl Place {
     }
 }
 
-/// A token: what it is, its octets, where it begins, and the place behind it.
+/// A token: what it is, its octets, where it begins, and the place after it.
 #[derive(Clone, Copy)]
 pub struct Token<'a> {
     /// What the token is.
     pub kind: TokenKind,
     /// The octet of a Symbol.
     pub symbol: u8,
-    /// The number of an Int; one above the greatest `u64` stands as that.
+    /// The number of an Int; one above the greatest `u64` counts as that.
     pub number: u64,
     /// As written, where its kind stays in its line; of a Str, a Cmd and Code none.
     pub text: &'a [u8],
     /// Where it begins.
     pub from: Place,
-    /// The place behind it.
+    /// The place after it.
     pub to: Place,
     ghost symbol_is: { kind ≡ Symbol → text.now ≡ symbol ∷ [] },
     ghost number_is: { kind ≡ Int → number ≡ capped_number text.now },
     ghost in_line: { stays_in_line kind ≡ true → to.line ≡ from.line },
 }
 
-/// What stands at a place, once blanks and comments are passed over.
+/// What is at a place, once blanks and comments are passed over.
 #[derive(Clone, Copy)]
 pub enum Lexed<'a> {
     /// A token.
@@ -87,11 +87,11 @@ pub enum Lexed<'a> {
     Bad(usize),
 }
 
-/// What stands next in a text, and the line of the place behind it.
+/// What comes next in a text, and the line of the place after it.
 #[derive(Clone, Copy)]
 pub struct Ahead<'a> {
-    /// The octets of the line in which the place behind a token lies; none past the last line.
+    /// The octets of the line in which the place after a token lies; none past the last line.
     pub line: &'a [u8],
-    /// What stands next.
+    /// What comes next.
     pub next: Lexed<'a>,
 }

@@ -2,4 +2,5 @@
 pub mod Packets
 pub mod Calls
 pub mod Agreement
+pub mod Kinds
 pub mod Laws

@@ -1,4 +1,6 @@
 //! The ways in which an event can fail.
+ghost use Rattle.std.specs.Prelude.{◌≡◌};
+ghost use Rattle.pd_match.specs.Kinds.{kind_word};
 
 /// What failed in an event.
 #[derive(Clone, Copy, PartialEq, Eq)]
@@ -21,4 +23,23 @@ pub enum Kind {
     Missing,
     /// The event's time lies before that of the event before it.
     Backwards,
+}
+
+impl Kind {
+    /// Its word in a report.
+    pub fn word(self) -> &'static str
+        ensures { result.now ≡ kind_word self }
+    {
+        match self {
+            Kind::Time => "time",
+            Kind::Flags => "flags",
+            Kind::Seq => "seq",
+            Kind::Ack => "ack",
+            Kind::Win => "win",
+            Kind::Options => "options",
+            Kind::Result => "result",
+            Kind::Missing => "missing",
+            Kind::Backwards => "backwards",
+        }
+    }
 }

@@ -137,10 +137,10 @@ module _ (lines : List (List ℕ)) (plain : list_all is_line lines ≡ true) whe
   event_read : (time : Time) (d : Direction) (x : Packet) (p : Place) (rest : List ℕ) → FitsTime time → FitsPacket d x → ends_number rest ≡ true → IsLeftAt lines p (event_text time d x ++ rest) → ReadTo lines Event IsEvent (event_of time (action_of d x) p.line) p rest
   unfolding IsEvent IsMaybeUntil
   event_read time d x p rest short fits ends h =
-      let behind = arrow d ++ (packet_text x ++ rest) in
-      let whole : event_text time d x ++ rest ≡ time_text time ++ behind =
+      let after = arrow d ++ (packet_text x ++ rest) in
+      let whole : event_text time d x ++ rest ≡ time_text time ++ after =
       append_assoc (time_text time ++ arrow d) (packet_text x) rest ∙ append_assoc (time_text time) (arrow d) (packet_text x ++ rest) in
-      let start = time_read lines plain time p behind short (arrow_ends d (packet_text x ++ rest)) (subst (IsLeftAt lines p) whole h) in
+      let start = time_read lines plain time p after short (arrow_ends d (packet_text x ++ rest)) (subst (IsLeftAt lines p) whole h) in
       let action = action_read d x start.to rest fits ends start.left in
       record {
         to = action.to;

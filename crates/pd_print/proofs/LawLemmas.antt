@@ -34,7 +34,7 @@ module _ (event : ℕ → Event) (octets : List ℕ) (plain : is_line octets ≡
       subst (λ (ts : List Item). IsEvent (event 1) (items (octets ∷ []) first_place) ts) (items_past (octets ∷ []) is_one_line (line_after first_place) (omega arith)) h
 
   script : IsScript [] (event 1 ∷ []) (items (octets ∷ []) first_place)
-  script = record { behind = items (octets ∷ []) first_place; end = ending 1; begins = refl; goes = (ending 1 ∷ [], read, refl); ends = refl; limit = omega arith }
+  script = record { after = items (octets ∷ []) first_place; end = ending 1; begins = refl; goes = (ending 1 ∷ [], read, refl); ends = refl; limit = omega arith }
 
   pub script_alone : IsScriptOf (octets ∷ []) (only (event 1))
   script_alone = (items (octets ∷ []) first_place, items_cut (octets ∷ []), (refl, script))

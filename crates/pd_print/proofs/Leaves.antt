@@ -55,14 +55,14 @@ before-append text rest =
     let n : length (text ++ rest) - length rest ≡ length text = omega (arith, length-append text rest) in
     rw n (take-append_seam text rest)
 
--- an item stands at a place, and what is left behind it stands in the same line
+-- an item is at a place, and what is left after it is in the same line
 pub record Passed (lines : List (List ℕ)) (p : Place) (t : Item) (rest : List ℕ) : Type 0 where
   pub to : Place
   pub line : to.line ≡ p.line
   pub left : IsLeftAt lines to rest
   pub items_are : items lines p ≡ t ∷ items lines to
 
--- a value is spelled from a place on, and what is left behind it stands in the same line
+-- a value is spelled from a place on, and what is left after it is in the same line
 pub record ReadTo (lines : List (List ℕ)) (A : Type 0) (spelling : Spelling A) (v : A) (p : Place) (rest : List ℕ) : Type 0 where
   pub to : Place
   pub line : to.line ≡ p.line
@@ -91,9 +91,9 @@ module _ (lines : List (List ℕ)) (plain : list_all is_line lines ≡ true) whe
       let here : front (octets_from lines p) ≡ gap (octets_from lines (place_after p (32 ∷ []))) = ap front h.left ∙ (space_front rest ∙ ap gap (sym on.left)) in
       record { to = place_after p (32 ∷ []); line = refl; left = on; same = items_over_gap lines plain p (place_after p (32 ∷ [])) h.place on.place here }
 
-  -- what is spelled behind a blank is spelled before it
-  pub spaced : (A : Type 0) (spelling : Spelling A) (v : A) (p : Place) (behind rest : List ℕ) (o : Over lines p behind) → ReadTo lines A spelling v o.to rest → ReadTo lines A spelling v p rest
-  spaced A spelling v p behind rest o r = record { to = r.to; line = r.line ∙ o.line; left = r.left; spelled = rw o.same r.spelled }
+  -- what is spelled after a blank is spelled before it
+  pub spaced : (A : Type 0) (spelling : Spelling A) (v : A) (p : Place) (after rest : List ℕ) (o : Over lines p after) → ReadTo lines A spelling v o.to rest → ReadTo lines A spelling v p rest
+  spaced A spelling v p after rest o r = record { to = r.to; line = r.line ∙ o.line; left = r.left; spelled = rw o.same r.spelled }
 
   -- one token
   pub one_read : (A : Type 0) (test : Item → Bool) (value : Item → A) (v : A) (p : Place) (t : Item) (rest : List ℕ) → Passed lines p t rest → test t ≡ true → value t ≡ v → ReadTo lines A (one_of test value) v p rest

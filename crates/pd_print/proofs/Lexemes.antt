@@ -1,4 +1,4 @@
--- Which token stands at the front of what was written.
+-- Which token is at the front of what was written.
 use Rattle.std.proofs.Common.{◌≡◌, ℕ, ◌+◌, ◌<◌, Bool, true, false, not, ◌&&◌, nat_lt, ◌==◌, List, [], ◌∷◌, ◌++◌, length, drop, refl, sym, ap, ◌∙◌, arith}
 use Rattle.std.specs.List.{list_all, prefix_len}
 use Rattle.std.proofs.Math.Seq.{drop-append_seam, drop-append-add}
@@ -85,14 +85,14 @@ decimal_front whole ds rest n w digits some ends =
     run : prefix_len is_digit (whole ++ (46 ∷ (ds ++ rest))) ≡ length whole
     run = run_len is_digit whole (46 ∷ (ds ++ rest)) w.digits refl
 
-    behind : drop (prefix_len is_digit (whole ++ (46 ∷ (ds ++ rest)))) (whole ++ (46 ∷ (ds ++ rest))) ≡ 46 ∷ (ds ++ rest)
-    behind = rw run (drop-append_seam whole (46 ∷ (ds ++ rest)))
+    after : drop (prefix_len is_digit (whole ++ (46 ∷ (ds ++ rest)))) (whole ++ (46 ∷ (ds ++ rest))) ≡ 46 ∷ (ds ++ rest)
+    after = rw run (drop-append_seam whole (46 ∷ (ds ++ rest)))
 
     decimals : prefix_len is_digit (ds ++ rest) ≡ length ds
     decimals = run_len is_digit ds rest digits (no_digit rest ends)
 
     fraction : fraction_len (drop (prefix_len is_digit (whole ++ (46 ∷ (ds ++ rest)))) (whole ++ (46 ∷ (ds ++ rest)))) ≡ length ds + 1
-    fraction = ap fraction_len behind ∙ rw (decimals, some_is (length ds) some) refl
+    fraction = ap fraction_len after ∙ rw (decimals, some_is (length ds) some) refl
 
     left : drop (prefix_len is_digit (whole ++ (46 ∷ (ds ++ rest))) + fraction_len (drop (prefix_len is_digit (whole ++ (46 ∷ (ds ++ rest)))) (whole ++ (46 ∷ (ds ++ rest))))) (whole ++ (46 ∷ (ds ++ rest))) ≡ rest
     left = rw (fraction, run) (drop-append-add whole (46 ∷ (ds ++ rest)) (length ds + 1) ∙ rw (add-one (length ds)) (drop-append_seam ds rest))

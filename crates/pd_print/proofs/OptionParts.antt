@@ -92,14 +92,14 @@ module _ (lines : List (List ℕ)) (plain : list_all is_line lines ≡ true) whe
   name_read w name p rest begins all is ends h =
       one_read lines plain OptionName is_option (λ t. unwrap_or (option_named (text_of t)) names.Nop) name p (lexeme (record { kind = Word; text = w; from = p })) rest (word_passed lines plain w p rest begins all ends h) (rw is refl) (rw is refl)
 
-  -- a number and a word behind a blank
-  int_behind : (n : ℕ) (p : Place) (rest : List ℕ) → IsSmall n → ends_number rest ≡ true → IsLeftAt lines p (32 ∷ (decimal n ++ rest)) → ReadTo lines ℕ IsInt n p rest
-  int_behind n p rest small ends h =
+  -- a number and a word after a blank
+  int_after : (n : ℕ) (p : Place) (rest : List ℕ) → IsSmall n → ends_number rest ≡ true → IsLeftAt lines p (32 ∷ (decimal n ++ rest)) → ReadTo lines ℕ IsInt n p rest
+  int_after n p rest small ends h =
       let gap = over_space lines plain p (decimal n ++ rest) h in
       spaced lines plain ℕ IsInt n p (decimal n ++ rest) rest gap (int_read lines plain n gap.to rest small ends gap.left)
 
-  word_behind : (w : List ℕ) (p : Place) (rest : List ℕ) → begins_name w ≡ true → list_all is_word w ≡ true → bytes_eq w w ≡ true → ends_word rest ≡ true → IsLeftAt lines p (32 ∷ (w ++ rest)) → ReadTo lines ⊤ (IsNamed w) tt p rest
-  word_behind w p rest begins all same ends h =
+  word_after : (w : List ℕ) (p : Place) (rest : List ℕ) → begins_name w ≡ true → list_all is_word w ≡ true → bytes_eq w w ≡ true → ends_word rest ≡ true → IsLeftAt lines p (32 ∷ (w ++ rest)) → ReadTo lines ⊤ (IsNamed w) tt p rest
+  word_after w p rest begins all same ends h =
       let gap = over_space lines plain p (w ++ rest) h in
       spaced lines plain ⊤ (IsNamed w) tt p (w ++ rest) rest gap (named_read lines plain w gap.to rest begins all same ends gap.left)
 
@@ -107,11 +107,11 @@ module _ (lines : List (List ℕ)) (plain : list_all is_line lines ≡ true) whe
   unfolding IsOption IsOptionRest option_named
   option_read (options.Mss n) p rest fits ends h =
       let name = name_read (codes "mss") names.Mss p (32 ∷ (decimal n ++ rest)) refl refl refl refl h in
-      let number = int_behind n name.to rest fits.0 ends name.left in
+      let number = int_after n name.to rest fits.0 ends name.left in
       record { to = number.to; line = number.line ∙ name.line; left = number.left; spelled = (names.Mss, items lines name.to, name.spelled, (n, items lines number.to, number.spelled, (refl, refl))) }
   option_read (options.Wscale n) p rest fits ends h =
       let name = name_read (codes "wscale") names.Wscale p (32 ∷ (decimal n ++ rest)) refl refl refl refl h in
-      let number = int_behind n name.to rest fits.0 ends name.left in
+      let number = int_after n name.to rest fits.0 ends name.left in
       record { to = number.to; line = number.line ∙ name.line; left = number.left; spelled = (names.Wscale, items lines name.to, name.spelled, (n, items lines number.to, number.spelled, (refl, refl))) }
   option_read options.SackOk p rest fits ends h =
       let name = name_read (codes "sackOK") names.SackOk p rest refl refl refl (number_ends_word rest ends) h in
@@ -126,10 +126,10 @@ module _ (lines : List (List ℕ)) (plain : list_all is_line lines ≡ true) whe
       let echo = codes " ecr " ++ (decimal e ++ rest) in
       let all : IsLeftAt lines p (codes "TS val " ++ (decimal v ++ echo)) = subst (IsLeftAt lines p) (ap (λ (s : List ℕ). codes "TS val " ++ s) (append_assoc (decimal v) (codes " ecr " ++ decimal e) rest)) h in
       let name = name_read (codes "TS") names.Timestamp p (codes " val " ++ (decimal v ++ echo)) refl refl refl refl all in
-      let val = word_behind (codes "val") name.to (32 ∷ (decimal v ++ echo)) refl refl refl refl name.left in
-      let value = int_behind v val.to echo fits.0.0 refl val.left in
-      let ecr = word_behind (codes "ecr") value.to (32 ∷ (decimal e ++ rest)) refl refl refl refl value.left in
-      let number = int_behind e ecr.to rest fits.0.1 ends ecr.left in
+      let val = word_after (codes "val") name.to (32 ∷ (decimal v ++ echo)) refl refl refl refl name.left in
+      let value = int_after v val.to echo fits.0.0 refl val.left in
+      let ecr = word_after (codes "ecr") value.to (32 ∷ (decimal e ++ rest)) refl refl refl refl value.left in
+      let number = int_after e ecr.to rest fits.0.1 ends ecr.left in
       record {
         to = number.to;
         line = number.line ∙ (ecr.line ∙ (value.line ∙ (val.line ∙ name.line)));

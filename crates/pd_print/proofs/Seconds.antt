@@ -43,20 +43,20 @@ after-append : (n : ℕ) (ds es : List ℕ) → digits_value_after 10 n (ds ++ e
 after-append n [] es = refl
 after-append n (d ∷ ds) es = after-append (n * 10 + digit_value d) ds es
 
-six_behind : (v : ℕ) (ds : List ℕ) → length ds ≡ 6 → digits_value_after 10 v ds ≡ v * 1000000 + digits_value_after 10 0 ds
-six_behind v [] h = absurd (omega (arith, h))
-six_behind v (a ∷ []) h = absurd (omega (arith, h))
-six_behind v (a ∷ b ∷ []) h = absurd (omega (arith, h))
-six_behind v (a ∷ b ∷ c ∷ []) h = absurd (omega (arith, h))
-six_behind v (a ∷ b ∷ c ∷ d ∷ []) h = absurd (omega (arith, h))
-six_behind v (a ∷ b ∷ c ∷ d ∷ e ∷ []) h = absurd (omega (arith, h))
-six_behind v (a ∷ b ∷ c ∷ d ∷ e ∷ f ∷ []) h = omega arith
-six_behind v (a ∷ b ∷ c ∷ d ∷ e ∷ f ∷ g ∷ ds) h = absurd (omega (arith, h))
+six_after : (v : ℕ) (ds : List ℕ) → length ds ≡ 6 → digits_value_after 10 v ds ≡ v * 1000000 + digits_value_after 10 0 ds
+six_after v [] h = absurd (omega (arith, h))
+six_after v (a ∷ []) h = absurd (omega (arith, h))
+six_after v (a ∷ b ∷ []) h = absurd (omega (arith, h))
+six_after v (a ∷ b ∷ c ∷ []) h = absurd (omega (arith, h))
+six_after v (a ∷ b ∷ c ∷ d ∷ []) h = absurd (omega (arith, h))
+six_after v (a ∷ b ∷ c ∷ d ∷ e ∷ []) h = absurd (omega (arith, h))
+six_after v (a ∷ b ∷ c ∷ d ∷ e ∷ f ∷ []) h = omega arith
+six_after v (a ∷ b ∷ c ∷ d ∷ e ∷ f ∷ g ∷ ds) h = absurd (omega (arith, h))
 
 value_is : (text whole six : List ℕ) (w part : ℕ) → whole_digits text ≡ whole → six_decimals text ≡ six → length six ≡ 6 → number whole ≡ w → number six ≡ part → microseconds text ≡ w * 1000000 + part
 unfolding microseconds
 value_is text whole six w part front back long first second =
-    rw (front, back) (after-append 0 whole six ∙ (six_behind (number whole) six long ∙ rw (first, second) refl))
+    rw (front, back) (after-append 0 whole six ∙ (six_after (number whole) six long ∙ rw (first, second) refl))
 
 -- digits, a point and decimals that are six with zeros
 with_decimals : (whole ds six : List ℕ) (z w part : ℕ) → Written w whole → ds ++ replicate z 48 ≡ six → length six ≡ 6 → number six ≡ part → microseconds (whole ++ 46 ∷ ds) ≡ w * 1000000 + part

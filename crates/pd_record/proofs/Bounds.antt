@@ -9,14 +9,14 @@ use Rattle.pd_script.specs.declared.timing.Time.TheVariants.{Any, Absolute, Rela
 use Rattle.pd_host.specs.Expiries.{deadline_of}
 use Rattle.pd_run.specs.Laws.{IsUnderway}
 use Rattle.pd_run.specs.Limits.{is_long, written_times}
-use Rattle.pd_run.specs.Step.{Running}
+use Rattle.pd_run.specs.Step.{RunStateView}
 use Rattle.pd_run.specs.Times.{moment_of, base_after}
-use Rattle.pd_record.specs.Tape.{Tape, refusal_at, with_unmet}
+use Rattle.pd_record.specs.Recorder.{RecorderView, refusal_at, with_unmet}
 use Rattle.pd_record.specs.Inner.{Sound, IsReached}
 use Rattle.pd_record.specs.declared.refusals.NotRecorded.TheVariants.{TooManyEvents, TooLongGap}
 
 -- what isn't refused is no 4,097th event, and comes at most 3,600 seconds after the one before
-pub not_refused : (t : Tape) (at : ℕ) → refusal_at t at ≡ None → (t.count < 4096) × (at ≤ t.run.base + 3600000000)
+pub not_refused : (t : RecorderView) (at : ℕ) → refusal_at t at ≡ None → (t.count < 4096) × (at ≤ t.run.base + 3600000000)
 not_refused t at = go (nat_le 4096 t.count) (nat_lt 3600000000 (at - t.run.base)) refl refl
   where
     go : (a b : Bool) → nat_le 4096 t.count ≡ a → nat_lt 3600000000 (at - t.run.base) ≡ b
@@ -30,13 +30,13 @@ not_refused t at = go (nat_le 4096 t.count) (nat_lt 3600000000 (at - t.run.base)
         (few, omega arith)
 
 -- so its moment is within reach
-pub is_reached : (t : Tape) (at : ℕ) → Sound t → refusal_at t at ≡ None → IsReached at
+pub is_reached : (t : RecorderView) (at : ℕ) → Sound t → refusal_at t at ≡ None → IsReached at
 is_reached t at sound h =
     let within = not_refused t at h in
     omega (arith, within.0, within.1, sound.run.base)
 
 -- the next expiry lies at most an hour ahead
-pub deadline_near : (n at : ℕ) (r : Running) → IsUnderway n r → deadline_of r.host.state ≡ Some at → at ≤ r.clock + 3600000000
+pub deadline_near : (n at : ℕ) (r : RunStateView) → IsUnderway n r → deadline_of r.host.state ≡ Some at → at ≤ r.clock + 3600000000
 deadline_near n at r underway is =
     let most : underway.up_to.begun.max_rto_us ≤ 3600000000 = underway.up_to.begun.max_rto_us_in_range.1 in
     go (deadline_of r.host.state) underway.up_to.up_to.deadline is
@@ -72,5 +72,5 @@ all_more [] at all more = (more, tt)
 all_more (m ∷ moments) at all more = (all.0, all_more moments at all.1 more)
 
 -- and the tape stays sound
-pub unmet_sound : (t : Tape) (at : ℕ) → Sound t → IsReached at → Sound (with_unmet t at)
+pub unmet_sound : (t : RecorderView) (at : ℕ) → Sound t → IsReached at → Sound (with_unmet t at)
 unmet_sound t at sound reached = record { run = sound.run; few = sound.few; unmet = all_more t.unmet at sound.unmet reached }

@@ -17,7 +17,7 @@ use Rattle.pd_seg.specs.declared.segments.Sent.{Sent}
 use Rattle.pd_host.specs.Arrivals.{arrived}
 use Rattle.pd_host.specs.Calls.{called}
 use Rattle.pd_host.specs.Expiries.{advanced, deadline_of, due_by}
-use Rattle.pd_host.specs.Sender.{then_on}
+use Rattle.pd_host.specs.Host.{then_on}
 use Rattle.pd_host.specs.declared.halts.Halt.{Halt}
 use Rattle.pd_host.specs.declared.halts.Halt.TheVariants as halt
 use Rattle.pd_host.specs.declared.sender_state.State.{State}
@@ -26,7 +26,7 @@ use Rattle.pd_print.specs.Sent.{packet_of}
 use Rattle.pd_run.specs.Inbound.{segment_in}
 use Rattle.pd_run.specs.Run.{start_of, on_script, verdict_from}
 use Rattle.pd_run.specs.Step as run
-use Rattle.pd_run.specs.Step.{Running, tolerance_of, noted, on_step, acted, on_arrival, on_answer, answers, step}
+use Rattle.pd_run.specs.Step.{RunStateView, tolerance_of, noted, on_step, acted, on_arrival, on_answer, answers, step}
 use Rattle.pd_run.specs.Times.{moment_of, moments_of, is_in_reach, base_after}
 use Rattle.pd_run.specs.Why.{verdict_at, verdict_by_step, why}
 use Rattle.pd_run.specs.declared.verdicts.Verdict.{Verdict}
@@ -35,7 +35,7 @@ use Rattle.pd_run.specs.declared.whys.Why.{Why}
 use Rattle.pd_run.specs.declared.whys.Why.TheVariants.{OverLimit, NotRun, Backwards, Halted, Missing, Differs, Answered}
 use Rattle.pd_record.specs.Following.{Input, input_at, inputs_from, inputs_of, taken_at, taken_from, taken_of, own_in, all_taken, inputs_in, departure_at, departures_in, departed, FollowsRun, RecordingsFollowRuns}
 use Rattle.pd_record.specs.Recording.{Tracked, records, closed, tracks_of, recording_in, events_in, event_in, events_of_all}
-use Rattle.pd_record.specs.Tape.{Tape, Took, Answers, then_do, blank_from, recorded_as, event_at, taken, leaves_next, departs, left_by, with_base, acts_at, inputs, arrives, answer_at, with_answer, calls, based_after, meets, meets_oldest, ruling_at, performed, recorded}
+use Rattle.pd_record.specs.Recorder.{RecorderView, Took, Answers, then_do, blank_from, recorded_as, event_at, taken, leaves_next, departs, left_by, with_base, acts_at, inputs, arrives, answer_at, with_answer, calls, based_after, meets, meets_oldest, ruling_at, performed, recorded}
 use Rattle.pd_record.specs.declared.refusals.NotRecorded.TheVariants.{Stopped}
 use Rattle.pd_record.specs.declared.tape.Own.{Own}
 use Rattle.pd_record.specs.declared.tape.Recorded.{Recorded}
@@ -69,7 +69,7 @@ of_took x = x.before ++ own_in x.own
 -- ---- a run and the recording of its text
 
 -- a run, and a tape on which the packets that it hasn't taken are recorded in part
-record Follows (r : Running) (t : Tape) (w : List Sent) : Type 0 where
+record Follows (r : RunStateView) (t : RecorderView) (w : List Sent) : Type 0 where
   base : t.base ≡ r.base
   clock : t.run.clock ≡ r.clock
   unmet : t.unmet ≡ map moment w
@@ -78,7 +78,7 @@ record Follows (r : Running) (t : Tape) (w : List Sent) : Type 0 where
   ready : IsReady t.count t.run
 
 -- one event more of both
-record Goes (r s : Running) (w : List Sent) (e : Event) (a : Action) (y : Tape × Took) : Type 0 where
+record Goes (r s : RunStateView) (w : List Sent) (e : Event) (a : Action) (y : RecorderView × Took) : Type 0 where
   later : List Sent
   follows : Follows s y.0 later
   inputs : inputs_in (of_took y.1) ≡ input_at (run.acts_at r e) a
@@ -87,14 +87,14 @@ record Goes (r s : Running) (w : List Sent) (e : Event) (a : Action) (y : Tape �
 -- ---- expected packets
 
 -- the oldest of those that were recorded is met
-oldest_met : (r s : Running) (t : Tape) (x : Sent) (ws : List Sent) (e : Event) (p : Packet) (y : Tape × Took) → Follows r t (x ∷ ws)
+oldest_met : (r s : RunStateView) (t : RecorderView) (x : Sent) (ws : List Sent) (e : Event) (p : Packet) (y : RecorderView × Took) → Follows r t (x ∷ ws)
     → run.performed r e (Outbound p) ≡ Ok s → meets_oldest t e t.unmet ≡ Ok y → Goes r s (x ∷ ws) e (Outbound p) y
 oldest_met r s t x ws e p y f h k = go m.1.waits
   where
     m : (sent : Sent) × Met r s e sent
     m = met r s e p h
 
-    tape : Tape
+    tape : RecorderView
     tape = based_after e.time (Some x.at) (record t { unmet = map moment ws })
 
     its : (tape, took [] None) ≡ y
@@ -122,7 +122,7 @@ oldest_met r s t x ws e p y f h k = go m.1.waits
         absurd (omega (arith, full))
 
 -- the packet that a run takes leaves next on a tape that waits for none
-leaves_so : (r s : Running) (t : Tape) (e : Event) (sent : Sent) → Follows r t [] → Met r s e sent
+leaves_so : (r s : RunStateView) (t : RecorderView) (e : Event) (sent : Sent) → Follows r t [] → Met r s e sent
     → leaves_next (is_in_reach (moments_of t.base e.time) (tolerance_of t.run)) t.run ≡ Some sent
 leaves_so r s t e sent f m = go m.waits
   where
@@ -144,24 +144,24 @@ leaves_so r s t e sent f m = go m.waits
 
 module _ (laws : Bases) where
   -- a packet that leaves is met
-  newly_met : (r s : Running) (t : Tape) (e : Event) (p : Packet) (y : Tape × Took) → Follows r t []
+  newly_met : (r s : RunStateView) (t : RecorderView) (e : Event) (p : Packet) (y : RecorderView × Took) → Follows r t []
       → run.performed r e (Outbound p) ≡ Ok s → meets_oldest t e t.unmet ≡ Ok y → Goes r s [] e (Outbound p) y
   newly_met r s t e p y f h k =
       let m = met r s e p h in
       let sent : Sent = m.0 in
       let may : ℕ → Bool = is_in_reach (moments_of t.base e.time) (tolerance_of t.run) in
       let next : leaves_next may t.run ≡ Some sent = leaves_so r s t e sent f m.1 in
-      let after : Tape × Recorded → Tape × Took = λ z. (based_after e.time (Some sent.at) z.0, took [] (Some (own_of z.1))) in
+      let after : RecorderView × Recorded → RecorderView × Took = λ z. (based_after e.time (Some sent.at) z.0, took [] (Some (own_of z.1))) in
       let k1 : meets t e (leaves_next may t.run) ≡ Ok y = ap (meets_oldest t e) (sym f.unmet) ∙ k in
       let k2 : meets t e (Some sent) ≡ Ok y = ap (meets t e) (sym next) ∙ k1 in
-      let b = both (λ (z : Tape × Recorded). ok (after z)) (departs t e.line sent) y k2 in
+      let b = both (λ (z : RecorderView × Recorded). ok (after z)) (departs t e.line sent) y k2 in
       let packet : Packet = packet_of sent.segment in
       let x : Event = event_at t e.line sent.at (Outbound packet) in
       let was = was_taken t e.line sent.at (Outbound packet) b.0 b.1 in
-      let u : Running = was.0 in
+      let u : RunStateView = was.0 in
       let n = met t.run u x packet (step_passes t.run u x was.1.0).3 in
       let alike = same_before r s t.run u e x sent n.0 (sym f.state) f.clock m.1 n.1 in
-      let left : Tape × Recorded = (gone t u, recorded_as sent.at x) in
+      let left : RecorderView × Recorded = (gone t u, recorded_as sent.at x) in
       let went = packet_went laws t e.line may sent b.0 f.ready next b.1 in
       let its : after left ≡ y = ap after (sym was.1.2) ∙ given (after b.0) y b.2 in
       subst (Goes r s [] e (Outbound p)) its (record {
@@ -172,13 +172,13 @@ module _ (laws : Bases) where
           unmet = f.unmet;
           state = m.1.state ∙ (ap without_first (sym alike.0) ∙ sym n.1.state);
           written = n.1.written ∙ (f.written ∙ sym m.1.written);
-          ready = subst (λ (z : Tape × Recorded). IsReady z.0.count z.0.run) was.1.2 went.0.ready;
+          ready = subst (λ (z : RecorderView × Recorded). IsReady z.0.count z.0.run) was.1.2 went.0.ready;
         };
         inputs = refl;
         packets = ap (λ (l : List Sent). map departed l ++ []) (sym m.1.taken);
       })
 
-  expected_goes : (r s : Running) (t : Tape) (w : List Sent) (e : Event) (p : Packet) (y : Tape × Took) → Follows r t w
+  expected_goes : (r s : RunStateView) (t : RecorderView) (w : List Sent) (e : Event) (p : Packet) (y : RecorderView × Took) → Follows r t w
       → run.performed r e (Outbound p) ≡ Ok s → meets_oldest t e t.unmet ≡ Ok y → Goes r s w e (Outbound p) y
   expected_goes r s t [] e p y f h k = newly_met r s t e p y f h k
   expected_goes r s t (x ∷ ws) e p y f h k = oldest_met r s t x ws e p y f h k
@@ -225,47 +225,47 @@ calls_free call = record {
 }
 
 -- it acted in a run: after all expiries up to its moment
-abbrev ActedIn : Acting → Running → Event → Running → Type 0
+abbrev ActedIn : Acting → RunStateView → Event → RunStateView → Type 0
 ActedIn acts r e s = (a b : State) × (advanced (run.acts_at r e) r.host.state ≡ Ok a) × acts (run.acts_at r e) a b × (acted r e b ≡ s)
 
-abbrev run_came : Running → Result Running Verdict
+abbrev run_came : RunStateView → Result RunStateView Verdict
 run_came r = Ok r
 
-arrival_came : (r s : Running) (e : Event) (came : Result State Halt) → on_arrival r e came ≡ Ok s → (b : State) × (came ≡ Ok b) × (acted r e b ≡ s)
+arrival_came : (r s : RunStateView) (e : Event) (came : Result State Halt) → on_arrival r e came ≡ Ok s → (b : State) × (came ≡ Ok b) × (acted r e b ≡ s)
 arrival_came r s e (Ok b) h = (b, refl, (let same : run_came (acted r e b) ≡ run_came s = h in cc))
 arrival_came r s e (Err stop) h = absurd cc
 
-arrival_in : (r s : Running) (e : Event) (p : Packet) → run.performed r e (Inbound p) ≡ Ok s → ActedIn (ArrivesAt p) r e s
+arrival_in : (r s : RunStateView) (e : Event) (p : Packet) → run.performed r e (Inbound p) ≡ Ok s → ActedIn (ArrivesAt p) r e s
 arrival_in r s e p h =
     let came = arrival_came r s e (run.arrives r e p) h in
     let parts = then_both (arrived (segment_in p) (run.acts_at r e)) (advanced (run.acts_at r e) r.host.state) came.0 came.1 in
     (parts.0, came.0, parts.1, parts.2, came.2)
 
-answer_came : (r s : Running) (e : Event) (call : Call) (came : Result (State × Answer) Halt) → on_answer r e call came ≡ Ok s
+answer_came : (r s : RunStateView) (e : Event) (call : Call) (came : Result (State × Answer) Halt) → on_answer r e call came ≡ Ok s
     → (x : State × Answer) × (came ≡ Ok x) × (acted r e x.0 ≡ s)
 answer_came r s e call (Ok (b, answer)) h = ((b, answer), refl, agreed e.line (acted r e b) s (result_mismatch call.result answer) h)
 answer_came r s e call (Err stop) h = absurd cc
 
-call_in : (r s : Running) (e : Event) (call : Call) → run.performed r e (Calls call) ≡ Ok s → ActedIn (CalledAt call) r e s
+call_in : (r s : RunStateView) (e : Event) (call : Call) → run.performed r e (Calls call) ≡ Ok s → ActedIn (CalledAt call) r e s
 call_in r s e call h =
     let came = answer_came r s e call (answers r e call) h in
     let parts = then_both (called call (run.acts_at r e)) (advanced (run.acts_at r e) r.host.state) came.0 came.1 in
     (parts.0, came.0.0, parts.1, (came.0.1, parts.2), came.2)
 
 -- where no expiry is due any more it acts on the state itself
-acts_now : (acts : Acting) (q u : Running) (x : Event) (at : ℕ) → run.acts_at q x ≡ at → find_due at q.host.state ≡ None → ActedIn acts q x u
+acts_now : (acts : Acting) (q u : RunStateView) (x : Event) (at : ℕ) → run.acts_at q x ≡ at → find_due at q.host.state ≡ None → ActedIn acts q x u
     → acts at q.host.state u.host.state × (u.clock ≡ at) × (u.written ≡ q.written)
 acts_now acts q u x at moment none h =
     let still : q.host.state ≡ h.0 = same_came (advanced at q.host.state) q.host.state h.0 (none_due at q.host.state none) (ap (λ (m : ℕ). advanced m q.host.state) (sym moment) ∙ h.2) in
-    let after : h.1 ≡ u.host.state = ap (λ (z : Running). z.host.state) h.4 in (
+    let after : h.1 ≡ u.host.state = ap (λ (z : RunStateView). z.host.state) h.4 in (
       subst (λ (z : State). acts at q.host.state z) after (subst (λ (z : State). acts at z h.1) (sym still) (subst (λ (m : ℕ). acts m h.0 h.1) moment h.3)),
-      sym (ap (λ (z : Running). z.clock) h.4) ∙ moment,
-      sym (ap (λ (z : Running). z.written) h.4),
+      sym (ap (λ (z : RunStateView). z.clock) h.4) ∙ moment,
+      sym (ap (λ (z : RunStateView). z.written) h.4),
     )
 
 -- what was recorded of an input at a moment
-record OwnActs (acts : Acting) (at : ℕ) (a : Action) (q : Tape) (z : Tape × Own) : Type 0 where
-  after : Running
+record OwnActs (acts : Acting) (at : ℕ) (a : Action) (q : RecorderView) (z : RecorderView × Own) : Type 0 where
+  after : RunStateView
   acts_so : acts at q.run.host.state after.host.state
   clock : after.clock ≡ at
   written : after.written ≡ q.run.written
@@ -274,28 +274,28 @@ record OwnActs (acts : Acting) (at : ℕ) (a : Action) (q : Tape) (z : Tape × O
   packet : departures_in (z.1.recorded ∷ []) ≡ []
 
 -- the moment of an input that was recorded
-acts_then : (q : Tape) (line at : ℕ) (action : Action) → q.run.base ≤ at → q.run.clock ≤ at → run.acts_at q.run (event_at q line at action) ≡ at
+acts_then : (q : RecorderView) (line at : ℕ) (action : Action) → q.run.base ≤ at → q.run.clock ≤ at → run.acts_at q.run (event_at q line at action) ≡ at
 acts_then q line at action base clock = omega (arith, base, clock)
 
-arrival_own : (line at : ℕ) (p : Packet) (q : Tape) (z : Tape × Own) → IsReady q.count q.run → q.run.clock ≤ at → find_due at q.run.host.state ≡ None
+arrival_own : (line at : ℕ) (p : Packet) (q : RecorderView) (z : RecorderView × Own) → IsReady q.count q.run → q.run.clock ≤ at → find_due at q.run.host.state ≡ None
     → arrives line at p q ≡ Ok z → OwnActs (ArrivesAt p) at (Inbound p) q z
 arrival_own line at p q z ready early none h =
-    let b = both (λ (x : Tape × Recorded). ok (x.0, own_of x.1)) (taken q line at (Inbound p)) z h in
+    let b = both (λ (x : RecorderView × Recorded). ok (x.0, own_of x.1)) (taken q line at (Inbound p)) z h in
     let was = was_taken q line at (Inbound p) b.0 b.1 in
     let x : Event = event_at q line at (Inbound p) in
     let base : q.run.base ≤ at = omega (arith, early, ready.timely) in
     let so = acts_now (ArrivesAt p) q.run was.0 x at (acts_then q line at (Inbound p) base early) none (arrival_in q.run was.0 x p (step_passes q.run was.0 x was.1.0).3) in
-    let its : (gone q was.0, own_of (recorded_as at x)) ≡ z = ap (λ (w : Tape × Recorded). (w.0, own_of w.1)) (sym was.1.2) ∙ given (b.0.0, own_of b.0.1) z b.2 in
+    let its : (gone q was.0, own_of (recorded_as at x)) ≡ z = ap (λ (w : RecorderView × Recorded). (w.0, own_of w.1)) (sym was.1.2) ∙ given (b.0.0, own_of b.0.1) z b.2 in
     subst (OwnActs (ArrivesAt p) at (Inbound p) q) its
     (record { after = was.0; acts_so = so.0; clock = so.1; written = so.2; tape = refl; input = refl; packet = refl })
 
-call_own : (line at : ℕ) (call : Call) (q : Tape) (z : Tape × Own) → IsReady q.count q.run → q.run.clock ≤ at → find_due at q.run.host.state ≡ None
+call_own : (line at : ℕ) (call : Call) (q : RecorderView) (z : RecorderView × Own) → IsReady q.count q.run → q.run.clock ≤ at → find_due at q.run.host.state ≡ None
     → calls line at call q ≡ Ok z → OwnActs (CalledAt call) at (Calls call) q z
 call_own line at call q z ready early none h =
-    let seen : Answer → Tape × Recorded → Tape × Own = λ answer x. (x.0, answer_own call answer x.1) in
-    let a = both (λ (answer : Answer). then_do (λ (x : Tape × Recorded). ok (seen answer x)) (taken q line at (Calls (with_answer call answer)))) (answer_at q line at call) z h in
+    let seen : Answer → RecorderView × Recorded → RecorderView × Own = λ answer x. (x.0, answer_own call answer x.1) in
+    let a = both (λ (answer : Answer). then_do (λ (x : RecorderView × Recorded). ok (seen answer x)) (taken q line at (Calls (with_answer call answer)))) (answer_at q line at call) z h in
     let made : Call = with_answer call a.0 in
-    let b = both (λ (x : Tape × Recorded). ok (seen a.0 x)) (taken q line at (Calls made)) z a.2 in
+    let b = both (λ (x : RecorderView × Recorded). ok (seen a.0 x)) (taken q line at (Calls made)) z a.2 in
     let was = was_taken q line at (Calls made) b.0 b.1 in
     let x : Event = event_at q line at (Calls made) in
     let base : q.run.base ≤ at = omega (arith, early, ready.timely) in
@@ -305,7 +305,7 @@ call_own line at call q z ready early none h =
     (record { after = was.0; acts_so = so.0; clock = so.1; written = so.2; tape = refl; input = refl; packet = refl })
 
 -- what a script that is run comes to
-on_run : {A : Type 0} (refused : ℕ → A) (stopped : Verdict → A) (go : Running → A) (settings : Settings) (p : Parsed) (r : Running)
+on_run : {A : Type 0} (refused : ℕ → A) (stopped : Verdict → A) (go : RunStateView → A) (settings : Settings) (p : Parsed) (r : RunStateView)
     → p.fault ≡ None → start_of p.header.items settings ≡ Ok r → on_script refused stopped go settings p ≡ go r
 on_run refused stopped go settings p r fault start = rw (fault, start) refl
 
@@ -320,27 +320,27 @@ unrefused settings p tracks h = go p.fault refl
 
 -- and its run begins
 starts_so : (header : List HeaderItem) (es : List Event) (settings : Settings) (tracks : Tracked) → tracks_of header es settings ≡ Ok tracks
-    → (r : Running) × (start_of header settings ≡ Ok r) × (then_do closed (records es [] (blank r)) ≡ Ok tracks)
+    → (r : RunStateView) × (start_of header settings ≡ Ok r) × (then_do closed (records es [] (blank r)) ≡ Ok tracks)
 starts_so header es settings tracks h = go (start_of header settings) refl
   where
-    go : (came : Result Running Verdict) → start_of header settings ≡ came
-        → (r : Running) × (start_of header settings ≡ Ok r) × (then_do closed (records es [] (blank r)) ≡ Ok tracks)
-    go (Ok r) is = (r, is, sym (ap (λ (x : Result Running Verdict). then_do (λ (t : Tape). then_do closed (records es [] t)) (blank_from x)) is) ∙ h)
+    go : (came : Result RunStateView Verdict) → start_of header settings ≡ came
+        → (r : RunStateView) × (start_of header settings ≡ Ok r) × (then_do closed (records es [] (blank r)) ≡ Ok tracks)
+    go (Ok r) is = (r, is, sym (ap (λ (x : Result RunStateView Verdict). then_do (λ (t : RecorderView). then_do closed (records es [] t)) (blank_from x)) is) ∙ h)
     go (Err v) is =
-        absurd (let refused : tracks_of header es settings ≡ Err (Stopped v) = ap (λ (x : Result Running Verdict). then_do (λ (t : Tape). then_do closed (records es [] t)) (blank_from x)) is in cc)
+        absurd (let refused : tracks_of header es settings ≡ Err (Stopped v) = ap (λ (x : Result RunStateView Verdict). then_do (λ (t : RecorderView). then_do closed (records es [] t)) (blank_from x)) is in cc)
 
 module _ (laws : Bases) where
-  input_goes : (acts : Acting) → IsFree acts → (act : Tape → Answers (Tape × Own)) (r s : Running) (t : Tape) (w : List Sent) (e : Event) (a : Action) (y : Tape × Took)
-      → ((q : Tape) (z : Tape × Own) → IsReady q.count q.run → q.run.clock ≤ acts_at t e → find_due (acts_at t e) q.run.host.state ≡ None → act q ≡ Ok z → OwnActs acts (acts_at t e) a q z)
+  input_goes : (acts : Acting) → IsFree acts → (act : RecorderView → Answers (RecorderView × Own)) (r s : RunStateView) (t : RecorderView) (w : List Sent) (e : Event) (a : Action) (y : RecorderView × Took)
+      → ((q : RecorderView) (z : RecorderView × Own) → IsReady q.count q.run → q.run.clock ≤ acts_at t e → find_due (acts_at t e) q.run.host.state ≡ None → act q ≡ Ok z → OwnActs acts (acts_at t e) a q z)
       → taken_at r e a ≡ [] → Follows r t w → IsReady y.0.count y.0.run → ActedIn acts r e s → inputs act t e ≡ Ok y → Goes r s w e a y
   input_goes acts free act r s t w e a y own none_taken f ready h k =
       let at : ℕ = acts_at t e in
       let same_at : at ≡ run.acts_at r e =
       ap (λ (b : ℕ). max (moment_of b e.time) t.run.clock) f.base ∙ ap (λ (c : ℕ). max (moment_of r.base e.time) c) f.clock in
       let state : State = t.run.host.state in
-      let after : Tape × List Recorded → Tape × Own → Tape × Took = λ x z. (with_base (moment_of t.base e.time) z.0, took x.1 (Some z.1)) in
-      let x = both (λ (x : Tape × List Recorded). then_do (λ (z : Tape × Own). ok (after x z)) (act x.0)) (left_by e.line at t) y k in
-      let z = both (λ (z : Tape × Own). ok (after x.0 z)) (act x.0.0) y x.2 in
+      let after : RecorderView × List Recorded → RecorderView × Own → RecorderView × Took = λ x z. (with_base (moment_of t.base e.time) z.0, took x.1 (Some z.1)) in
+      let x = both (λ (x : RecorderView × List Recorded). then_do (λ (z : RecorderView × Own). ok (after x z)) (act x.0)) (left_by e.line at t) y k in
+      let z = both (λ (z : RecorderView × Own). ok (after x.0 z)) (act x.0.0) y x.2 in
       -- the expiries up to the moment
       let in_run : advanced at (in_front w state) ≡ Ok h.0 =
       ap (λ (m : ℕ). advanced m (in_front w state)) same_at ∙ (ap (advanced (run.acts_at r e)) (sym f.state) ∙ h.2) in
@@ -359,16 +359,16 @@ module _ (laws : Bases) where
       let its : freed.0 ≡ o.after.host.state = free.one at q freed.0 o.after.host.state freed.1 o.acts_so in
       let is : after x.0 z.0 ≡ y = given (after x.0 z.0) y z.2 in
       let list : x.0.1 ≡ all.0 = all.2 in
-      let run_of : z.0.0.run ≡ o.after = ap (λ (v : Tape). v.run) o.tape in
+      let run_of : z.0.0.run ≡ o.after = ap (λ (v : RecorderView). v.run) o.tape in
       subst (Goes r s w e a) is (record {
         later = w ++ left;
         follows = record {
-          base = ap (λ (b : ℕ). moment_of b e.time) f.base ∙ ap (λ (v : Running). v.base) h.4;
-          clock = ap (λ (v : Running). v.clock) run_of ∙ (o.clock ∙ (same_at ∙ ap (λ (v : Running). v.clock) h.4));
-          unmet = ap (λ (v : Tape). v.unmet) o.tape ∙ (over.unmet ∙ (ap (λ (l : List ℕ). l ++ map moment left) f.unmet ∙ sym (map-append moment w left)));
-          state = sym (ap (λ (v : Running). v.host.state) h.4) ∙ (freed.2 ∙ (ap (in_front (w ++ left)) its ∙ ap (λ (v : Running). in_front (w ++ left) v.host.state) (sym run_of)));
-          written = ap (λ (v : Running). v.written) run_of ∙ (o.written ∙ (over.written ∙ (f.written ∙ ap (λ (v : Running). v.written) h.4)));
-          ready = subst (λ (v : Tape × Took). IsReady v.0.count v.0.run) (sym is) ready;
+          base = ap (λ (b : ℕ). moment_of b e.time) f.base ∙ ap (λ (v : RunStateView). v.base) h.4;
+          clock = ap (λ (v : RunStateView). v.clock) run_of ∙ (o.clock ∙ (same_at ∙ ap (λ (v : RunStateView). v.clock) h.4));
+          unmet = ap (λ (v : RecorderView). v.unmet) o.tape ∙ (over.unmet ∙ (ap (λ (l : List ℕ). l ++ map moment left) f.unmet ∙ sym (map-append moment w left)));
+          state = sym (ap (λ (v : RunStateView). v.host.state) h.4) ∙ (freed.2 ∙ (ap (in_front (w ++ left)) its ∙ ap (λ (v : RunStateView). in_front (w ++ left) v.host.state) (sym run_of)));
+          written = ap (λ (v : RunStateView). v.written) run_of ∙ (o.written ∙ (over.written ∙ (f.written ∙ ap (λ (v : RunStateView). v.written) h.4)));
+          ready = subst (λ (v : RecorderView × Took). IsReady v.0.count v.0.run) (sym is) ready;
         };
         inputs =
             inputs_append x.0.1 (z.0.1.recorded ∷ [])
@@ -386,7 +386,7 @@ module _ (laws : Bases) where
 
   -- ---- events of the script
 
-  performed_goes : (r s : Running) (t : Tape) (w : List Sent) (e : Event) (a : Action) (y : Tape × Took) → Follows r t w → IsReady y.0.count y.0.run
+  performed_goes : (r s : RunStateView) (t : RecorderView) (w : List Sent) (e : Event) (a : Action) (y : RecorderView × Took) → Follows r t w → IsReady y.0.count y.0.run
       → run.performed r e a ≡ Ok s → performed t e a ≡ Ok y → Goes r s w e a y
   performed_goes r s t w e (Inbound p) y f ready h k =
       input_goes (ArrivesAt p) (arrivals_free p) (arrives e.line (acts_at t e) p) r s t w e (Inbound p) y (λ q z. arrival_own e.line (acts_at t e) p q z) refl f ready (arrival_in r s e p h) k
@@ -396,7 +396,7 @@ module _ (laws : Bases) where
   performed_goes r s t w e Command y f ready h k = absurd cc
   performed_goes r s t w e Code y f ready h k = absurd cc
 
-  event_goes : (r s : Running) (t : Tape) (w : List Sent) (e : Event) (y : Tape × Took) → Follows r t w → step r e ≡ Ok s → recorded t e ≡ Ok y → Goes r s w e e.action y
+  event_goes : (r s : RunStateView) (t : RecorderView) (w : List Sent) (e : Event) (y : RecorderView × Took) → Follows r t w → step r e ≡ Ok s → recorded t e ≡ Ok y → Goes r s w e e.action y
   event_goes r s t w e y f h k =
       performed_goes r s t w e e.action y f (event_went laws t e y f.ready k).ready (step_passes r s e h).3 (no_refusal (performed t e e.action) (ruling_at t e) y k).1
 
@@ -415,28 +415,28 @@ module _ (laws : Bases) where
   no_stop line n v None h is = cc
   no_stop line n v (Some reason) h is = let same : verdict_at line reason ≡ v = cc in never_passes line n reason (same ∙ is)
 
-  passed_on : (n m : ℕ) (e : Event) (es : List Event) (r : Running) (came : Result Running Verdict) → step r e ≡ came
-      → on_step (verdict_from n es) (λ v. v) came ≡ Pass m → (s : Running) × (came ≡ Ok s) × (verdict_from n es s ≡ Pass m)
+  passed_on : (n m : ℕ) (e : Event) (es : List Event) (r : RunStateView) (came : Result RunStateView Verdict) → step r e ≡ came
+      → on_step (verdict_from n es) (λ v. v) came ≡ Pass m → (s : RunStateView) × (came ≡ Ok s) × (verdict_from n es s ≡ Pass m)
   passed_on n m e es r (Ok s) is h = (s, refl, h)
   passed_on n m e es r (Err v) is h =
       absurd (no_stop e.line m v (why r e) (laws.reasons r e ∙ ap verdict_by_step is) h)
 
   -- what was recorded of the events that are left, and what a run takes of them
-  abbrev AllGo : List Event → Running → List Sent → List Took → Type 0
+  abbrev AllGo : List Event → RunStateView → List Sent → List Took → Type 0
   AllGo es r w takes =
       (inputs_in (all_taken takes) ≡ inputs_from es r)
       × (later : List Sent)
       × (map departed w ++ departures_in (all_taken takes) ≡ map departed (taken_from es r) ++ map departed later)
 
-  all_go : (es : List Event) (n m : ℕ) (r : Running) (t : Tape) (w : List Sent) (takes : List Took) (y : Tape × List Took) → Follows r t w
+  all_go : (es : List Event) (n m : ℕ) (r : RunStateView) (t : RecorderView) (w : List Sent) (takes : List Took) (y : RecorderView × List Took) → Follows r t w
       → verdict_from n es r ≡ Pass m → records es takes t ≡ Ok y → (more : List Took) × (y.1 ≡ takes ++ more) × AllGo es r w more
   all_go [] n m r t w takes y f h k =
-      subst (λ (z : Tape × List Took). (more : List Took) × (z.1 ≡ takes ++ more) × AllGo [] r w more) (given (t, takes) y k)
+      subst (λ (z : RecorderView × List Took). (more : List Took) × (z.1 ≡ takes ++ more) × AllGo [] r w more) (given (t, takes) y k)
       ([], sym (append-nil takes), (refl, w, append-nil (map departed w)))
   all_go (e ∷ es) n m r t w takes y f h k =
-      let b = both (λ (x : Tape × Took). records es (takes ++ x.1 ∷ []) x.0) (recorded t e) y k in
+      let b = both (λ (x : RecorderView × Took). records es (takes ++ x.1 ∷ []) x.0) (recorded t e) y k in
       let one = passed_on (n + 1) m e es r (step r e) refl h in
-      let s : Running = one.0 in
+      let s : RunStateView = one.0 in
       let g : Goes r s w e e.action b.0 = event_goes r s t w e b.0 f one.1 b.1 in
       let rest = all_go es (n + 1) m s b.0.0 g.later (takes ++ b.0.1 ∷ []) y g.follows one.2 b.2 in
       let list : List Recorded = all_taken rest.0 in
@@ -462,15 +462,15 @@ module _ (laws : Bases) where
 
   -- ---- whole texts
 
-  -- what stands untaken at the end are packets alone
-  no_inputs : (line until : ℕ) (t : Tape) (y : Tape × List Recorded) → IsReady t.count t.run → t.run.clock ≤ until
+  -- what is untaken at the end are packets alone
+  no_inputs : (line until : ℕ) (t : RecorderView) (y : RecorderView × List Recorded) → IsReady t.count t.run → t.run.clock ≤ until
       → ((a : State) × (advanced until t.run.host.state ≡ Ok a)) → left_by line until t ≡ Ok y → inputs_in y.1 ≡ []
   no_inputs line until t y ready early came h =
       let all = all_left laws 4096 line until [] t y came.0 ready early came.1 h in
       ap inputs_in all.2 ∙ all.3.inputs
 
   -- a run that goes on has performed all expiries up to its clock
-  none_overdue : (n : ℕ) (r : Running) → IsUnderway n r → find_due r.clock r.host.state ≡ None
+  none_overdue : (n : ℕ) (r : RunStateView) → IsUnderway n r → find_due r.clock r.host.state ≡ None
   none_overdue n r underway = go (deadline_of r.host.state) underway.up_to.up_to.deadline
     where
       by_test : (d : ℕ) (b : Bool) → nat_le d r.clock ≡ b → r.clock < d → due_by r.clock (Some d) ≡ None
@@ -495,7 +495,7 @@ module _ (laws : Bases) where
       ∙ (ap (λ (l : List Event). l ++ events_in (all_taken takes)) (sym (map-append event x.before (own_in x.own)))
       ∙ sym (map-append event (x.before ++ own_in x.own) (all_taken takes))))
 
-  tracks_follow : (text : List (List ℕ)) (settings : Settings) (r : Running) (n : ℕ) (tracks : Tracked)
+  tracks_follow : (text : List (List ℕ)) (settings : Settings) (r : RunStateView) (n : ℕ) (tracks : Tracked)
       → (script_of text).fault ≡ None → start_of (script_of text).header.items settings ≡ Ok r → verdict_from 0 (script_of text).events r ≡ Pass n
       → then_do closed (records (script_of text).events [] (blank r)) ≡ Ok tracks → FollowsRun text settings tracks
   tracks_follow text settings r n tracks fault start passes h =
@@ -506,7 +506,7 @@ module _ (laws : Bases) where
       let ready : IsReady 0 r = record { underway = underway; timely = omega (arith, zero_base) } in
       let f : Follows r (blank r) [] = record { base = zero_base; clock = refl; unmet = refl; state = refl; written = refl; ready = ready } in
       let a = both closed (records es [] (blank r)) tracks h in
-      let b = both (λ (y : Tape × List Recorded). ok (tracked a.0.1 y.1)) (left_by 0 a.0.0.run.clock a.0.0) tracks a.2 in
+      let b = both (λ (y : RecorderView × List Recorded). ok (tracked a.0.1 y.1)) (left_by 0 a.0.0.run.clock a.0.0) tracks a.2 in
       let rest : List Recorded = b.0.1 in
       let went = events_went laws es [] (blank r) a.0 ready a.1 in
       let late : IsReady a.0.0.count a.0.0.run = went.2.ready in

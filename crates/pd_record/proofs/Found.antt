@@ -6,13 +6,13 @@ use Rattle.pd_lex.specs.Tokens.{Item}
 use Rattle.pd_script.specs.declared.script_events.Event.{Event}
 use Rattle.pd_script.specs.declared.deciding.NextEvent.TheVariants.{Got, End, Fault}
 use Rattle.pd_script.specs.Items.{is_end, starts_event, goes_on, next_is}
-use Rattle.pd_script.specs.Reading.{next_line, event_at}
+use Rattle.pd_script.specs.EventReading.{next_line, event_at}
 use Rattle.pd_script.specs.Script.{followed, at_end, in_front}
 use Rattle.pd_script.specs.declared.parsing.Found.{Found}
 use Rattle.pd_script.specs.Next.{next_place, reach_of, next_in}
 use Rattle.pd_script.proofs.Finding.{in_front-append, in_front-none}
 
--- an event that no token follows stands before the end
+-- an event that no token follows is before the end
 pub got_ends : (ts : List Item) (e : Event) (after : Place) (reach : Option ℕ) (rest : List Item) → Got e after reach ≡ next_in ts → followed goes_on (event_at ts) ≡ Ok (e, rest) → is_some reach ≡ false → next_is is_end rest ≡ true
 unfolding next_in
 got_ends ts e after reach rest h g none = by_test (next_is starts_event ts) refl

@@ -10,12 +10,12 @@ use Rattle.pd_recover.specs.declared.segments.NextSegment.{NextSegment}
 use Rattle.pd_seg.specs.declared.sack_blocks.Span.{Span}
 use Rattle.pd_seg.specs.declared.segments.Segment.{Segment}
 use Rattle.pd_seg.specs.declared.segments.Sent.{Sent}
-use Rattle.pd_host.specs.Acknowledgments.{OnTheWay, octets_of, noted_on, sent_as, one_filled, sender_of, pipe_of, filled, put_segment, entered_on, entry, led_to, taking, taken}
-use Rattle.pd_host.specs.ControlBlock.{ControlBlock}
+use Rattle.pd_host.specs.Acknowledgments.{OnTheWay, octets_of, noted_on, sent_as, one_filled, sender_of, pipe_of, filled, put_segment, entered_on, entry, led_to, taking, ack_taken}
+use Rattle.pd_host.specs.Connection.{ConnectionView}
 use Rattle.pd_host.specs.Expiries.{advanced, deadline_of, due_by, expired, segment_again, block_expired}
 use Rattle.pd_host.specs.Packets.{data_of}
 use Rattle.pd_host.specs.Places.{has_place}
-use Rattle.pd_host.specs.Sender.{beside, with_outbox, then_on}
+use Rattle.pd_host.specs.Host.{beside, with_outbox, then_on}
 use Rattle.pd_host.specs.Sending.{on_found, repeated, places_left, with_packet_sent, with_block, past_sacked, sent_on, with_segment, sent_ordinarily, ready, sent_until_done, ordinary}
 use Rattle.pd_host.specs.SendingLaws.{SendsOneByOne}
 use Rattle.pd_host.specs.Timing.{clocked}
@@ -116,7 +116,7 @@ fewer w s =
     let many : length (w ++ s.endpoint.outbox) ≡ length w + length s.endpoint.outbox = length-append w s.endpoint.outbox in
     omega (arith, many)
 
--- one packet more stands after all of them
+-- one packet more is after all of them
 pub packet_freed : (w : List Sent) (now : ℕ) (segment : Segment) (s : State) → with_packet_sent now segment (in_front w s) ≡ in_front w (with_packet_sent now segment s)
 packet_freed w now segment s =
     let packet : Sent = record { segment = segment; at = now } in
@@ -124,7 +124,7 @@ packet_freed w now segment s =
 
 -- ---- ordinary sending
 
-sent_freed : (w : List Sent) (now : ℕ) (segment : Span) (o : Option ControlBlock) (s : State)
+sent_freed : (w : List Sent) (now : ℕ) (segment : Span) (o : Option ConnectionView) (s : State)
     → sent_ordinarily now segment o (in_front w s) ≡ in_front w (sent_ordinarily now segment o s)
 sent_freed w now segment None s = refl
 sent_freed w now segment (Some c) s = packet_freed w now (data_of c segment) (with_block (past_sacked (sent_on now segment c)) s)
@@ -134,7 +134,7 @@ until_done_freed w now s =
     repeated_by (in_front w) finds (sends now) (places_left (in_front w s)) (places_left s) s (fewer w s)
     (λ t. refl) (λ segment t. sent_freed w now segment t.endpoint.connection t)
 
-ready_freed : (w : List Sent) (o : Option ControlBlock) (s : State) → ready o (in_front w s) ≡ in_front w (ready o s)
+ready_freed : (w : List Sent) (o : Option ConnectionView) (s : State) → ready o (in_front w s) ≡ in_front w (ready o s)
 ready_freed w None s = refl
 ready_freed w (Some c) s = refl
 
@@ -149,7 +149,7 @@ ordinary_freed w now s =
 abbrev in_front_too : List Sent → OnTheWay → OnTheWay
 in_front_too w t = (in_front w t.0, t.1)
 
-fill_freed : (w : List Sent) (now : ℕ) (filling : Filling) (sent : NextSegment) (o : Option ControlBlock) (t : OnTheWay)
+fill_freed : (w : List Sent) (now : ℕ) (filling : Filling) (sent : NextSegment) (o : Option ConnectionView) (t : OnTheWay)
     → one_filled now filling sent o (in_front_too w t) ≡ in_front_too w (one_filled now filling sent o t)
 fill_freed w now filling sent None t = refl
 fill_freed w now filling sent (Some c) t =
@@ -170,23 +170,23 @@ filled_freed w now filling s =
 
 -- ---- what an ACK leads to
 
-put_freed : (w : List Sent) (now : ℕ) (segment : Span) (before after : ControlBlock) (s : State)
+put_freed : (w : List Sent) (now : ℕ) (segment : Span) (before after : ConnectionView) (s : State)
     → CameBy (in_front w) (put_segment now segment before after (in_front w s)) (put_segment now segment before after s)
 put_freed w now segment before after s =
     guarded_by (in_front w) (has_place (w ++ s.endpoint.outbox)) (has_place s.endpoint.outbox)
     (with_segment now segment before after (in_front w s)) (with_segment now segment before after s)
     (roomy w s.endpoint.outbox) (packet_freed w now (data_of before segment) (with_block after s))
 
-entry_freed : (w : List Sent) (now : ℕ) (c : ControlBlock) (s : State) → CameBy (in_front w) (entry now c (in_front w s)) (entry now c s)
+entry_freed : (w : List Sent) (now : ℕ) (c : ConnectionView) (s : State) → CameBy (in_front w) (entry now c (in_front w s)) (entry now c s)
 entry_freed w now c s =
     let segment : Span = run_at c.board.una c.board in
-    let sent : ControlBlock = entered_on segment (clocked now segment c) c.established in
+    let sent : ConnectionView = entered_on segment (clocked now segment c) c.established in
     let moved : State = with_block (entered_on segment c c.established) s in
     either_by (in_front w) (nat_lt segment.start segment.end)
     (put_segment now segment c sent (in_front w s)) (Ok (in_front w moved)) (put_segment now segment c sent s) (Ok moved)
     (put_freed w now segment c sent s) (moved, refl, refl)
 
-led_to_freed : (w : List Sent) (now : ℕ) (c : ControlBlock) (s : State) (next : Then) → CameBy (in_front w) (led_to now c (in_front w s) next) (led_to now c s next)
+led_to_freed : (w : List Sent) (now : ℕ) (c : ConnectionView) (s : State) (next : Then) → CameBy (in_front w) (led_to now c (in_front w s) next) (led_to now c s next)
 led_to_freed w now c s Ordinary = ordinary_freed w now s
 led_to_freed w now c s StepC = filled_freed w now NextSeg s
 led_to_freed w now c s Entry =
@@ -198,10 +198,10 @@ led_to_freed w now c s (FastRetransmit segment) =
     (put_freed w now segment c (clocked now segment c) s) (λ t. ordinary_freed w now t)
 led_to_freed w now c s Nothing = (s, refl, refl)
 
-pub taken_freed : (w : List Sent) (now : ℕ) (segment : Segment) (c : ControlBlock) (s : State) (o : Option Established)
-    → CameBy (in_front w) (taken now segment c (in_front w s) o) (taken now segment c s o)
+pub taken_freed : (w : List Sent) (now : ℕ) (segment : Segment) (c : ConnectionView) (s : State) (o : Option Established)
+    → CameBy (in_front w) (ack_taken now segment c (in_front w s) o) (ack_taken now segment c s o)
 taken_freed w now segment c s o =
-    let t : ControlBlock × Then = taking now segment c o in
+    let t : ConnectionView × Then = taking now segment c o in
     led_to_freed w now t.0 (with_block t.0 s) t.1
 
 -- ---- a packet that is put out at once
@@ -228,7 +228,7 @@ find_due until s = due_by until (deadline_of s)
 abbrev pub expire : ℕ → State → State
 expire at s = expired at s.endpoint.connection s
 
-expire_freed : (w : List Sent) (at : ℕ) (o : Option ControlBlock) (s : State) → expired at o (in_front w s) ≡ in_front w (expired at o s)
+expire_freed : (w : List Sent) (at : ℕ) (o : Option ConnectionView) (s : State) → expired at o (in_front w s) ≡ in_front w (expired at o s)
 expire_freed w at None s = refl
 expire_freed w at (Some c) s = packet_freed w at (segment_again c c.established) (with_block (block_expired at c c.established) s)
 

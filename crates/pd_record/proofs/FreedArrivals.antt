@@ -3,11 +3,11 @@ use Rattle.std.proofs.Common.{ℕ, ◌&&◌, ◌++◌, Option, None, Some, List,
 use Rattle.pd_seg.specs.declared.segments.Segment.{Segment}
 use Rattle.pd_seg.specs.declared.segments.Sent.{Sent}
 use Rattle.pd_host.specs.Arrivals.{ruled, goes_on, finished_on, finished_by, arrived_on, arrived, ruling_of, reset_of, with_peer_fin, with_connection}
-use Rattle.pd_host.specs.ControlBlock.{ControlBlock}
+use Rattle.pd_host.specs.Connection.{ConnectionView}
 use Rattle.pd_host.specs.Handshake.{is_opening, block_begun, answered_syn, syn_uses, established_by, establishment_uses}
 use Rattle.pd_host.specs.Packets.{ack_of, refusal_of, syn_ack_of}
 use Rattle.pd_host.specs.Places.{has_place}
-use Rattle.pd_host.specs.Sender.{beside, put_out}
+use Rattle.pd_host.specs.Host.{beside, put_out}
 use Rattle.pd_host.specs.Sending.{with_block}
 use Rattle.pd_host.specs.declared.endpoint.Endpoint.{Endpoint}
 use Rattle.pd_host.specs.declared.halts.Halt.TheVariants.{Unsupported}
@@ -23,7 +23,7 @@ answered_freed w now segment s e =
     let packet : Sent = record { segment = segment; at = now } in
     put_out_freed w (has_place (w ++ e.outbox)) (has_place e.outbox) packet s e (room_freed w e.outbox)
 
-ruled_freed : (w : List Sent) (r : Option Ruling) (now : ℕ) (segment : Segment) (c : ControlBlock) (s : State)
+ruled_freed : (w : List Sent) (r : Option Ruling) (now : ℕ) (segment : Segment) (c : ConnectionView) (s : State)
     → CameBy (in_front w) (ruled now segment c (in_front w s) r) (ruled now segment c s r)
 ruled_freed w (Some NotRun) now segment c s = tt
 ruled_freed w (Some StrayRst) now segment c s = (s, refl, refl)
@@ -39,7 +39,7 @@ ruled_freed w (Some EarlyAck) now segment c s = answered_freed w now (ack_of c) 
 ruled_freed w (Some OldAck) now segment c s = (s, refl, refl)
 ruled_freed w None now segment c s = taken_freed w now segment c s c.established
 
-finished_on_freed : (w : List Sent) (now : ℕ) (o : Option ControlBlock) (s : State) → CameBy (in_front w) (finished_on now (in_front w s) o) (finished_on now s o)
+finished_on_freed : (w : List Sent) (now : ℕ) (o : Option ConnectionView) (s : State) → CameBy (in_front w) (finished_on now (in_front w s) o) (finished_on now s o)
 finished_on_freed w now None s = (s, refl, refl)
 finished_on_freed w now (Some c) s = answered_freed w now (ack_of (with_peer_fin c)) s (with_connection (with_peer_fin c) s.endpoint)
 
@@ -49,10 +49,10 @@ finished_freed w now segment r s =
     either_by (in_front w) (goes_on r && segment.flags.fin) (finished_on now (in_front w s) s.endpoint.connection) (Ok (in_front w s))
     (finished_on now s s.endpoint.connection) (Ok s) (finished_on_freed w now s.endpoint.connection s) (s, refl, refl)
 
-on_connection_freed : (w : List Sent) (o : Option ControlBlock) (segment : Segment) (now : ℕ) (s : State)
+on_connection_freed : (w : List Sent) (o : Option ConnectionView) (segment : Segment) (now : ℕ) (s : State)
     → CameBy (in_front w) (arrived_on now segment (in_front w s) o) (arrived_on now segment s o)
 on_connection_freed w None segment now s =
-    let begun : ControlBlock = block_begun now s.settings segment in
+    let begun : ConnectionView = block_begun now s.settings segment in
     either_by (in_front w) (is_opening s.endpoint.listener segment) (answered_syn now begun (in_front w s)) (Err Unsupported) (answered_syn now begun s) (Err Unsupported)
     (answered_freed w now (syn_ack_of begun) (record s { uses = syn_uses s.uses }) (record s.endpoint { connection = Some begun })) tt
 on_connection_freed w (Some c) segment now s =

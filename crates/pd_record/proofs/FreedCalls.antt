@@ -6,7 +6,7 @@ use Rattle.pd_seg.specs.declared.answers.Errno.TheVariants.{Ebadf, Einval, Eagai
 use Rattle.pd_seg.specs.declared.segments.Sent.{Sent}
 use Rattle.pd_script.specs.declared.calls.Call.{Call}
 use Rattle.pd_host.specs.Calls.{Reply, answered, with_listener, with_stored, with_answer, socket_reply, bind_reply, listen_reply, accept_reply, handed_out, no_delay_reply, free_of, with_queued, write_uses, queued, written_on, write_reply, closed_stream, closed_on, close_reply, operated, on_open, open_descriptor, reply_to, requested, called, is_pending, is_waiting, stream_of, with_stream, with_nagle}
-use Rattle.pd_host.specs.ControlBlock.{ControlBlock}
+use Rattle.pd_host.specs.Connection.{ConnectionView}
 use Rattle.pd_host.specs.Requests.{request_of}
 use Rattle.pd_host.specs.Sending.{ordinary, ordinary_outside_recovery, is_recovering}
 use Rattle.pd_host.specs.declared.descriptors.Descriptor.{Descriptor}
@@ -35,13 +35,13 @@ answer_freed : (w : List Sent) (answer : Answer) (r q : Result State Halt) → C
 answer_freed w answer (Ok s) q h = ((h.0, answer), ap (with_answer answer) h.1, ap (λ (t : State). (t, answer)) h.2)
 answer_freed w answer (Err halt) q h = tt
 
-outside_freed : (w : List Sent) (now : ℕ) (c : ControlBlock) (s : State)
+outside_freed : (w : List Sent) (now : ℕ) (c : ConnectionView) (s : State)
     → CameBy (in_front w) (ordinary_outside_recovery now c (in_front w s)) (ordinary_outside_recovery now c s)
 outside_freed w now c s =
     either_by (in_front w) (is_recovering c.established) (Ok (in_front w s)) (ordinary now (in_front w s)) (Ok s) (ordinary now s)
     (s, refl, refl) (ordinary_freed w now s)
 
-queued_freed : (w : List Sent) (now n free : ℕ) (c : ControlBlock) (s : State) → Freed w (queued now n free c (in_front w s)) (queued now n free c s)
+queued_freed : (w : List Sent) (now n free : ℕ) (c : ConnectionView) (s : State) → Freed w (queued now n free c (in_front w s)) (queued now n free c s)
 queued_freed w now n free c s =
     let u : State = with_stored (Some (with_queued (min n free) c)) s in
     let answer : Answer = Number (min n free) in
@@ -64,7 +64,7 @@ listen_freed w s Bound Listening = ((with_listener Listens s, Number 0), refl, r
 listen_freed w s Listens Listening = ((s, Number 0), refl, refl)
 listen_freed w s _ _ = ((s, Error Einval), refl, refl)
 
-handed_freed : (w : List Sent) (s : State) (o : Option ControlBlock) → Freed w (handed_out (in_front w s) o) (handed_out s o)
+handed_freed : (w : List Sent) (s : State) (o : Option ConnectionView) → Freed w (handed_out (in_front w s) o) (handed_out s o)
 handed_freed w s None = ((s, Error Eagain), refl, refl)
 handed_freed w s (Some c) =
     let handed : State = with_stored (Some (with_stream stream.Open c)) s in
@@ -81,7 +81,7 @@ no_delay_freed : (w : List Sent) (s : State) (set : Bool) (d : Descriptor) → F
 no_delay_freed w s set Listening = ((s, Number 0), refl, refl)
 no_delay_freed w s set Connected = ((with_stored (option_map (with_nagle (not set)) s.endpoint.connection) s, Number 0), refl, refl)
 
-written_freed : (w : List Sent) (now n : ℕ) (o : Option ControlBlock) (s : State) → Freed w (written_on now n o (in_front w s)) (written_on now n o s)
+written_freed : (w : List Sent) (now n : ℕ) (o : Option ConnectionView) (s : State) → Freed w (written_on now n o (in_front w s)) (written_on now n o s)
 written_freed w now n None s = ((s, Error Ebadf), refl, refl)
 written_freed w now n (Some c) s =
     let noted : State = record s { uses = write_uses s.uses } in
@@ -98,7 +98,7 @@ write_freed : (w : List Sent) (now : ℕ) (s : State) (n : ℕ) (d : Descriptor)
 write_freed w now s n Listening = ((s, Error Einval), refl, refl)
 write_freed w now s n Connected = written_freed w now n s.endpoint.connection s
 
-closed_freed : (w : List Sent) (now : ℕ) (o : Option ControlBlock) (s : State) → Freed w (closed_on now o (in_front w s)) (closed_on now o s)
+closed_freed : (w : List Sent) (now : ℕ) (o : Option ConnectionView) (s : State) → Freed w (closed_on now o (in_front w s)) (closed_on now o s)
 closed_freed w now None s = ((s, Error Ebadf), refl, refl)
 closed_freed w now (Some c) s =
     let closed : State = with_stored (Some (closed_stream c)) s in

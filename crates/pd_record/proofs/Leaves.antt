@@ -10,11 +10,11 @@ use Rattle.pd_script.specs.declared.script_events.Action.TheVariants.{Inbound, O
 use Rattle.pd_script.specs.declared.script_events.Event.{Event}
 use Rattle.pd_seg.specs.declared.answers.Answer.{Answer}
 use Rattle.pd_seg.specs.declared.segments.Sent.{Sent}
-use Rattle.pd_host.specs.ControlBlock.{ControlBlock}
+use Rattle.pd_host.specs.Connection.{ConnectionView}
 use Rattle.pd_host.specs.Expiries.{advanced, deadline_of, due_by, expired, segment_again}
-use Rattle.pd_host.specs.InputLaws.{AdvancesPutOutBehind}
+use Rattle.pd_host.specs.InputLaws.{AdvancesPutOutAfter}
 use Rattle.pd_host.specs.Laws.{AreInOrder}
-use Rattle.pd_host.specs.Sender.{without_oldest}
+use Rattle.pd_host.specs.Host.{without_oldest}
 use Rattle.pd_host.specs.Sending.{on_found, repeated, places_left}
 use Rattle.pd_host.specs.declared.halts.Halt.{Halt}
 use Rattle.pd_host.specs.declared.sender_state.State.{State}
@@ -24,23 +24,23 @@ use Rattle.pd_match.specs.declared.kinds.Kind.{Kind}
 use Rattle.pd_match.specs.declared.kinds.Kind.TheVariants.{Missing, Backwards}
 use Rattle.pd_run.specs.Limits.{is_over_limit}
 use Rattle.pd_run.specs.Shapes.{is_run}
-use Rattle.pd_run.specs.Step.{Running, KeepsTime, tolerance_of, noted, on_step, judged, with_state, acts_at, acted, arrives, on_arrival, answers, on_answer, on_expiry, expires, awaited, taken, leaves, performed, step}
+use Rattle.pd_run.specs.Step.{RunStateView, KeepsTime, tolerance_of, noted, on_step, judged, with_state, acts_at, acted, arrives, on_arrival, answers, on_answer, on_expiry, expires, awaited, packet_taken, leaves, performed, step}
 use Rattle.pd_run.specs.Times.{is_single, moment_of, moments_of, is_backwards, is_in_reach, base_after}
 use Rattle.pd_run.specs.declared.verdicts.Verdict.{Verdict}
 use Rattle.pd_run.specs.declared.verdicts.Verdict.TheVariants.{Fail, Unsupported, Limit}
-use Rattle.pd_record.specs.Tape.{oldest_of, or_expired, due_where, leaves_next}
+use Rattle.pd_record.specs.Recorder.{oldest_of, or_expired, due_where, leaves_next}
 
-abbrev pub ok : Running → Result Running Verdict
+abbrev pub ok : RunStateView → Result RunStateView Verdict
 ok r = Ok r
 
-pub given : (r s : Running) → ok r ≡ ok s → r ≡ s
+pub given : (r s : RunStateView) → ok r ≡ ok s → r ≡ s
 given r s h = cc
 
 -- what a step that goes on passed
-abbrev pub Passes : Running → Running → Event → Type 0
+abbrev pub Passes : RunStateView → RunStateView → Event → Type 0
 Passes r s e = (is_over_limit e ≡ false) × (is_run e ≡ true) × (is_backwards r.base e.time ≡ false) × (performed r e e.action ≡ Ok s)
 
-checked : (a b c : Bool) (u v w : Verdict) (came : Result Running Verdict) (s : Running)
+checked : (a b c : Bool) (u v w : Verdict) (came : Result RunStateView Verdict) (s : RunStateView)
     → (if a then Err u else (if not b then Err v else (if c then Err w else came))) ≡ Ok s
     → (a ≡ false) × (b ≡ true) × (c ≡ false) × (came ≡ Ok s)
 checked true b c u v w came s h = absurd cc
@@ -48,77 +48,77 @@ checked false false c u v w came s h = absurd cc
 checked false true true u v w came s h = absurd cc
 checked false true false u v w came s h = (refl, refl, refl, h)
 
-pub step_passes : (r s : Running) (e : Event) → step r e ≡ Ok s → Passes r s e
+pub step_passes : (r s : RunStateView) (e : Event) → step r e ≡ Ok s → Passes r s e
 step_passes r s e h = checked (is_over_limit e) (is_run e) (is_backwards r.base e.time) (Limit e.line) (Unsupported e.line) (Fail e.line Backwards) (performed r e e.action) s h
 
 -- ---- inputs
 
 -- after an input the clock and the base are those of its moment
-abbrev Acted : Running → Running → Event → Type 0
+abbrev Acted : RunStateView → RunStateView → Event → Type 0
 Acted r s e = (s.base ≡ moment_of r.base e.time) × (s.clock ≡ acts_at r e)
 
-pub agreed : (line : ℕ) (r s : Running) (kind : Option Kind) → judged line r kind ≡ Ok s → r ≡ s
+pub agreed : (line : ℕ) (r s : RunStateView) (kind : Option Kind) → judged line r kind ≡ Ok s → r ≡ s
 agreed line r s None h = given r s h
 agreed line r s (Some kind) h = absurd cc
 
-arrived_acted : (r s : Running) (e : Event) (came : Result State Halt) → on_arrival r e came ≡ Ok s → Acted r s e
-arrived_acted r s e (Ok t) h = subst (λ (x : Running). Acted r x e) (given (acted r e t) s h) (refl, refl)
+arrived_acted : (r s : RunStateView) (e : Event) (came : Result State Halt) → on_arrival r e came ≡ Ok s → Acted r s e
+arrived_acted r s e (Ok t) h = subst (λ (x : RunStateView). Acted r x e) (given (acted r e t) s h) (refl, refl)
 arrived_acted r s e (Err halt) h = absurd cc
 
-answered_acted : (r s : Running) (e : Event) (call : Call) (came : Result (State × Answer) Halt) → on_answer r e call came ≡ Ok s → Acted r s e
-answered_acted r s e call (Ok (t, answer)) h = subst (λ (x : Running). Acted r x e) (agreed e.line (acted r e t) s (result_mismatch call.result answer) h) (refl, refl)
+answered_acted : (r s : RunStateView) (e : Event) (call : Call) (came : Result (State × Answer) Halt) → on_answer r e call came ≡ Ok s → Acted r s e
+answered_acted r s e call (Ok (t, answer)) h = subst (λ (x : RunStateView). Acted r x e) (agreed e.line (acted r e t) s (result_mismatch call.result answer) h) (refl, refl)
 answered_acted r s e call (Err halt) h = absurd cc
 
-pub after_arrival : (r s : Running) (e : Event) (p : Packet) → e.action ≡ Inbound p → step r e ≡ Ok s → Acted r s e
+pub after_arrival : (r s : RunStateView) (e : Event) (p : Packet) → e.action ≡ Inbound p → step r e ≡ Ok s → Acted r s e
 after_arrival r s e p is h = arrived_acted r s e (arrives r e p) (subst (λ (a : Action). performed r e a ≡ Ok s) is (step_passes r s e h).3)
 
-pub after_call : (r s : Running) (e : Event) (call : Call) → e.action ≡ Calls call → step r e ≡ Ok s → Acted r s e
+pub after_call : (r s : RunStateView) (e : Event) (call : Call) → e.action ≡ Calls call → step r e ≡ Ok s → Acted r s e
 after_call r s e call is h = answered_acted r s e call (answers r e call) (subst (λ (a : Action). performed r e a ≡ Ok s) is (step_passes r s e h).3)
 
 -- ---- packets that leave
 
 -- what an expected packet awaited, and that it was taken
-abbrev Taken : Running → Running → Event → Packet → Type 0
+abbrev Taken : RunStateView → RunStateView → Event → Packet → Type 0
 Taken r s e p =
-    (q : Running) × (sent : Sent) × (awaited (noted r) e ≡ Ok q) × (slice_get q.host.state.endpoint.outbox 0 ≡ Some sent)
+    (q : RunStateView) × (sent : Sent) × (awaited (noted r) e ≡ Ok q) × (slice_get q.host.state.endpoint.outbox 0 ≡ Some sent)
     × (s.base ≡ base_after q.base e.time sent.at) × (s.clock ≡ q.clock)
 
-took : (e : Event) (p : Packet) (q s : Running) (o : Option Sent) → slice_get q.host.state.endpoint.outbox 0 ≡ o → taken e p q o ≡ Ok s
+took : (e : Event) (p : Packet) (q s : RunStateView) (o : Option Sent) → slice_get q.host.state.endpoint.outbox 0 ≡ o → packet_taken e p q o ≡ Ok s
     → (sent : Sent) × (slice_get q.host.state.endpoint.outbox 0 ≡ Some sent) × (s.base ≡ base_after q.base e.time sent.at) × (s.clock ≡ q.clock)
 took e p q s None is h = absurd cc
 took e p q s (Some sent) is h =
-    let next : Running = record q { host = without_oldest q.host; base = base_after q.base e.time sent.at } in
+    let next : RunStateView = record q { host = without_oldest q.host; base = base_after q.base e.time sent.at } in
     let same : next ≡ s = agreed e.line next s (mismatch p (moments_of q.base e.time) sent (tolerance_of q)) h in
-    (sent, is, sym (ap (λ (x : Running). x.base) same), sym (ap (λ (x : Running). x.clock) same))
+    (sent, is, sym (ap (λ (x : RunStateView). x.base) same), sym (ap (λ (x : RunStateView). x.clock) same))
 
-pub both : (go : Running → Result Running Verdict) (came : Result Running Verdict) (s : Running) → on_step go (λ v. Err v) came ≡ Ok s
-    → (t : Running) × (came ≡ Ok t) × (go t ≡ Ok s)
+pub both : (go : RunStateView → Result RunStateView Verdict) (came : Result RunStateView Verdict) (s : RunStateView) → on_step go (λ v. Err v) came ≡ Ok s
+    → (t : RunStateView) × (came ≡ Ok t) × (go t ≡ Ok s)
 both go (Ok t) s h = (t, refl, h)
 both go (Err v) s h = absurd cc
 
-after_leaving : (r s : Running) (e : Event) (p : Packet) → leaves (noted r) e p ≡ Ok s → Taken r s e p
+after_leaving : (r s : RunStateView) (e : Event) (p : Packet) → leaves (noted r) e p ≡ Ok s → Taken r s e p
 after_leaving r s e p h =
-    let went = both (λ (q : Running). taken e p q (slice_get q.host.state.endpoint.outbox 0)) (awaited (noted r) e) s h in
+    let went = both (λ (q : RunStateView). packet_taken e p q (slice_get q.host.state.endpoint.outbox 0)) (awaited (noted r) e) s h in
     let last = took e p went.0 s (slice_get went.0.host.state.endpoint.outbox 0) refl went.2 in
     (went.0, last.0, went.1, last.1, last.2, last.3)
 
-pub after_packet : (r s : Running) (e : Event) (p : Packet) → e.action ≡ Outbound p → step r e ≡ Ok s → Taken r s e p
+pub after_packet : (r s : RunStateView) (e : Event) (p : Packet) → e.action ≡ Outbound p → step r e ≡ Ok s → Taken r s e p
 after_packet r s e p is h = after_leaving r s e p (subst (λ (a : Action). performed r e a ≡ Ok s) is (step_passes r s e h).3)
 
--- what was awaited: the packet stood there, or the next expiry sent it
-abbrev pub Awaited : Running → Running → Event → Type 0
+-- what was awaited: the packet was there, or the next expiry sent it
+abbrev pub Awaited : RunStateView → RunStateView → Event → Type 0
 Awaited r q e = (length r.host.state.endpoint.outbox ≡ 0) × (at : ℕ) × (t : State) × (deadline_of r.host.state ≡ Some at) × (advanced at r.host.state ≡ Ok t) × (q ≡ record (with_state r t) { clock = at })
     × (is_in_reach (moments_of r.base e.time) (tolerance_of r) at ≡ true)
 
-on_time : (r q : Running) (e : Event) (at : ℕ) (came : Result State Halt) → on_expiry r e at came ≡ Ok q → (t : State) × (came ≡ Ok t) × (q ≡ record (with_state r t) { clock = at })
+on_time : (r q : RunStateView) (e : Event) (at : ℕ) (came : Result State Halt) → on_expiry r e at came ≡ Ok q → (t : State) × (came ≡ Ok t) × (q ≡ record (with_state r t) { clock = at })
 on_time r q e at (Ok t) h = (t, refl, sym (given (record (with_state r t) { clock = at }) q h))
 on_time r q e at (Err halt) h = absurd cc
 
-in_reach : (b : Bool) (v : Verdict) (came : Result Running Verdict) (q : Running) → (if b then came else Err v) ≡ Ok q → (came ≡ Ok q) × (b ≡ true)
+in_reach : (b : Bool) (v : Verdict) (came : Result RunStateView Verdict) (q : RunStateView) → (if b then came else Err v) ≡ Ok q → (came ≡ Ok q) × (b ≡ true)
 in_reach true v came q h = (h, refl)
 in_reach false v came q h = absurd cc
 
-expired_at : (r q : Running) (e : Event) (o : Option ℕ) → deadline_of r.host.state ≡ o → expires r e o ≡ Ok q
+expired_at : (r q : RunStateView) (e : Event) (o : Option ℕ) → deadline_of r.host.state ≡ o → expires r e o ≡ Ok q
     → (at : ℕ) × (t : State) × (deadline_of r.host.state ≡ Some at) × (advanced at r.host.state ≡ Ok t) × (q ≡ record (with_state r t) { clock = at })
     × (is_in_reach (moments_of r.base e.time) (tolerance_of r) at ≡ true)
 expired_at r q e None is h = absurd cc
@@ -127,7 +127,7 @@ expired_at r q e (Some at) is h =
     let came = on_time r q e at (advanced at r.host.state) reached.0 in
     (at, came.0, is, came.1, came.2, reached.1)
 
-pub which_awaited : (r q : Running) (e : Event) → awaited r e ≡ Ok q → (q ≡ r) ⊎ Awaited r q e
+pub which_awaited : (r q : RunStateView) (e : Event) → awaited r e ≡ Ok q → (q ≡ r) ⊎ Awaited r q e
 which_awaited r q e h = go (length r.host.state.endpoint.outbox == 0) refl h
   where
     go : (b : Bool) → (length r.host.state.endpoint.outbox == 0) ≡ b → (if b then expires r e (deadline_of r.host.state) else Ok r) ≡ Ok q → (q ≡ r) ⊎ Awaited r q e
@@ -151,42 +151,42 @@ pub none_in : (xs : List Sent) → slice_get xs 0 ≡ None → length xs ≡ 0
 none_in [] h = refl
 none_in (x ∷ xs) h = absurd cc
 
--- it stands untaken, or an expiry that may come sends it
-abbrev pub Stands : Running → Sent → Type 0
+-- it is untaken, or an expiry that may come sends it
+abbrev pub Stands : RunStateView → Sent → Type 0
 Stands r sent = slice_get r.host.state.endpoint.outbox 0 ≡ Some sent
 
-abbrev pub Expires : (ℕ → Bool) → Running → Sent → Type 0
+abbrev pub Expires : (ℕ → Bool) → RunStateView → Sent → Type 0
 Expires may r sent =
     (slice_get r.host.state.endpoint.outbox 0 ≡ None) × (at : ℕ) × (t : State) × (deadline_of r.host.state ≡ Some at) × (may at ≡ true)
     × (advanced at r.host.state ≡ Ok t) × (slice_get t.endpoint.outbox 0 ≡ Some sent)
 
-sent_by : (may : ℕ → Bool) (r : Running) (sent : Sent) (at : ℕ) (came : Result State Halt) → slice_get r.host.state.endpoint.outbox 0 ≡ None
+sent_by : (may : ℕ → Bool) (r : RunStateView) (sent : Sent) (at : ℕ) (came : Result State Halt) → slice_get r.host.state.endpoint.outbox 0 ≡ None
     → deadline_of r.host.state ≡ Some at → may at ≡ true → advanced at r.host.state ≡ came → oldest_of came ≡ Some sent → Expires may r sent
 sent_by may r sent at (Ok t) none due comes is h = (none, at, t, due, comes, is, h)
 sent_by may r sent at (Err halt) none due comes is h = absurd cc
 
-due_then : (may : ℕ → Bool) (r : Running) (sent : Sent) (at : ℕ) (b : Bool) → slice_get r.host.state.endpoint.outbox 0 ≡ None
+due_then : (may : ℕ → Bool) (r : RunStateView) (sent : Sent) (at : ℕ) (b : Bool) → slice_get r.host.state.endpoint.outbox 0 ≡ None
     → deadline_of r.host.state ≡ Some at → may at ≡ b → or_expired r.host.state None (if b then Some at else None) ≡ Some sent → Expires may r sent
 due_then may r sent at true none due comes h = sent_by may r sent at (advanced at r.host.state) none due comes refl h
 due_then may r sent at false none due comes h = absurd cc
 
-due_next : (may : ℕ → Bool) (r : Running) (sent : Sent) (due : Option ℕ) → slice_get r.host.state.endpoint.outbox 0 ≡ None
+due_next : (may : ℕ → Bool) (r : RunStateView) (sent : Sent) (due : Option ℕ) → slice_get r.host.state.endpoint.outbox 0 ≡ None
     → deadline_of r.host.state ≡ due → or_expired r.host.state None (due_where may due) ≡ Some sent → Expires may r sent
 due_next may r sent None none is h = absurd cc
 due_next may r sent (Some at) none is h = due_then may r sent at (may at) none is refl h
 
-first_or_due : (may : ℕ → Bool) (r : Running) (sent : Sent) (first : Option Sent) → slice_get r.host.state.endpoint.outbox 0 ≡ first
+first_or_due : (may : ℕ → Bool) (r : RunStateView) (sent : Sent) (first : Option Sent) → slice_get r.host.state.endpoint.outbox 0 ≡ first
     → or_expired r.host.state first (due_where may (deadline_of r.host.state)) ≡ Some sent → Stands r sent ⊎ Expires may r sent
 first_or_due may r sent (Some x) is h = inl (is ∙ h)
 first_or_due may r sent None is h = inr (due_next may r sent (deadline_of r.host.state) is refl h)
 
-pub what_leaves : (may : ℕ → Bool) (r : Running) (sent : Sent) → leaves_next may r ≡ Some sent → Stands r sent ⊎ Expires may r sent
+pub what_leaves : (may : ℕ → Bool) (r : RunStateView) (sent : Sent) → leaves_next may r ≡ Some sent → Stands r sent ⊎ Expires may r sent
 what_leaves may r sent h = first_or_due may r sent (slice_get r.host.state.endpoint.outbox 0) refl h
 
-pub stands_next : (may : ℕ → Bool) (r : Running) (sent : Sent) → Stands r sent → leaves_next may r ≡ Some sent
+pub stands_next : (may : ℕ → Bool) (r : RunStateView) (sent : Sent) → Stands r sent → leaves_next may r ≡ Some sent
 stands_next may r sent h = ap (λ (o : Option Sent). or_expired r.host.state o (due_where may (deadline_of r.host.state))) h
 
-pub expires_next : (may other : ℕ → Bool) (r : Running) (sent : Sent) (h : Expires may r sent) → other h.1 ≡ true → leaves_next other r ≡ Some sent
+pub expires_next : (may other : ℕ → Bool) (r : RunStateView) (sent : Sent) (h : Expires may r sent) → other h.1 ≡ true → leaves_next other r ≡ Some sent
 expires_next may other r sent h comes =
     let due : due_where other (deadline_of r.host.state) ≡ Some h.1 = ap (due_where other) h.3 ∙ ap (λ (b : Bool). if b then Some h.1 else None) comes in
     ap (λ (o : Option Sent). or_expired r.host.state o (due_where other (deadline_of r.host.state))) h.0
@@ -198,7 +198,7 @@ repeat_found : {S X : Type 0} (find : S → Option X) (act : X → S → S) (n m
     → repeated find act n s ≡ repeated find act m (act x s)
 repeat_found find act n m s x more is = rw more (ap (on_found (repeated find act m) act s) is)
 
-connection_of : (c : Option ControlBlock) (at : ℕ) → option_and_then (λ (b : ControlBlock). b.timer.deadline) c ≡ Some at → (b : ControlBlock) × (c ≡ Some b)
+connection_of : (c : Option ConnectionView) (at : ℕ) → option_and_then (λ (b : ConnectionView). b.timer.deadline) c ≡ Some at → (b : ConnectionView) × (c ≡ Some b)
 connection_of None at h = absurd cc
 connection_of (Some b) at h = (b, refl)
 
@@ -215,12 +215,12 @@ one_sent : (s : State) (at : ℕ) → length s.endpoint.outbox ≡ 0 → deadlin
 one_sent s at empty due =
     let c = connection_of s.endpoint.connection at due in
     let x : Sent = record { segment = segment_again c.0 c.0.established; at = at } in
-    (x, refl, ap (λ (o : Option ControlBlock). (expired at o s).endpoint.outbox) c.1 ∙ ap (λ (list : List Sent). list ++ x ∷ []) (no_items s.endpoint.outbox empty))
+    (x, refl, ap (λ (o : Option ConnectionView). (expired at o s).endpoint.outbox) c.1 ∙ ap (λ (list : List Sent). list ++ x ∷ []) (no_items s.endpoint.outbox empty))
 
 -- the expiries up to the next one send a packet first that carries its moment
-pub first_sent : AdvancesPutOutBehind → (s t : State) (at : ℕ) → length s.endpoint.outbox ≡ 0 → deadline_of s ≡ Some at
+pub first_sent : AdvancesPutOutAfter → (s t : State) (at : ℕ) → length s.endpoint.outbox ≡ 0 → deadline_of s ≡ Some at
     → advanced at s ≡ Ok t → (x : Sent) × (x.at ≡ at) × (slice_get t.endpoint.outbox 0 ≡ Some x)
-first_sent behind s t at empty due went =
+first_sent puts_after s t at empty due went =
     let one = one_sent s at empty due in
     let after : State = expire at s in
     let many : places_left s ≡ suc 1023 = omega (arith, empty) in
@@ -229,14 +229,14 @@ first_sent behind s t at empty due went =
     let found : find_due at s ≡ Some at = ap (due_by at) due ∙ due_itself at in
     let onward : advanced at s ≡ advanced at after =
     repeat_found (find_due at) expire (places_left s) 1023 s at many found ∙ ap (λ (n : ℕ). repeated (find_due at) expire n after) few in
-    let more = behind at after t (sym onward ∙ went) in
+    let more = puts_after at after t (sym onward ∙ went) in
     let outbox : t.endpoint.outbox ≡ one.0 ∷ more.0 = more.2 ∙ ap (λ (list : List Sent). list ++ more.0) one.2 in
     (one.0, one.1, ap (λ (list : List Sent). slice_get list 0) outbox)
 
-pub sent_at_expiry : AdvancesPutOutBehind → (s t : State) (at : ℕ) (sent : Sent) → length s.endpoint.outbox ≡ 0 → deadline_of s ≡ Some at
+pub sent_at_expiry : AdvancesPutOutAfter → (s t : State) (at : ℕ) (sent : Sent) → length s.endpoint.outbox ≡ 0 → deadline_of s ≡ Some at
     → advanced at s ≡ Ok t → slice_get t.endpoint.outbox 0 ≡ Some sent → sent.at ≡ at
-sent_at_expiry behind s t at sent empty due went first =
-    let one = first_sent behind s t at empty due went in
+sent_at_expiry puts_after s t at sent empty due went first =
+    let one = first_sent puts_after s t at empty due went in
     let same : Some sent ≡ Some one.0 = sym first ∙ one.2 in
     let equal : sent ≡ one.0 = cc in
     ap (λ (x : Sent). x.at) equal ∙ one.1
@@ -244,7 +244,7 @@ sent_at_expiry behind s t at sent empty due went first =
 -- ---- the moments after an expected packet
 
 -- the packet that left did so by the new clock, which a given moment bounds if it bounds the expiries
-pub record IsMoved (may : ℕ → Bool) (r s : Running) (time : Time) (sent : Sent) : Type 0 where
+pub record IsMoved (may : ℕ → Bool) (r s : RunStateView) (time : Time) (sent : Sent) : Type 0 where
   pub left : sent.at ≤ s.clock
   pub clock : r.clock ≤ s.clock
   pub base : s.base ≡ moment_of r.base time
@@ -253,15 +253,15 @@ pub record IsMoved (may : ℕ → Bool) (r s : Running) (time : Time) (sent : Se
 single_base : (base : ℕ) (time : Time) (at : ℕ) → is_single time ≡ true → base_after base time at ≡ moment_of base time
 single_base base time at single = ap (λ (b : Bool). if b then moment_of base time else max base at) single
 
-stood : (may : ℕ → Bool) (r s q : Running) (e : Event) (sent other : Sent) → is_single e.time ≡ true → KeepsTime r.clock r.host.state
+stood : (may : ℕ → Bool) (r s q : RunStateView) (e : Event) (sent other : Sent) → is_single e.time ≡ true → KeepsTime r.clock r.host.state
     → Stands r sent → q ≡ noted r → s.base ≡ base_after q.base e.time other.at → s.clock ≡ q.clock → IsMoved may r s e.time sent
 stood may r s q e sent other single up stands same base clock =
-    let its : s.clock ≡ r.clock = clock ∙ ap (λ (x : Running). x.clock) same in
+    let its : s.clock ≡ r.clock = clock ∙ ap (λ (x : RunStateView). x.clock) same in
     let at : sent.at ≤ r.clock = first_in_order r.clock r.host.state.endpoint.outbox sent up.up_to.packets stands in
     record {
       left = omega (arith, its, at);
       clock = omega (arith, its);
-      base = base ∙ (ap (λ (x : Running). base_after x.base e.time other.at) same ∙ single_base r.base e.time other.at single);
+      base = base ∙ (ap (λ (x : RunStateView). base_after x.base e.time other.at) same ∙ single_base r.base e.time other.at single);
       until = λ until bounds early. omega (arith, its, early);
     }
 
@@ -269,43 +269,43 @@ ahead : (now most : ℕ) (due : Option ℕ) (at : ℕ) → IfSome due (λ d. (no
 ahead now most None at h is = absurd cc
 ahead now most (Some d) at h is = let same : d ≡ at = cc in subst (λ (x : ℕ). now < x) same h.0
 
-came : (behind : AdvancesPutOutBehind) (may : ℕ → Bool) (r s q : Running) (e : Event) (sent other : Sent) → is_single e.time ≡ true → KeepsTime r.clock r.host.state
+came : (puts_after : AdvancesPutOutAfter) (may : ℕ → Bool) (r s q : RunStateView) (e : Event) (sent other : Sent) → is_single e.time ≡ true → KeepsTime r.clock r.host.state
     → Expires may r sent → Awaited (noted r) q e → s.base ≡ base_after q.base e.time other.at → s.clock ≡ q.clock → IsMoved may r s e.time sent
-came behind may r s q e sent other single up h wait base clock =
+came puts_after may r s q e sent other single up h wait base clock =
     let due : wait.1 ≡ h.1 = (let both_due : Some wait.1 ≡ Some h.1 = sym wait.3 ∙ h.3 in cc) in
-    let its : s.clock ≡ wait.1 = clock ∙ ap (λ (x : Running). x.clock) wait.5 in
-    let at : sent.at ≡ h.1 = sent_at_expiry behind r.host.state h.2 h.1 sent wait.0 h.3 h.5 h.6 in
+    let its : s.clock ≡ wait.1 = clock ∙ ap (λ (x : RunStateView). x.clock) wait.5 in
+    let at : sent.at ≡ h.1 = sent_at_expiry puts_after r.host.state h.2 h.1 sent wait.0 h.3 h.5 h.6 in
     let later : r.clock < h.1 = ahead r.clock up.begun.max_rto_us (deadline_of r.host.state) h.1 up.up_to.deadline h.3 in
     record {
       left = omega (arith, its, at, due);
       clock = omega (arith, its, later, due);
-      base = base ∙ (ap (λ (x : Running). base_after x.base e.time other.at) wait.5 ∙ single_base r.base e.time other.at single);
+      base = base ∙ (ap (λ (x : RunStateView). base_after x.base e.time other.at) wait.5 ∙ single_base r.base e.time other.at single);
       until = λ until bounds early. (let within : h.1 ≤ until = bounds h.1 h.4 in omega (arith, its, due, within));
     }
 
-pub moved : AdvancesPutOutBehind → (may : ℕ → Bool) (r s : Running) (e : Event) (p : Packet) (sent : Sent) → e.action ≡ Outbound p → is_single e.time ≡ true
+pub moved : AdvancesPutOutAfter → (may : ℕ → Bool) (r s : RunStateView) (e : Event) (p : Packet) (sent : Sent) → e.action ≡ Outbound p → is_single e.time ≡ true
     → KeepsTime r.clock r.host.state → leaves_next may r ≡ Some sent → step r e ≡ Ok s → IsMoved may r s e.time sent
-moved behind may r s e p sent is single up next h =
+moved puts_after may r s e p sent is single up next h =
     let last = after_packet r s e p is h in
     go last.0 last.1 last.3 last.4 last.5 (what_leaves may r sent next) (which_awaited (noted r) last.0 e last.2)
   where
-    go : (q : Running) (other : Sent) → slice_get q.host.state.endpoint.outbox 0 ≡ Some other → s.base ≡ base_after q.base e.time other.at → s.clock ≡ q.clock
+    go : (q : RunStateView) (other : Sent) → slice_get q.host.state.endpoint.outbox 0 ≡ Some other → s.base ≡ base_after q.base e.time other.at → s.clock ≡ q.clock
         → Stands r sent ⊎ Expires may r sent → (q ≡ noted r) ⊎ Awaited (noted r) q e → IsMoved may r s e.time sent
     go q other there base clock (inl stands) (inl same) = stood may r s q e sent other single up stands same base clock
     go q other there base clock (inl stands) (inr wait) =
         absurd (let empty : slice_get r.host.state.endpoint.outbox 0 ≡ None = ap (λ (list : List Sent). slice_get list 0) (no_items r.host.state.endpoint.outbox wait.0) in let clash : None ≡ Some sent = sym empty ∙ stands in cc)
     go q other there base clock (inr h2) (inl same) =
-        absurd (let left : slice_get r.host.state.endpoint.outbox 0 ≡ Some other = sym (ap (λ (x : Running). slice_get x.host.state.endpoint.outbox 0) same) ∙ there in let clash : None ≡ Some other = sym h2.0 ∙ left in cc)
-    go q other there base clock (inr h2) (inr wait) = came behind may r s q e sent other single up h2 wait base clock
+        absurd (let left : slice_get r.host.state.endpoint.outbox 0 ≡ Some other = sym (ap (λ (x : RunStateView). slice_get x.host.state.endpoint.outbox 0) same) ∙ there in let clash : None ≡ Some other = sym h2.0 ∙ left in cc)
+    go q other there base clock (inr h2) (inr wait) = came puts_after may r s q e sent other single up h2 wait base clock
 
 -- an expected packet at the moment of one that left meets it again
-pub met_again : AdvancesPutOutBehind → (may : ℕ → Bool) (r : Running) (sent : Sent) (tolerance : ℕ) → leaves_next may r ≡ Some sent
+pub met_again : AdvancesPutOutAfter → (may : ℕ → Bool) (r : RunStateView) (sent : Sent) (tolerance : ℕ) → leaves_next may r ≡ Some sent
     → leaves_next (is_in_reach (Some (r.base + (sent.at - r.base), r.base + (sent.at - r.base))) tolerance) r ≡ Some sent
-met_again behind may r sent tolerance next = go (what_leaves may r sent next)
+met_again puts_after may r sent tolerance next = go (what_leaves may r sent next)
   where
     go : Stands r sent ⊎ Expires may r sent → leaves_next (is_in_reach (Some (r.base + (sent.at - r.base), r.base + (sent.at - r.base))) tolerance) r ≡ Some sent
     go (inl stands) = stands_next (is_in_reach (Some (r.base + (sent.at - r.base), r.base + (sent.at - r.base))) tolerance) r sent stands
     go (inr h) =
-        let at : sent.at ≡ h.1 = sent_at_expiry behind r.host.state h.2 h.1 sent (none_in r.host.state.endpoint.outbox h.0) h.3 h.5 h.6 in
+        let at : sent.at ≡ h.1 = sent_at_expiry puts_after r.host.state h.2 h.1 sent (none_in r.host.state.endpoint.outbox h.0) h.3 h.5 h.6 in
         expires_next may (is_in_reach (Some (r.base + (sent.at - r.base), r.base + (sent.at - r.base))) tolerance) r sent h
         (le-leb h.1 (r.base + (sent.at - r.base) + tolerance) (omega (arith, at)))

@@ -1,5 +1,5 @@
 -- The lemmas of this crate.
-pub mod Behind
+pub mod After
 pub mod Found
 pub mod Bounds
 pub mod Leaving

@@ -6,16 +6,16 @@ use Rattle.pd_script.specs.declared.script_events.Action.TheVariants.{Outbound}
 use Rattle.pd_script.specs.declared.script_events.Event.{Event}
 use Rattle.pd_seg.specs.declared.segments.Sent.{Sent}
 use Rattle.pd_host.specs.Expiries.{advanced, deadline_of, due_by}
-use Rattle.pd_host.specs.Sender.{without_oldest}
+use Rattle.pd_host.specs.Host.{without_oldest}
 use Rattle.pd_host.specs.declared.halts.Halt.{Halt}
 use Rattle.pd_host.specs.declared.sender_state.State.{State}
 use Rattle.pd_match.specs.Packets.{mismatch}
 use Rattle.pd_print.specs.Sent.{packet_of}
-use Rattle.pd_run.specs.Step.{Running, tolerance_of, noted, on_step, with_state, awaited, taken as compared, leaves}
+use Rattle.pd_run.specs.Step.{RunStateView, tolerance_of, noted, on_step, with_state, awaited, packet_taken as compared, leaves}
 use Rattle.pd_run.specs.Times.{moments_of, is_in_reach, base_after}
 use Rattle.pd_run.specs.declared.verdicts.Verdict.{Verdict}
 use Rattle.pd_record.specs.Following.{input_at, inputs_in, departure_at, departures_in, departed}
-use Rattle.pd_record.specs.Tape.{Tape, Answers, recorded_as, event_at, leaves_next, or_expired, due_where, oldest_of, departs, with_unmet, comes, comes_on}
+use Rattle.pd_record.specs.Recorder.{RecorderView, Answers, recorded_as, event_at, leaves_next, or_expired, due_where, oldest_of, departs, with_unmet, comes, comes_on}
 use Rattle.pd_record.specs.declared.tape.Recorded.{Recorded}
 use Rattle.pd_record.proofs.Again.{Bases, IsReady, was_taken, packet_went}
 use Rattle.pd_record.proofs.Freed.{came_by, in_front, find_due, advanced_freed, advanced_on, none_due}
@@ -51,15 +51,15 @@ same_moment o x y a b = let same : Some x ≡ Some y = sym a ∙ b in cc
 
 -- ---- an expected packet that passes
 
--- it stood untaken, or the next expiry sent it
-abbrev pub Waits : Running → Running → Event → State → Type 0
+-- it was untaken, or the next expiry sent it
+abbrev pub Waits : RunStateView → RunStateView → Event → State → Type 0
 Waits r s e before =
     ((before ≡ r.host.state) × (s.clock ≡ r.clock))
     ⊎ ((length r.host.state.endpoint.outbox ≡ 0) × (at : ℕ) × (deadline_of r.host.state ≡ Some at) × (advanced at r.host.state ≡ Ok before)
     × (is_in_reach (moments_of r.base e.time) (tolerance_of r) at ≡ true) × (s.clock ≡ at))
 
 -- what it took, and the run after it
-pub record Met (r s : Running) (e : Event) (sent : Sent) : Type 0 where
+pub record Met (r s : RunStateView) (e : Event) (sent : Sent) : Type 0 where
   pub before : State
   pub first : slice_get before.endpoint.outbox 0 ≡ Some sent
   pub waits : Waits r s e before
@@ -69,60 +69,60 @@ pub record Met (r s : Running) (e : Event) (sent : Sent) : Type 0 where
   pub taken : on_step (λ q. take 1 q.host.state.endpoint.outbox) (λ v. []) (awaited (noted r) e) ≡ sent ∷ []
 
 -- a run after the oldest packet was taken
-abbrev taken_by : Running → Event → Sent → Running
+abbrev taken_by : RunStateView → Event → Sent → RunStateView
 taken_by q e sent = record q { host = without_oldest q.host; base = base_after q.base e.time sent.at }
 
-took : (e : Event) (p : Packet) (q s : Running) (o : Option Sent) → slice_get q.host.state.endpoint.outbox 0 ≡ o → compared e p q o ≡ Ok s
+took : (e : Event) (p : Packet) (q s : RunStateView) (o : Option Sent) → slice_get q.host.state.endpoint.outbox 0 ≡ o → compared e p q o ≡ Ok s
     → (sent : Sent) × (slice_get q.host.state.endpoint.outbox 0 ≡ Some sent) × (taken_by q e sent ≡ s)
 took e p q s None is h = absurd cc
 took e p q s (Some sent) is h =
     (sent, is, agreed e.line (taken_by q e sent) s (mismatch p (moments_of q.base e.time) sent (tolerance_of q)) h)
 
-abbrev came_to : Running → Result Running Verdict
+abbrev came_to : RunStateView → Result RunStateView Verdict
 came_to r = Ok r
 
-took_one : (r q : Running) (e : Event) (sent : Sent) → awaited (noted r) e ≡ came_to q → slice_get q.host.state.endpoint.outbox 0 ≡ Some sent
+took_one : (r q : RunStateView) (e : Event) (sent : Sent) → awaited (noted r) e ≡ came_to q → slice_get q.host.state.endpoint.outbox 0 ≡ Some sent
     → on_step (λ x. take 1 x.host.state.endpoint.outbox) (λ v. []) (awaited (noted r) e) ≡ sent ∷ []
 took_one r q e sent is first =
-    ap (λ (came : Result Running Verdict). on_step (λ x. take 1 x.host.state.endpoint.outbox) (λ v. []) came) is ∙ one_of q.host.state.endpoint.outbox sent first
+    ap (λ (came : Result RunStateView Verdict). on_step (λ x. take 1 x.host.state.endpoint.outbox) (λ v. []) came) is ∙ one_of q.host.state.endpoint.outbox sent first
 
-pub met : (r s : Running) (e : Event) (p : Packet) → leaves (noted r) e p ≡ Ok s → (sent : Sent) × Met r s e sent
+pub met : (r s : RunStateView) (e : Event) (p : Packet) → leaves (noted r) e p ≡ Ok s → (sent : Sent) × Met r s e sent
 met r s e p h =
-    let went = stepped_both (λ (q : Running). compared e p q (slice_get q.host.state.endpoint.outbox 0)) (awaited (noted r) e) s h in
+    let went = stepped_both (λ (q : RunStateView). compared e p q (slice_get q.host.state.endpoint.outbox 0)) (awaited (noted r) e) s h in
     let last = took e p went.0 s (slice_get went.0.host.state.endpoint.outbox 0) refl went.2 in
     (last.0, go went.0 last.0 went.1 last.1 last.2 (which_awaited (noted r) went.0 e went.1))
   where
-    go : (q : Running) (sent : Sent) → awaited (noted r) e ≡ Ok q → slice_get q.host.state.endpoint.outbox 0 ≡ Some sent → taken_by q e sent ≡ s
+    go : (q : RunStateView) (sent : Sent) → awaited (noted r) e ≡ Ok q → slice_get q.host.state.endpoint.outbox 0 ≡ Some sent → taken_by q e sent ≡ s
         → (q ≡ noted r) ⊎ Awaited (noted r) q e → Met r s e sent
     go q sent is first same (inl stood) =
-        let its : taken_by (noted r) e sent ≡ s = ap (λ (x : Running). taken_by x e sent) (sym stood) ∙ same in
+        let its : taken_by (noted r) e sent ≡ s = ap (λ (x : RunStateView). taken_by x e sent) (sym stood) ∙ same in
         record {
           before = r.host.state;
-          first = ap (λ (x : Running). slice_get x.host.state.endpoint.outbox 0) (sym stood) ∙ first;
-          waits = inl (refl, sym (ap (λ (x : Running). x.clock) its));
-          state = sym (ap (λ (x : Running). x.host.state) its);
-          base = sym (ap (λ (x : Running). x.base) its);
-          written = sym (ap (λ (x : Running). x.written) its);
+          first = ap (λ (x : RunStateView). slice_get x.host.state.endpoint.outbox 0) (sym stood) ∙ first;
+          waits = inl (refl, sym (ap (λ (x : RunStateView). x.clock) its));
+          state = sym (ap (λ (x : RunStateView). x.host.state) its);
+          base = sym (ap (λ (x : RunStateView). x.base) its);
+          written = sym (ap (λ (x : RunStateView). x.written) its);
           taken = took_one r q e sent is first;
         }
     go q sent is first same (inr wait) =
-        let after : Running = record (with_state (noted r) wait.2) { clock = wait.1 } in
-        let its : taken_by after e sent ≡ s = ap (λ (x : Running). taken_by x e sent) (sym wait.5) ∙ same in
+        let after : RunStateView = record (with_state (noted r) wait.2) { clock = wait.1 } in
+        let its : taken_by after e sent ≡ s = ap (λ (x : RunStateView). taken_by x e sent) (sym wait.5) ∙ same in
         record {
           before = wait.2;
-          first = ap (λ (x : Running). slice_get x.host.state.endpoint.outbox 0) (sym wait.5) ∙ first;
-          waits = inr (wait.0, wait.1, wait.3, wait.4, wait.6, sym (ap (λ (x : Running). x.clock) its));
-          state = sym (ap (λ (x : Running). x.host.state) its);
-          base = sym (ap (λ (x : Running). x.base) its);
-          written = sym (ap (λ (x : Running). x.written) its);
+          first = ap (λ (x : RunStateView). slice_get x.host.state.endpoint.outbox 0) (sym wait.5) ∙ first;
+          waits = inr (wait.0, wait.1, wait.3, wait.4, wait.6, sym (ap (λ (x : RunStateView). x.clock) its));
+          state = sym (ap (λ (x : RunStateView). x.host.state) its);
+          base = sym (ap (λ (x : RunStateView). x.base) its);
+          written = sym (ap (λ (x : RunStateView). x.written) its);
           taken = took_one r q e sent is first;
         }
 
 -- the packet that leaves next is the one that it took
-abbrev Next : (ℕ → Bool) → Running → State → Type 0
+abbrev Next : (ℕ → Bool) → RunStateView → State → Type 0
 Next may r before = (before ≡ r.host.state) ⊎ ((at : ℕ) × (may at ≡ true) × (advanced at r.host.state ≡ Ok before))
 
-pub takes_next : (may : ℕ → Bool) (r s : Running) (e : Event) (sent other : Sent) → leaves_next may r ≡ Some sent → (m : Met r s e other)
+pub takes_next : (may : ℕ → Bool) (r s : RunStateView) (e : Event) (sent other : Sent) → leaves_next may r ≡ Some sent → (m : Met r s e other)
     → (other ≡ sent) × Next may r m.before
 takes_next may r s e sent other next m = go m.waits (what_leaves may r sent next)
   where
@@ -143,7 +143,7 @@ takes_next may r s e sent other next m = go m.waits (what_leaves may r sent next
         (cc, inr (due.1, due.4, came))
 
 -- from equal states two of them took the same
-pub same_before : (r s q u : Running) (e x : Event) (sent other : Sent) → q.host.state ≡ r.host.state → q.clock ≡ r.clock
+pub same_before : (r s q u : RunStateView) (e x : Event) (sent other : Sent) → q.host.state ≡ r.host.state → q.clock ≡ r.clock
     → (m : Met r s e sent) (n : Met q u x other) → (n.before ≡ m.before) × (u.clock ≡ s.clock)
 same_before r s q u e x sent other same clock m n = go m.waits n.waits
   where
@@ -171,7 +171,7 @@ abbrev pub moment : Sent → ℕ
 moment sent = sent.at
 
 -- what was recorded of packets that left, from one tape to another: all that the expiries up to a moment send
-pub record LeftOver (until : ℕ) (t : Tape) (more : List Recorded) (left : List Sent) (u : Tape) (a : State) : Type 0 where
+pub record LeftOver (until : ℕ) (t : RecorderView) (more : List Recorded) (left : List Sent) (u : RecorderView) (a : State) : Type 0 where
   pub state : a ≡ in_front left u.run.host.state
   pub inputs : inputs_in more ≡ []
   pub packets : departures_in more ≡ map departed left
@@ -182,12 +182,12 @@ pub record LeftOver (until : ℕ) (t : Tape) (more : List Recorded) (left : List
   pub early : u.run.clock ≤ until
   pub none : find_due until u.run.host.state ≡ None
 
-abbrev LeftAll : ℕ → List Recorded → Tape → Tape × List Recorded → State → Type 0
+abbrev LeftAll : ℕ → List Recorded → RecorderView → RecorderView × List Recorded → State → Type 0
 LeftAll until before t y a = (more : List Recorded) × (left : List Sent) × (y.1 ≡ before ++ more) × LeftOver until t more left y.0 a
 
 module _ (laws : Bases) where
   -- where nothing leaves any more no expiry is due
-  none_leaves : (until : ℕ) (r : Running) (a : State) → advanced until r.host.state ≡ Ok a → leaves_next (λ due. nat_le due until) r ≡ None
+  none_leaves : (until : ℕ) (r : RunStateView) (a : State) → advanced until r.host.state ≡ Ok a → leaves_next (λ due. nat_le due until) r ≡ None
       → find_due until r.host.state ≡ None
   none_leaves until r a h none = by_first (slice_get r.host.state.endpoint.outbox 0) refl none
     where
@@ -197,7 +197,7 @@ module _ (laws : Bases) where
       comes_then : (at : ℕ) → slice_get s.endpoint.outbox 0 ≡ None → deadline_of s ≡ Some at → nat_le at until ≡ true → oldest_of (advanced at s) ≡ None → ⊥
       comes_then at empty due within old =
           let on = advanced_on laws.one_by_one at until s a (leb-true at until within) h in
-          let first = first_sent laws.behind s on.0 at (none_in s.endpoint.outbox empty) due on.1 in
+          let first = first_sent laws.after s on.0 at (none_in s.endpoint.outbox empty) due on.1 in
           let is : oldest_of (advanced at s) ≡ Some first.0 = ap oldest_of on.1 ∙ first.2 in
           let clash : None ≡ Some first.0 = sym old ∙ is in
           cc
@@ -216,7 +216,7 @@ module _ (laws : Bases) where
       by_first (Some x) first old = absurd cc
 
   -- the expiries up to a later moment come to the same from where the next packet leaves
-  before_next : (until : ℕ) (r : Running) (before a : State) → Next (λ due. nat_le due until) r before → advanced until r.host.state ≡ Ok a → advanced until before ≡ Ok a
+  before_next : (until : ℕ) (r : RunStateView) (before a : State) → Next (λ due. nat_le due until) r before → advanced until r.host.state ≡ Ok a → advanced until before ≡ Ok a
   before_next until r before a (inl same) h = ap (advanced until) same ∙ h
   before_next until r before a (inr due) h =
       let on = advanced_on laws.one_by_one due.0 until r.host.state a (leb-true due.0 until due.1) h in
@@ -224,16 +224,16 @@ module _ (laws : Bases) where
       let its : before ≡ on.0 = cc in
       ap (advanced until) its ∙ on.2
 
-  one_left : (further : List Recorded → Tape → Answers (Tape × List Recorded)) (until : ℕ)
-      → ((before : List Recorded) (t : Tape) (y : Tape × List Recorded) (a : State) → IsReady t.count t.run → t.run.clock ≤ until → advanced until t.run.host.state ≡ Ok a
+  one_left : (further : List Recorded → RecorderView → Answers (RecorderView × List Recorded)) (until : ℕ)
+      → ((before : List Recorded) (t : RecorderView) (y : RecorderView × List Recorded) (a : State) → IsReady t.count t.run → t.run.clock ≤ until → advanced until t.run.host.state ≡ Ok a
       → further before t ≡ Ok y → LeftAll until before t y a)
-      → (line : ℕ) (before : List Recorded) (t : Tape) (y : Tape × List Recorded) (a : State) (o : Option Sent) → leaves_next (λ due. nat_le due until) t.run ≡ o
+      → (line : ℕ) (before : List Recorded) (t : RecorderView) (y : RecorderView × List Recorded) (a : State) (o : Option Sent) → leaves_next (λ due. nat_le due until) t.run ≡ o
       → IsReady t.count t.run → t.run.clock ≤ until → advanced until t.run.host.state ≡ Ok a → comes_on further line before t o ≡ Ok y → LeftAll until before t y a
   one_left further until goes line before t y a None is ready early came h =
       let none : find_due until t.run.host.state ≡ None = none_leaves until t.run a came is in
       let same : ran a ≡ ran t.run.host.state = sym came ∙ none_due until t.run.host.state none in
       let its : a ≡ t.run.host.state = cc in
-      subst (λ (z : Tape × List Recorded). LeftAll until before t z a) (given (t, before) y h) (
+      subst (λ (z : RecorderView × List Recorded). LeftAll until before t z a) (given (t, before) y h) (
         [],
         [],
         sym (append-nil before),
@@ -252,10 +252,10 @@ module _ (laws : Bases) where
   one_left further until goes line before t y a (Some sent) is ready early came h =
       let may : ℕ → Bool = λ due. nat_le due until in
       let packet : Packet = packet_of sent.segment in
-      let b = both (λ (x : Tape × Recorded). further (before ++ x.1 ∷ []) (with_unmet x.0 sent.at)) (departs t line sent) y h in
+      let b = both (λ (x : RecorderView × Recorded). further (before ++ x.1 ∷ []) (with_unmet x.0 sent.at)) (departs t line sent) y h in
       let x : Event = event_at t line sent.at (Outbound packet) in
       let was = was_taken t line sent.at (Outbound packet) b.0 b.1 in
-      let s : Running = was.0 in
+      let s : RunStateView = was.0 in
       let m = met t.run s x packet (step_passes t.run s x was.1.0).3 in
       let its = takes_next may t.run s x sent m.0 is m.1 in
       let first = packet_went laws t line may sent b.0 ready is b.1 in
@@ -265,8 +265,8 @@ module _ (laws : Bases) where
       let from_there : advanced until (in_front (sent ∷ []) s.host.state) ≡ Ok a =
       ap (advanced until) (sym front) ∙ before_next until t.run m.1.before a its.1 came in
       let freed = came_by (in_front (sent ∷ [])) (advanced until (in_front (sent ∷ []) s.host.state)) (advanced until s.host.state) a (advanced_freed (sent ∷ []) until s.host.state) from_there in
-      let state : b.0.0.run.host.state ≡ s.host.state = ap (λ (z : Tape × Recorded). z.0.run.host.state) was.1.2 in
-      let event : b.0.1 ≡ recorded_as sent.at x = ap (λ (z : Tape × Recorded). z.1) was.1.2 in
+      let state : b.0.0.run.host.state ≡ s.host.state = ap (λ (z : RecorderView × Recorded). z.0.run.host.state) was.1.2 in
+      let event : b.0.1 ≡ recorded_as sent.at x = ap (λ (z : RecorderView × Recorded). z.1) was.1.2 in
       let rest = goes (before ++ b.0.1 ∷ []) (with_unmet b.0.0 sent.at) y freed.0 first.0.ready within (ap (advanced until) state ∙ freed.1) b.2 in (
         b.0.1 ∷ rest.0,
         sent ∷ rest.1,
@@ -275,16 +275,16 @@ module _ (laws : Bases) where
           state = freed.2 ∙ ap (in_front (sent ∷ [])) rest.3.state;
           inputs = ap (λ (z : Recorded). input_at z.at z.event.action ++ inputs_in rest.0) event ∙ rest.3.inputs;
           packets = ap (λ (z : Recorded). departure_at z.at z.event.action ++ departures_in rest.0) event ∙ ap (λ l. departed sent ∷ l) rest.3.packets;
-          unmet = rest.3.unmet ∙ (ap (λ (z : Tape × Recorded). (z.0.unmet ++ sent.at ∷ []) ++ map moment rest.1) was.1.2 ∙ append_assoc t.unmet (sent.at ∷ []) (map moment rest.1));
-          base = rest.3.base ∙ ap (λ (z : Tape × Recorded). z.0.base) was.1.2;
-          written = rest.3.written ∙ (ap (λ (z : Tape × Recorded). z.0.run.written) was.1.2 ∙ m.1.written);
+          unmet = rest.3.unmet ∙ (ap (λ (z : RecorderView × Recorded). (z.0.unmet ++ sent.at ∷ []) ++ map moment rest.1) was.1.2 ∙ append_assoc t.unmet (sent.at ∷ []) (map moment rest.1));
+          base = rest.3.base ∙ ap (λ (z : RecorderView × Recorded). z.0.base) was.1.2;
+          written = rest.3.written ∙ (ap (λ (z : RecorderView × Recorded). z.0.run.written) was.1.2 ∙ m.1.written);
           ready = rest.3.ready;
           early = rest.3.early;
           none = rest.3.none;
         },
       )
 
-  pub all_left : (n line until : ℕ) (before : List Recorded) (t : Tape) (y : Tape × List Recorded) (a : State) → IsReady t.count t.run → t.run.clock ≤ until
+  pub all_left : (n line until : ℕ) (before : List Recorded) (t : RecorderView) (y : RecorderView × List Recorded) (a : State) → IsReady t.count t.run → t.run.clock ≤ until
       → advanced until t.run.host.state ≡ Ok a → comes n line until before t ≡ Ok y → LeftAll until before t y a
   unfolding comes
   all_left zero line until before t y a ready early came h = absurd cc

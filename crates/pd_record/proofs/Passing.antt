@@ -11,29 +11,29 @@ use Rattle.pd_seg.specs.declared.answers.Answer.{Answer}
 use Rattle.pd_seg.specs.declared.segments.Sent.{Sent}
 use Rattle.pd_run.specs.Run.{start_of, verdict_from}
 use Rattle.pd_print.specs.Sent.{packet_of}
-use Rattle.pd_run.specs.Step.{Running, on_step, step}
+use Rattle.pd_run.specs.Step.{RunStateView, on_step, step}
 use Rattle.pd_run.specs.Times.{moment_of, moments_of, is_in_reach}
 use Rattle.pd_run.specs.Step.{tolerance_of}
 use Rattle.pd_run.specs.declared.verdicts.Verdict.{Verdict}
 use Rattle.pd_run.specs.declared.verdicts.Verdict.TheVariants.{Pass}
 use Rattle.pd_record.specs.Recording.{Tracked, records, closed, tracks_of, events_in, events_taken, events_of_all, events_of}
-use Rattle.pd_record.specs.Tape.{Tape, Took, Answers, then_do, unless, blank_from, gone_to, stepped, recorded_as, event_at, refusal_at, taken, leaves_next, departs, with_unmet, comes, comes_on, left_by, with_base, acts_at, inputs, arrives, answer_at, with_answer, reply_of, calls, based_after, meets, meets_oldest, ruling_at, performed, recorded}
+use Rattle.pd_record.specs.Recorder.{RecorderView, Took, Answers, then_do, unless, blank_from, gone_to, stepped, recorded_as, event_at, refusal_at, taken, leaves_next, departs, with_unmet, comes, comes_on, left_by, with_base, acts_at, inputs, arrives, answer_at, with_answer, reply_of, calls, based_after, meets, meets_oldest, ruling_at, performed, recorded}
 use Rattle.pd_record.specs.declared.refusals.NotRecorded.{NotRecorded}
 use Rattle.pd_record.specs.declared.refusals.NotRecorded.TheVariants.{Stopped}
 use Rattle.pd_record.specs.declared.tape.Own.{Own}
 use Rattle.pd_record.specs.declared.tape.Recorded.{Recorded}
 
 -- a run goes on through events, from one state to another
-abbrev pub Through : List Event → Running → Running → Type 0
+abbrev pub Through : List Event → RunStateView → RunStateView → Type 0
 Through [] r s = r ≡ s
-Through (e ∷ es) r s = (q : Running) × (step r e ≡ Ok q) × Through es q s
+Through (e ∷ es) r s = (q : RunStateView) × (step r e ≡ Ok q) × Through es q s
 
-through_both : (xs ys : List Event) (r q s : Running) → Through xs r q → Through ys q s → Through (xs ++ ys) r s
-through_both [] ys r q s a b = subst (λ (x : Running). Through ys x s) (sym a) b
+through_both : (xs ys : List Event) (r q s : RunStateView) → Through xs r q → Through ys q s → Through (xs ++ ys) r s
+through_both [] ys r q s a b = subst (λ (x : RunStateView). Through ys x s) (sym a) b
 through_both (e ∷ xs) ys r q s a b = (a.0, a.1, through_both xs ys a.0 q s a.2 b)
 
 -- so they pass
-pub passes : (n : ℕ) (es : List Event) (r s : Running) → Through es r s → verdict_from n es r ≡ Pass (n + length es)
+pub passes : (n : ℕ) (es : List Event) (r s : RunStateView) → Through es r s → verdict_from n es r ≡ Pass (n + length es)
 passes n [] r s h = ap (λ (k : ℕ). Pass k) (omega arith)
 passes n (e ∷ es) r s h =
     let more : (n + 1) + length es ≡ n + length (e ∷ es) = omega arith in
@@ -58,7 +58,7 @@ no_refusal answer (Some refusal) x h = absurd cc
 -- ---- one event of the recording
 
 -- what was recorded of something was run through
-abbrev pub Went : {X : Type 0} → (X → List Event) → Tape → Tape × X → Type 0
+abbrev pub Went : {X : Type 0} → (X → List Event) → RecorderView → RecorderView × X → Type 0
 Went seen t y = Through (seen y.1) t.run y.0.run
 
 abbrev pub alone : Recorded → List Event
@@ -67,33 +67,33 @@ alone x = x.event ∷ []
 abbrev pub owned : Own → List Event
 owned own = own.recorded.event ∷ []
 
-abbrev ran : Running → Result Running Verdict
+abbrev ran : RunStateView → Result RunStateView Verdict
 ran r = Ok r
 
-step_goes : (t u : Tape) (e : Event) (came : Result Running Verdict) → step t.run e ≡ came → gone_to t came ≡ Ok u → step t.run e ≡ Ok u.run
-step_goes t u e (Ok r) is h = is ∙ ap (λ (x : Tape). ran x.run) (given (record t { run = r; count = t.count + 1 }) u h)
+step_goes : (t u : RecorderView) (e : Event) (came : Result RunStateView Verdict) → step t.run e ≡ came → gone_to t came ≡ Ok u → step t.run e ≡ Ok u.run
+step_goes t u e (Ok r) is h = is ∙ ap (λ (x : RecorderView). ran x.run) (given (record t { run = r; count = t.count + 1 }) u h)
 step_goes t u e (Err v) is h = absurd cc
 
-pub taken_goes : (t : Tape) (line at : ℕ) (action : Action) (y : Tape × Recorded) → taken t line at action ≡ Ok y → Went alone t y
+pub taken_goes : (t : RecorderView) (line at : ℕ) (action : Action) (y : RecorderView × Recorded) → taken t line at action ≡ Ok y → Went alone t y
 taken_goes t line at action y h =
     let e = event_at t line at action in
-    let free = no_refusal (then_do (λ (u : Tape). ok (u, recorded_as at e)) (stepped t e)) (refusal_at t at) y h in
-    let b = both (λ (u : Tape). ok (u, recorded_as at e)) (stepped t e) y free.1 in
+    let free = no_refusal (then_do (λ (u : RecorderView). ok (u, recorded_as at e)) (stepped t e)) (refusal_at t at) y h in
+    let b = both (λ (u : RecorderView). ok (u, recorded_as at e)) (stepped t e) y free.1 in
     subst (Went alone t) (given (b.0, recorded_as at e) y b.2) (b.0.run, step_goes t b.0 e (step t.run e) refl b.1, refl)
 
 -- ---- packets that leave
 
 -- what leaves is recorded after what was recorded before, and was run through
-abbrev Leaves : Tape → List Recorded → Tape × List Recorded → Type 0
+abbrev Leaves : RecorderView → List Recorded → RecorderView × List Recorded → Type 0
 Leaves t before y = (more : List Recorded) × (y.1 ≡ before ++ more) × Through (events_in more) t.run y.0.run
 
-one_leaves : (further : List Recorded → Tape → Answers (Tape × List Recorded))
-    → ((before : List Recorded) (t : Tape) (y : Tape × List Recorded) → further before t ≡ Ok y → Leaves t before y)
-    → (line : ℕ) (before : List Recorded) (t : Tape) (y : Tape × List Recorded) (o : Option Sent)
+one_leaves : (further : List Recorded → RecorderView → Answers (RecorderView × List Recorded))
+    → ((before : List Recorded) (t : RecorderView) (y : RecorderView × List Recorded) → further before t ≡ Ok y → Leaves t before y)
+    → (line : ℕ) (before : List Recorded) (t : RecorderView) (y : RecorderView × List Recorded) (o : Option Sent)
     → comes_on further line before t o ≡ Ok y → Leaves t before y
 one_leaves further goes line before t y None h = subst (Leaves t before) (given (t, before) y h) ([], sym (append-nil before), refl)
 one_leaves further goes line before t y (Some sent) h =
-    let b = both (λ (x : Tape × Recorded). further (before ++ x.1 ∷ []) (with_unmet x.0 sent.at)) (departs t line sent) y h in
+    let b = both (λ (x : RecorderView × Recorded). further (before ++ x.1 ∷ []) (with_unmet x.0 sent.at)) (departs t line sent) y h in
     let first = taken_goes t line sent.at (Outbound (packet_of sent.segment)) b.0 b.1 in
     let rest = goes (before ++ b.0.1 ∷ []) (with_unmet b.0.0 sent.at) y b.2 in (
       b.0.1 ∷ rest.0,
@@ -101,12 +101,12 @@ one_leaves further goes line before t y (Some sent) h =
       through_both (alone b.0.1) (events_in rest.0) t.run b.0.0.run y.0.run first rest.2,
     )
 
-all_leave : (n line until : ℕ) (before : List Recorded) (t : Tape) (y : Tape × List Recorded) → comes n line until before t ≡ Ok y → Leaves t before y
+all_leave : (n line until : ℕ) (before : List Recorded) (t : RecorderView) (y : RecorderView × List Recorded) → comes n line until before t ≡ Ok y → Leaves t before y
 unfolding comes
 all_leave zero line until before t y h = absurd cc
 all_leave (suc n) line until before t y h = one_leaves (comes n line until) (all_leave n line until) line before t y _ h
 
-left_goes : (line until : ℕ) (t : Tape) (y : Tape × List Recorded) → left_by line until t ≡ Ok y → Went events_in t y
+left_goes : (line until : ℕ) (t : RecorderView) (y : RecorderView × List Recorded) → left_by line until t ≡ Ok y → Went events_in t y
 left_goes line until t y h =
     let all = all_leave 4096 line until [] t y h in
     subst (λ (list : List Recorded). Through (events_in list) t.run y.0.run) (sym all.1) all.2
@@ -123,62 +123,62 @@ abbrev pub answer_own : Call → Answer → Recorded → Own
 answer_own call answer x = record { recorded = x; reply = Some (reply_of call answer) }
 
 -- an input that is recorded was run through
-abbrev Acts : (Tape → Answers (Tape × Own)) → Type 0
-Acts act = (t : Tape) (y : Tape × Own) → act t ≡ Ok y → Went owned t y
+abbrev Acts : (RecorderView → Answers (RecorderView × Own)) → Type 0
+Acts act = (t : RecorderView) (y : RecorderView × Own) → act t ≡ Ok y → Went owned t y
 
-input_goes : (act : Tape → Answers (Tape × Own)) → Acts act → (t : Tape) (e : Event) (y : Tape × Took) → inputs act t e ≡ Ok y → Went events_taken t y
+input_goes : (act : RecorderView → Answers (RecorderView × Own)) → Acts act → (t : RecorderView) (e : Event) (y : RecorderView × Took) → inputs act t e ≡ Ok y → Went events_taken t y
 input_goes act goes t e y h =
-    let after : Tape × List Recorded → Tape × Own → Tape × Took = λ x z. (with_base (moment_of t.base e.time) z.0, took x.1 (Some z.1)) in
-    let a = both (λ (x : Tape × List Recorded). then_do (λ (z : Tape × Own). ok (after x z)) (act x.0)) (left_by e.line (acts_at t e) t) y h in
-    let b = both (λ (z : Tape × Own). ok (after a.0 z)) (act a.0.0) y a.2 in
+    let after : RecorderView × List Recorded → RecorderView × Own → RecorderView × Took = λ x z. (with_base (moment_of t.base e.time) z.0, took x.1 (Some z.1)) in
+    let a = both (λ (x : RecorderView × List Recorded). then_do (λ (z : RecorderView × Own). ok (after x z)) (act x.0)) (left_by e.line (acts_at t e) t) y h in
+    let b = both (λ (z : RecorderView × Own). ok (after a.0 z)) (act a.0.0) y a.2 in
     let left = left_goes e.line (acts_at t e) t a.0 a.1 in
     subst (Went events_taken t) (given (after a.0 b.0) y b.2) (through_both (events_in a.0.1) (owned b.0.1) t.run a.0.0.run b.0.0.run left (goes a.0.0 b.0 b.1))
 
 arrival_goes : (line at : ℕ) (packet : Packet) → Acts (arrives line at packet)
 arrival_goes line at packet t y h =
-    let b = both (λ (x : Tape × Recorded). ok (x.0, own_of x.1)) (taken t line at (Inbound packet)) y h in
+    let b = both (λ (x : RecorderView × Recorded). ok (x.0, own_of x.1)) (taken t line at (Inbound packet)) y h in
     subst (Went owned t) (given (b.0.0, own_of b.0.1) y b.2) (taken_goes t line at (Inbound packet) b.0 b.1)
 
 call_goes : (line at : ℕ) (call : Call) → Acts (calls line at call)
 call_goes line at call t y h =
-    let seen : Answer → Tape × Recorded → Tape × Own = λ answer x. (x.0, answer_own call answer x.1) in
-    let a = both (λ (answer : Answer). then_do (λ (x : Tape × Recorded). ok (seen answer x)) (taken t line at (Calls (with_answer call answer)))) (answer_at t line at call) y h in
-    let b = both (λ (x : Tape × Recorded). ok (seen a.0 x)) (taken t line at (Calls (with_answer call a.0))) y a.2 in
+    let seen : Answer → RecorderView × Recorded → RecorderView × Own = λ answer x. (x.0, answer_own call answer x.1) in
+    let a = both (λ (answer : Answer). then_do (λ (x : RecorderView × Recorded). ok (seen answer x)) (taken t line at (Calls (with_answer call answer)))) (answer_at t line at call) y h in
+    let b = both (λ (x : RecorderView × Recorded). ok (seen a.0 x)) (taken t line at (Calls (with_answer call a.0))) y a.2 in
     subst (Went owned t) (given (seen a.0 b.0) y b.2) (taken_goes t line at (Calls (with_answer call a.0)) b.0 b.1)
 
 -- ---- expected packets
 
-meeting_goes : (t : Tape) (e : Event) (y : Tape × Took) (o : Option Sent) → meets t e o ≡ Ok y → Went events_taken t y
+meeting_goes : (t : RecorderView) (e : Event) (y : RecorderView × Took) (o : Option Sent) → meets t e o ≡ Ok y → Went events_taken t y
 meeting_goes t e y None h = subst (Went events_taken t) (given (based_after e.time None t, took [] None) y h) refl
 meeting_goes t e y (Some sent) h =
-    let after : Tape × Recorded → Tape × Took = λ x. (based_after e.time (Some sent.at) x.0, took [] (Some (own_of x.1))) in
-    let b = both (λ (x : Tape × Recorded). ok (after x)) (departs t e.line sent) y h in
+    let after : RecorderView × Recorded → RecorderView × Took = λ x. (based_after e.time (Some sent.at) x.0, took [] (Some (own_of x.1))) in
+    let b = both (λ (x : RecorderView × Recorded). ok (after x)) (departs t e.line sent) y h in
     subst (Went events_taken t) (given (after b.0) y b.2) (taken_goes t e.line sent.at (Outbound (packet_of sent.segment)) b.0 b.1)
 
-expected_goes : (t : Tape) (e : Event) (y : Tape × Took) (unmet : List ℕ) → meets_oldest t e unmet ≡ Ok y → Went events_taken t y
+expected_goes : (t : RecorderView) (e : Event) (y : RecorderView × Took) (unmet : List ℕ) → meets_oldest t e unmet ≡ Ok y → Went events_taken t y
 expected_goes t e y [] h = meeting_goes t e y (leaves_next (is_in_reach (moments_of t.base e.time) (tolerance_of t.run)) t.run) h
 expected_goes t e y (at ∷ others) h =
     subst (Went events_taken t) (given (based_after e.time (Some at) (record t { unmet = others }), took [] None) y h) refl
 
 -- ---- events of the script
 
-performed_goes : (t : Tape) (e : Event) (y : Tape × Took) (action : Action) → performed t e action ≡ Ok y → Went events_taken t y
+performed_goes : (t : RecorderView) (e : Event) (y : RecorderView × Took) (action : Action) → performed t e action ≡ Ok y → Went events_taken t y
 performed_goes t e y (Inbound packet) h = input_goes (arrives e.line (acts_at t e) packet) (arrival_goes e.line (acts_at t e) packet) t e y h
 performed_goes t e y (Outbound packet) h = expected_goes t e y t.unmet h
 performed_goes t e y (Calls call) h = input_goes (calls e.line (acts_at t e) call) (call_goes e.line (acts_at t e) call) t e y h
 performed_goes t e y Command h = absurd cc
 performed_goes t e y Code h = absurd cc
 
-event_goes : (t : Tape) (e : Event) (y : Tape × Took) → recorded t e ≡ Ok y → Went events_taken t y
+event_goes : (t : RecorderView) (e : Event) (y : RecorderView × Took) → recorded t e ≡ Ok y → Went events_taken t y
 event_goes t e y h = performed_goes t e y e.action (no_refusal (performed t e e.action) (ruling_at t e) y h).1
 
-events_go : (es : List Event) (takes : List Took) (t : Tape) (y : Tape × List Took) → records es takes t ≡ Ok y
+events_go : (es : List Event) (takes : List Took) (t : RecorderView) (y : RecorderView × List Took) → records es takes t ≡ Ok y
     → (more : List Took) × (y.1 ≡ takes ++ more) × Through (events_of_all more) t.run y.0.run
 events_go [] takes t y h =
-    subst (λ (z : Tape × List Took). (more : List Took) × (z.1 ≡ takes ++ more) × Through (events_of_all more) t.run z.0.run) (given (t, takes) y h)
+    subst (λ (z : RecorderView × List Took). (more : List Took) × (z.1 ≡ takes ++ more) × Through (events_of_all more) t.run z.0.run) (given (t, takes) y h)
     ([], sym (append-nil takes), refl)
 events_go (e ∷ es) takes t y h =
-    let b = both (λ (x : Tape × Took). records es (takes ++ x.1 ∷ []) x.0) (recorded t e) y h in
+    let b = both (λ (x : RecorderView × Took). records es (takes ++ x.1 ∷ []) x.0) (recorded t e) y h in
     let rest = events_go es (takes ++ b.0.1 ∷ []) b.0.0 y b.2 in (
       b.0.1 ∷ rest.0,
       rest.1 ∙ append_assoc takes (b.0.1 ∷ []) rest.0,
@@ -189,11 +189,11 @@ abbrev pub tracked : List Took → List Recorded → Tracked
 tracked takes rest = record { takes = takes; rest = rest }
 
 -- what was recorded after a tape on which nothing was
-closed_goes : (es : List Event) (t : Tape) (tracks : Tracked) → then_do closed (records es [] t) ≡ Ok tracks
-    → (s : Running) × Through (events_of tracks) t.run s
+closed_goes : (es : List Event) (t : RecorderView) (tracks : Tracked) → then_do closed (records es [] t) ≡ Ok tracks
+    → (s : RunStateView) × Through (events_of tracks) t.run s
 closed_goes es t tracks h =
     let a = both closed (records es [] t) tracks h in
-    let b = both (λ (y : Tape × List Recorded). ok (tracked a.0.1 y.1)) (left_by 0 a.0.0.run.clock a.0.0) tracks a.2 in
+    let b = both (λ (y : RecorderView × List Recorded). ok (tracked a.0.1 y.1)) (left_by 0 a.0.0.run.clock a.0.0) tracks a.2 in
     let all = events_go es [] t a.0 a.1 in
     let takes : Through (events_of_all a.0.1) t.run a.0.0.run =
     subst (λ (list : List Took). Through (events_of_all list) t.run a.0.0.run) (sym all.1) all.2 in
@@ -203,17 +203,17 @@ closed_goes es t tracks h =
           (through_both (events_of_all a.0.1) (events_in b.0.1) t.run a.0.0.run b.0.0.run takes rest),
     )
 
-abbrev pub blank : Running → Tape
+abbrev pub blank : RunStateView → RecorderView
 blank r = record { run = r; count = 0; base = 0; unmet = [] }
 
 pub recording_goes : (header : List HeaderItem) (es : List Event) (settings : Settings) (tracks : Tracked) → tracks_of header es settings ≡ Ok tracks
-    → (r s : Running) × (start_of header settings ≡ Ok r) × Through (events_of tracks) r s
+    → (r s : RunStateView) × (start_of header settings ≡ Ok r) × Through (events_of tracks) r s
 recording_goes header es settings tracks h = go (start_of header settings) refl
   where
-    go : (came : Result Running Verdict) → start_of header settings ≡ came → (r s : Running) × (start_of header settings ≡ Ok r) × Through (events_of tracks) r s
+    go : (came : Result RunStateView Verdict) → start_of header settings ≡ came → (r s : RunStateView) × (start_of header settings ≡ Ok r) × Through (events_of tracks) r s
     go (Ok r) is =
-        let from : then_do closed (records es [] (blank r)) ≡ Ok tracks = sym (ap (λ (x : Result Running Verdict). then_do (λ (t : Tape). then_do closed (records es [] t)) (blank_from x)) is) ∙ h in
+        let from : then_do closed (records es [] (blank r)) ≡ Ok tracks = sym (ap (λ (x : Result RunStateView Verdict). then_do (λ (t : RecorderView). then_do closed (records es [] t)) (blank_from x)) is) ∙ h in
         let all = closed_goes es (blank r) tracks from in
         (r, all.0, is, all.1)
     go (Err v) is =
-        absurd (let refused : tracks_of header es settings ≡ Err (Stopped v) = ap (λ (x : Result Running Verdict). then_do (λ (t : Tape). then_do closed (records es [] t)) (blank_from x)) is in cc)
+        absurd (let refused : tracks_of header es settings ≡ Err (Stopped v) = ap (λ (x : Result RunStateView Verdict). then_do (λ (t : RecorderView). then_do closed (records es [] t)) (blank_from x)) is in cc)

@@ -10,25 +10,25 @@ use Rattle.pd_record.specs.Following.{RecordingsFollowRuns}
 use Rattle.pd_record.specs.Recording.{Tracked, records, tracks_of, recording_in, recording_of, events_of}
 use Rattle.pd_record.specs.Answered.{IsRight, IsRecording, Refuses}
 use Rattle.pd_record.specs.Scripts.{IsRead}
-use Rattle.pd_record.specs.Tape.{Tape, Took, Answers, then_do, recorded}
+use Rattle.pd_record.specs.Recorder.{RecorderView, Took, Answers, then_do, recorded}
 use Rattle.pd_record.specs.Inner.{Gives}
 use Rattle.pd_record.specs.declared.refusals.NotRecorded.{NotRecorded}
 use Rattle.pd_record.specs.declared.refusals.NotRecorded.TheVariants.{Stopped, TooLarge, TooManyEvents, TooLongGap, Differs, OutOfMemory}
 use Rattle.pd_record.specs.declared.scripts.Script.{Script}
 
 -- the first of the events is recorded, and then the others
-pub records_more : (es rest : List Event) (e : Event) (takes : List Took) (t u : Tape) (took : Took)
+pub records_more : (es rest : List Event) (e : Event) (takes : List Took) (t u : RecorderView) (took : Took)
     → es ≡ e ∷ rest → recorded t e ≡ Ok (u, took) → records es takes t ≡ records rest (takes ++ took ∷ []) u
 records_more es rest e takes t u took split h =
     ap (λ (l : List Event). records l takes t) split
-    ∙ ap (then_do (λ (x : Tape × Took). records rest (takes ++ x.1 ∷ []) x.0)) h
+    ∙ ap (then_do (λ (x : RecorderView × Took). records rest (takes ++ x.1 ∷ []) x.0)) h
 
 -- or refused
-pub records_refused : (es rest : List Event) (e : Event) (takes : List Took) (t : Tape) (refusal : NotRecorded)
+pub records_refused : (es rest : List Event) (e : Event) (takes : List Took) (t : RecorderView) (refusal : NotRecorded)
     → es ≡ e ∷ rest → recorded t e ≡ Err refusal → records es takes t ≡ Err refusal
 records_refused es rest e takes t refusal split h =
     ap (λ (l : List Event). records l takes t) split
-    ∙ ap (then_do (λ (x : Tape × Took). records rest (takes ++ x.1 ∷ []) x.0)) h
+    ∙ ap (then_do (λ (x : RecorderView × Took). records rest (takes ++ x.1 ∷ []) x.0)) h
 
 -- what is no script is refused with its verdict
 pub no_script : (settings : Settings) (parsed : Parsed) → IsSome parsed.fault
@@ -77,7 +77,7 @@ refused_with outcome (Ok x) refusal i h = tt
 refused_with outcome (Err x) refusal i h = subst (λ y. Refuses outcome y) (sym i) (refuses outcome refusal h)
 
 -- the same of what is recorded
-pub gives_refused : {A B : Type 0} (seen : A → B) (outcome : Answers (Tape × B)) (r : Result A NotRecorded) (refusal : NotRecorded) (new : Tape)
+pub gives_refused : {A B : Type 0} (seen : A → B) (outcome : Answers (RecorderView × B)) (r : Result A NotRecorded) (refusal : NotRecorded) (new : RecorderView)
     → IsErrAnd r (λ x. x ≡ refusal) → (refusal ≢ OutOfMemory → outcome ≡ Err refusal) → Gives seen outcome r new
 gives_refused seen outcome (Ok x) refusal new i h = absurd i
 gives_refused seen outcome (Err x) refusal new i h = subst (λ (y : NotRecorded). y ≢ OutOfMemory → outcome ≡ Err y) (sym i) h

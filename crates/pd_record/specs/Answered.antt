@@ -8,7 +8,7 @@ use Rattle.pd_run.specs.Run.{verdict_of}
 use Rattle.pd_run.specs.declared.verdicts.Verdict.TheVariants.{Pass}
 use Rattle.pd_layout.specs.Laid.{IsLaid}
 use Rattle.pd_layout.specs.Sameness.{AreTheSame, IsReadAs}
-use Rattle.pd_record.specs.Tape.{Answers}
+use Rattle.pd_record.specs.Recorder.{Answers}
 use Rattle.pd_record.specs.declared.refusals.NotRecorded.{NotRecorded}
 use Rattle.pd_record.specs.declared.refusals.NotRecorded.TheVariants.{TooLarge, Differs, OutOfMemory}
 use Rattle.pd_record.specs.Following.{FollowsRun}
@@ -38,7 +38,7 @@ pub record IsSettled (text : List (List ℕ)) (settings : Settings) : Type 0 whe
   pub laid : IsLaid text
 
 -- why a text isn't recorded: it is no script, or its recording is refused. Where the recording is too large, or differs from
--- what was recorded, there is no other reason to refuse it; for want of memory nothing more is said
+-- what was recorded, there is no other reason to refuse it; for want of memory nothing more is claimed
 abbrev pub Refuses : Answers Tracked → NotRecorded → Type 0
 Refuses outcome OutOfMemory = Unit {0}
 Refuses outcome Differs = IfErr outcome (λ other. other ≡ Differs)

@@ -11,10 +11,10 @@ use Rattle.pd_script.specs.declared.script_events.Event.{Event}
 use Rattle.pd_seg.specs.declared.segments.Sent.{Sent}
 use Rattle.pd_print.specs.Sent.{packet_of}
 use Rattle.pd_run.specs.Run.{on_script, verdict_of}
-use Rattle.pd_run.specs.Step.{Running, noted, acts_at, awaited, on_step, step}
+use Rattle.pd_run.specs.Step.{RunStateView, noted, acts_at, awaited, on_step, step}
 use Rattle.pd_run.specs.declared.verdicts.Verdict.TheVariants.{Pass}
 use Rattle.pd_record.specs.Recording.{Tracked, recording_of, events_in, events_of}
-use Rattle.pd_record.specs.Tape.{Took}
+use Rattle.pd_record.specs.Recorder.{Took}
 use Rattle.pd_record.specs.declared.tape.Own.{Own}
 use Rattle.pd_record.specs.declared.tape.Recorded.{Recorded}
 
@@ -30,17 +30,17 @@ input_at at (Calls call) = (at, calls call.function call.arguments) ∷ []
 input_at at _ = []
 
 -- the inputs of a run, in their order, each with the moment at which it acts
-abbrev pub inputs_from : List Event → Running → List (ℕ × Input)
+abbrev pub inputs_from : List Event → RunStateView → List (ℕ × Input)
 inputs_from [] r = []
 inputs_from (e ∷ es) r = input_at (acts_at r e) e.action ++ on_step (inputs_from es) (λ v. []) (step r e)
 
--- the packet that a run takes at an action, if it expects one: the oldest that stands untaken, else what the next expiry sends
-abbrev pub taken_at : Running → Event → Action → List Sent
+-- the packet that a run takes at an action, if it expects one: the oldest that is untaken, else what the next expiry sends
+abbrev pub taken_at : RunStateView → Event → Action → List Sent
 taken_at r e (Outbound packet) = on_step (λ s. take 1 s.host.state.endpoint.outbox) (λ v. []) (awaited (noted r) e)
 taken_at r e _ = []
 
 -- the packets that a run takes, in their order
-abbrev pub taken_from : List Event → Running → List Sent
+abbrev pub taken_from : List Event → RunStateView → List Sent
 taken_from [] r = []
 taken_from (e ∷ es) r = taken_at r e e.action ++ on_step (taken_from es) (λ v. []) (step r e)
 
@@ -52,7 +52,7 @@ inputs_of text settings = let parsed = script_of text in on_script (λ line. [])
 abbrev pub taken_of : List (List ℕ) → Settings → List Sent
 taken_of text settings = let parsed = script_of text in on_script (λ line. []) (λ v. []) (taken_from parsed.events) settings parsed
 
--- what stands in the place of an event of the script
+-- what is in the place of an event of the script
 abbrev pub own_in : Option Own → List Recorded
 own_in None = []
 own_in (Some own) = own.recorded ∷ []

@@ -10,10 +10,10 @@ use Rattle.pd_run.specs.Laws.{IsUnderway}
 use Rattle.pd_record.specs.declared.recordings.Recording.{Recording}
 use Rattle.pd_record.specs.declared.refusals.NotRecorded.{NotRecorded}
 use Rattle.pd_record.specs.declared.refusals.NotRecorded.TheVariants.{OutOfMemory}
-use Rattle.pd_record.specs.Tape.{Tape, Answers}
+use Rattle.pd_record.specs.Recorder.{RecorderView, Answers}
 
--- what was recorded and the tape after it, or why nothing is; for want of memory nothing is said
-abbrev pub Gives : {A B : Type 0} → (A → B) → Answers (Tape × B) → Result A NotRecorded → Tape → Type 0
+-- what was recorded and the tape after it, or why nothing is; for want of memory nothing is claimed
+abbrev pub Gives : {A B : Type 0} → (A → B) → Answers (RecorderView × B) → Result A NotRecorded → RecorderView → Type 0
 Gives seen outcome (Ok x) new = outcome ≡ Ok (new, seen x)
 Gives seen outcome (Err refusal) new = refusal ≢ OutOfMemory → outcome ≡ Err refusal
 
@@ -23,7 +23,7 @@ Finds outcome (Ok x) = outcome ≡ Ok x
 Finds outcome (Err refusal) = refusal ≢ OutOfMemory → outcome ≡ Err refusal
 
 -- the same of a step, which records nothing
-abbrev pub Goes : Answers Tape → Result (Unit {0}) NotRecorded → Tape → Type 0
+abbrev pub Goes : Answers RecorderView → Result (Unit {0}) NotRecorded → RecorderView → Type 0
 Goes outcome (Ok done) new = outcome ≡ Ok new
 Goes outcome (Err refusal) new = refusal ≢ OutOfMemory → outcome ≡ Err refusal
 
@@ -32,15 +32,15 @@ abbrev pub IsReached : ℕ → Type 0
 IsReached at = at ≤ 3600000000 * 4097
 
 -- the run of a tape goes on, at most 4,096 events were recorded, and the moments lie within their reach
-pub record Sound (t : Tape) : Type 0 where
+pub record Sound (t : RecorderView) : Type 0 where
   pub run : IsUnderway t.count t.run
   pub few : t.count ≤ 4096
   pub unmet : AllByRecursion IsReached t.unmet
 
--- some events are others and what is behind these, whatever follows; or they are not, whatever follows. Lines don't count
-abbrev pub GoesBehind : List Event → List Event → Option (Bor (List Event)) → Type 0
-GoesBehind events others None = (rest : List Event) → AreTheSame events (others ++ rest) → ⊥
-GoesBehind events others (Some behind) = (rest : List Event) → AreTheSame events (others ++ rest) ↔ AreTheSame behind.now rest
+-- some events are others and what is after these, whatever follows; or they are not, whatever follows. Lines don't count
+abbrev pub GoesAfter : List Event → List Event → Option (Bor (List Event)) → Type 0
+GoesAfter events others None = (rest : List Event) → AreTheSame events (others ++ rest) → ⊥
+GoesAfter events others (Some after) = (rest : List Event) → AreTheSame events (others ++ rest) ↔ AreTheSame after.now rest
 
 -- a recording is read as a header and events, laid out as recordings are, and has their number
 abbrev pub IsWritten : List HeaderItem → List Event → Recording → Type 0

@@ -1,7 +1,7 @@
 -- The definitions that the contracts cite.
 pub mod Scripts
 pub mod Standings
-pub mod Tape
+pub mod Recorder
 pub mod Stops
 pub mod Recording
 pub mod Following

@@ -6,7 +6,7 @@ use Rattle.pd_script.specs.declared.parsing.Parsed.{Parsed}
 use Rattle.pd_script.specs.declared.script_events.Event.{Event}
 use Rattle.pd_script.specs.declared.script_header.HeaderItem.{HeaderItem}
 use Rattle.pd_run.specs.declared.verdicts.Verdict.TheVariants.{Syntax}
-use Rattle.pd_record.specs.Tape.{Tape, Took, Answers, then_do, begun, left_by, recorded}
+use Rattle.pd_record.specs.Recorder.{RecorderView, Took, Answers, then_do, begun, left_by, recorded}
 use Rattle.pd_record.specs.declared.refusals.NotRecorded.TheVariants.{Stopped}
 use Rattle.pd_record.specs.declared.tape.Own.{Own}
 use Rattle.pd_record.specs.declared.tape.Recorded.{Recorded}
@@ -17,12 +17,12 @@ pub record Tracked : Type 0 where
   pub rest : List Recorded
 
 -- what is recorded of events in their order, after what was recorded of others
-abbrev pub records : List Event → List Took → Tape → Answers (Tape × List Took)
+abbrev pub records : List Event → List Took → RecorderView → Answers (RecorderView × List Took)
 records [] takes t = Ok (t, takes)
 records (e ∷ es) takes t = then_do (λ x. records es (takes ++ x.1 ∷ []) x.0) (recorded t e)
 
--- what stands untaken after the last event is recorded at the end
-abbrev pub closed : Tape × List Took → Answers Tracked
+-- what is untaken after the last event is recorded at the end
+abbrev pub closed : RecorderView × List Took → Answers Tracked
 closed x = then_do (λ y. Ok (record { takes = x.1; rest = y.1 })) (left_by 0 x.0.run.clock x.0)
 
 -- what is recorded of a script's events, under its header
@@ -45,7 +45,7 @@ recording_of text settings = recording_in settings (script_of text)
 abbrev pub events_in : List Recorded → List Event
 events_in = map (λ x. x.event)
 
--- what stands in the place of an event of the script
+-- what is in the place of an event of the script
 abbrev pub event_in : Option Own → List Event
 event_in None = []
 event_in (Some own) = own.recorded.event ∷ []

@@ -3,7 +3,7 @@ ghost use Rattle.std.specs.Prelude.{◌≡◌, ◌++◌, ◌∷◌, ◌↔◌, [
 ghost use Rattle.pd_layout.specs.Laid.{IsLaid};
 ghost use Rattle.pd_layout.specs.Sameness.{AreTheSame};
 ghost use Rattle.pd_script.specs.Script.{script_of};
-ghost use Rattle.pd_record.specs.Inner.{GoesBehind};
+ghost use Rattle.pd_record.specs.Inner.{GoesAfter};
 ghost use Rattle.pd_record.specs.Recording.{event_in, events_in, events_of, events_taken};
 ghost use Rattle.pd_record.specs.Scripts.{IsRead};
 
@@ -43,52 +43,52 @@ fn are_recorded(events: &[Event], tracks: &Tracks) -> bool
 {
     let mut left = events;
     for take in tracks.takes.as_slice() {
-        match behind_take(left, take) {
-            Some(behind) => left = behind,
+        match after_take(left, take) {
+            Some(after) => left = after,
             None => return false,
         }
     }
-    match behind_all(left, tracks.rest.as_slice()) {
-        Some(behind) => behind.is_empty(),
+    match after_all(left, tracks.rest.as_slice()) {
+        Some(after) => after.is_empty(),
         None => false,
     }
 }
 
-/// The events behind those that were recorded of one event of a script; nothing where they don't begin with these.
-fn behind_take<'a>(events: &'a [Event], take: &Take) -> Option<&'a [Event]>
-    ensures { GoesBehind events.now (events_taken take.now) result }
+/// The events after those that were recorded of one event of a script; nothing where they don't begin with these.
+fn after_take<'a>(events: &'a [Event], take: &Take) -> Option<&'a [Event]>
+    ensures { GoesAfter events.now (events_taken take.now) result }
 {
-    let behind = behind_all(events, take.before.as_slice())?;
-    behind_own(behind, &take.own)
+    let after = after_all(events, take.before.as_slice())?;
+    after_own(after, &take.own)
 }
 
-/// The events behind what stands in the place of an event.
-fn behind_own<'a>(events: &'a [Event], own: &Option<Own>) -> Option<&'a [Event]>
-    ensures { GoesBehind events.now (event_in own.now) result }
+/// The events after what is in the place of an event.
+fn after_own<'a>(events: &'a [Event], own: &Option<Own>) -> Option<&'a [Event]>
+    ensures { GoesAfter events.now (event_in own.now) result }
 {
     match own {
-        Some(own) => behind_one(events, &own.recorded.event),
+        Some(own) => after_one(events, &own.recorded.event),
         None => Some(events),
     }
 }
 
-/// The events behind some that were recorded.
-fn behind_all<'a>(events: &'a [Event], list: &[Recorded]) -> Option<&'a [Event]>
-    ensures { GoesBehind events.now (events_in list.now) result }
+/// The events after some that were recorded.
+fn after_all<'a>(events: &'a [Event], list: &[Recorded]) -> Option<&'a [Event]>
+    ensures { GoesAfter events.now (events_in list.now) result }
 {
     let mut left = events;
     for recorded in list {
-        match behind_one(left, &recorded.event) {
-            Some(behind) => left = behind,
+        match after_one(left, &recorded.event) {
+            Some(after) => left = after,
             None => return None,
         }
     }
     Some(left)
 }
 
-/// The events behind one.
-fn behind_one<'a>(events: &'a [Event], event: &Event) -> Option<&'a [Event]>
-    ensures { GoesBehind events.now (event.now ∷ []) result }
+/// The events after one.
+fn after_one<'a>(events: &'a [Event], event: &Event) -> Option<&'a [Event]>
+    ensures { GoesAfter events.now (event.now ∷ []) result }
 {
     match events {
         [first, others @ ..] => if is_same_event(first, event) {

@@ -3,8 +3,8 @@ ghost use Rattle.std.specs.Prelude.{◌≡◌, ◌<◌, ◌^◌, None, IfOk, IfS
 ghost use Rattle.pd_host.specs.Calls.{called};
 ghost use Rattle.pd_host.specs.Expiries.{advanced};
 ghost use Rattle.pd_host.specs.Outcome.{Answers};
-ghost use Rattle.pd_host.specs.Sender.{IsShort, then_on};
-ghost use Rattle.pd_record.specs.Tape.{answered, next_packet};
+ghost use Rattle.pd_host.specs.Host.{IsShort, then_on};
+ghost use Rattle.pd_record.specs.Recorder.{answered, next_packet};
 ghost use Rattle.pd_record.specs.Inner.{Finds};
 
 use crate::refusals::NotRecorded;
@@ -14,7 +14,7 @@ use pd_script::Call;
 use pd_seg::{Answer, Sent};
 use std::alloc::AllocError;
 
-/// The packet that leaves next: the oldest that stands untaken, else what the next expiry sends, if it comes at a moment.
+/// The packet that leaves next: the oldest that is untaken, else what the next expiry sends, if it comes at a moment.
 ///
 /// # Errors
 /// `AllocError` where a growth is refused.

@@ -4,7 +4,7 @@ ghost use Rattle.std.specs.List.{list_any};
 ghost use Rattle.pd_run.specs.Limits.{is_long, written_times};
 ghost use Rattle.pd_run.specs.Step.{tolerance_of};
 ghost use Rattle.pd_run.specs.Times.{moment_of, moments_of, is_in_reach};
-ghost use Rattle.pd_record.specs.Tape.{acts_at, answer_at, arrives, begun, calls, departs, event_at, expects, inputs, leaves_next, left_by, recorded, refusal_at, ruling_at, stepped, taken, with_base, with_unmet};
+ghost use Rattle.pd_record.specs.Recorder.{acts_at, answer_at, arrives, begun, calls, departs, event_at, expects, inputs, leaves_next, left_by, recorded, refusal_at, ruling_at, stepped, taken, with_base, with_unmet};
 ghost use Rattle.pd_record.specs.Inner.{Finds, Gives, Goes, IsReached, Sound};
 
 use crate::outcomes::outcome_of;
@@ -46,9 +46,9 @@ pub struct Recorder {
 }
 
 impl Model for Recorder {
-    ghost use Rattle.pd_record.specs.Tape.{Tape};
+    ghost use Rattle.pd_record.specs.Recorder.{RecorderView};
 
-    ghost Value = { Tape };
+    ghost Value = { RecorderView };
 
     ghost view = { λ r. record { run = r.run; count = r.count; base = r.base; unmet = r.unmet.items } };
 }
@@ -238,7 +238,7 @@ impl Recorder {
         Err(NotRecorded::TooManyEvents)
     }
 
-    /// The packet that leaves next, if it stands untaken, or an expiry up to a moment sends it.
+    /// The packet that leaves next, if it is untaken, or an expiry up to a moment sends it.
     fn next_by(&self, until: u64) -> Result<Option<Sent>, AllocError>
         requires sound { Sound self.now }
         ensures { IfOk result (λ sent. sent ≡ leaves_next (λ due. nat_le due until) self.now.run) }
@@ -250,7 +250,7 @@ impl Recorder {
         next_packet(self.run.host(), due)
     }
 
-    /// The packet that leaves next, if it stands untaken, or an expiry that may come in time for an expected one sends it.
+    /// The packet that leaves next, if it is untaken, or an expiry that may come in time for an expected one sends it.
     fn next_in_reach(&self, event: &Event) -> Result<Option<Sent>, AllocError>
         requires sound { Sound self.now }
         requires early { self.now.base < 2 ^ 60 }

@@ -19,8 +19,8 @@ use pd_host::{advances_are_lawful, sending_goes_one_by_one};
 use pd_layout::is_laid_script;
 use pd_run::{run_all, runs_are_bounded, verdicts_have_reasons};
 use pd_settings::Settings;
-use pd_text::{LineEdit, LineList, Lines};
-use std::alloc::{AllocError, Global};
+use pd_text::Lines;
+use std::alloc::Global;
 
 /// Records a script under settings, for a trace with how the sender stands after each event. The recording is read again before
 /// it is answered, unless it is the text itself.
@@ -79,7 +79,7 @@ fn keep(
     ensures refused { IfErr result (Refuses (Ok tracks.now)) }
 {
     Ok(Recording {
-        lines: copy(alloc, lines)?,
+        lines: lines.copy()?,
         events: script.events.len(),
         marks: Vec::new(alloc),
     })
@@ -120,20 +120,5 @@ fn written(
         Ok(recording) => Ok(recording),
         Err(NotRecorded::TooLarge) => Err(NotRecorded::TooLarge),
         Err(_) => Err(NotRecorded::OutOfMemory),
-    }
-}
-
-/// An equal text of its own, by an edit that changes nothing.
-fn copy(alloc: Global, lines: &Lines) -> Result<Lines, AllocError>
-    ensures { IfOk result (λ copy. copy ≡ lines.now) }
-{
-    let nothing = LineEdit {
-        from: 1,
-        remove: 0,
-        insert: LineList::new(alloc),
-    };
-    match lines.apply(&nothing) {
-        Ok(copy) => Ok(copy),
-        Err(_) => Err(AllocError),
     }
 }

@@ -44,14 +44,14 @@ pub struct Recorded {
 /// What is recorded of one event of a script.
 #[derive(Drop)]
 pub struct Take {
-    /// The packets that stand before an input: those that left before it, and that no expected packet has met.
+    /// The packets that are before an input: those that left before it, and that no expected packet has met.
     pub before: Vec<Recorded>,
-    /// What stands in the event's place: an input, or the packet that an expected one met, unless it was recorded before.
+    /// What is in the event's place: an input, or the packet that an expected one met, unless it was recorded before.
     pub own: Option<Own>,
 }
 
 impl Model for Take {
-    ghost use Rattle.pd_record.specs.Tape.{Took};
+    ghost use Rattle.pd_record.specs.Recorder.{Took};
 
     ghost Value = { Took };
 
@@ -67,7 +67,7 @@ pub struct Reply {
     pub is_written: bool,
 }
 
-/// What stands in the place of an event of a script.
+/// What is in the place of an event of a script.
 #[derive(Drop)]
 pub struct Own {
     /// What is recorded.

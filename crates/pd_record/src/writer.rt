@@ -5,7 +5,7 @@ ghost use Rattle.pd_text.specs.Text.{is_line};
 use crate::recordings::{Mark, Recording};
 use crate::refusals::NotRecorded;
 use crate::tape::{Own, Recorded, Reply, Standing};
-use pd_layout::{Extent, Layout, Piece, is_trace, put_extent};
+use pd_layout::{Extent, GapPart, Layout, is_trace, put_extent};
 use pd_print::{Direction, put_answer, put_event, put_time};
 use pd_script::{Action, Time};
 use pd_text::{LineList, Lines, MAX_OCTETS};
@@ -44,9 +44,9 @@ impl<'a> Writer<'a> {
     ///
     /// # Errors
     /// `TooLarge` and `OutOfMemory`.
-    pub fn put_pieces(&mut self, pieces: &[Piece]) -> Result<(), NotRecorded> {
+    pub fn put_pieces(&mut self, pieces: &[GapPart]) -> Result<(), NotRecorded> {
         for piece in pieces {
-            if let Piece::Comment(extent) = piece {
+            if let GapPart::Comment(extent) = piece {
                 self.put_comment(*extent)?;
             }
             self.end_line()?;
@@ -150,9 +150,9 @@ impl<'a> Writer<'a> {
     }
 
     /// Adds the comments that stay on the line of an event.
-    fn put_trail(&mut self, trail: &[Piece]) -> Result<(), NotRecorded> {
+    fn put_trail(&mut self, trail: &[GapPart]) -> Result<(), NotRecorded> {
         for piece in trail {
-            if let Piece::Comment(extent) = piece {
+            if let GapPart::Comment(extent) = piece {
                 self.line.extend_from_slice(b" ")?;
                 put_extent(&mut self.line, self.source, *extent)?;
             }
@@ -160,7 +160,7 @@ impl<'a> Writer<'a> {
         Ok(())
     }
 
-    /// Adds a comment that stands alone; one that looks like a line of a trace keeps a blank before it.
+    /// Adds a comment that is alone; one that looks like a line of a trace keeps a blank before it.
     fn put_comment(&mut self, extent: Extent) -> Result<(), NotRecorded> {
         let mut comment = Vec::new(self.alloc);
         put_extent(&mut comment, self.source, extent)?;

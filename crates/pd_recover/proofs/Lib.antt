@@ -1,4 +1,6 @@
 -- The lemmas.
+pub mod Begun
+pub mod Cases
 pub mod Chosen
 pub mod Found
 pub mod Sendable

@@ -5,11 +5,11 @@ use Rattle.std.proofs.lemmas.Bool.Decides.{nat_tests}
 use Rattle.pd_board.specs.Choice.{run_at, next_lost, next_hole, rescue, segment_to, after, most_from}
 use Rattle.pd_board.specs.Loss.{is_free}
 use Rattle.pd_board.specs.Octets.{contains, least_where, greatest_where}
-use Rattle.pd_board.specs.Scoreboard.{Scoreboard, IsScoreboard}
+use Rattle.pd_board.specs.Board.{BoardView, IsBoardView}
 use Rattle.pd_recover.specs.declared.segments.NextSegment.{NextSegment}
 use Rattle.pd_recover.specs.declared.segments.NextSegment.TheVariants.{Lost, New, Hole, Rescue}
-use Rattle.pd_recover.specs.Choice.{IsSendable, segment_of, lost_run, new_data, hole_run, rescue_run, next_segment}
-use Rattle.pd_recover.specs.Congestion.{Congestion}
+use Rattle.pd_recover.specs.Choice.{IsSendable, segment_of, lost_run, new_data, hole_run, rescue_run, next_send}
+use Rattle.pd_recover.specs.Cong.{CongView}
 use Rattle.pd_recover.proofs.Chosen.{AllOf, one_of, either_of, map_of, allowed_of}
 use Rattle.pd_recover.proofs.Found.{least, greatest}
 
@@ -25,7 +25,7 @@ first_of_two true b h = refl
 first_of_two false b h = h
 
 -- a segment that is sent again from an octet that isn't SACKed
-run_sendable : (s : Scoreboard) → IsScoreboard s → (x : ℕ) → s.una ≤ x → x < s.top → is_free x s ≡ true → IsSendable s (run_at x s)
+run_sendable : (s : BoardView) → IsBoardView s → (x : ℕ) → s.una ≤ x → x < s.top → is_free x s ≡ true → IsSendable s (run_at x s)
 run_sendable s known x from to free = record {
   from = from;
   some = above (least_where (contains s.sacked) x (most_from x s)) refl;
@@ -44,17 +44,17 @@ run_sendable s known x from to free = record {
     below None e = omega arith
     below (Some r) e = let h = least (contains s.sacked) x (most_from x s) r e in omega (arith, h.to)
 
-lost_sendable : (s : Scoreboard) → IsScoreboard s → (high x : ℕ) → next_lost high s ≡ Some x → IsSendable s (run_at x s)
+lost_sendable : (s : BoardView) → IsBoardView s → (high x : ℕ) → next_lost high s ≡ Some x → IsSendable s (run_at x s)
 lost_sendable s known high x e =
     let h = least _ s.una s.top x e in
     run_sendable s known x h.from h.to (first_of_two _ _ (first_of_two _ _ h.passes))
 
-hole_sendable : (s : Scoreboard) → IsScoreboard s → (high x : ℕ) → next_hole high s ≡ Some x → IsSendable s (run_at x s)
+hole_sendable : (s : BoardView) → IsBoardView s → (high x : ℕ) → next_hole high s ≡ Some x → IsSendable s (run_at x s)
 hole_sendable s known high x e =
     let h = least _ s.una s.top x e in
     run_sendable s known x h.from h.to (first_of_two _ _ h.passes)
 
-pub data_sendable : (rwnd : ℕ) (s : Scoreboard) → IsScoreboard s → AllOf (IsSendable s) (new_data rwnd s)
+pub data_sendable : (rwnd : ℕ) (s : BoardView) → IsBoardView s → AllOf (IsSendable s) (new_data rwnd s)
 data_sendable rwnd s known =
     allowed_of (IsSendable s) _ _ (λ t. one_of (IsSendable s) _ (record {
       from = omega (arith, known.una_next, known.next_top);
@@ -66,7 +66,7 @@ data_sendable rwnd s known =
     more : nat_lt s.top (s.top + min s.smss (s.end - s.top)) ≡ true → s.top < s.top + min s.smss (s.end - s.top)
     more t = grind (arith, nat_tests)
 
-rescue_sendable : (s : Scoreboard) → IsScoreboard s → AllOf (IsSendable s) (rescue s)
+rescue_sendable : (s : BoardView) → IsBoardView s → AllOf (IsSendable s) (rescue s)
 rescue_sendable s known =
     map_of (IsSendable s) (segment_to s) (greatest_where (λ x. is_free x s) s.una s.top) (λ e f.
     let h = greatest (λ x. is_free x s) s.una s.top e f in
@@ -81,7 +81,7 @@ rescue_sendable s known =
     before e None f = omega arith
     before e (Some g) f = let h = greatest (contains s.sacked) s.una e g f in omega (arith, h.to)
 
-pub next_sendable : (rwnd : ℕ) (s : Scoreboard) (w : Congestion) → IsScoreboard s → AllOf (λ sent. IsSendable s (segment_of sent)) (next_segment rwnd s w)
+pub next_sendable : (rwnd : ℕ) (s : BoardView) (w : CongView) → IsBoardView s → AllOf (λ sent. IsSendable s (segment_of sent)) (next_send rwnd s w)
 next_sendable rwnd s w known =
     let P : NextSegment → Type 0 = λ sent. IsSendable s (segment_of sent) in
     either_of P (lost_run s w) _ (map_of P (λ x. Lost (run_at x s)) (next_lost w.high_rxt s) (lost_sendable s known w.high_rxt))

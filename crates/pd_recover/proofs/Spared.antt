@@ -4,7 +4,7 @@ use Rattle.std.specs.Prelude.{unwrap_or, option_map}
 use Rattle.pd_board.specs.Choice.{run_at, next_lost, next_hole, rescue, segment_to, after, most_from}
 use Rattle.pd_board.specs.Loss.{is_free}
 use Rattle.pd_board.specs.Octets.{contains, least_where, greatest_where}
-use Rattle.pd_board.specs.Scoreboard.{Scoreboard, IsScoreboard}
+use Rattle.pd_board.specs.Board.{BoardView, IsBoardView}
 use Rattle.pd_recover.specs.declared.segments.NextSegment.{NextSegment}
 use Rattle.pd_recover.specs.declared.segments.NextSegment.TheVariants.{Lost, New, Hole, Rescue}
 use Rattle.pd_recover.specs.Choice.{segment_of, lost_run, new_data, hole_run, rescue_run}
@@ -17,7 +17,7 @@ sure true h = absurd (h refl)
 sure false h = refl
 
 -- a retransmitted segment ends before the next SACKed octet
-run_spared : (s : Scoreboard) (start : ℕ) → IsSpared s (run_at start s)
+run_spared : (s : BoardView) (start : ℕ) → IsSpared s (run_at start s)
 run_spared s start x l u = by_first (least_where (contains s.sacked) start (most_from start s)) refl u
   where
     by_first : (o : Option ℕ) → least_where (contains s.sacked) start (most_from start s) ≡ o → x < unwrap_or o (most_from start s) → contains s.sacked x ≡ false
@@ -25,7 +25,7 @@ run_spared s start x l u = by_first (least_where (contains s.sacked) start (most
     by_first (Some r) e v = (least (contains s.sacked) start (most_from start s) r e).first x l v
 
 -- new data lies above all that was sent
-new_spared : (rwnd : ℕ) (s : Scoreboard) → IsScoreboard s → AllOf (IsSpared s) (new_data rwnd s)
+new_spared : (rwnd : ℕ) (s : BoardView) → IsBoardView s → AllOf (IsSpared s) (new_data rwnd s)
 new_spared rwnd s known =
     allowed_of (IsSpared s) _ _ (λ _. one_of (IsSpared s) _ (λ x l u. sure (contains s.sacked x) (λ t. above x l (known.sacked_sent x t).1)))
   where
@@ -36,18 +36,18 @@ free : (b : Bool) → not b ≡ true → b ≡ false
 free true e = cc
 free false e = refl
 
--- the rescue begins behind the last SACKed octet below its end
-behind : (s : Scoreboard) (e : ℕ) (o : Option ℕ) → greatest_where (contains s.sacked) s.una e ≡ o
+-- the rescue begins after the last SACKed octet below its end
+lies_after : (s : BoardView) (e : ℕ) (o : Option ℕ) → greatest_where (contains s.sacked) s.una e ≡ o
     → (x : ℕ) → max (max s.una (e + 1 - s.smss)) (after o) ≤ x → x < e → contains s.sacked x ≡ false
-behind s e None f x l u = no_greatest (contains s.sacked) s.una e f x (omega (arith, l)) u
-behind s e (Some g) f x l u = (greatest (contains s.sacked) s.una e g f).last x (omega (arith, l)) u
+lies_after s e None f x l u = no_greatest (contains s.sacked) s.una e f x (omega (arith, l)) u
+lies_after s e (Some g) f x l u = (greatest (contains s.sacked) s.una e g f).last x (omega (arith, l)) u
 
-rescue_spared : (s : Scoreboard) → AllOf (IsSpared s) (rescue s)
+rescue_spared : (s : BoardView) → AllOf (IsSpared s) (rescue s)
 rescue_spared s =
     map_of (IsSpared s) (segment_to s) (greatest_where (λ x. is_free x s) s.una s.top) (λ e f x l u.
     split (λ y. contains s.sacked y ≡ false) e x
     (free _ (greatest (λ x. is_free x s) s.una s.top e f).passes)
-    (λ d. behind s e (greatest_where (contains s.sacked) s.una e) refl x l (omega (arith, u, d))))
+    (λ d. lies_after s e (greatest_where (contains s.sacked) s.una e) refl x l (omega (arith, u, d))))
 
 pub spares_sacked : SparesSacked
 spares_sacked = record {

@@ -1,14 +1,14 @@
 -- The window and the threshold stay within their bounds.
-use Rattle.std.proofs.Common.{◌≡◌, ℕ, ◌+◌, ◌-◌, ◌*◌, ◌/◌, ◌^◌, ◌≤◌, ◌==◌, ◌&&◌, ◌||◌, min, max, nat_lt, nat_le, Bool, true, false, if◌then◌else◌, Option, Some, None, refl, subst, ◌∙◌, arith}
+use Rattle.std.proofs.Common.{◌≡◌, ℕ, ◌+◌, ◌-◌, ◌*◌, ◌/◌, ◌^◌, ◌≤◌, ◌&&◌, min, max, nat_lt, nat_le, Bool, true, false, if◌then◌else◌, Option, Some, None, refl, subst, ◌∙◌, arith}
 use Rattle.pd_recover.specs.declared.feedback.Ack.{Ack}
 use Rattle.pd_recover.specs.declared.feedback.News.{News}
 use Rattle.pd_recover.specs.declared.responses.Then.{Then}
-use Rattle.pd_seg.specs.declared.sack_blocks.Span.{Span}
 use Rattle.pd_settings.specs.declared.initial_window.InitialWindow.{InitialWindow}
 use Rattle.pd_settings.specs.declared.initial_window.InitialWindow.TheVariants.{Rfc5681, Rfc6928}
-use Rattle.pd_recover.specs.Acks.{acked, renewed, told, told_by_sack, told_by_number, selective_duplicate, plain_duplicate, sent_limited, counted, grown_by, advanced, entered, recovered, retransmitted, new_segment, is_duplicate}
-use Rattle.pd_recover.specs.Congestion.{Congestion, first_segments, window_by, first_window, widened, growth}
+use Rattle.pd_recover.specs.Acks.{acked, renewed, told, told_by_sack, told_by_number, selective_duplicate, plain_duplicate, counted, grown_by, advanced, entered, recovered, retransmitted, is_duplicate}
+use Rattle.pd_recover.specs.Cong.{CongView, first_segments, window_by, first_window, widened, growth}
 use Rattle.pd_recover.specs.Laws.{IsWithin, StaysWithin}
+use Rattle.pd_recover.proofs.Cases.{selective_cases, plain_cases}
 
 -- what holds of both branches holds of the choice
 chosen : {A : Type 0} (P : A → Type 0) (b : Bool) (x y : A) → (b ≡ true → P x) → (b ≡ false → P y) → P (if b then x else y)
@@ -46,7 +46,7 @@ first_in_range rule smss true small = (omega arith, omega (arith, small))
 first_in_range rule smss false small = in_range rule smss small
 
 module _ (initial smss : ℕ) (small : smss ≤ 65495) where
-  widened-within : (octets : ℕ) (w : Congestion) → IsWithin smss initial w → IsWithin smss initial (widened octets w)
+  widened-within : (octets : ℕ) (w : CongView) → IsWithin smss initial w → IsWithin smss initial (widened octets w)
   widened-within octets w h = record {
     cwnd_from = omega (arith, small, h.cwnd_from);
     cwnd_to = omega arith;
@@ -56,16 +56,16 @@ module _ (initial smss : ℕ) (small : smss ≤ 65495) where
   }
 
 module _ (initial : ℕ) (ack : Ack) (small : ack.smss ≤ 65495) (few : ack.top - ack.una ≤ 2 ^ 20 + 1) where
-  abbrev Within : Congestion → Type 0
+  abbrev Within : CongView → Type 0
   Within w = IsWithin ack.smss initial w
 
-  abbrev LeadsWithin : Congestion × Then → Type 0
+  abbrev LeadsWithin : CongView × Then → Type 0
   LeadsWithin step = IsWithin ack.smss initial step.0
 
   fewer : (limited : ℕ) → ack.top - ack.una - limited ≤ 2 ^ 20 + 1
   fewer limited = omega (arith, few)
 
-  same : (v w : Congestion) → v.cwnd ≡ w.cwnd → v.ssthresh ≡ w.ssthresh → v.recovering ≡ w.recovering → Within v → Within w
+  same : (v w : CongView) → v.cwnd ≡ w.cwnd → v.ssthresh ≡ w.ssthresh → v.recovering ≡ w.recovering → Within v → Within w
   same v w c s r h = record {
     cwnd_from = subst (λ n. ack.smss ≤ n) c h.cwnd_from;
     cwnd_to = subst (λ n. n ≤ 2 ^ 30) c h.cwnd_to;
@@ -74,15 +74,15 @@ module _ (initial : ℕ) (ack : Ack) (small : ack.smss ≤ 65495) (few : ack.top
     recovering = λ e. subst (λ n. 2 * ack.smss ≤ n) s (h.recovering (r ∙ e));
   }
 
-  renewed-within : (w : Congestion) → Within w → Within (renewed ack w)
+  renewed-within : (w : CongView) → Within w → Within (renewed ack w)
   renewed-within w h =
       chosen Within (nat_lt 0 ack.acked) _ w (λ _. same w _ refl refl refl h) (λ _. h)
 
-  grown_by-within : (w : Congestion) → Within w → Within (grown_by ack w)
+  grown_by-within : (w : CongView) → Within w → Within (grown_by ack w)
   grown_by-within w h =
       chosen Within (nat_lt 0 ack.acked) _ w (λ _. widened-within initial ack.smss small (growth ack.smss ack.acked w) w h) (λ _. h)
 
-  recovered-within : (w : Congestion) → Within w → Within (recovered w)
+  recovered-within : (w : CongView) → Within w → Within (recovered w)
   recovered-within w h = record {
     cwnd_from = h.cwnd_from;
     cwnd_to = h.cwnd_to;
@@ -91,7 +91,7 @@ module _ (initial : ℕ) (ack : Ack) (small : ack.smss ≤ 65495) (few : ack.top
     recovering = λ e. cc;
   }
 
-  entered-within : (w : Congestion) → Within (entered ack w)
+  entered-within : (w : CongView) → Within (entered ack w)
   entered-within w =
       let flight = ack.top - ack.una - w.limited in
       let to = half_to flight ack.smss small (fewer w.limited) in
@@ -104,7 +104,7 @@ module _ (initial : ℕ) (ack : Ack) (small : ack.smss ≤ 65495) (few : ack.top
         recovering = λ _. from;
       }
 
-  retransmitted-within : (w : Congestion) → Within (retransmitted ack w)
+  retransmitted-within : (w : CongView) → Within (retransmitted ack w)
   retransmitted-within w =
       let flight = ack.top - ack.una - w.limited in
       let to = half_to flight ack.smss small (fewer w.limited) in
@@ -117,12 +117,11 @@ module _ (initial : ℕ) (ack : Ack) (small : ack.smss ≤ 65495) (few : ack.top
         recovering = λ _. from;
       }
 
-  selective_duplicate-within : (lost : Bool) (w : Congestion) → Within w → LeadsWithin (selective_duplicate ack lost w)
+  selective_duplicate-within : (lost : Bool) (w : CongView) → Within w → LeadsWithin (selective_duplicate ack lost w)
   selective_duplicate-within lost w h =
-      chosen LeadsWithin (nat_lt ack.una w.recovery_point) _ _ (λ _. h)
-      (λ _. chosen LeadsWithin (nat_le 3 w.dup_acks || lost) _ _ (λ _. entered-within w) (λ _. same w _ refl refl refl h))
+      selective_cases LeadsWithin ack lost w h (entered-within w) (same w _ refl refl refl h)
 
-  told_by_sack-within : (news : News) (w : Congestion) → Within w → LeadsWithin (told_by_sack ack news w)
+  told_by_sack-within : (news : News) (w : CongView) → Within w → LeadsWithin (told_by_sack ack news w)
   told_by_sack-within news w h =
       chosen LeadsWithin (w.recovering && nat_le w.recovery_point ack.una) _ _ (λ _. recovered-within w h)
       (λ _. chosen LeadsWithin w.recovering _ _ (λ _. h)
@@ -130,7 +129,7 @@ module _ (initial : ℕ) (ack : Ack) (small : ack.smss ≤ 65495) (few : ack.top
       (λ _. selective_duplicate-within news.lost _ (same (grown_by ack w) _ refl refl refl (grown_by-within w h)))
       (λ _. grown_by-within w h)))
 
-  advanced-within : (w : Congestion) → Within w → Within (advanced ack w)
+  advanced-within : (w : CongView) → Within w → Within (advanced ack w)
   advanced-within w h =
       chosen Within w.recovering _ _
       (λ recovering. record {
@@ -142,33 +141,26 @@ module _ (initial : ℕ) (ack : Ack) (small : ack.smss ≤ 65495) (few : ack.top
       })
       (λ _. grown_by-within w h)
 
-  sent_limited-within : (segment : Option Span) (w : Congestion) → Within w → LeadsWithin (sent_limited ack segment w)
-  sent_limited-within None w h = h
-  sent_limited-within (Some segment) w h =
-      chosen LeadsWithin (nat_le (segment.end - ack.una) (w.cwnd + 2 * ack.smss)) _ _ (λ _. same w _ refl refl refl h) (λ _. h)
-
-  plain_duplicate-within : (w : Congestion) → Within w → LeadsWithin (plain_duplicate ack w)
+  plain_duplicate-within : (w : CongView) → Within w → LeadsWithin (plain_duplicate ack w)
   plain_duplicate-within w h =
-      chosen LeadsWithin (nat_lt w.dup_acks 3) _ _
-      (λ _. sent_limited-within (new_segment ack.smss ack.una ack.top ack.end ack.rwnd) w h)
-      (λ _. chosen LeadsWithin (w.dup_acks == 3) _ _ (λ _. retransmitted-within w) (λ _. widened-within initial ack.smss small ack.smss w h))
+      plain_cases LeadsWithin ack w h (λ _ _. same w _ refl refl refl h) (retransmitted-within w) (widened-within initial ack.smss small ack.smss w h)
 
-  told_by_number-within : (w : Congestion) → Within w → LeadsWithin (told_by_number ack w)
+  told_by_number-within : (w : CongView) → Within w → LeadsWithin (told_by_number ack w)
   told_by_number-within w h =
       chosen LeadsWithin (nat_lt 0 ack.acked) _ _ (λ _. advanced-within w h)
       (λ _. chosen LeadsWithin (is_duplicate ack && nat_le w.recovery_point ack.una) _ _
       (λ _. plain_duplicate-within (counted w) (same w _ refl refl refl h))
       (λ _. h))
 
-  told-within : (sack : Option News) (w : Congestion) → Within w → LeadsWithin (told ack sack w)
+  told-within : (sack : Option News) (w : CongView) → Within w → LeadsWithin (told ack sack w)
   told-within None w h = told_by_number-within w h
   told-within (Some news) w h = told_by_sack-within news w h
 
-  acked-within : (w : Congestion) → Within w → LeadsWithin (acked ack w)
+  acked-within : (w : CongView) → Within w → LeadsWithin (acked ack w)
   acked-within w h = told-within ack.sack (renewed ack w) (renewed-within w h)
 
 -- the threshold after an expiry
-after_expiry : (initial smss flight : ℕ) (w : Congestion) (expired : Bool) → smss ≤ 65495 → flight ≤ 2 ^ 20 + 1 → IsWithin smss initial w
+after_expiry : (initial smss flight : ℕ) (w : CongView) (expired : Bool) → smss ≤ 65495 → flight ≤ 2 ^ 20 + 1 → IsWithin smss initial w
     → (min (2 * smss) initial ≤ (if expired then w.ssthresh else half flight smss)) × ((if expired then w.ssthresh else half flight smss) ≤ 2 ^ 30)
 after_expiry initial smss flight w true small few h = (h.ssthresh_from, h.ssthresh_to)
 after_expiry initial smss flight w false small few h =
@@ -176,11 +168,11 @@ after_expiry initial smss flight w false small few h =
 
 pub stays_within : StaysWithin
 stays_within = record {
-  first = λ rule initial smss resent small high. record {
-    cwnd_from = (first_in_range rule smss resent small).0;
-    cwnd_to = (first_in_range rule smss resent small).1;
+  first = λ settings smss resent small. record {
+    cwnd_from = (first_in_range settings.initial_window smss resent small).0;
+    cwnd_to = (first_in_range settings.initial_window smss resent small).1;
     ssthresh_from = omega arith;
-    ssthresh_to = high;
+    ssthresh_to = settings.initial_ssthresh_in_range.1;
     recovering = λ e. cc;
   };
   ack = λ initial ack w small few h. acked-within initial ack small few w h;

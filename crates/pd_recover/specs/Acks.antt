@@ -1,11 +1,12 @@
 -- What an ACK makes of the congestion window and of loss recovery, and what it leads to.
 use Rattle.std.specs.Prelude.{⊤, ◌≡◌, ℕ, ◌+◌, ◌-◌, ◌*◌, ◌^◌, ◌<◌, ◌≤◌, ◌==◌, nat_lt, nat_le, not, min, Bool, true, false, ◌&&◌, ◌||◌, Option, Some, None, if◌then◌else◌}
+use Rattle.pd_board.specs.Loss.{dup_thresh}
 use Rattle.pd_seg.specs.declared.sack_blocks.Span.{Span}
 use Rattle.pd_recover.specs.declared.feedback.Ack.{Ack}
 use Rattle.pd_recover.specs.declared.feedback.News.{News}
 use Rattle.pd_recover.specs.declared.responses.Then.{Then}
 use Rattle.pd_recover.specs.declared.responses.Then.TheVariants.{Ordinary, StepC, Entry, LimitedTransmit, NewSegment, FastRetransmit, Nothing}
-use Rattle.pd_recover.specs.Congestion.{Congestion, widened, grown, halved, with_limited}
+use Rattle.pd_recover.specs.Cong.{CongView, widened, grown, halved, with_limited}
 
 -- an ACK's numbers are in order and in their ranges
 pub record IsAck (ack : Ack) : Type 0 where
@@ -16,22 +17,22 @@ pub record IsAck (ack : Ack) : Type 0 where
   pub small : ack.end < 2 ^ 31
 
 -- an ACK of new octets begins the counts anew, and no expiry is noted any more
-abbrev pub renewed : Ack → Congestion → Congestion
+abbrev pub renewed : Ack → CongView → CongView
 renewed ack w =
     if nat_lt 0 ack.acked
     then record w { dup_acks = 0; limited = 0; expired = false }
     else w
 
 -- outside recovery an ACK of new octets widens the window
-abbrev pub grown_by : Ack → Congestion → Congestion
+abbrev pub grown_by : Ack → CongView → CongView
 grown_by ack w = if nat_lt 0 ack.acked then grown ack.smss ack.acked w else w
 
 -- one more duplicate
-abbrev pub counted : Congestion → Congestion
-counted w = record w { dup_acks = min (w.dup_acks + 1) 4 }
+abbrev pub counted : CongView → CongView
+counted w = record w { dup_acks = min (w.dup_acks + 1) (dup_thresh + 1) }
 
 -- half of what is outstanding at an ACK
-abbrev pub half_of : Ack → Congestion → ℕ
+abbrev pub half_of : Ack → CongView → ℕ
 half_of ack w = halved ack.smss ack.una ack.top w
 
 -- the new segment at top, where data is queued and the peer's window takes it (RFC 6675, section 4, NextSeg, rule 2)
@@ -43,11 +44,11 @@ new_segment smss una top end rwnd =
 -- With SACK (RFC 6675, section 5)
 
 -- una has reached RecoveryPoint: recovery ends
-abbrev pub recovered : Congestion → Congestion
+abbrev pub recovered : CongView → CongView
 recovered w = record w { dup_acks = 0; limited = 0; recovering = false }
 
 -- recovery begins: RecoveryPoint is what was sent, and the window is halved (steps 4.1 and 4.2)
-abbrev pub entered : Ack → Congestion → Congestion
+abbrev pub entered : Ack → CongView → CongView
 entered ack w = record w {
   cwnd = half_of ack w;
   ssthresh = half_of ack w;
@@ -55,16 +56,17 @@ entered ack w = record w {
   recovery_point = ack.top;
 }
 
--- a duplicate that told a new octet: below RecoveryPoint it begins nothing; the third, or one that shows una to be lost,
--- begins recovery; another puts HighRxt at HighACK and leads to limited transmit (steps 1 to 3)
-abbrev pub selective_duplicate : Ack → Bool → Congestion → Congestion × Then
+-- a duplicate that told a new octet: below RecoveryPoint it begins nothing; DupThresh of them, or one that shows una to be lost,
+-- begin recovery; another puts HighRxt at HighACK and leads to limited transmit, where that is on (steps 1 to 3)
+abbrev pub selective_duplicate : Ack → Bool → CongView → CongView × Then
 selective_duplicate ack lost w =
     if nat_lt ack.una w.recovery_point then (w, Ordinary)
-    else if nat_le 3 w.dup_acks || lost then (entered ack w, Entry)
-    else (record w { high_rxt = ack.una }, LimitedTransmit)
+    else if nat_le dup_thresh w.dup_acks || lost then (entered ack w, Entry)
+    else if w.sends_early then (record w { high_rxt = ack.una }, LimitedTransmit)
+    else (w, Ordinary)
 
 -- an ACK where SACK was agreed
-abbrev pub told_by_sack : Ack → News → Congestion → Congestion × Then
+abbrev pub told_by_sack : Ack → News → CongView → CongView × Then
 told_by_sack ack news w =
     if w.recovering && nat_le w.recovery_point ack.una then (recovered w, Ordinary)
     else if w.recovering then (w, StepC)
@@ -79,58 +81,59 @@ abbrev pub is_duplicate : Ack → Bool
 is_duplicate ack = ack.acked == 0 && (nat_lt ack.una ack.top && (ack.same_window && not ack.fin))
 
 -- the window is deflated, and recovery ends (step 6)
-abbrev pub deflated : Congestion → Congestion
+abbrev pub deflated : CongView → CongView
 deflated w = record w { cwnd = w.ssthresh; recovering = false }
 
 -- an ACK of new octets ends recovery, and outside it widens the window
-abbrev pub advanced : Ack → Congestion → Congestion
+abbrev pub advanced : Ack → CongView → CongView
 advanced ack w = if w.recovering then deflated w else grown_by ack w
 
 -- the segment is sent, where what is outstanding with it is at most 2 segments beyond the window (RFC 3042)
-abbrev pub sent_limited : Ack → Option Span → Congestion → Congestion × Then
+abbrev pub sent_limited : Ack → Option Span → CongView → CongView × Then
 sent_limited ack None w = (w, Nothing)
 sent_limited ack (Some segment) w =
     if nat_le (segment.end - ack.una) (w.cwnd + 2 * ack.smss)
     then (with_limited (segment.end - segment.start) w, NewSegment segment)
     else (w, Nothing)
 
--- the first two duplicates send one new segment (step 1; RFC 3042)
-abbrev pub limited_transmit : Ack → Congestion → Congestion × Then
-limited_transmit ack w = sent_limited ack (new_segment ack.smss ack.una ack.top ack.end ack.rwnd) w
+-- each duplicate before that sends one new segment, where limited transmit is on (step 1; RFC 3042)
+abbrev pub limited_transmit : Ack → CongView → CongView × Then
+limited_transmit ack w =
+    if w.sends_early then sent_limited ack (new_segment ack.smss ack.una ack.top ack.end ack.rwnd) w else (w, Nothing)
 
 -- the segment at una, SMSS octets at most
 abbrev pub first_outstanding : Ack → Span
 first_outstanding ack = record { start = ack.una; end = min (ack.una + ack.smss) ack.top }
 
--- the third duplicate begins recovery (steps 2 and 3)
-abbrev pub retransmitted : Ack → Congestion → Congestion
+-- DupThresh duplicates begin recovery: the window is as if each were a segment that has left the network (steps 2 and 3)
+abbrev pub retransmitted : Ack → CongView → CongView
 retransmitted ack w = record w {
-  cwnd = half_of ack w + 3 * ack.smss;
+  cwnd = half_of ack w + dup_thresh * ack.smss;
   ssthresh = half_of ack w;
   recovering = true;
 }
 
--- a duplicate by its number; each beyond the third widens the window by a segment (steps 1 to 4)
-abbrev pub plain_duplicate : Ack → Congestion → Congestion × Then
+-- a duplicate by its number; each further one widens the window by a segment (steps 1 to 4)
+abbrev pub plain_duplicate : Ack → CongView → CongView × Then
 plain_duplicate ack w =
-    if nat_lt w.dup_acks 3 then limited_transmit ack w
-    else if w.dup_acks == 3 then (retransmitted ack w, FastRetransmit (first_outstanding ack))
+    if nat_lt w.dup_acks dup_thresh then limited_transmit ack w
+    else if w.dup_acks == dup_thresh then (retransmitted ack w, FastRetransmit (first_outstanding ack))
     else (widened ack.smss w, Ordinary)
 
 -- an ACK where SACK wasn't agreed; a duplicate below RecoveryPoint isn't counted
-abbrev pub told_by_number : Ack → Congestion → Congestion × Then
+abbrev pub told_by_number : Ack → CongView → CongView × Then
 told_by_number ack w =
     if nat_lt 0 ack.acked then (advanced ack w, Ordinary)
     else if is_duplicate ack && nat_le w.recovery_point ack.una then plain_duplicate ack (counted w)
     else (w, Ordinary)
 
 -- an ACK by what it tells
-abbrev pub told : Ack → Option News → Congestion → Congestion × Then
+abbrev pub told : Ack → Option News → CongView → CongView × Then
 told ack (Some news) w = told_by_sack ack news w
 told ack None w = told_by_number ack w
 
 -- the state after an ACK, and what the ACK leads to
-abbrev pub acked : Ack → Congestion → Congestion × Then
+abbrev pub acked : Ack → CongView → CongView × Then
 acked ack w = told ack ack.sack (renewed ack w)
 
 -- a segment that an ACK names has octets: new ones at top, or outstanding ones at una

@@ -3,11 +3,11 @@ use Rattle.std.specs.Prelude.{ℕ, ◌+◌, ◌-◌, ◌<◌, ◌≤◌, nat_le,
 use Rattle.std.specs.Option.{option_or}
 use Rattle.pd_seg.specs.declared.sack_blocks.Span.{Span}
 use Rattle.pd_board.specs.Choice.{run_at, next_lost, next_hole, rescue}
-use Rattle.pd_board.specs.Scoreboard.{Scoreboard}
+use Rattle.pd_board.specs.Board.{BoardView}
 use Rattle.pd_recover.specs.declared.segments.NextSegment.{NextSegment}
 use Rattle.pd_recover.specs.declared.segments.NextSegment.TheVariants.{Lost, New, Hole, Rescue}
 use Rattle.pd_recover.specs.Acks.{new_segment}
-use Rattle.pd_recover.specs.Congestion.{Congestion}
+use Rattle.pd_recover.specs.Cong.{CongView}
 
 -- the octets of a segment
 abbrev pub segment_of : NextSegment → Span
@@ -17,30 +17,30 @@ segment_of (Hole segment) = segment
 segment_of (Rescue segment) = segment
 
 -- a segment that can be sent: some octets that aren't acknowledged and are queued, SMSS at most
-pub record IsSendable (s : Scoreboard) (segment : Span) : Type 0 where
+pub record IsSendable (s : BoardView) (segment : Span) : Type 0 where
   pub from : s.una ≤ segment.start
   pub some : segment.start < segment.end
   pub short : segment.end ≤ segment.start + s.smss
   pub queued : segment.end ≤ s.end
 
 -- rule 1: from the first lost octet that wasn't sent again
-abbrev pub lost_run : Scoreboard → Congestion → Option NextSegment
+abbrev pub lost_run : BoardView → CongView → Option NextSegment
 lost_run s w = option_map (λ x. Lost (run_at x s)) (next_lost w.high_rxt s)
 
 -- rule 2: up to SMSS octets of new data, where the peer's window takes them
-abbrev pub new_data : ℕ → Scoreboard → Option Span
+abbrev pub new_data : ℕ → BoardView → Option Span
 new_data rwnd s = new_segment s.smss s.una s.top s.end rwnd
 
 -- rule 3: from the first octet that wasn't sent again and lies below a SACKed one
-abbrev pub hole_run : Scoreboard → Congestion → Option NextSegment
+abbrev pub hole_run : BoardView → CongView → Option NextSegment
 hole_run s w = option_map (λ x. Hole (run_at x s)) (next_hole w.high_rxt s)
 
 -- rule 4: the last octets that aren't SACKed, where HighACK is above RescueRxt
-abbrev pub rescue_run : Scoreboard → Congestion → Option NextSegment
+abbrev pub rescue_run : BoardView → CongView → Option NextSegment
 rescue_run s w = if nat_lt w.rescue_rxt s.una then option_map (λ segment. Rescue segment) (rescue s) else None
 
 -- the first rule that gives a segment, by what the second one gives
-abbrev pub first_given : Option Span → Scoreboard → Congestion → Option NextSegment
+abbrev pub first_given : Option Span → BoardView → CongView → Option NextSegment
 first_given unsent s w =
     option_or (lost_run s w)
     (option_or (option_map (λ segment. New segment) unsent)
@@ -48,23 +48,23 @@ first_given unsent s w =
     (rescue_run s w)))
 
 -- NextSeg: the first rule that gives a segment; by rule 5 there is none
-abbrev pub next_segment : ℕ → Scoreboard → Congestion → Option NextSegment
-next_segment rwnd s w = first_given (new_data rwnd s) s w
+abbrev pub next_send : ℕ → BoardView → CongView → Option NextSegment
+next_send rwnd s w = first_given (new_data rwnd s) s w
 
 -- cwnd - pipe is at least SMSS: a full segment has room between what is on the way and the window
-abbrev pub has_room : ℕ → Scoreboard → Congestion → Bool
+abbrev pub has_room : ℕ → BoardView → CongView → Bool
 has_room pipe s w = nat_le s.smss (w.cwnd - pipe)
 
 -- step C: the next segment while there is room
-abbrev pub step_c_segment : ℕ → ℕ → Scoreboard → Congestion → Option NextSegment
-step_c_segment rwnd pipe s w = if has_room pipe s w then next_segment rwnd s w else None
+abbrev pub step_c_segment : ℕ → ℕ → BoardView → CongView → Option NextSegment
+step_c_segment rwnd pipe s w = if has_room pipe s w then next_send rwnd s w else None
 
 -- limited transmit: new data while there is room (section 5, step 3)
-abbrev pub limited_segment : ℕ → ℕ → Scoreboard → Congestion → Option Span
+abbrev pub limited_segment : ℕ → ℕ → BoardView → CongView → Option Span
 limited_segment rwnd pipe s w = if has_room pipe s w then new_data rwnd s else None
 
 -- what a segment sent by these rules moves: rules 1 and 3 HighRxt, rule 4 RescueRxt
-abbrev pub noted : NextSegment → Congestion → Congestion
+abbrev pub noted : NextSegment → CongView → CongView
 noted (Lost segment) w = record w { high_rxt = segment.end }
 noted (New segment) w = w
 noted (Hole segment) w = record w { high_rxt = segment.end }

@@ -1,20 +1,22 @@
 -- What holds of every state that the rules reach.
 use Rattle.std.specs.Prelude.{◌≡◌, ◌≢◌, ◌↔◌, Some, ℕ, ◌+◌, ◌-◌, ◌*◌, ◌^◌, ◌<◌, ◌≤◌, min, Bool, true, false, None, IsSome}
 use Rattle.pd_seg.specs.declared.sack_blocks.Span.{Span}
-use Rattle.pd_settings.specs.declared.initial_window.InitialWindow.{InitialWindow}
+use Rattle.pd_settings.specs.declared.fields.Settings.{Settings}
+use Rattle.pd_settings.specs.declared.use_set.UseSet.{UseSet}
+use Rattle.pd_settings.specs.Uses.{Agree}
 use Rattle.pd_board.specs.Choice.{run_at}
 use Rattle.pd_board.specs.Octets.{contains}
-use Rattle.pd_board.specs.Scoreboard.{Scoreboard, IsScoreboard}
+use Rattle.pd_board.specs.Board.{BoardView, IsBoardView}
 use Rattle.pd_recover.specs.declared.segments.NextSegment.{NextSegment}
 use Rattle.pd_recover.specs.declared.segments.NextSegment.TheVariants.{Rescue}
 use Rattle.pd_recover.specs.declared.feedback.Ack.{Ack}
 use Rattle.pd_recover.specs.Acks.{acked}
-use Rattle.pd_recover.specs.Choice.{IsSendable, segment_of, new_data, next_segment, step_c_segment, noted}
-use Rattle.pd_recover.specs.Congestion.{Congestion, begun, timed_out}
+use Rattle.pd_recover.specs.Choice.{IsSendable, segment_of, new_data, next_send, step_c_segment, noted}
+use Rattle.pd_recover.specs.Cong.{CongView, begun, begun_uses, timed_out}
 
 -- the window lies between one segment and 2^30, the threshold between 2 segments, or its initial value where that is lower,
 -- and 2^30; in recovery it is at least 2 segments
-pub record IsWithin (smss initial_ssthresh : ℕ) (w : Congestion) : Type 0 where
+pub record IsWithin (smss initial_ssthresh : ℕ) (w : CongView) : Type 0 where
   pub cwnd_from : smss ≤ w.cwnd
   pub cwnd_to : w.cwnd ≤ 2 ^ 30
   pub ssthresh_from : min (2 * smss) initial_ssthresh ≤ w.ssthresh
@@ -24,33 +26,39 @@ pub record IsWithin (smss initial_ssthresh : ℕ) (w : Congestion) : Type 0 wher
 -- the window and the threshold stay there where at most 2^20 octets are queued, beside the FIN (RFC 5681, section 3.1)
 pub record StaysWithin : Type 0 where
   pub first :
-      (rule : InitialWindow) (initial_ssthresh smss : ℕ) (resent : Bool)
-      → smss ≤ 65495 → initial_ssthresh ≤ 2 ^ 30
-      → IsWithin smss initial_ssthresh (begun rule initial_ssthresh smss resent)
+      (settings : Settings) (smss : ℕ) (resent : Bool)
+      → smss ≤ 65495
+      → IsWithin smss settings.initial_ssthresh (begun settings smss resent)
   pub ack :
-      (initial_ssthresh : ℕ) (ack : Ack) (w : Congestion)
+      (initial_ssthresh : ℕ) (ack : Ack) (w : CongView)
       → ack.smss ≤ 65495 → ack.top - ack.una ≤ 2 ^ 20 + 1
       → IsWithin ack.smss initial_ssthresh w
       → IsWithin ack.smss initial_ssthresh (acked ack w).0
   pub expiry :
-      (initial_ssthresh smss una top : ℕ) (w : Congestion)
+      (initial_ssthresh smss una top : ℕ) (w : CongView)
       → smss ≤ 65495 → top - una ≤ 2 ^ 20 + 1
       → IsWithin smss initial_ssthresh w
       → IsWithin smss initial_ssthresh (timed_out smss una top w)
+
+-- a connection begins alike by settings that agree on those that are consulted
+abbrev pub BeginsByUses : Type 0
+BeginsByUses =
+    (uses : UseSet) (a b : Settings) (smss : ℕ) (resent : Bool) → Agree (begun_uses uses) a b
+    → begun b smss resent ≡ begun a smss resent
 
 -- an ACK ends recovery exactly where una reaches RecoveryPoint, if SACK was agreed, and else exactly where it
 -- acknowledges new octets; an expiry always ends it (RFC 6675, section 5; RFC 5681, section 3.2)
 pub record EndsInTime : Type 0 where
   pub with_sack :
-      (ack : Ack) (w : Congestion) → IsSome ack.sack → w.recovering ≡ true
+      (ack : Ack) (w : CongView) → IsSome ack.sack → w.recovering ≡ true
       → ((acked ack w).0.recovering ≡ false) ↔ (w.recovery_point ≤ ack.una)
   pub without_sack :
-      (ack : Ack) (w : Congestion) → ack.sack ≡ None → w.recovering ≡ true
+      (ack : Ack) (w : CongView) → ack.sack ≡ None → w.recovering ≡ true
       → ((acked ack w).0.recovering ≡ false) ↔ (0 < ack.acked)
-  pub expiry : (smss una top : ℕ) (w : Congestion) → (timed_out smss una top w).recovering ≡ false
+  pub expiry : (smss una top : ℕ) (w : CongView) → (timed_out smss una top w).recovering ≡ false
 
 -- cwnd, ssthresh, RecoveryPoint, HighRxt and RescueRxt stay as they are (RFC 6675, section 5)
-pub record IsUnmoved (v w : Congestion) : Type 0 where
+pub record IsUnmoved (v w : CongView) : Type 0 where
   pub cwnd : w.cwnd ≡ v.cwnd
   pub ssthresh : w.ssthresh ≡ v.ssthresh
   pub recovery_point : w.recovery_point ≡ v.recovery_point
@@ -60,45 +68,45 @@ pub record IsUnmoved (v w : Congestion) : Type 0 where
 -- an ACK with SACK that doesn't end recovery leaves them so
 abbrev pub RestsInRecovery : Type 0
 RestsInRecovery =
-    (ack : Ack) (w : Congestion) → IsSome ack.sack → w.recovering ≡ true
+    (ack : Ack) (w : CongView) → IsSome ack.sack → w.recovering ≡ true
     → (acked ack w).0.recovering ≡ true
     → IsUnmoved w (acked ack w).0
 
 -- one rescue a recovery: it moves RescueRxt to RecoveryPoint, what is sent then leaves both there (as ACKs do, above),
 -- and while una is at or below RecoveryPoint no other is given (RFC 6675, section 4, NextSeg, rule 4)
 pub record RescuesOnce : Type 0 where
-  pub moved : (segment : Span) (w : Congestion) → (noted (Rescue segment) w).rescue_rxt ≡ w.recovery_point
+  pub moved : (segment : Span) (w : CongView) → (noted (Rescue segment) w).rescue_rxt ≡ w.recovery_point
   pub kept :
-      (sent : NextSegment) (w : Congestion) → w.rescue_rxt ≡ w.recovery_point
+      (sent : NextSegment) (w : CongView) → w.rescue_rxt ≡ w.recovery_point
       → (noted sent w).rescue_rxt ≡ (noted sent w).recovery_point
   pub last :
-      (rwnd : ℕ) (s : Scoreboard) (w : Congestion) (segment : Span)
+      (rwnd : ℕ) (s : BoardView) (w : CongView) (segment : Span)
       → w.rescue_rxt ≡ w.recovery_point → s.una ≤ w.recovery_point
-      → next_segment rwnd s w ≢ Some (Rescue segment)
+      → next_send rwnd s w ≢ Some (Rescue segment)
 
 -- step C sends where a full segment has room between what is on the way and the window (RFC 6675, section 5, step C)
 abbrev pub KeepsWindow : Type 0
 KeepsWindow =
-    (rwnd pipe : ℕ) (s : Scoreboard) (w : Congestion) (sent : NextSegment)
+    (rwnd pipe : ℕ) (s : BoardView) (w : CongView) (sent : NextSegment)
     → step_c_segment rwnd pipe s w ≡ Some sent
     → s.smss ≤ w.cwnd - pipe
 
 -- no octet of a segment is SACKed
-abbrev pub IsSpared : Scoreboard → Span → Type 0
+abbrev pub IsSpared : BoardView → Span → Type 0
 IsSpared s segment = (x : ℕ) → segment.start ≤ x → x < segment.end → contains s.sacked x ≡ false
 
 -- what is SACKed isn't sent again, neither by an entry nor by NextSeg (RFC 2018, section 5; RFC 6675, section 4)
 pub record SparesSacked : Type 0 where
-  pub again : (s : Scoreboard) (start : ℕ) → IsSpared s (run_at start s)
+  pub again : (s : BoardView) (start : ℕ) → IsSpared s (run_at start s)
   pub chosen :
-      (rwnd : ℕ) (s : Scoreboard) (w : Congestion) → IsScoreboard s
-      → (sent : NextSegment) → next_segment rwnd s w ≡ Some sent → IsSpared s (segment_of sent)
+      (rwnd : ℕ) (s : BoardView) (w : CongView) → IsBoardView s
+      → (sent : NextSegment) → next_send rwnd s w ≡ Some sent → IsSpared s (segment_of sent)
 
 -- what NextSeg and limited transmit choose can be sent
 pub record ChoosesSendable : Type 0 where
   pub chosen :
-      (rwnd : ℕ) (s : Scoreboard) (w : Congestion) → IsScoreboard s
-      → (sent : NextSegment) → next_segment rwnd s w ≡ Some sent → IsSendable s (segment_of sent)
+      (rwnd : ℕ) (s : BoardView) (w : CongView) → IsBoardView s
+      → (sent : NextSegment) → next_send rwnd s w ≡ Some sent → IsSendable s (segment_of sent)
   pub limited :
-      (rwnd : ℕ) (s : Scoreboard) → IsScoreboard s
+      (rwnd : ℕ) (s : BoardView) → IsBoardView s
       → (segment : Span) → new_data rwnd s ≡ Some segment → IsSendable s segment

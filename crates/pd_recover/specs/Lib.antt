@@ -1,5 +1,5 @@
 -- The definitions that the contracts cite.
 pub mod Acks
 pub mod Choice
-pub mod Congestion
+pub mod Cong
 pub mod Laws

@@ -1,14 +1,11 @@
 //! The congestion window and what loss recovery keeps.
 ghost use Rattle.std.specs.Prelude.{◌≡◌, ◌<◌, ◌≤◌, ◌^◌};
-ghost use Rattle.pd_settings.specs.Keys.{Takes, domain_of};
-ghost use Rattle.pd_settings.specs.declared.keys.Key.TheVariants.{InitialSsthresh};
-ghost use Rattle.pd_settings.specs.declared.values.Value.TheVariants.{Number};
-ghost use Rattle.pd_recover.specs.Congestion.{IsCongestion, first_segments, window_by, first_window, begun, timed_out, entered_to, with_limited};
+ghost use Rattle.pd_recover.specs.Cong.{IsCongView, first_segments, window_by, first_window, begun, begun_uses, timed_out, entered_to, with_limited};
 
 mod acks;
 mod choice;
 
-use pd_settings::{InitialWindow, Settings};
+use pd_settings::{InitialWindow, Settings, UseSet};
 use std::alloc::AllocError;
 use std::marker::Model;
 
@@ -23,9 +20,11 @@ pub struct Cong {
     cwnd: u32,
     /// ssthresh, the slow start threshold, in octets: 1 to 2^30 (RFC 5681, section 3.1).
     ssthresh: u32,
-    /// DupAcks: how many duplicates came since the last ACK of new octets or expiry; 4 stands for more too (RFC 6675,
-    /// section 5).
+    /// DupAcks: how many duplicates came since the last ACK of new octets or expiry; DupThresh + 1 stands for more too
+    /// (RFC 6675, section 5).
     dup_acks: u32,
+    /// Whether duplicates before DupThresh send new data: limited transmit (RFC 3042).
+    sends_early: bool,
     /// How many octets limited transmit has sent since then (RFC 6675, section 5, step 3; RFC 3042).
     limited: u32,
     /// Whether loss recovery goes on (RFC 5681, section 3.2; RFC 6675, section 5).
@@ -41,15 +40,15 @@ pub struct Cong {
 }
 
 impl Model for Cong {
-    ghost use Rattle.pd_recover.specs.Congestion.{Congestion, IsRanged};
+    ghost use Rattle.pd_recover.specs.Cong.{CongView, IsRanged};
 
-    ghost Value = { Congestion };
+    ghost Value = { CongView };
 
-    ghost view = { λ c. record { cwnd = c.cwnd; ssthresh = c.ssthresh; dup_acks = c.dup_acks; limited = c.limited; recovering = c.recovering; recovery_point = c.recovery_point; high_rxt = c.high_rxt; rescue_rxt = c.rescue_rxt; expired = c.expired } };
+    ghost view = { λ c. record { cwnd = c.cwnd; ssthresh = c.ssthresh; dup_acks = c.dup_acks; sends_early = c.sends_early; limited = c.limited; recovering = c.recovering; recovery_point = c.recovery_point; high_rxt = c.high_rxt; rescue_rxt = c.rescue_rxt; expired = c.expired } };
 
     ghost invariant = { λ c. IsRanged c.cwnd c.ssthresh c.dup_acks c.limited };
 
-    ghost inverse = { λ c. record { cwnd = c.cwnd; ssthresh = c.ssthresh; dup_acks = c.dup_acks; limited = c.limited; recovering = c.recovering; recovery_point = c.recovery_point; high_rxt = c.high_rxt; rescue_rxt = c.rescue_rxt; expired = c.expired } };
+    ghost inverse = { λ c. record { cwnd = c.cwnd; ssthresh = c.ssthresh; dup_acks = c.dup_acks; sends_early = c.sends_early; limited = c.limited; recovering = c.recovering; recovery_point = c.recovery_point; high_rxt = c.high_rxt; rescue_rxt = c.rescue_rxt; expired = c.expired } };
 }
 
 impl Clone for Cong {
@@ -100,19 +99,20 @@ fn first_window(rule: InitialWindow, smss: u16, resent: bool) -> u32
 
 impl Cong {
     /// The state at establishment: the initial window (RFC 5681, section 3.1; RFC 6928, section 2), one segment where
-    /// the SYN/ACK was sent again. SMSS is in octets. Of the settings it looks at `initial_window` and
-    /// `initial_ssthresh` alone.
+    /// the SYN/ACK was sent again. SMSS is in octets. Of the settings it looks at those of `with_uses`
+    /// alone.
     pub fn new(settings: &Settings, smss: u16, resent: bool) -> Cong
         requires from { 64 ≤ smss }
         requires to { smss ≤ 65495 }
-        ensures value { result ≡ begun settings.now.initial_window settings.now.initial_ssthresh smss resent }
-        ensures known { IsCongestion result }
+        ensures value { result ≡ begun settings.now smss resent }
+        ensures known { IsCongView result }
     {
-        have_range(settings);
+        settings.facts();
         Cong {
             cwnd: first_window(settings.initial_window, smss, resent),
             ssthresh: settings.initial_ssthresh,
             dup_acks: 0,
+            sends_early: settings.limited_transmit,
             limited: 0,
             recovering: false,
             recovery_point: 0,
@@ -122,10 +122,29 @@ impl Cong {
         }
     }
 
+    /// With the settings that `new` consults.
+    pub fn with_uses(uses: UseSet) -> UseSet
+        ensures { result ≡ begun_uses uses }
+    {
+        UseSet {
+            initial_ssthresh: true,
+            initial_window: true,
+            limited_transmit: true,
+            ..uses
+        }
+    }
+
+    /// What is always so: windows and counts lie in their ranges. It does nothing.
+    pub fn facts(&self)
+        ensures { IsCongView self.now }
+    {
+        let _cwnd = self.cwnd();
+    }
+
     /// The congestion window, in octets.
     pub fn cwnd(&self) -> u32
         ensures value { result ≡ self.now.cwnd }
-        ensures known { IsCongestion self.now }
+        ensures known { IsCongView self.now }
     {
         self.cwnd
     }
@@ -137,8 +156,8 @@ impl Cong {
         self.ssthresh
     }
 
-    /// DupAcks: how many duplicates came since the last ACK of new octets or expiry; 4 stands for more too (RFC 6675,
-    /// section 5).
+    /// DupAcks: how many duplicates came since the last ACK of new octets or expiry; DupThresh + 1 stands for more too
+    /// (RFC 6675, section 5).
     pub fn dup_acks(&self) -> u32
         ensures { result ≡ self.now.dup_acks }
     {
@@ -152,7 +171,7 @@ impl Cong {
         self.recovering
     }
 
-    /// HighRxt, as the number after the highest octet that this recovery has sent again; `una` at the first two duplicates,
+    /// HighRxt, as the number after the highest octet that this recovery has sent again; `una` at the duplicates
     /// before one begins (RFC 6675, sections 2 and 5).
     pub fn high_rxt(&self) -> u32
         ensures { result ≡ self.now.high_rxt }
@@ -196,11 +215,4 @@ impl Cong {
     {
         self.limited = (self.limited + octets).min(MAX_OCTETS);
     }
-}
-
-/// A fact of settings: the slow start threshold is in its range.
-fn have_range(settings: &Settings)
-    ensures { Takes (domain_of InitialSsthresh) (Number settings.now.initial_ssthresh) }
-{
-    let _range = *settings;
 }

@@ -1,9 +1,10 @@
 //! Laws of congestion control and loss recovery: a function without code, whose contract is the laws.
-ghost use Rattle.pd_recover.specs.Laws.{StaysWithin, EndsInTime, RestsInRecovery, RescuesOnce, KeepsWindow, SparesSacked, ChoosesSendable};
+ghost use Rattle.pd_recover.specs.Laws.{StaysWithin, BeginsByUses, EndsInTime, RestsInRecovery, RescuesOnce, KeepsWindow, SparesSacked, ChoosesSendable};
 
 /// What holds of congestion control and loss recovery, whatever happens.
 pub fn recovery_is_lawful()
     ensures windows { StaysWithin }
+    ensures uses { BeginsByUses }
     ensures ends { EndsInTime }
     ensures rests { RestsInRecovery }
     ensures rescues { RescuesOnce }

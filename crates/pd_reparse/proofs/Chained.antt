@@ -1,4 +1,4 @@
--- The events of a reading stand one after the other.
+-- The events of a reading come one after the other.
 use Rattle.std.proofs.Common.{◌≡◌, ℕ, zero, suc, Bool, true, false, cond, List, [], ◌∷◌, ◌++◌, Ok, Err, refl, sym, subst, ◌∙◌}
 use Rattle.pd_text.specs.Text.{AreLines}
 use Rattle.pd_lex.specs.declared.token.Place.{Place}
@@ -11,8 +11,8 @@ use Rattle.pd_script.specs.Items.{starts_event, is_end, goes_on, next_is}
 use Rattle.pd_script.specs.Laws.{ItemsStandThere}
 use Rattle.pd_script.specs.Next.{next_place, reach_of, IsNextEvent}
 use Rattle.pd_script.specs.Reader.{Read}
-use Rattle.pd_script.specs.Reading.{event_at}
-use Rattle.pd_script.specs.Script.{followed, may_follow, behind_header}
+use Rattle.pd_script.specs.EventReading.{event_at}
+use Rattle.pd_script.specs.Script.{followed, may_follow, after_header}
 use Rattle.pd_script.proofs.Apart.{or-left, or-right}
 use Rattle.pd_script.proofs.GrammarLaws.{Reads-event}
 use Rattle.pd_script.proofs.Laws.{ok}
@@ -42,7 +42,7 @@ module _ (law : ItemsStandThere) (lines : List (List ℕ)) (plain : AreLines lin
   unfolding AreChained
   one place after rest e ds is others = (is, others)
 
-  -- what is found among these items, if they begin an event and stand at the place, is chained from there on
+  -- what is found among these items, if they begin an event and are at the place, is chained from there on
   IsChained : ℕ → Place → List Item → Type 0
   IsChained n place ts = (next_is starts_event ts ≡ true → items lines place ≡ ts) → AreChained lines place (decided_in n ts).events
 
@@ -74,7 +74,7 @@ unfolding IsChained
 are_chained law lines plain =
     let all = items lines first_place in
     let H = header_parts all in
-    let found = chained law lines plain 4096 (place_of_events lines) (behind_header all) (λ s. stand law lines plain first_place H.front (behind_header all) H.parts (starts_on (behind_header all) s)) in
+    let found = chained law lines plain 4096 (place_of_events lines) (after_header all) (λ s. stand law lines plain first_place H.front (after_header all) H.parts (starts_on (after_header all) s)) in
     subst (λ (ds : List Decided). AreChained lines (place_of_events lines) ds) (sym (events_were lines)) found
   where
     starts_on : (ts : List Item) → next_is starts_event ts ≡ true → next_is goes_on ts ≡ true

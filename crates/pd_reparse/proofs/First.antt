@@ -14,21 +14,21 @@ use Rattle.pd_lex.specs.Lexing.{items}
 use Rattle.pd_lex.specs.Agreement.{last_line, IsInOrder, AgreeTo, ItemsAreInOrder, FirstLinesAgree}
 use Rattle.pd_script.specs.declared.script_events.Event.{Event}
 use Rattle.pd_script.specs.Items.{is_header, starts_event, next_is}
-use Rattle.pd_script.specs.Script.{header_of, header_end, header_in, behind_header, script_of}
+use Rattle.pd_script.specs.Script.{header_of, header_end, header_in, after_header, script_of}
 use Rattle.pd_script.proofs.Apart.{is_lexeme}
 use Rattle.pd_script.proofs.GrammarLaws.{Reads-event}
 use Rattle.pd_reparse.specs.declared.decided.Decided.{Decided}
 use Rattle.pd_reparse.specs.Reading.{DecidedScript, decided_in, reading_in, reading_of, events_of, is_within, kept_of, IsReadingOfFirst}
-use Rattle.pd_script.specs.Header.{behind}
+use Rattle.pd_script.specs.Header.{place_after_item}
 use Rattle.pd_reparse.proofs.Scripts.{reading_is_script}
 use Rattle.pd_reparse.proofs.Common.{shared}
-use Rattle.pd_reparse.proofs.Stays.{tally, first_is, both, behind as behind_tokens, Stay, stays, start_stays, starts_no_header}
+use Rattle.pd_reparse.proofs.Stays.{tally, first_is, both, after as after_tokens, Stay, stays, start_stays, starts_no_header}
 
 -- ---- headers
 
 pub record Header (ts : List Item) : Type 0 where
   pub front : List Item
-  pub parts : ts ≡ front ++ behind_header ts
+  pub parts : ts ≡ front ++ after_header ts
   pub all : list_all is_header front ≡ true
   pub tokens : list_all is_lexeme front ≡ true
 
@@ -42,7 +42,7 @@ header_parts (lexeme x ∷ ts) = by_test (is_header (lexeme x)) refl (header_par
 header_parts (ending n ∷ ts) = record { front = []; parts = refl; all = refl; tokens = refl }
 header_parts (bad n ∷ ts) = record { front = []; parts = refl; all = refl; tokens = refl }
 
-header_alone : (ts : List Item) → next_is is_header ts ≡ false → (header_of ts ≡ []) × (behind_header ts ≡ ts)
+header_alone : (ts : List Item) → next_is is_header ts ≡ false → (header_of ts ≡ []) × (after_header ts ≡ ts)
 header_alone [] h = (refl, refl)
 header_alone (t ∷ ts) h = (rw h refl, rw h refl)
 
@@ -50,20 +50,20 @@ end_alone : (p : Place) (ts : List Item) → next_is is_header ts ≡ false → 
 end_alone p [] h = refl
 end_alone p (t ∷ ts) h = rw h refl
 
--- what stands behind a header doesn't change it
-same_items : (hs xs : List Item) → list_all is_header hs ≡ true → next_is is_header xs ≡ false → (header_of (hs ++ xs) ≡ header_of hs) × (behind_header (hs ++ xs) ≡ xs)
+-- what follows a header doesn't change it
+same_items : (hs xs : List Item) → list_all is_header hs ≡ true → next_is is_header xs ≡ false → (header_of (hs ++ xs) ≡ header_of hs) × (after_header (hs ++ xs) ≡ xs)
 same_items [] xs all none = header_alone xs none
 same_items (h ∷ hs) xs all none = by_test (is_header h) refl all (λ g. same_items hs xs g none)
   where
-    by_test : (b : Bool) → is_header h ≡ b → (b && list_all is_header hs) ≡ true → (list_all is_header hs ≡ true → (header_of (hs ++ xs) ≡ header_of hs) × (behind_header (hs ++ xs) ≡ xs)) → (header_of (h ∷ (hs ++ xs)) ≡ header_of (h ∷ hs)) × (behind_header (h ∷ (hs ++ xs)) ≡ xs)
+    by_test : (b : Bool) → is_header h ≡ b → (b && list_all is_header hs) ≡ true → (list_all is_header hs ≡ true → (header_of (hs ++ xs) ≡ header_of hs) × (after_header (hs ++ xs) ≡ xs)) → (header_of (h ∷ (hs ++ xs)) ≡ header_of (h ∷ hs)) × (after_header (h ∷ (hs ++ xs)) ≡ xs)
     by_test true e g ih = let S = ih g in (rw (e, S.0) refl, rw e S.1)
     by_test false e g ih = absurd cc
 
 same_end : (p : Place) (hs xs ys : List Item) → list_all is_header hs ≡ true → next_is is_header xs ≡ false → next_is is_header ys ≡ false → header_end p (hs ++ xs) ≡ header_end p (hs ++ ys)
 same_end p [] xs ys all one other = end_alone p xs one ∙ sym (end_alone p ys other)
-same_end p (h ∷ hs) xs ys all one other = by_test (is_header h) refl all (λ g. same_end (behind p h) hs xs ys g one other)
+same_end p (h ∷ hs) xs ys all one other = by_test (is_header h) refl all (λ g. same_end (place_after_item p h) hs xs ys g one other)
   where
-    by_test : (b : Bool) → is_header h ≡ b → (b && list_all is_header hs) ≡ true → (list_all is_header hs ≡ true → header_end (behind p h) (hs ++ xs) ≡ header_end (behind p h) (hs ++ ys)) → header_end p (h ∷ (hs ++ xs)) ≡ header_end p (h ∷ (hs ++ ys))
+    by_test : (b : Bool) → is_header h ≡ b → (b && list_all is_header hs) ≡ true → (list_all is_header hs ≡ true → header_end (place_after_item p h) (hs ++ xs) ≡ header_end (place_after_item p h) (hs ++ ys)) → header_end p (h ∷ (hs ++ xs)) ≡ header_end p (h ∷ (hs ++ ys))
     by_test true e g ih = rw e (ih g)
     by_test false e g ih = absurd cc
 
@@ -74,31 +74,31 @@ same_header hs xs ys all one other =
 
 -- ---- both texts
 
-starts_behind : (ts : List Item) → next_is starts_event ts ≡ true → next_is is_header ts ≡ false
-starts_behind [] h = refl
-starts_behind (t ∷ ts) h = starts_no_header t h
+starts_after : (ts : List Item) → next_is starts_event ts ≡ true → next_is is_header ts ≡ false
+starts_after [] h = refl
+starts_after (t ∷ ts) h = starts_no_header t h
 
 pub record Again (k : ℕ) (xs ys : List Item) : Type 0 where
   pub header : header_in xs ≡ header_in ys
-  pub stay : Stay 4096 k (decided_in 4096 (behind_header xs)).events (behind_header ys)
+  pub stay : Stay 4096 k (decided_in 4096 (after_header xs)).events (after_header ys)
 
-again : (same line last k : ℕ) (xs ys : List Item) → IsInOrder line last xs → AgreeTo same xs ys → suc k ≤ tally same (decided_in 4096 (behind_header xs)).events → (m : ℕ) → IsInOrder m last (behind_header xs) → Again (suc k) xs ys
-again same line last k xs ys up agree le m up_behind =
-    let F = first_is same 4095 k m last (behind_header xs) up_behind le in
+again : (same line last k : ℕ) (xs ys : List Item) → IsInOrder line last xs → AgreeTo same xs ys → suc k ≤ tally same (decided_in 4096 (after_header xs)).events → (m : ℕ) → IsInOrder m last (after_header xs) → Again (suc k) xs ys
+again same line last k xs ys up agree le m up_after =
+    let F = first_is same 4095 k m last (after_header xs) up_after le in
     let H = header_parts xs in
-    let K = Reads-event.takes (behind_header xs) F.e (lexeme F.x ∷ F.rest) (Reads-event.sound (behind_header xs) F.e (lexeme F.x ∷ F.rest) F.is.reads) in
-    let B = behind_tokens m last K.0 (lexeme F.x ∷ F.rest) K.2 (subst (λ (l : List Item). IsInOrder m last l) K.1 up_behind) in
+    let K = Reads-event.takes (after_header xs) F.e (lexeme F.x ∷ F.rest) (Reads-event.sound (after_header xs) F.e (lexeme F.x ∷ F.rest) F.is.reads) in
+    let B = after_tokens m last K.0 (lexeme F.x ∷ F.rest) K.2 (subst (λ (l : List Item). IsInOrder m last l) K.1 up_after) in
     let ends : last_line F.x ≡ F.x.from.line = B.rises.3 (start_stays F.x F.is.begins) in
     let parts : xs ≡ H.front ++ (K.0 ++ lexeme F.x ∷ F.rest) = H.parts ∙ ap (λ (l : List Item). H.front ++ l) K.1 in
     let S = shared same line last H.front K.0 F.x F.rest ys H.tokens K.2 (omega (arith, ends, F.is.within)) (subst (λ (l : List Item). IsInOrder line last l) parts up) (subst (λ (l : List Item). AgreeTo same l ys) parts agree) in
-    let agree_behind : AgreeTo same (behind_header xs) S.more = subst (λ (l : List Item). AgreeTo same l S.more) (sym K.1) S.agree in
-    let Two = both same 4095 m last (behind_header xs) S.more F.e F.x F.rest up_behind agree_behind F.is in
-    let one : next_is is_header (behind_header xs) ≡ false = starts_behind (behind_header xs) F.is.start in
-    let other : next_is is_header S.more ≡ false = starts_behind S.more Two.is.start in
-    let behind_ys : behind_header ys ≡ S.more = ap behind_header S.parts ∙ (same_items H.front S.more H.all other).1 in
+    let agree_after : AgreeTo same (after_header xs) S.more = subst (λ (l : List Item). AgreeTo same l S.more) (sym K.1) S.agree in
+    let Two = both same 4095 m last (after_header xs) S.more F.e F.x F.rest up_after agree_after F.is in
+    let one : next_is is_header (after_header xs) ≡ false = starts_after (after_header xs) F.is.start in
+    let other : next_is is_header S.more ≡ false = starts_after S.more Two.is.start in
+    let after_ys : after_header ys ≡ S.more = ap after_header S.parts ∙ (same_items H.front S.more H.all other).1 in
     record {
-      header = ap header_in H.parts ∙ same_header H.front (behind_header xs) S.more H.all one other ∙ ap header_in (sym S.parts);
-      stay = subst (λ (l : List Item). Stay 4096 (suc k) (decided_in 4096 (behind_header xs)).events l) (sym behind_ys) (stays 4096 same m last (suc k) (behind_header xs) S.more up_behind agree_behind le);
+      header = ap header_in H.parts ∙ same_header H.front (after_header xs) S.more H.all one other ∙ ap header_in (sym S.parts);
+      stay = subst (λ (l : List Item). Stay 4096 (suc k) (decided_in 4096 (after_header xs)).events l) (sym after_ys) (stays 4096 same m last (suc k) (after_header xs) S.more up_after agree_after le);
     }
 
 -- ---- texts
@@ -110,10 +110,10 @@ pub kept_is : (same : ℕ) (r : DecidedScript) → kept_of same r ≡ tally same
 unfolding kept_of
 kept_is same r = sym (tally_is same r.events)
 
-in_order_behind : (line last : ℕ) (ts : List Item) → IsInOrder line last ts → (m : ℕ) × IsInOrder m last (behind_header ts)
-in_order_behind line last ts up =
+in_order_after : (line last : ℕ) (ts : List Item) → IsInOrder line last ts → (m : ℕ) × IsInOrder m last (after_header ts)
+in_order_after line last ts up =
     let H = header_parts ts in
-    let B = behind_tokens line last H.front (behind_header ts) H.tokens (subst (λ (l : List Item). IsInOrder line last l) H.parts up) in
+    let B = after_tokens line last H.front (after_header ts) H.tokens (subst (λ (l : List Item). IsInOrder line last l) H.parts up) in
     (B.from, B.rises)
 
 -- some event of the reading of a text is decided by lines that another text has too
@@ -122,7 +122,7 @@ unfolding reading_of reading_in
 again_in order first lines others same k plain plain_others within equal le =
     let up = order lines first_place plain in
     let agree = first lines others same first_place plain plain_others within equal in
-    let B = in_order_behind 1 (max 1 (length lines)) (items lines first_place) up in
+    let B = in_order_after 1 (max 1 (length lines)) (items lines first_place) up in
     again same 1 (max 1 (length lines)) k (items lines first_place) (items others first_place) up agree (subst (λ (n : ℕ). suc k ≤ n) (kept_is same (reading_in (items lines first_place))) le) B.0 B.1
 
 pub tally_short : (same : ℕ) (ds : List Decided) → tally same ds ≤ length ds

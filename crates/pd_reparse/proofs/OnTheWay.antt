@@ -6,13 +6,13 @@ use Rattle.pd_lex.specs.Tokens.{Item}
 use Rattle.pd_script.specs.declared.script_events.Event.{Event}
 use Rattle.pd_script.specs.Items.{starts_event, is_end, goes_on, next_is}
 use Rattle.pd_script.specs.Reader.{Read}
-use Rattle.pd_script.specs.Reading.{next_line, event_at}
+use Rattle.pd_script.specs.EventReading.{next_line, event_at}
 use Rattle.pd_script.specs.Script.{followed, may_follow}
 use Rattle.pd_script.proofs.Apart.{or-right}
 use Rattle.pd_script.proofs.Laws.{rest_is, ok}
 use Rattle.pd_script.specs.declared.deciding.NextEvent.TheVariants.{Got, End, Fault}
 use Rattle.pd_reparse.specs.declared.decided.Decided.{Decided}
-use Rattle.pd_reparse.specs.declared.steps.Step.TheVariants.{Goes}
+use Rattle.pd_reparse.specs.declared.steps.ReadStep.TheVariants.{Goes}
 use Rattle.pd_reparse.specs.Steps.{IsStep, in_front}
 use Rattle.pd_script.specs.Next.{next_place, reach_of, got, next_in}
 use Rattle.pd_reparse.specs.Reading.{with_decided, none_decided, decided_in}
@@ -110,7 +110,7 @@ goes_further rest line h = by_test (next_is is_end rest) refl h
     by_test true e g = absurd cc
     by_test false e g = (e, cc)
 
--- the last event that a script may have, and another one behind it
+-- the last event that a script may have, and another one after it
 pub one_too_many : (ts : List Item) (e : Event) (after : Place) (line : ℕ) → next_in ts ≡ Got e after (Some line) → decided_in 1 ts ≡ record { events = []; fault = Some line }
 unfolding decided_in
 one_too_many ts e after line h =
@@ -119,12 +119,12 @@ one_too_many ts e after line h =
     rw (G.start, G.reads, F.0, F.1) refl
 
 -- it is kept
-pub got_kept : (n : ℕ) (ts : List Item) (e : Event) (after : Place) (reach : Option ℕ) (behind : List Item) → next_in ts ≡ Got e after reach → followed goes_on (event_at ts) ≡ Ok (e, behind) → (n ≡ 0 → reach ≡ None) → (decided_in (suc n) ts ≡ in_front (record { event = e; reach = reach; after = after } ∷ []) (decided_in n behind)) × (n ≡ 0 → next_is is_end behind ≡ true)
+pub got_kept : (n : ℕ) (ts : List Item) (e : Event) (after : Place) (reach : Option ℕ) (following : List Item) → next_in ts ≡ Got e after reach → followed goes_on (event_at ts) ≡ Ok (e, following) → (n ≡ 0 → reach ≡ None) → (decided_in (suc n) ts ≡ in_front (record { event = e; reach = reach; after = after } ∷ []) (decided_in n following)) × (n ≡ 0 → next_is is_end following ≡ true)
 unfolding decided_in
-got_kept n ts e after reach behind h there few =
+got_kept n ts e after reach following h there few =
     let G = got_is ts e after reach h in
     let read : followed goes_on (event_at ts) ≡ ok e G.rest = rw (G.reads, G.follows) refl in
-    let same : G.rest ≡ behind = rest_is e e G.rest behind (sym read ∙ there) in
+    let same : G.rest ≡ following = rest_is e e G.rest following (sym read ∙ there) in
     let follows : next_is (may_follow n) G.rest ≡ true = may n few G.rest G.reach_is G.follows in
     let here : decided_in (suc n) ts ≡ in_front (record { event = e; reach = reach; after = after } ∷ []) (decided_in n G.rest) = rw (G.start, G.reads, follows, G.place, G.reach_is) refl in
     (here ∙ ap (λ (l : List Item). in_front (record { event = e; reach = reach; after = after } ∷ []) (decided_in n l)) same, λ z. ap (next_is is_end) (sym same) ∙ ends_there G.rest (G.reach_is ∙ few z))

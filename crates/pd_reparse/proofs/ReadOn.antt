@@ -1,4 +1,4 @@
--- What is kept and what is read behind it are the reading of the whole text.
+-- What is kept and what is read after it are the reading of the whole text.
 use Rattle.std.proofs.Common.{◌≡◌, ℕ, zero, suc, ◌-◌, ◌<◌, ◌≤◌, List, [], ◌∷◌, ◌++◌, length, take, refl, sym, ap, subst, ◌∙◌, arith, append_assoc}
 use Rattle.std.proofs.lemmas.List.{length-take-le}
 use Rattle.pd_text.specs.Text.{AreLines}
@@ -8,7 +8,7 @@ use Rattle.pd_lex.specs.Tokens.{Item, lexeme}
 use Rattle.pd_lex.specs.Lexing.{items}
 use Rattle.pd_lex.specs.Agreement.{ItemsAreInOrder, FirstLinesAgree}
 use Rattle.pd_script.specs.Items.{starts_event, is_end}
-use Rattle.pd_script.specs.Script.{header_in, behind_header}
+use Rattle.pd_script.specs.Script.{header_in, after_header}
 use Rattle.pd_script.proofs.Apart.{or-left}
 use Rattle.pd_reparse.specs.declared.decided.Decided.{Decided}
 use Rattle.pd_script.specs.Header.{Heading}
@@ -25,21 +25,21 @@ kept_within same r = omega (arith, kept_is same r, tally_short same r.events)
 -- and fewer than a script may have
 below_limit : (same : ℕ) (text : List (List ℕ)) → kept_of same (reading_of text) < 4096
 unfolding reading_of reading_in
-below_limit same text = let t = tally_below same 4096 (behind_header (items text first_place)) in let k = kept_is same (reading_of text) in omega (arith, t, k)
+below_limit same text = let t = tally_below same 4096 (after_header (items text first_place)) in let k = kept_is same (reading_of text) in omega (arith, t, k)
 
 pub kept_below : (same : ℕ) (lines : List (List ℕ)) (r : DecidedScript) → IsReadingOfFirst same lines r → kept_of same r < 4096
 kept_below same lines r h = rw h.read (below_limit same h.text)
 
--- the items from the place behind what was kept
-stands : ItemsStandThere → (lines : List (List ℕ)) (ds : List Decided) (front rest : List Item) (place : Place) → AreLines lines → (ds ≡ [] → ⊥) → IsAt (behind_header (items lines first_place)) ds front rest → ((start : Place) → last_place start ds ≡ place) → items lines place ≡ rest
-stands law lines ds front rest place plain some at behind =
+-- the items from the place after what was kept
+stands : ItemsStandThere → (lines : List (List ℕ)) (ds : List Decided) (front rest : List Item) (place : Place) → AreLines lines → (ds ≡ [] → ⊥) → IsAt (after_header (items lines first_place)) ds front rest → ((start : Place) → last_place start ds ≡ place) → items lines place ≡ rest
+stands law lines ds front rest place plain some at after =
     let X = at.place.1 some in
     let H = header_parts (items lines first_place) in
     let whole : items lines first_place ≡ (H.front ++ front) ++ lexeme X.0 ∷ X.1 = H.parts ∙ ap (λ (l : List Item). H.front ++ l) (at.parts ∙ ap (λ (l : List Item). front ++ l) X.2) ∙ sym (append_assoc H.front front (lexeme X.0 ∷ X.1)) in
     let there : items lines X.0.from ≡ lexeme X.0 ∷ X.1 = law lines first_place (H.front ++ front) (lexeme X.0) X.1 plain whole (or-left (starts_event (lexeme X.0)) (is_end (lexeme X.0)) X.3) in
-    ap (λ (p : Place). items lines p) (sym (behind first_place) ∙ X.4 first_place) ∙ there ∙ sym X.2
+    ap (λ (p : Place). items lines p) (sym (after first_place) ∙ X.4 first_place) ∙ there ∙ sym X.2
 
-whole_reading : (lines : List (List ℕ)) (header : Heading) (found : DecidedEvents) → header ≡ header_in (items lines first_place) → found ≡ decided_in 4096 (behind_header (items lines first_place)) → record { header = header; events = found.events; fault = found.fault } ≡ reading_of lines
+whole_reading : (lines : List (List ℕ)) (header : Heading) (found : DecidedEvents) → header ≡ header_in (items lines first_place) → found ≡ decided_in 4096 (after_header (items lines first_place)) → record { header = header; events = found.events; fault = found.fault } ≡ reading_of lines
 unfolding reading_of reading_in
 whole_reading lines header found h f = rw (h, f) refl
 
@@ -47,27 +47,27 @@ header_was : (text : List (List ℕ)) → (reading_of text).header ≡ header_in
 unfolding reading_of reading_in
 header_was text = refl
 
-pub events_were : (text : List (List ℕ)) → (reading_of text).events ≡ (decided_in 4096 (behind_header (items text first_place))).events
+pub events_were : (text : List (List ℕ)) → (reading_of text).events ≡ (decided_in 4096 (after_header (items text first_place))).events
 unfolding reading_of reading_in
 events_were text = refl
 
 module _ (order : ItemsAreInOrder) (first : FirstLinesAgree) (law : ItemsStandThere) (lines : List (List ℕ)) (same : ℕ) (old new : DecidedScript) (place : Place) (plain : AreLines lines) (read : IsReadingOfFirst same lines old) where
   again_by : (k : ℕ) → kept_of same old ≡ suc k → ((start : Place) → last_place start (take (suc k) old.events) ≡ place) → new ≡ record { header = old.header; events = take (suc k) old.events ++ (decided_in (4096 - suc k) (items lines place)).events; fault = (decided_in (4096 - suc k) (items lines place)).fault } → new ≡ reading_of lines
-  again_by k kept behind is =
+  again_by k kept after is =
       let text = read.text in
       let few : suc k ≤ kept_of same (reading_of text) = (let e = ap (kept_of same) read.read in omega (arith, e, kept)) in
       let A = again_in order first text lines same k read.plain plain read.within read.equal few in
-      let olds : old.events ≡ (decided_in 4096 (behind_header (items text first_place))).events = ap (λ (r : DecidedScript). r.events) read.read ∙ events_were text in
-      let S : Stay 4096 (suc k) old.events (behind_header (items lines first_place)) = subst (λ (ds : List Decided). Stay 4096 (suc k) ds (behind_header (items lines first_place))) (sym olds) A.stay in
+      let olds : old.events ≡ (decided_in 4096 (after_header (items text first_place))).events = ap (λ (r : DecidedScript). r.events) read.read ∙ events_were text in
+      let S : Stay 4096 (suc k) old.events (after_header (items lines first_place)) = subst (λ (ds : List Decided). Stay 4096 (suc k) ds (after_header (items lines first_place))) (sym olds) A.stay in
       let long : suc k ≤ length old.events = (let w = kept_within same old in omega (arith, w, kept)) in
       let some : take (suc k) old.events ≡ [] → ⊥ = λ e. (let n = length-take-le (suc k) old.events long in let z = ap length e in omega (arith, n, z)) in
-      let there : items lines place ≡ S.rest = stands law lines (take (suc k) old.events) S.front S.rest place plain some S.at behind in
+      let there : items lines place ≡ S.rest = stands law lines (take (suc k) old.events) S.front S.rest place plain some S.at after in
       let header : old.header ≡ header_in (items lines first_place) = ap (λ (r : DecidedScript). r.header) read.read ∙ header_was text ∙ A.header in
-      let found : in_front (take (suc k) old.events) (decided_in (4096 - suc k) (items lines place)) ≡ decided_in 4096 (behind_header (items lines first_place)) = ap (λ (l : List Item). in_front (take (suc k) old.events) (decided_in (4096 - suc k) l)) there ∙ sym S.read in
+      let found : in_front (take (suc k) old.events) (decided_in (4096 - suc k) (items lines place)) ≡ decided_in 4096 (after_header (items lines first_place)) = ap (λ (l : List Item). in_front (take (suc k) old.events) (decided_in (4096 - suc k) l)) there ∙ sym S.read in
       is ∙ whole_reading lines old.header (in_front (take (suc k) old.events) (decided_in (4096 - suc k) (items lines place))) header found
 
   pub read_again : (header : Heading) (events : List Decided) → header ≡ old.header → events ≡ take (kept_of same old) old.events → (kept_of same old ≡ 0 → ⊥) → ((start : Place) → last_place start (take (kept_of same old) old.events) ≡ place) → IsReadOn new header events (4096 - length events) (items lines place) → new ≡ reading_of lines
-  read_again header events h e some behind is = by_count (kept_of same old) refl
+  read_again header events h e some after is = by_count (kept_of same old) refl
     where
       by_count : (count : ℕ) → kept_of same old ≡ count → new ≡ reading_of lines
       by_count zero k = absurd (some k)
@@ -75,4 +75,4 @@ module _ (order : ItemsAreInOrder) (first : FirstLinesAgree) (law : ItemsStandTh
           let long : suc k ≤ length old.events = (let w = kept_within same old in omega (arith, w, kept)) in
           let these : events ≡ take (suc k) old.events = e ∙ ap (λ (n : ℕ). take n old.events) kept in
           let count : length events ≡ suc k = ap length these ∙ length-take-le (suc k) old.events long in
-          again_by k kept (λ start. ap (λ (n : ℕ). last_place start (take n old.events)) (sym kept) ∙ behind start) (rw (h, count, these) at is)
+          again_by k kept (λ start. ap (λ (n : ℕ). last_place start (take n old.events)) (sym kept) ∙ after start) (rw (h, count, these) at is)

@@ -5,8 +5,8 @@ use Rattle.pd_lex.specs.Tokens.{Item}
 use Rattle.pd_lex.specs.Lexing.{items}
 use Rattle.pd_script.specs.Items.{starts_event, next_is}
 use Rattle.pd_script.specs.Reader.{Read}
-use Rattle.pd_script.specs.Reading.{event_at}
-use Rattle.pd_script.specs.Script.{found_in, followed, may_follow, with_event, at_end, script_in, script_of, behind_header}
+use Rattle.pd_script.specs.EventReading.{event_at}
+use Rattle.pd_script.specs.Script.{found_in, followed, may_follow, with_event, at_end, script_in, script_of, after_header}
 use Rattle.pd_script.specs.declared.script_events.Event.{Event}
 use Rattle.pd_script.specs.declared.parsing.Found.{Found}
 use Rattle.pd_reparse.specs.Reading.{DecidedEvents, with_decided, none_decided, decided_in, reading_in, reading_of, events_of, script_part}
@@ -32,5 +32,5 @@ part (suc n) ts = by_test n ts (next_is starts_event ts) (part n)
 pub reading_is_script : (lines : List (List ℕ)) → script_part (reading_of lines) ≡ script_of lines
 unfolding reading_of reading_in script_of script_in
 reading_is_script lines =
-    let P = part 4096 (behind_header (items lines first_place)) in
+    let P = part 4096 (after_header (items lines first_place)) in
     rw (P.events, P.fault) refl

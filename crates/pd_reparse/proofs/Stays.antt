@@ -14,7 +14,7 @@ use Rattle.pd_lex.specs.Agreement.{last_line, IsInOrder, AgreeTo}
 use Rattle.pd_script.specs.declared.script_events.Event.{Event}
 use Rattle.pd_script.specs.Items.{is_num_kind, is_symbol_kind, is_header_kind, is_header, is_num, is_symbol, starts_event, is_end, next_is}
 use Rattle.pd_script.specs.Reader.{Read}
-use Rattle.pd_script.specs.Reading.{event_at}
+use Rattle.pd_script.specs.EventReading.{event_at}
 use Rattle.pd_script.specs.Script.{followed, may_follow}
 use Rattle.pd_script.proofs.Apart.{is_lexeme, apart, num_kind, symbol_kind, or-elim, or-elim-no}
 use Rattle.pd_script.proofs.Laws.{ok, next-same}
@@ -73,23 +73,23 @@ abbrev pub tally : ℕ → List Decided → ℕ
 tally same [] = 0
 tally same (d ∷ ds) = cond (is_within same d.reach) (1 + tally same ds) (tally same ds)
 
-pub record Behind (line last : ℕ) (back : List Item) : Type 0 where
+pub record After (line last : ℕ) (back : List Item) : Type 0 where
   pub from : ℕ
   pub later : line ≤ from
   pub rises : IsInOrder from last back
 
-pub behind : (line last : ℕ) (front back : List Item) → list_all is_lexeme front ≡ true → IsInOrder line last (front ++ back) → Behind line last back
-behind line last [] back all up = record { from = line; later = omega arith; rises = up }
-behind line last (lexeme a ∷ front) back all up =
-    let B = behind (last_line a) last front back all up.4 in
+pub after : (line last : ℕ) (front back : List Item) → list_all is_lexeme front ≡ true → IsInOrder line last (front ++ back) → After line last back
+after line last [] back all up = record { from = line; later = omega arith; rises = up }
+after line last (lexeme a ∷ front) back all up =
+    let B = after (last_line a) last front back all up.4 in
     record { from = B.from; later = omega (arith, up.0, up.2, B.later); rises = B.rises }
-behind line last (ending n ∷ front) back all up = absurd cc
-behind line last (bad n ∷ front) back all up = absurd cc
+after line last (ending n ∷ front) back all up = absurd cc
+after line last (bad n ∷ front) back all up = absurd cc
 
-behind_event : (line last : ℕ) (xs : List Item) (e : Event) (rest : List Item) → event_at xs ≡ ok e rest → IsInOrder line last xs → Behind line last rest
-behind_event line last xs e rest h up =
+after_event : (line last : ℕ) (xs : List Item) (e : Event) (rest : List Item) → event_at xs ≡ ok e rest → IsInOrder line last xs → After line last rest
+after_event line last xs e rest h up =
     let T = Reads-event.takes xs e rest (Reads-event.sound xs e rest h) in
-    behind line last T.0 rest T.2 (subst (λ (l : List Item). IsInOrder line last l) T.1 up)
+    after line last T.0 rest T.2 (subst (λ (l : List Item). IsInOrder line last l) T.1 up)
 
 above : (same n : ℕ) → same < n → nat_le n same ≡ false
 above same n h = grind (arith, nat_tests)
@@ -103,7 +103,7 @@ not_one : (w : Bool) (n : ℕ) → w ≡ false → n ≡ 0 → cond w (1 + n) n 
 not_one true n h e = absurd cc
 not_one false n h e = e
 
--- events behind the first lines aren't decided by them
+-- events after the first lines aren't decided by them
 none_within : (n same line last : ℕ) (xs : List Item) → same < line → IsInOrder line last xs → tally same (decided_in n xs).events ≡ 0
 unfolding decided_in
 none_within zero same line last xs lt up = refl
@@ -112,14 +112,14 @@ none_within (suc n) same line last xs lt up = by_test (next_is starts_event xs) 
     Others : Type 0
     Others = (from : ℕ) (ys : List Item) → same < from → IsInOrder from last ys → tally same (decided_in n ys).events ≡ 0
 
-    by_next : (b : Bool) (e : Event) (t : Item) (rest : List Item) → Behind line last (t ∷ rest) → ((from : ℕ) (ys : List Item) → same < from → IsInOrder from last ys → tally same (decided_in n ys).events ≡ 0) → tally same (with_decided (decided_in n) (cond b (Ok (e, t ∷ rest)) (Err (t ∷ rest)))).events ≡ 0
+    by_next : (b : Bool) (e : Event) (t : Item) (rest : List Item) → After line last (t ∷ rest) → ((from : ℕ) (ys : List Item) → same < from → IsInOrder from last ys → tally same (decided_in n ys).events ≡ 0) → tally same (with_decided (decided_in n) (cond b (Ok (e, t ∷ rest)) (Err (t ∷ rest)))).events ≡ 0
     by_next true e t rest B ih = not_one (is_within same (reach_of (t ∷ rest))) (tally same (decided_in n (t ∷ rest)).events) (not_within same B.from last t rest (omega (arith, B.later)) B.rises) (ih B.from (t ∷ rest) (omega (arith, B.later)) B.rises)
     by_next false e t rest B ih = refl
 
     by_read : (r : Read Event) → event_at xs ≡ r → ((from : ℕ) (ys : List Item) → same < from → IsInOrder from last ys → tally same (decided_in n ys).events ≡ 0) → tally same (with_decided (decided_in n) (followed (may_follow n) r)).events ≡ 0
     by_read (Err rest) h ih = refl
     by_read (Ok (e, [])) h ih = refl
-    by_read (Ok (e, t ∷ rest)) h ih = by_next (may_follow n t) e t rest (behind_event line last xs e (t ∷ rest) h up) ih
+    by_read (Ok (e, t ∷ rest)) h ih = by_next (may_follow n t) e t rest (after_event line last xs e (t ∷ rest) h up) ih
 
     by_test : (b : Bool) → ((from : ℕ) (ys : List Item) → same < from → IsInOrder from last ys → tally same (decided_in n ys).events ≡ 0) → tally same (cond b (with_decided (decided_in n) (followed (may_follow n) (event_at xs))) (none_decided xs)).events ≡ 0
     by_test true ih = by_read (event_at xs) refl ih
@@ -134,7 +134,7 @@ pub record IsFirst (same n : ℕ) (xs : List Item) (e : Event) (x : Lexeme) (res
   pub begins : starts_event (lexeme x) ≡ true
   pub within : x.from.line ≤ same
 
--- it is the first of those that are decided so, and the others are those behind it
+-- it is the first of those that are decided so, and the others are those after it
 pub record First (same n k : ℕ) (xs : List Item) : Type 0 where
   pub e : Event
   pub x : Lexeme
@@ -166,7 +166,7 @@ is_more : (n same : ℕ) → nat_le n same ≡ false → same < n
 is_more n same h = grind (arith, nat_tests)
 
 module _ (same n k line last : ℕ) (xs : List Item) (up : IsInOrder line last xs) (start : next_is starts_event xs ≡ true) where
-  first_token : (e : Event) (t : Item) (rest : List Item) → event_at xs ≡ ok e (t ∷ rest) → may_follow n t ≡ true → Behind line last (t ∷ rest) → suc k ≤ tally same (decided e (t ∷ rest) ∷ (decided_in n (t ∷ rest)).events) → First same n k xs
+  first_token : (e : Event) (t : Item) (rest : List Item) → event_at xs ≡ ok e (t ∷ rest) → may_follow n t ≡ true → After line last (t ∷ rest) → suc k ≤ tally same (decided e (t ∷ rest) ∷ (decided_in n (t ∷ rest)).events) → First same n k xs
   first_token e (lexeme x) rest h f B le =
       let begins = begins_event n x f in
       let W = must_be (nat_le x.from.line same) k (tally same (decided_in n (lexeme x ∷ rest)).events) le (λ no. none_within n same x.from.line last (lexeme x ∷ rest) (is_more x.from.line same no) (omega arith, B.rises.1, B.rises.2, B.rises.3, B.rises.4)) in
@@ -175,7 +175,7 @@ module _ (same n k line last : ℕ) (xs : List Item) (up : IsInOrder line last x
   first_token e (bad m) rest h f B le = absurd (nothing_bad n m f)
 
   first_next : (b : Bool) (e : Event) (t : Item) (rest : List Item) → event_at xs ≡ ok e (t ∷ rest) → may_follow n t ≡ b → suc k ≤ tally same (with_decided (decided_in n) (cond b (Ok (e, t ∷ rest)) (Err (t ∷ rest)))).events → First same n k xs
-  first_next true e t rest h f le = first_token e t rest h f (behind_event line last xs e (t ∷ rest) h up) le
+  first_next true e t rest h f le = first_token e t rest h f (after_event line last xs e (t ∷ rest) h up) le
   first_next false e t rest h f le = absurd (omega (arith, le))
 
   first_read : (r : Read Event) → event_at xs ≡ r → suc k ≤ tally same (with_decided (decided_in n) (followed (may_follow n) r)).events → First same n k xs
@@ -211,7 +211,7 @@ both same n line last xs ys e x rest up agree F =
     let tokens : list_all is_lexeme T.front ≡ true = subst (λ (l : List Item). list_all is_lexeme l ≡ true) fronts K.2 in
     let up_parts : IsInOrder line last (T.front ++ lexeme x ∷ rest) = subst (λ (l : List Item). IsInOrder line last l) T.parts up in
     let agree_parts : AgreeTo same (T.front ++ lexeme x ∷ rest) ys = subst (λ (l : List Item). AgreeTo same l ys) T.parts agree in
-    let B = behind line last T.front (lexeme x ∷ rest) tokens up_parts in
+    let B = after line last T.front (lexeme x ∷ rest) tokens up_parts in
     let ends : last_line x ≡ x.from.line = B.rises.3 (start_stays x F.begins) in
     let le : last_line x ≤ same = omega (arith, ends, F.within) in
     let none : List Item = [] in
@@ -233,7 +233,7 @@ both same n line last xs ys e x rest up agree F =
 
 -- ---- all events that are decided so
 
--- where reading goes on behind these events, the first of the others
+-- where reading goes on after these events, the first of the others
 pub record IsAt (ys : List Item) (ds : List Decided) (front rest : List Item) : Type 0 where
   pub parts : ys ≡ front ++ rest
   pub place : (ds ≡ [] → rest ≡ ys) × ((ds ≡ [] → ⊥) → (x : Lexeme) × (more : List Item) × (rest ≡ lexeme x ∷ more) × (starts_event (lexeme x) ≡ true) × ((p : Place) → last_place p ds ≡ x.from))

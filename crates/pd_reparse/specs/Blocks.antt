@@ -1,4 +1,4 @@
--- Items that stand in blocks.
+-- Items that are in blocks.
 use Rattle.std.specs.Prelude.{List, flat_map}
 
 -- the items of the blocks, in order

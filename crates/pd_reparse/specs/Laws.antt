@@ -6,7 +6,7 @@ use Rattle.pd_lex.specs.Places.{first_place}
 use Rattle.pd_lex.specs.Lexing.{items}
 use Rattle.pd_script.specs.declared.deciding.NextEvent.TheVariants.{Got}
 use Rattle.pd_script.specs.Next.{next_place, IsNextEvent}
-use Rattle.pd_script.specs.Script.{script_of, behind_header}
+use Rattle.pd_script.specs.Script.{script_of, after_header}
 use Rattle.pd_reparse.specs.declared.decided.Decided.{Decided}
 use Rattle.pd_reparse.specs.Reading.{reading_of, script_part, kept_of}
 
@@ -14,7 +14,7 @@ use Rattle.pd_reparse.specs.Reading.{reading_of, script_part, kept_of}
 abbrev pub ReadingsAreScripts : Type 0
 ReadingsAreScripts = (lines : List (List ℕ)) → script_part (reading_of lines) ≡ script_of lines
 
--- the events that the equal first lines decide stand in both texts, and the headers before them are equal
+-- the events that the equal first lines decide are in both texts, and the headers before them are equal
 abbrev pub FirstEventsStay : Type 0
 FirstEventsStay = (lines others : List (List ℕ)) (count : ℕ) → AreLines lines → AreLines others → 0 < count → count ≤ kept_of (front lines others) (reading_of lines) → ((reading_of lines).header ≡ (reading_of others).header) × (take count (reading_of lines).events ≡ take count (reading_of others).events)
 
@@ -30,8 +30,8 @@ AreChained lines place (d ∷ ds) = IsNextEvent lines place (Got d.event d.after
 
 -- where the first token after a text's header stands
 abbrev pub place_of_events : List (List ℕ) → Place
-place_of_events lines = next_place (behind_header (items lines first_place))
+place_of_events lines = next_place (after_header (items lines first_place))
 
--- the events that a text is read as stand one after the other, the first at the first token after the header
+-- the events that a text is read as come one after the other, the first at the first token after the header
 abbrev pub EventsAreChained : Type 0
 EventsAreChained = (lines : List (List ℕ)) → AreLines lines → AreChained lines (place_of_events lines) (reading_of lines).events

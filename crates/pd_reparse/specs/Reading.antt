@@ -7,8 +7,8 @@ use Rattle.pd_lex.specs.Tokens.{Item}
 use Rattle.pd_lex.specs.Lexing.{items}
 use Rattle.pd_script.specs.Items.{starts_event, next_is}
 use Rattle.pd_script.specs.Reader.{Read}
-use Rattle.pd_script.specs.Reading.{next_line, event_at}
-use Rattle.pd_script.specs.Script.{followed, may_follow, at_end, header_in, behind_header}
+use Rattle.pd_script.specs.EventReading.{next_line, event_at}
+use Rattle.pd_script.specs.Script.{followed, may_follow, at_end, header_in, after_header}
 use Rattle.pd_script.specs.Header.{Heading}
 use Rattle.pd_script.specs.Next.{next_place, reach_of}
 use Rattle.pd_script.specs.declared.script_events.Event.{Event}
@@ -47,7 +47,7 @@ decided_in (suc n) ts = if next_is starts_event ts then with_decided (decided_in
 -- what the items of a text are read as: a header, and at most 4,096 events
 unfoldable pub reading_in : List Item → DecidedScript
 reading_in ts =
-    let found = decided_in 4096 (behind_header ts) in
+    let found = decided_in 4096 (after_header ts) in
     record { header = header_in ts; events = found.events; fault = found.fault }
 
 -- what a text is read as
@@ -62,7 +62,7 @@ events_of ds = map (λ (d : Decided). d.event) ds
 abbrev pub script_part : DecidedScript → Parsed
 script_part r = record { header = r.header; events = events_of r.events; fault = r.fault }
 
--- the place behind some events that begin at a place
+-- the place after some events that begin at a place
 abbrev pub last_place : Place → List Decided → Place
 last_place place [] = place
 last_place place (d ∷ ds) = last_place d.after ds

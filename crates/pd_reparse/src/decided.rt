@@ -17,7 +17,7 @@ pub struct Decided {
     /// the text follows it.
     pub reach: Option<usize>,
     /// Where that token stands, and reading goes on; at the end of the text the start of the line
-    /// behind the last.
+    /// after the last.
     pub after: Place,
 }
 
@@ -56,7 +56,7 @@ pub fn count_within(events: &SharedList<Decided>, same: usize) -> usize
     count + count_in(rest, same)
 }
 
-/// The same of events that stand together.
+/// The same of events that are together.
 fn count_in(events: &[Decided], same: usize) -> usize
     ensures { result ≡ count_by (λ (d : Decided). is_within same d.reach) events.now }
 {

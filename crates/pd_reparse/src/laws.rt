@@ -19,7 +19,7 @@ pub fn first_events()
     first_lines();
 }
 
-/// A law, and no work: the events that a text is read as stand one after the other, each spelled in
+/// A law, and no work: the events that a text is read as come one after the other, each spelled in
 /// the grammar's words from the place where the one before ended.
 pub fn events_are_chained()
     ensures { EventsAreChained }

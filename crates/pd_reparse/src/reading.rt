@@ -14,7 +14,7 @@ use std::marker::Model;
 /// fault, if the text is refused.
 #[derive(Drop)]
 pub struct Reading {
-    /// What stands before the events.
+    /// What is before the events.
     header: Header,
     /// The events in order, each with what decided it; at most 4,096.
     events: SharedList<Decided>,
@@ -99,8 +99,8 @@ impl Reading {
         self.events.first(count)
     }
 
-    /// The place behind the first events, one at least.
-    pub fn place_behind(&self, count: usize) -> Place
+    /// The place after the first events, one at least.
+    pub fn place_after(&self, count: usize) -> Place
         requires some { 0 < count }
         requires within { count ≤ length self.now.events }
         ensures { (start : Place) → last_place start (take count self.now.events) ≡ result }

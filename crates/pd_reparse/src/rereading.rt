@@ -8,10 +8,10 @@ use crate::decided::Decided;
 use crate::kept::Reread;
 use crate::reading::Reading;
 use crate::shared_list::SharedList;
-use crate::steps::Step;
+use crate::steps::ReadStep;
 use pd_lex::{Place, first_lines};
 use pd_script::{EventReader, Header, MAX_EVENTS, NextEvent, items_stand_there, read_header};
-use pd_text::{Lines, have_lines};
+use pd_text::Lines;
 use std::alloc::{AllocError, Global};
 
 /// Reads a text.
@@ -28,7 +28,7 @@ pub fn read(alloc: Global, lines: &Lines) -> Result<Reading, AllocError>
 }
 
 /// Reads a text again whose first `same` lines are those of the text that was read before: the
-/// events that these lines decide are kept, and reading goes on behind them. The limit on events
+/// events that these lines decide are kept, and reading goes on after them. The limit on events
 /// holds for all of them.
 ///
 /// # Errors
@@ -51,15 +51,15 @@ pub fn reread(
         let reading = read(alloc, lines)?;
         return Ok(Reread { reading, kept });
     }
-    have_lines(lines);
+    lines.facts();
     let header = old.header().copy()?;
     let events = old.first_events(kept)?;
-    let place = old.place_behind(kept);
+    let place = old.place_after(kept);
     let reading = read_on(alloc, lines, header, events, place)?;
     Ok(Reread { reading, kept })
 }
 
-/// Reads the events from a place on, behind a header and events that are known.
+/// Reads the events from a place on, after a header and events that are known.
 fn read_on(
     alloc: Global,
     lines: &Lines,
@@ -74,8 +74,8 @@ fn read_on(
     let mut reader = EventReader::at(lines, place);
     'events: for i in events.len()..MAX_EVENTS {
         match next_step(alloc, &mut reader, MAX_EVENTS - i - 1)? {
-            Step::Goes(decided) => events.push(decided)?,
-            Step::Stops(fault) => return Ok(Reading::new(header, events, fault)?),
+            ReadStep::Goes(decided) => events.push(decided)?,
+            ReadStep::Stops(fault) => return Ok(Reading::new(header, events, fault)?),
         }
     }
     // The end of the text follows the last event that a script may have.
@@ -83,21 +83,21 @@ fn read_on(
 }
 
 /// Reads the next event, where so many more may follow it.
-fn next_step(alloc: Global, reader: &mut EventReader, more: usize) -> Result<Step, AllocError>
+fn next_step(alloc: Global, reader: &mut EventReader, more: usize) -> Result<ReadStep, AllocError>
     ensures { IfOk result (IsStep reader.new reader.old more) }
 {
     match reader.next_event(alloc)? {
         NextEvent::Got(event, after, reach) => {
             if more == 0 && reach.is_some() {
-                return Ok(Step::Stops(reach));
+                return Ok(ReadStep::Stops(reach));
             }
-            Ok(Step::Goes(Decided {
+            Ok(ReadStep::Goes(Decided {
                 event,
                 reach,
                 after,
             }))
         }
-        NextEvent::End => Ok(Step::Stops(None)),
-        NextEvent::Fault(line) => Ok(Step::Stops(Some(line))),
+        NextEvent::End => Ok(ReadStep::Stops(None)),
+        NextEvent::Fault(line) => Ok(ReadStep::Stops(Some(line))),
     }
 }

@@ -15,18 +15,18 @@ use std::alloc::{AllocError, Global};
 use std::marker::Model;
 use std::mem;
 
-/// How many items stand in a block at most.
+/// How many items are in a block at most.
 const BLOCK: usize = 64;
 
 /// For how many items the first makes room.
 const ROOM: usize = 16;
 
-/// Items in order: in blocks that other lists may keep too, and behind them fewer than a block, which no other keeps.
+/// Items in order: in blocks that other lists may keep too, and after them fewer than a block, which no other keeps.
 #[derive(Drop)]
 pub struct SharedList<T> {
     /// The blocks in order.
     blocks: Vec<Block<T>>,
-    /// The items behind the blocks, which no other list keeps.
+    /// The items after the blocks, which no other list keeps.
     rest: Vec<T>,
     /// How many items there are in all.
     count: usize,
@@ -86,7 +86,7 @@ impl<T: Drop> SharedList<T> {
         }
     }
 
-    /// The blocks, and the items behind them.
+    /// The blocks, and the items after them.
     pub fn parts(&self) -> (&[Block<T>], &[T])
         ensures { items_in result.0.now ++ result.1.now ≡ self.now }
     {
@@ -95,10 +95,10 @@ impl<T: Drop> SharedList<T> {
 }
 
 impl<T: Copied + Drop> SharedList<T> {
-    /// Puts an item behind the others.
+    /// Puts an item after the others.
     ///
     /// # Errors
-    /// `AllocError` where a growth is refused, and then nothing is said of what the list holds.
+    /// `AllocError` where a growth is refused, and then nothing is claimed of what the list holds.
     pub fn push(&mut self, item: T) -> Result<(), AllocError>
         ensures { OnOk result (self.new ≡ self.old ++ item ∷ []) }
     {
@@ -113,8 +113,8 @@ impl<T: Copied + Drop> SharedList<T> {
         Ok(())
     }
 
-    /// Puts all items into blocks, so that lists of the first of them share them. The items that stand behind the blocks
-    /// become one block with as many of the last ones as have no more items than stand behind them, and room: so a list
+    /// Puts all items into blocks, so that lists of the first of them share them. The items that follow the blocks
+    /// become one block with as many of the last ones as have no more items than follow them, and room: so a list
     /// that grows little by little has few blocks, and few of its items are copied.
     ///
     /// # Errors
@@ -169,7 +169,7 @@ impl<T: Copied + Drop> SharedList<T> {
     }
 }
 
-/// In which block the item at an index stands, and where in it; behind the blocks where it stands in none.
+/// In which block the item at an index stands, and where in it; after the blocks where it is in none.
 fn place<T: Drop>(blocks: &[Block<T>], index: usize) -> (usize, usize)
     ensures within { result.0 ≤ length blocks.now }
     ensures before { length (items_in (take result.0 blocks.now)) + result.1 ≡ index }
@@ -203,7 +203,7 @@ fn shared<T: Drop>(
     Ok(shared)
 }
 
-/// Puts the first items of a block behind these blocks where that pays, else gives copies of them.
+/// Puts the first items of a block after these blocks where that pays, else gives copies of them.
 fn share<T: Copied + Drop>(
     alloc: Global,
     blocks: &mut Vec<Block<T>>,
@@ -221,7 +221,7 @@ fn share<T: Copied + Drop>(
 }
 
 /// Takes away the last blocks that become one with the items after them, and gives all these items. Each has no more items
-/// than stand after it, and room for them.
+/// than are after it, and room for them.
 fn gather<T: Copied + Drop>(
     alloc: Global,
     blocks: &mut Vec<Block<T>>,
@@ -256,7 +256,7 @@ fn copies<T: Copied + Drop>(alloc: Global, items: &[T], count: usize) -> Result<
     Ok(copies)
 }
 
-/// Puts an item behind these, the first with room for some more.
+/// Puts an item after these, the first with room for some more.
 fn append<T: Drop>(items: &mut Vec<T>, item: T) -> Result<(), AllocError>
     ensures ok { OnOk result (items.new.items ≡ items.old.items ++ item ∷ []) }
     ensures err { OnErr result (items.new.items ≡ items.old.items) }

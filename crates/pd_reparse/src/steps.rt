@@ -1,9 +1,9 @@
 //! What reading finds next.
 use crate::decided::Decided;
 
-/// What stands next among the events of a text.
+/// What comes next among the events of a text.
 #[derive(Drop)]
-pub enum Step {
+pub enum ReadStep {
     /// An event that is kept.
     Goes(Decided),
     /// The end of the text, or the line of the fault.

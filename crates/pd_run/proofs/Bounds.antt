@@ -17,7 +17,7 @@ use Rattle.pd_host.specs.Calls.{called}
 use Rattle.pd_host.specs.Laws.{AreInOrder}
 use Rattle.pd_host.specs.Outcome.{Goes, GoesFrom, Answers, AnswersFrom}
 use Rattle.pd_host.specs.Expiries.{advanced, deadline_of}
-use Rattle.pd_host.specs.Sender.{Sender, then_on, without_oldest}
+use Rattle.pd_host.specs.Host.{HostView, then_on, without_oldest}
 use Rattle.pd_host.specs.declared.halts.Halt.{Halt}
 use Rattle.pd_host.specs.declared.sender_state.State.{State}
 use Rattle.pd_match.specs.Calls.{result_mismatch}
@@ -27,7 +27,7 @@ use Rattle.pd_match.specs.declared.kinds.Kind.TheVariants.{Missing, Backwards}
 use Rattle.pd_run.specs.Inbound.{segment_in}
 use Rattle.pd_run.specs.Limits.{is_long, written_times, written_until, is_action_over, is_over_limit}
 use Rattle.pd_run.specs.Shapes.{is_run}
-use Rattle.pd_run.specs.Step.{Running, tolerance_of, noted, on_step, judged, with_state, acts_at, acted, arrives, on_arrival, answers, on_answer, on_expiry, expires, awaited, taken, performed, step}
+use Rattle.pd_run.specs.Step.{RunStateView, tolerance_of, noted, on_step, judged, with_state, acts_at, acted, arrives, on_arrival, answers, on_answer, on_expiry, expires, awaited, packet_taken, performed, step}
 use Rattle.pd_run.specs.Times.{is_single, moment_of, moments_of, is_backwards, is_in_reach, base_after}
 use Rattle.pd_run.specs.declared.verdicts.Verdict.{Verdict}
 use Rattle.pd_run.specs.declared.verdicts.Verdict.TheVariants.{Fail, Unsupported, Limit}
@@ -38,19 +38,19 @@ pub record IsKept (K : ℕ → State → Type 0) : Type 0 where
   pub advances : (now until : ℕ) (s t : State) → now ≤ until → K now s → advanced until s ≡ Ok t → K until t
   pub arrivals : (segment : Segment) (now : ℕ) (s t : State) → K now s → arrived segment now s ≡ Ok t → K now t
   pub calls : (call : Call) (now : ℕ) (s t : State) (answer : Answer) → K now s → called call now s ≡ Ok (t, answer) → K now t
-  pub taking : (now : ℕ) (sender : Sender) → K now sender.state → K now (without_oldest sender).state
+  pub taking : (now : ℕ) (sender : HostView) → K now sender.state → K now (without_oldest sender).state
   pub ordered : (now : ℕ) (s : State) → K now s → AreInOrder now s.endpoint.outbox
   pub soon : (now at : ℕ) (s : State) → K now s → deadline_of s ≡ Some at → (now < at) × (at ≤ now + 3600000000)
 
 -- the clock and the base of a run that goes on lie at or before a moment, and that is known of its sender
-pub record IsWithin (K : ℕ → State → Type 0) (n : ℕ) (r : Running) : Type 0 where
+pub record IsWithin (K : ℕ → State → Type 0) (n : ℕ) (r : RunStateView) : Type 0 where
   pub live : r.host.ended ≡ None
   pub clock : r.clock ≤ n
   pub base : r.base ≤ n
   pub up_to : K r.clock r.host.state
 
 -- where a refusal comes first, an `Ok` means that it didn't
-let_through : (b : Bool) (v : Verdict) (rest : Result Running Verdict) (s : Running)
+let_through : (b : Bool) (v : Verdict) (rest : Result RunStateView Verdict) (s : RunStateView)
     → (if b then Err v else rest) ≡ Ok s → (b ≡ false) × (rest ≡ Ok s)
 let_through true v rest s h = absurd cc
 let_through false v rest s h = (refl, h)
@@ -80,13 +80,13 @@ base_within true moment base at n m b a = m
 base_within false moment base at n m b a = omega arith
 
 -- the state that came
-abbrev pub ok : Running → Result Running Verdict
+abbrev pub ok : RunStateView → Result RunStateView Verdict
 ok r = Ok r
 
-pub given : (r s : Running) → ok r ≡ ok s → r ≡ s
+pub given : (r s : RunStateView) → ok r ≡ ok s → r ≡ s
 given r s h = cc
 
-pub agreed : (line : ℕ) (r s : Running) (kind : Option Kind) → judged line r kind ≡ Ok s → r ≡ s
+pub agreed : (line : ℕ) (r s : RunStateView) (kind : Option Kind) → judged line r kind ≡ Ok s → r ≡ s
 agreed line r s None h = given r s h
 agreed line r s (Some kind) h = absurd cc
 
@@ -96,29 +96,29 @@ both next (Ok s) t h = (s, refl, h)
 both next (Err halt) t h = absurd cc
 
 -- of a host that hasn't ended an input tells
-goes_on : (old new : Sender) (rule : State → Result State Halt) (u : Unit {0}) → old.ended ≡ None → Goes old rule (Ok u) new → rule old.state ≡ Ok new.state
+goes_on : (old new : HostView) (rule : State → Result State Halt) (u : Unit {0}) → old.ended ≡ None → Goes old rule (Ok u) new → rule old.state ≡ Ok new.state
 goes_on old new rule u live h = let told : GoesFrom None old rule (Ok u) new = subst (λ o. GoesFrom o old rule (Ok u) new) live h in told.0
 
-answers_on : (old new : Sender) (rule : State → Result (State × Answer) Halt) (a : Answer) → old.ended ≡ None → Answers old rule (Ok a) new → rule old.state ≡ Ok (new.state, a)
+answers_on : (old new : HostView) (rule : State → Result (State × Answer) Halt) (a : Answer) → old.ended ≡ None → Answers old rule (Ok a) new → rule old.state ≡ Ok (new.state, a)
 answers_on old new rule a live h = let told : AnswersFrom None old rule (Ok a) new = subst (λ o. AnswersFrom o old rule (Ok a) new) live h in told.0
 
 -- an event acts at the clock or later
-pub acts_later : (r : Running) (e : Event) (clock moment : ℕ) → clock ≡ r.clock → moment ≡ acts_at r e → clock ≤ moment
+pub acts_later : (r : RunStateView) (e : Event) (clock moment : ℕ) → clock ≡ r.clock → moment ≡ acts_at r e → clock ≤ moment
 acts_later r e clock moment same is = omega (arith, same, is)
 
 oldest : (n : ℕ) (packets : List Sent) (p : Sent) → AreInOrder n packets → slice_get packets 0 ≡ Some p → p.at ≤ n
 oldest n [] p h is = absurd cc
 oldest n (q ∷ packets) p h is = let same : q ≡ p = cc in subst (λ (x : Sent). x.at ≤ n) same h.0
 
-pub in_reach : (b : Bool) (line : ℕ) (x : Result Running Verdict) (s : Running) → (if b then x else Err (Fail line Missing)) ≡ Ok s → x ≡ Ok s
+pub in_reach : (b : Bool) (line : ℕ) (x : Result RunStateView Verdict) (s : RunStateView) → (if b then x else Err (Fail line Missing)) ≡ Ok s → x ≡ Ok s
 in_reach true line x s h = h
 in_reach false line x s h = absurd cc
 
 -- a step that goes on performed its event's action
-pub step_performs : (r s : Running) (e : Event) → step r e ≡ Ok s → performed r e e.action ≡ Ok s
+pub step_performs : (r s : RunStateView) (e : Event) → step r e ≡ Ok s → performed r e e.action ≡ Ok s
 step_performs r s e h =
-    let shaped : Result Running Verdict = if is_backwards r.base e.time then Err (Fail e.line Backwards) else performed r e e.action in
-    let unlimited : Result Running Verdict = if not (is_run e) then Err (Unsupported e.line) else shaped in
+    let shaped : Result RunStateView Verdict = if is_backwards r.base e.time then Err (Fail e.line Backwards) else performed r e e.action in
+    let unlimited : Result RunStateView Verdict = if not (is_run e) then Err (Unsupported e.line) else shaped in
     let limit : (is_over_limit e ≡ false) × (unlimited ≡ Ok s) = let_through (is_over_limit e) (Limit e.line) unlimited s h in
     let shape : (not (is_run e) ≡ false) × (shaped ≡ Ok s) = let_through (not (is_run e)) (Unsupported e.line) shaped s limit.1 in
     let onwards : (is_backwards r.base e.time ≡ false) × (performed r e e.action ≡ Ok s) =
@@ -126,19 +126,19 @@ step_performs r s e h =
     onwards.1
 
 -- its numbers are within their limits
-pub step_unlimited : (r s : Running) (e : Event) → step r e ≡ Ok s → is_over_limit e ≡ false
+pub step_unlimited : (r s : RunStateView) (e : Event) → step r e ≡ Ok s → is_over_limit e ≡ false
 step_unlimited r s e h =
-    let shaped : Result Running Verdict = if is_backwards r.base e.time then Err (Fail e.line Backwards) else performed r e e.action in
-    let unlimited : Result Running Verdict = if not (is_run e) then Err (Unsupported e.line) else shaped in
+    let shaped : Result RunStateView Verdict = if is_backwards r.base e.time then Err (Fail e.line Backwards) else performed r e e.action in
+    let unlimited : Result RunStateView Verdict = if not (is_run e) then Err (Unsupported e.line) else shaped in
     let limit : (is_over_limit e ≡ false) × (unlimited ≡ Ok s) = let_through (is_over_limit e) (Limit e.line) unlimited s h in
     limit.0
 
-step_short : (r s : Running) (e : Event) → step r e ≡ Ok s → list_any is_long (written_times e.time) ≡ false
+step_short : (r s : RunStateView) (e : Event) → step r e ≡ Ok s → list_any is_long (written_times e.time) ≡ false
 step_short r s e h = or_false _ _ (or_false _ _ (step_unlimited r s e h))
 
 module _ (K : ℕ → State → Type 0) (laws : IsKept K) where
   -- of a sender that hasn't ended it is known at a moment
-  abbrev Knows : Sender → ℕ → Type 0
+  abbrev Knows : HostView → ℕ → Type 0
   Knows host clock = host.ended ≡ None → K clock host.state
 
   -- a packet that arrives, and a call, after all expiries up to a later moment
@@ -155,14 +155,14 @@ module _ (K : ℕ → State → Type 0) (laws : IsKept K) where
       laws.calls call moment came.0 t answer (laws.advances clock moment s came.0 le up came.1) came.2
 
   -- so the sender is up to date at the moment of the packet, and of the call
-  pub host_after_arrival : (old new : Sender) (segment : Segment) (clock moment : ℕ) (u : Unit {0})
+  pub host_after_arrival : (old new : HostView) (segment : Segment) (clock moment : ℕ) (u : Unit {0})
       → Knows old clock → old.ended ≡ None → clock ≤ moment
       → Goes old (λ s. then_on (arrived segment moment) (advanced moment s)) (Ok u) new
       → Knows new moment
   host_after_arrival old new segment clock moment u up live le h =
       λ _. arrival_keeps_up segment clock moment old.state new.state le (up live) (goes_on old new (λ s. then_on (arrived segment moment) (advanced moment s)) u live h)
 
-  pub host_after_call : (old new : Sender) (call : Call) (clock moment : ℕ) (answer : Answer)
+  pub host_after_call : (old new : HostView) (call : Call) (clock moment : ℕ) (answer : Answer)
       → Knows old clock → old.ended ≡ None → clock ≤ moment
       → Answers old (λ s. then_on (called call moment) (advanced moment s)) (Ok answer) new
       → Knows new moment
@@ -170,7 +170,7 @@ module _ (K : ℕ → State → Type 0) (laws : IsKept K) where
       λ _. call_keeps_up call clock moment old.state new.state answer le (up live) (answers_on old new (λ s. then_on (called call moment) (advanced moment s)) answer live h)
 
   -- and the sender is up to date there
-  pub host_after_expiry : (old new : Sender) (clock at : ℕ) (u : Unit {0})
+  pub host_after_expiry : (old new : HostView) (clock at : ℕ) (u : Unit {0})
       → Knows old clock → old.ended ≡ None → deadline_of old.state ≡ Some at
       → Goes old (advanced at) (Ok u) new
       → Knows new at
@@ -179,14 +179,14 @@ module _ (K : ℕ → State → Type 0) (laws : IsKept K) where
       λ _. laws.advances clock at old.state new.state (omega (arith, reach.0)) (up live) (goes_on old new (advanced at) u live h)
 
   -- after an event that acted
-  acted_within : (n : ℕ) (r : Running) (e : Event) (t : State)
+  acted_within : (n : ℕ) (r : RunStateView) (e : Event) (t : State)
       → IsWithin K n r → moment_of r.base e.time ≤ n + 3600000000 → K (acts_at r e) t
       → IsWithin K (n + 3600000000) (acted r e t)
   acted_within n r e t within moment up =
       let clock : r.clock ≤ n = within.clock in
       record { live = within.live; clock = omega arith; base = moment; up_to = up }
 
-  arrival_within : (n : ℕ) (r s : Running) (e : Event) (p : Packet) (came : Result State Halt) → arrives r e p ≡ came
+  arrival_within : (n : ℕ) (r s : RunStateView) (e : Event) (p : Packet) (came : Result State Halt) → arrives r e p ≡ came
       → IsWithin K n r → moment_of r.base e.time ≤ n + 3600000000
       → on_arrival r e came ≡ Ok s → IsWithin K (n + 3600000000) s
   arrival_within n r s e p (Ok t) is within moment h =
@@ -194,7 +194,7 @@ module _ (K : ℕ → State → Type 0) (laws : IsKept K) where
       (acted_within n r e t within moment (arrival_keeps_up (segment_in p) r.clock (acts_at r e) r.host.state t (omega arith) within.up_to is))
   arrival_within n r s e p (Err halt) is within moment h = absurd cc
 
-  answer_within : (n : ℕ) (r s : Running) (e : Event) (call : Call) (came : Result (State × Answer) Halt) → answers r e call ≡ came
+  answer_within : (n : ℕ) (r s : RunStateView) (e : Event) (call : Call) (came : Result (State × Answer) Halt) → answers r e call ≡ came
       → IsWithin K n r → moment_of r.base e.time ≤ n + 3600000000
       → on_answer r e call came ≡ Ok s → IsWithin K (n + 3600000000) s
   answer_within n r s e call (Ok (t, a)) is within moment h =
@@ -203,12 +203,12 @@ module _ (K : ℕ → State → Type 0) (laws : IsKept K) where
   answer_within n r s e call (Err halt) is within moment h = absurd cc
 
   -- after a packet that was taken
-  taken_within : (n : ℕ) (r s : Running) (e : Event) (p : Packet) (first : Option Sent) → slice_get r.host.state.endpoint.outbox 0 ≡ first
+  taken_within : (n : ℕ) (r s : RunStateView) (e : Event) (p : Packet) (first : Option Sent) → slice_get r.host.state.endpoint.outbox 0 ≡ first
       → IsWithin K n r → moment_of r.base e.time ≤ n
-      → taken e p r first ≡ Ok s → IsWithin K n s
+      → packet_taken e p r first ≡ Ok s → IsWithin K n s
   taken_within n r s e p None is within moment h = absurd cc
   taken_within n r s e p (Some sent) is within moment h =
-      let next : Running = record r { host = without_oldest r.host; base = base_after r.base e.time sent.at } in
+      let next : RunStateView = record r { host = without_oldest r.host; base = base_after r.base e.time sent.at } in
       let same : next ≡ s = agreed e.line next s (mismatch p (moments_of r.base e.time) sent (tolerance_of r)) h in
       let clock : r.clock ≤ n = within.clock in
       let left : sent.at ≤ r.clock = oldest r.clock r.host.state.endpoint.outbox sent (laws.ordered r.clock r.host.state within.up_to) is in
@@ -220,10 +220,10 @@ module _ (K : ℕ → State → Type 0) (laws : IsKept K) where
       })
 
   -- after an expiry that was awaited: the base stays
-  abbrev Waited : ℕ → Running → Running → Type 0
+  abbrev Waited : ℕ → RunStateView → RunStateView → Type 0
   Waited n r s = IsWithin K (n + 3600000000) s × (s.base ≡ r.base)
 
-  expired : (n at : ℕ) (r s : Running) (e : Event) (came : Result State Halt) → advanced at r.host.state ≡ came
+  expired : (n at : ℕ) (r s : RunStateView) (e : Event) (came : Result State Halt) → advanced at r.host.state ≡ came
       → deadline_of r.host.state ≡ Some at → IsWithin K n r → on_expiry r e at came ≡ Ok s → Waited n r s
   expired n at r s e (Ok t) is is_due within h =
       let clock : r.clock ≤ n = within.clock in
@@ -240,27 +240,27 @@ module _ (K : ℕ → State → Type 0) (laws : IsKept K) where
       )
   expired n at r s e (Err halt) is is_due within h = absurd cc
 
-  expires_within : (n : ℕ) (r s : Running) (e : Event) (o : Option ℕ) → deadline_of r.host.state ≡ o
+  expires_within : (n : ℕ) (r s : RunStateView) (e : Event) (o : Option ℕ) → deadline_of r.host.state ≡ o
       → IsWithin K n r → expires r e o ≡ Ok s → Waited n r s
   expires_within n r s e None is_due within h = absurd cc
   expires_within n r s e (Some at) is_due within h =
       expired n at r s e (advanced at r.host.state) refl is_due within
       (in_reach (is_in_reach (moments_of r.base e.time) (tolerance_of r) at) e.line (on_expiry r e at (advanced at r.host.state)) s h)
 
-  later : (n : ℕ) (r : Running) → IsWithin K n r → IsWithin K (n + 3600000000) r
+  later : (n : ℕ) (r : RunStateView) → IsWithin K n r → IsWithin K (n + 3600000000) r
   later n r within =
       let clock : r.clock ≤ n = within.clock in
       let base : r.base ≤ n = within.base in
       record { live = within.live; clock = omega arith; base = omega arith; up_to = within.up_to }
 
-  awaited_within : (n : ℕ) (r s : Running) (e : Event) (empty : Bool) → IsWithin K n r
+  awaited_within : (n : ℕ) (r s : RunStateView) (e : Event) (empty : Bool) → IsWithin K n r
       → (if empty then expires r e (deadline_of r.host.state) else Ok r) ≡ Ok s → Waited n r s
   awaited_within n r s e true within h = expires_within n r s e (deadline_of r.host.state) refl within h
   awaited_within n r s e false within h = subst (Waited n r) (given r s h) (later n r within, refl)
 
-  leaves_within : (n : ℕ) (r s : Running) (e : Event) (p : Packet) (came : Result Running Verdict) → awaited r e ≡ came
+  leaves_within : (n : ℕ) (r s : RunStateView) (e : Event) (p : Packet) (came : Result RunStateView Verdict) → awaited r e ≡ came
       → IsWithin K n r → moment_of r.base e.time ≤ n + 3600000000
-      → on_step (λ q. taken e p q (slice_get q.host.state.endpoint.outbox 0)) (λ v. Err v) came ≡ Ok s
+      → on_step (λ q. packet_taken e p q (slice_get q.host.state.endpoint.outbox 0)) (λ v. Err v) came ≡ Ok s
       → IsWithin K (n + 3600000000) s
   leaves_within n r s e p (Ok t) is within moment h =
       let waited : Waited n r t = awaited_within n r t e (length r.host.state.endpoint.outbox == 0) within is in
@@ -268,7 +268,7 @@ module _ (K : ℕ → State → Type 0) (laws : IsKept K) where
       (subst (λ (b : ℕ). moment_of b e.time ≤ n + 3600000000) (sym waited.1) moment) h
   leaves_within n r s e p (Err v) is within moment h = absurd cc
 
-  performed_within : (n : ℕ) (r s : Running) (e : Event) (action : Action)
+  performed_within : (n : ℕ) (r s : RunStateView) (e : Event) (action : Action)
       → IsWithin K n r → moment_of r.base e.time ≤ n + 3600000000 → performed r e action ≡ Ok s → IsWithin K (n + 3600000000) s
   performed_within n r s e (Inbound p) within moment h = arrival_within n r s e p (arrives r e p) refl within moment h
   performed_within n r s e (Outbound p) within moment h =
@@ -278,7 +278,7 @@ module _ (K : ℕ → State → Type 0) (laws : IsKept K) where
   performed_within n r s e Command within moment h = absurd cc
   performed_within n r s e Code within moment h = absurd cc
 
-  pub step_within : (n : ℕ) (r s : Running) (e : Event) → IsWithin K n r → step r e ≡ Ok s → IsWithin K (n + 3600000000) s
+  pub step_within : (n : ℕ) (r s : RunStateView) (e : Event) → IsWithin K n r → step r e ≡ Ok s → IsWithin K (n + 3600000000) s
   step_within n r s e within h =
       let base : r.base ≤ n = within.base in
       let moment : moment_of r.base e.time ≤ r.base + 3600000000 = moment_within r.base e.time (step_short r s e h) in

@@ -20,7 +20,7 @@ use Rattle.pd_host.specs.Arrivals.{arrived}
 use Rattle.pd_host.specs.Calls.{called}
 use Rattle.pd_host.specs.Expiries.{advanced, deadline_of}
 use Rattle.pd_host.specs.InputLaws.{Notes, rebound}
-use Rattle.pd_host.specs.Sender.{then_on, without_oldest}
+use Rattle.pd_host.specs.Host.{then_on, without_oldest}
 use Rattle.pd_host.specs.declared.halts.Halt.{Halt}
 use Rattle.pd_host.specs.declared.sender_state.State.{State}
 use Rattle.pd_match.specs.Calls.{result_mismatch}
@@ -33,7 +33,7 @@ use Rattle.pd_run.specs.Laws.{ToleranceStays}
 use Rattle.pd_run.specs.Limits.{is_over_limit}
 use Rattle.pd_run.specs.Run.{start_of, tolerance_in, states_from, states_in}
 use Rattle.pd_run.specs.Shapes.{is_run}
-use Rattle.pd_run.specs.Step.{Running, tolerance_of, noted, on_step, judged, with_state, acts_at, acted, arrives, on_arrival, answers, on_answer, on_expiry, expires, awaited, taken, leaves, performed, step}
+use Rattle.pd_run.specs.Step.{RunStateView, tolerance_of, noted, on_step, judged, with_state, acts_at, acted, arrives, on_arrival, answers, on_answer, on_expiry, expires, awaited, packet_taken, leaves, performed, step}
 use Rattle.pd_run.specs.Times.{moments_of, base_after, is_backwards, is_in_reach}
 use Rattle.pd_run.specs.declared.verdicts.Verdict.{Verdict}
 use Rattle.pd_run.specs.declared.verdicts.Verdict.TheVariants.{Fail, Unsupported, Limit}
@@ -73,7 +73,7 @@ with_more u compared ToleranceUs e = or_first u.tolerance_us compared e
 with_more u compared _ e = e
 
 -- what the sender noted is part of what the run consulted
-host_uses : (r : Running) → Includes (uses_of r) r.host.state.uses
+host_uses : (r : RunStateView) → Includes (uses_of r) r.host.state.uses
 host_uses r = with_more r.host.state.uses r.compared
 
 -- with the tolerance, a set has no other setting more
@@ -94,16 +94,16 @@ more_together u v a b h more key e = go (elsewhere u a key)
 -- What a step keeps
 
 -- settings and the header's tolerance stay, and what the sender noted stays noted
-record Keeps (r s : Running) : Type 0 where
+record Keeps (r s : RunStateView) : Type 0 where
   pub settings : s.host.state.settings ≡ r.host.state.settings
   pub uses : Includes s.host.state.uses r.host.state.uses
   pub written : s.written ≡ r.written
   pub compared : s.compared ≡ r.compared
 
-itself : (r : Running) → Keeps r r
+itself : (r : RunStateView) → Keeps r r
 itself r = record { settings = refl; uses = includes_itself r.host.state.uses; written = refl; compared = refl }
 
-keeps_too : (r s t : Running) → Keeps r s → Keeps s t → Keeps r t
+keeps_too : (r s t : RunStateView) → Keeps r s → Keeps s t → Keeps r t
 keeps_too r s t a b = record {
   settings = b.settings ∙ a.settings;
   uses = includes_too t.host.state.uses s.host.state.uses r.host.state.uses b.uses a.uses;
@@ -114,7 +114,7 @@ keeps_too r s t a b = record {
 notes_too : (s u t : State) → Notes s u → Notes u t → Notes s t
 notes_too s u t a b = record { settings = b.settings ∙ a.settings; uses = includes_too t.uses u.uses s.uses b.uses a.uses }
 
-arrival_keeps : InputsOnlyUse → (r s : Running) (e : Event) (p : Packet) (came : Result State Halt) → arrives r e p ≡ came
+arrival_keeps : InputsOnlyUse → (r s : RunStateView) (e : Event) (p : Packet) (came : Result State Halt) → arrives r e p ≡ came
     → on_arrival r e came ≡ Ok s → Keeps r s
 arrival_keeps laws r s e p (Ok t) is h =
     let came = both (arrived (segment_in p) (acts_at r e)) (advanced (acts_at r e) r.host.state) t is in
@@ -123,7 +123,7 @@ arrival_keeps laws r s e p (Ok t) is h =
     subst (Keeps r) (given (acted r e t) s h) (record { settings = notes.settings; uses = notes.uses; written = refl; compared = refl })
 arrival_keeps laws r s e p (Err halt) is h = absurd cc
 
-answer_keeps : InputsOnlyUse → (r s : Running) (e : Event) (call : Call) (came : Result (State × Answer) Halt) → answers r e call ≡ came
+answer_keeps : InputsOnlyUse → (r s : RunStateView) (e : Event) (call : Call) (came : Result (State × Answer) Halt) → answers r e call ≡ came
     → on_answer r e call came ≡ Ok s → Keeps r s
 answer_keeps laws r s e call (Ok (t, a)) is h =
     let came = both (called call (acts_at r e)) (advanced (acts_at r e) r.host.state) (t, a) is in
@@ -133,14 +133,14 @@ answer_keeps laws r s e call (Ok (t, a)) is h =
     (record { settings = notes.settings; uses = notes.uses; written = refl; compared = refl })
 answer_keeps laws r s e call (Err halt) is h = absurd cc
 
-taken_keeps : (r s : Running) (e : Event) (p : Packet) (first : Option Sent) → taken e p r first ≡ Ok s → Keeps r s
+taken_keeps : (r s : RunStateView) (e : Event) (p : Packet) (first : Option Sent) → packet_taken e p r first ≡ Ok s → Keeps r s
 taken_keeps r s e p None h = absurd cc
 taken_keeps r s e p (Some sent) h =
-    let next : Running = record r { host = without_oldest r.host; base = base_after r.base e.time sent.at } in
+    let next : RunStateView = record r { host = without_oldest r.host; base = base_after r.base e.time sent.at } in
     subst (Keeps r) (agreed e.line next s (mismatch p (moments_of r.base e.time) sent (tolerance_of r)) h)
     (record { settings = refl; uses = includes_itself r.host.state.uses; written = refl; compared = refl })
 
-expiry_keeps : InputsOnlyUse → (r s : Running) (e : Event) (at : ℕ) (came : Result State Halt) → advanced at r.host.state ≡ came
+expiry_keeps : InputsOnlyUse → (r s : RunStateView) (e : Event) (at : ℕ) (came : Result State Halt) → advanced at r.host.state ≡ came
     → on_expiry r e at came ≡ Ok s → Keeps r s
 expiry_keeps laws r s e at (Ok t) is h =
     let notes : Notes r.host.state t = laws.advances_note at r.host.state t is in
@@ -148,40 +148,40 @@ expiry_keeps laws r s e at (Ok t) is h =
     (record { settings = notes.settings; uses = notes.uses; written = refl; compared = refl })
 expiry_keeps laws r s e at (Err halt) is h = absurd cc
 
-expires_keeps : InputsOnlyUse → (r s : Running) (e : Event) (o : Option ℕ) → expires r e o ≡ Ok s → Keeps r s
+expires_keeps : InputsOnlyUse → (r s : RunStateView) (e : Event) (o : Option ℕ) → expires r e o ≡ Ok s → Keeps r s
 expires_keeps laws r s e None h = absurd cc
 expires_keeps laws r s e (Some at) h =
     expiry_keeps laws r s e at (advanced at r.host.state) refl
     (in_reach (is_in_reach (moments_of r.base e.time) (tolerance_of r) at) e.line (on_expiry r e at (advanced at r.host.state)) s h)
 
-awaited_keeps : InputsOnlyUse → (r s : Running) (e : Event) (empty : Bool)
+awaited_keeps : InputsOnlyUse → (r s : RunStateView) (e : Event) (empty : Bool)
     → (if empty then expires r e (deadline_of r.host.state) else Ok r) ≡ Ok s → Keeps r s
 awaited_keeps laws r s e true h = expires_keeps laws r s e (deadline_of r.host.state) h
 awaited_keeps laws r s e false h = subst (Keeps r) (given r s h) (itself r)
 
 -- an expected packet is taken after it was awaited
-abbrev take_first : Event → Packet → Running → Result Running Verdict
-take_first e p q = taken e p q (slice_get q.host.state.endpoint.outbox 0)
+abbrev take_first : Event → Packet → RunStateView → Result RunStateView Verdict
+take_first e p q = packet_taken e p q (slice_get q.host.state.endpoint.outbox 0)
 
-of_awaited : (e : Event) (p : Packet) (s : Running) (came : Result Running Verdict)
+of_awaited : (e : Event) (p : Packet) (s : RunStateView) (came : Result RunStateView Verdict)
     → on_step (take_first e p) (λ v. Err v) came ≡ Ok s
-    → (t : Running) × (came ≡ Ok t) × (take_first e p t ≡ Ok s)
+    → (t : RunStateView) × (came ≡ Ok t) × (take_first e p t ≡ Ok s)
 of_awaited e p s (Ok t) h = (t, refl, h)
 of_awaited e p s (Err v) h = absurd cc
 
-leaves_keeps : InputsOnlyUse → (r s : Running) (e : Event) (p : Packet) → leaves r e p ≡ Ok s → Keeps r s
+leaves_keeps : InputsOnlyUse → (r s : RunStateView) (e : Event) (p : Packet) → leaves r e p ≡ Ok s → Keeps r s
 leaves_keeps laws r s e p h =
     let came = of_awaited e p s (awaited r e) h in
     keeps_too r came.0 s (awaited_keeps laws r came.0 e (length r.host.state.endpoint.outbox == 0) came.1)
     (taken_keeps came.0 s e p (slice_get came.0.host.state.endpoint.outbox 0) came.2)
 
 -- what a step leaves of all that
-record Leaves (r s : Running) : Type 0 where
+record Leaves (r s : RunStateView) : Type 0 where
   pub settings : s.host.state.settings ≡ r.host.state.settings
   pub uses : Includes (uses_of s) (uses_of r)
   pub written : s.written ≡ r.written
 
-leaves_of : (r n s : Running) → n.host ≡ r.host → n.written ≡ r.written → (r.compared ≡ true → n.compared ≡ true) → Keeps n s → Leaves r s
+leaves_of : (r n s : RunStateView) → n.host ≡ r.host → n.written ≡ r.written → (r.compared ≡ true → n.compared ≡ true) → Keeps n s → Leaves r s
 leaves_of r n s host written more k =
     let settings : s.host.state.settings ≡ r.host.state.settings = k.settings ∙ ap (λ h. h.state.settings) host in
     let uses : Includes s.host.state.uses r.host.state.uses = subst (λ h. Includes s.host.state.uses h.state.uses) host k.uses in
@@ -192,7 +192,7 @@ leaves_of r n s host written more k =
       uses = more_together r.host.state.uses s.host.state.uses r.compared s.compared uses (λ e. compared ∙ more e);
     }
 
-performed_leaves : InputsOnlyUse → (r s : Running) (e : Event) (action : Action) → performed r e action ≡ Ok s → Leaves r s
+performed_leaves : InputsOnlyUse → (r s : RunStateView) (e : Event) (action : Action) → performed r e action ≡ Ok s → Leaves r s
 performed_leaves laws r s e (Inbound p) h = leaves_of r r s refl refl (λ e. e) (arrival_keeps laws r s e p (arrives r e p) refl h)
 performed_leaves laws r s e (Outbound p) h =
     leaves_of r (noted r) s refl refl (λ e. or_first r.compared (is_none r.written) e) (leaves_keeps laws (noted r) s e p h)
@@ -200,7 +200,7 @@ performed_leaves laws r s e (Calls call) h = leaves_of r r s refl refl (λ e. e)
 performed_leaves laws r s e Command h = absurd cc
 performed_leaves laws r s e Code h = absurd cc
 
-step_leaves : InputsOnlyUse → (r s : Running) (e : Event) → step r e ≡ Ok s → Leaves r s
+step_leaves : InputsOnlyUse → (r s : RunStateView) (e : Event) → step r e ≡ Ok s → Leaves r s
 step_leaves laws r s e h = performed_leaves laws r s e e.action (step_performs r s e h)
 
 pub steps_note : InputsOnlyUse → StepsNote
@@ -216,13 +216,13 @@ tolerance_stays laws r s e h =
 
 -- The same step under other settings
 
-abbrev again : Settings → Running → Result Running Verdict
+abbrev again : Settings → RunStateView → Result RunStateView Verdict
 again b s = Ok (rebound_run b s)
 
-same_run : (b : Settings) (r s : Running) → r ≡ s → again b r ≡ again b s
+same_run : (b : Settings) (r s : RunStateView) → r ≡ s → again b r ≡ again b s
 same_run b r s h = ap (again b) h
 
-judged_again : (line : ℕ) (r s : Running) (b : Settings) (kind : Option Kind) → judged line r kind ≡ Ok s
+judged_again : (line : ℕ) (r s : RunStateView) (b : Settings) (kind : Option Kind) → judged line r kind ≡ Ok s
     → judged line (rebound_run b r) kind ≡ again b s
 judged_again line r s b None h = same_run b r s (given r s h)
 judged_again line r s b (Some kind) h = absurd cc
@@ -231,14 +231,14 @@ judged_again line r s b (Some kind) h = absurd cc
 agree_before : (u : UseSet) (x y b : Settings) → x ≡ y → Agree u y b → Agree u x b
 agree_before u x y b same h = subst (λ (z : Settings). Agree u z b) (sym same) h
 
-arrival_again : InputsOnlyUse → (r s : Running) (e : Event) (p : Packet) (b : Settings) (came : Result State Halt) → arrives r e p ≡ came
+arrival_again : InputsOnlyUse → (r s : RunStateView) (e : Event) (p : Packet) (b : Settings) (came : Result State Halt) → arrives r e p ≡ came
     → on_arrival r e came ≡ Ok s → Agree (uses_of s) r.host.state.settings b
     → on_arrival (rebound_run b r) e (arrives (rebound_run b r) e p) ≡ again b s
 arrival_again laws r s e p b (Ok t) is h agree =
     let at : ℕ = acts_at r e in
     let came = both (arrived (segment_in p) at) (advanced at r.host.state) t is in
     let same : acted r e t ≡ s = given (acted r e t) s h in
-    let after : Agree (uses_of (acted r e t)) r.host.state.settings b = subst (λ (q : Running). Agree (uses_of q) r.host.state.settings b) (sym same) agree in
+    let after : Agree (uses_of (acted r e t)) r.host.state.settings b = subst (λ (q : RunStateView). Agree (uses_of q) r.host.state.settings b) (sym same) agree in
     let noted_here : Agree t.uses r.host.state.settings b = agree_on_fewer (uses_of (acted r e t)) t.uses r.host.state.settings b (host_uses (acted r e t)) after in
     let first : advanced at (rebound b r.host.state) ≡ Ok (rebound b came.0) = laws.advances at r.host.state came.0 b came.1 in
     let next : arrived (segment_in p) at (rebound b came.0) ≡ Ok (rebound b t) =
@@ -249,14 +249,14 @@ arrival_again laws r s e p b (Ok t) is h agree =
     ∙ same_run b (acted r e t) s same
 arrival_again laws r s e p b (Err halt) is h agree = absurd cc
 
-answer_again : InputsOnlyUse → (r s : Running) (e : Event) (call : Call) (b : Settings) (came : Result (State × Answer) Halt) → answers r e call ≡ came
+answer_again : InputsOnlyUse → (r s : RunStateView) (e : Event) (call : Call) (b : Settings) (came : Result (State × Answer) Halt) → answers r e call ≡ came
     → on_answer r e call came ≡ Ok s → Agree (uses_of s) r.host.state.settings b
     → on_answer (rebound_run b r) e call (answers (rebound_run b r) e call) ≡ again b s
 answer_again laws r s e call b (Ok (t, a)) is h agree =
     let at : ℕ = acts_at r e in
     let came = both (called call at) (advanced at r.host.state) (t, a) is in
     let same : acted r e t ≡ s = agreed e.line (acted r e t) s (result_mismatch call.result a) h in
-    let after : Agree (uses_of (acted r e t)) r.host.state.settings b = subst (λ (q : Running). Agree (uses_of q) r.host.state.settings b) (sym same) agree in
+    let after : Agree (uses_of (acted r e t)) r.host.state.settings b = subst (λ (q : RunStateView). Agree (uses_of q) r.host.state.settings b) (sym same) agree in
     let noted_here : Agree t.uses r.host.state.settings b = agree_on_fewer (uses_of (acted r e t)) t.uses r.host.state.settings b (host_uses (acted r e t)) after in
     let first : advanced at (rebound b r.host.state) ≡ Ok (rebound b came.0) = laws.advances at r.host.state came.0 b came.1 in
     let next : called call at (rebound b came.0) ≡ Ok (rebound b t, a) =
@@ -268,7 +268,7 @@ answer_again laws r s e call b (Ok (t, a)) is h agree =
 answer_again laws r s e call b (Err halt) is h agree = absurd cc
 
 -- the tolerance is the same
-abbrev SameTolerance : Settings → Running → Type 0
+abbrev SameTolerance : Settings → RunStateView → Type 0
 SameTolerance b r = tolerance_of (rebound_run b r) ≡ tolerance_of r
 
 by_writing : (o : Option ℕ) (x y : ℕ) → (is_none o ≡ true → x ≡ y) → unwrap_or o y ≡ unwrap_or o x
@@ -276,51 +276,51 @@ by_writing None x y h = sym (h refl)
 by_writing (Some t) x y h = refl
 
 -- it stays so where settings and the header's tolerance stay
-same_later : (b : Settings) (r t : Running) → Keeps r t → SameTolerance b r → SameTolerance b t
+same_later : (b : Settings) (r t : RunStateView) → Keeps r t → SameTolerance b r → SameTolerance b t
 same_later b r t k same =
     ap (λ (o : Option ℕ). tolerance_by o b) k.written
     ∙ same
     ∙ sym (ap (λ (o : Option ℕ). tolerance_by o t.host.state.settings) k.written ∙ ap (tolerance_by r.written) k.settings)
 
-taken_again : (r s : Running) (e : Event) (p : Packet) (b : Settings) (first : Option Sent) → SameTolerance b r
-    → taken e p r first ≡ Ok s → taken e p (rebound_run b r) first ≡ again b s
+taken_again : (r s : RunStateView) (e : Event) (p : Packet) (b : Settings) (first : Option Sent) → SameTolerance b r
+    → packet_taken e p r first ≡ Ok s → packet_taken e p (rebound_run b r) first ≡ again b s
 taken_again r s e p b None same h = absurd cc
 taken_again r s e p b (Some sent) same h =
-    let next : Running = record r { host = without_oldest r.host; base = base_after r.base e.time sent.at } in
+    let next : RunStateView = record r { host = without_oldest r.host; base = base_after r.base e.time sent.at } in
     let moments = moments_of r.base e.time in
     ap (λ (x : ℕ). judged e.line (rebound_run b next) (mismatch p moments sent x)) same
     ∙ judged_again e.line next s b (mismatch p moments sent (tolerance_of r)) h
 
-reach_again : (c : Bool) (line : ℕ) (x y : Result Running Verdict) (s u : Running) → (x ≡ Ok s → y ≡ Ok u)
+reach_again : (c : Bool) (line : ℕ) (x y : Result RunStateView Verdict) (s u : RunStateView) → (x ≡ Ok s → y ≡ Ok u)
     → (if c then x else Err (Fail line Missing)) ≡ Ok s → (if c then y else Err (Fail line Missing)) ≡ Ok u
 reach_again true line x y s u more h = more h
 reach_again false line x y s u more h = absurd cc
 
-expiry_again : InputsOnlyUse → (r s : Running) (e : Event) (at : ℕ) (b : Settings) (came : Result State Halt) → advanced at r.host.state ≡ came
+expiry_again : InputsOnlyUse → (r s : RunStateView) (e : Event) (at : ℕ) (b : Settings) (came : Result State Halt) → advanced at r.host.state ≡ came
     → on_expiry r e at came ≡ Ok s → on_expiry (rebound_run b r) e at (advanced at (rebound b r.host.state)) ≡ again b s
 expiry_again laws r s e at b (Ok t) is h =
     ap (on_expiry (rebound_run b r) e at) (laws.advances at r.host.state t b is)
     ∙ same_run b (record (with_state r t) { clock = at }) s (given (record (with_state r t) { clock = at }) s h)
 expiry_again laws r s e at b (Err halt) is h = absurd cc
 
-expires_again : InputsOnlyUse → (r s : Running) (e : Event) (b : Settings) (o : Option ℕ) → SameTolerance b r
+expires_again : InputsOnlyUse → (r s : RunStateView) (e : Event) (b : Settings) (o : Option ℕ) → SameTolerance b r
     → expires r e o ≡ Ok s → expires (rebound_run b r) e o ≡ again b s
 expires_again laws r s e b None same h = absurd cc
 expires_again laws r s e b (Some at) same h =
     let moments = moments_of r.base e.time in
-    let here : Result Running Verdict = on_expiry r e at (advanced at r.host.state) in
-    let there : Result Running Verdict = on_expiry (rebound_run b r) e at (advanced at (rebound b r.host.state)) in
+    let here : Result RunStateView Verdict = on_expiry r e at (advanced at r.host.state) in
+    let there : Result RunStateView Verdict = on_expiry (rebound_run b r) e at (advanced at (rebound b r.host.state)) in
     ap (λ (x : ℕ). if is_in_reach moments x at then there else Err (Fail e.line Missing)) same
     ∙ reach_again (is_in_reach moments (tolerance_of r) at) e.line here there s (rebound_run b s)
     (λ k. expiry_again laws r s e at b (advanced at r.host.state) refl k) h
 
-awaited_again : InputsOnlyUse → (r s : Running) (e : Event) (b : Settings) (empty : Bool) → SameTolerance b r
+awaited_again : InputsOnlyUse → (r s : RunStateView) (e : Event) (b : Settings) (empty : Bool) → SameTolerance b r
     → (if empty then expires r e (deadline_of r.host.state) else Ok r) ≡ Ok s
     → (if empty then expires (rebound_run b r) e (deadline_of r.host.state) else Ok (rebound_run b r)) ≡ again b s
 awaited_again laws r s e b true same h = expires_again laws r s e b (deadline_of r.host.state) same h
 awaited_again laws r s e b false same h = same_run b r s (given r s h)
 
-leaves_again : InputsOnlyUse → (r s : Running) (e : Event) (p : Packet) (b : Settings) → SameTolerance b r
+leaves_again : InputsOnlyUse → (r s : RunStateView) (e : Event) (p : Packet) (b : Settings) → SameTolerance b r
     → leaves r e p ≡ Ok s → leaves (rebound_run b r) e p ≡ again b s
 leaves_again laws r s e p b same h =
     let came = of_awaited e p s (awaited r e) h in
@@ -333,14 +333,14 @@ number_of : {a b : ℕ} → Number a ≡ Number b → a ≡ b
 number_of e = cc
 
 -- an expected packet consulted the tolerance, unless the header sets it
-consulted : InputsOnlyUse → (r s : Running) (e : Event) (p : Packet) (b : Settings) → leaves (noted r) e p ≡ Ok s
+consulted : InputsOnlyUse → (r s : RunStateView) (e : Event) (p : Packet) (b : Settings) → leaves (noted r) e p ≡ Ok s
     → Agree (uses_of s) r.host.state.settings b → SameTolerance b (noted r)
 consulted laws r s e p b h agree =
     let k : Keeps (noted r) s = leaves_keeps laws (noted r) s e p h in
     by_writing r.written r.host.state.settings.tolerance_us b.tolerance_us
     (λ none. number_of (agree ToleranceUs (or_last s.host.state.uses.tolerance_us s.compared (k.compared ∙ or_last r.compared (is_none r.written) none))))
 
-performed_again : InputsOnlyUse → (r s : Running) (e : Event) (action : Action) (b : Settings) → performed r e action ≡ Ok s
+performed_again : InputsOnlyUse → (r s : RunStateView) (e : Event) (action : Action) (b : Settings) → performed r e action ≡ Ok s
     → Agree (uses_of s) r.host.state.settings b → performed (rebound_run b r) e action ≡ again b s
 performed_again laws r s e (Inbound p) b h agree = arrival_again laws r s e p b (arrives r e p) refl h agree
 performed_again laws r s e (Outbound p) b h agree = leaves_again laws (noted r) s e p b (consulted laws r s e p b h agree) h
@@ -349,17 +349,17 @@ performed_again laws r s e Command b h agree = absurd cc
 performed_again laws r s e Code b h agree = absurd cc
 
 -- where a refusal doesn't come first, it doesn't there
-passes_too : (c : Bool) (v : Verdict) (x y : Result Running Verdict) (s u : Running) → (x ≡ Ok s → y ≡ Ok u)
+passes_too : (c : Bool) (v : Verdict) (x y : Result RunStateView Verdict) (s u : RunStateView) → (x ≡ Ok s → y ≡ Ok u)
     → (if c then Err v else x) ≡ Ok s → (if c then Err v else y) ≡ Ok u
 passes_too true v x y s u more h = absurd cc
 passes_too false v x y s u more h = more h
 
 pub steps_only_use : InputsOnlyUse → StepsOnlyUse
 steps_only_use laws r s e b h agree =
-    let u : Running = rebound_run b r in
-    let v : Running = rebound_run b s in
-    let shaped : Running → Result Running Verdict = λ q. if is_backwards r.base e.time then Err (Fail e.line Backwards) else performed q e e.action in
-    let unlimited : Running → Result Running Verdict = λ q. if not (is_run e) then Err (Unsupported e.line) else shaped q in
+    let u : RunStateView = rebound_run b r in
+    let v : RunStateView = rebound_run b s in
+    let shaped : RunStateView → Result RunStateView Verdict = λ q. if is_backwards r.base e.time then Err (Fail e.line Backwards) else performed q e e.action in
+    let unlimited : RunStateView → Result RunStateView Verdict = λ q. if not (is_run e) then Err (Unsupported e.line) else shaped q in
     passes_too (is_over_limit e) (Limit e.line) (unlimited r) (unlimited u) s v
     (passes_too (not (is_run e)) (Unsupported e.line) (shaped r) (shaped u) s v
     (passes_too (is_backwards r.base e.time) (Fail e.line Backwards) (performed r e e.action) (performed u e e.action) s v
@@ -368,45 +368,45 @@ steps_only_use laws r s e b h agree =
 
 -- Whole runs
 
-abbrev Grows : Running → Running → Type 0
+abbrev Grows : RunStateView → RunStateView → Type 0
 Grows r s = (s.host.state.settings ≡ r.host.state.settings) × Includes (uses_of s) (uses_of r)
 
-grows_too : (r s t : Running) → Grows r s → Grows s t → Grows r t
+grows_too : (r s t : RunStateView) → Grows r s → Grows s t → Grows r t
 grows_too r s t a b = (b.0 ∙ a.0, includes_too (uses_of t) (uses_of s) (uses_of r) b.1 a.1)
 
 -- the states after a step
-abbrev states_after : List Event → Result Running Verdict → List Running
+abbrev states_after : List Event → Result RunStateView Verdict → List RunStateView
 states_after es o = on_step (λ t. t ∷ states_from es t) (λ v. []) o
 
 -- each state of a run has consulted what the first has
-states_grow : InputsOnlyUse → (es : List Event) (m : ℕ) (r s : Running) → slice_get (states_from es r) m ≡ Some s → Grows r s
+states_grow : InputsOnlyUse → (es : List Event) (m : ℕ) (r s : RunStateView) → slice_get (states_from es r) m ≡ Some s → Grows r s
 states_grow laws [] m r s h = absurd cc
 states_grow laws (e ∷ es) m r s h = go (states_grow laws es) m (step r e) refl h
   where
-    go : ((m : ℕ) (r s : Running) → slice_get (states_from es r) m ≡ Some s → Grows r s)
-        → (m : ℕ) (o : Result Running Verdict) → step r e ≡ o → slice_get (states_after es o) m ≡ Some s → Grows r s
+    go : ((m : ℕ) (r s : RunStateView) → slice_get (states_from es r) m ≡ Some s → Grows r s)
+        → (m : ℕ) (o : Result RunStateView Verdict) → step r e ≡ o → slice_get (states_after es o) m ≡ Some s → Grows r s
     go ih zero (Ok t) o h = let same : t ≡ s = cc in subst (Grows r) same (steps_note laws r t e o)
     go ih (suc m) (Ok t) o h = grows_too r t s (steps_note laws r t e o) (ih m t s h)
     go ih m (Err v) o h = absurd cc
 
-same_states : InputsOnlyUse → (es : List Event) (m : ℕ) (r s : Running) (b : Settings)
+same_states : InputsOnlyUse → (es : List Event) (m : ℕ) (r s : RunStateView) (b : Settings)
     → slice_get (states_from es r) m ≡ Some s → Agree (uses_of s) r.host.state.settings b
     → take (suc m) (states_from es (rebound_run b r)) ≡ map (rebound_run b) (take (suc m) (states_from es r))
 same_states laws [] m r s b h agree = absurd cc
 same_states laws (e ∷ es) m r s b h agree = go (λ k t u. same_states laws es k t u b) m (step r e) refl h
   where
-    agree_at : (t : Running) → Grows t s → Agree (uses_of t) r.host.state.settings b
+    agree_at : (t : RunStateView) → Grows t s → Agree (uses_of t) r.host.state.settings b
     agree_at t grows = agree_on_fewer (uses_of s) (uses_of t) r.host.state.settings b grows.1 agree
 
-    stepped : (m : ℕ) (t : Running) → step r e ≡ Ok t → Grows t s
+    stepped : (m : ℕ) (t : RunStateView) → step r e ≡ Ok t → Grows t s
         → take (suc m) (rebound_run b t ∷ states_from es (rebound_run b t)) ≡ map (rebound_run b) (take (suc m) (t ∷ states_from es t))
         → take (suc m) (states_after es (step (rebound_run b r) e)) ≡ map (rebound_run b) (take (suc m) (t ∷ states_from es t))
     stepped m t o grows rest =
-        ap (λ (x : Result Running Verdict). take (suc m) (states_after es x)) (steps_only_use laws r t e b o (agree_at t grows)) ∙ rest
+        ap (λ (x : Result RunStateView Verdict). take (suc m) (states_after es x)) (steps_only_use laws r t e b o (agree_at t grows)) ∙ rest
 
-    go : ((k : ℕ) (t u : Running) → slice_get (states_from es t) k ≡ Some u → Agree (uses_of u) t.host.state.settings b
+    go : ((k : ℕ) (t u : RunStateView) → slice_get (states_from es t) k ≡ Some u → Agree (uses_of u) t.host.state.settings b
         → take (suc k) (states_from es (rebound_run b t)) ≡ map (rebound_run b) (take (suc k) (states_from es t)))
-        → (m : ℕ) (o : Result Running Verdict) → step r e ≡ o → slice_get (states_after es o) m ≡ Some s
+        → (m : ℕ) (o : Result RunStateView Verdict) → step r e ≡ o → slice_get (states_after es o) m ≡ Some s
         → take (suc m) (states_after es (step (rebound_run b r) e)) ≡ map (rebound_run b) (take (suc m) (states_after es o))
     go ih zero (Ok t) o h =
         let same : t ≡ s = cc in
@@ -414,12 +414,12 @@ same_states laws (e ∷ es) m r s b h agree = go (λ k t u. same_states laws es 
     go ih (suc m) (Ok t) o h =
         let note = steps_note laws r t e o in
         stepped (suc m) t o (states_grow laws es m t s h)
-        (ap (λ (w : List Running). rebound_run b t ∷ w)
+        (ap (λ (w : List RunStateView). rebound_run b t ∷ w)
         (ih m t s h (subst (λ (x : Settings). Agree (uses_of s) x b) (sym note.0) agree)))
     go ih m (Err v) o h = absurd cc
 
 -- a text's run begins the same, but for the settings held
-pub start_again : (header : List HeaderItem) (a b : Settings) (r : Running) → start_of header a ≡ Ok r
+pub start_again : (header : List HeaderItem) (a b : Settings) (r : RunStateView) → start_of header a ≡ Ok r
     → (start_of header b ≡ Ok (rebound_run b r)) × (r.host.state.settings ≡ a)
 start_again header a b r h = go (find (λ (item : HeaderItem). is_none (tolerance_in item)) header) refl
   where
@@ -427,24 +427,24 @@ start_again header a b r h = go (find (λ (item : HeaderItem). is_none (toleranc
         → (start_of header b ≡ Ok (rebound_run b r)) × (r.host.state.settings ≡ a)
     go None is =
         let begun = given _ r (rw is at h) in
-        (rw is (same_run b _ r begun), ap (λ (q : Running). q.host.state.settings) (sym begun))
+        (rw is (same_run b _ r begun), ap (λ (q : RunStateView). q.host.state.settings) (sym begun))
     go (Some item) is = absurd (let refused = rw is at h in cc)
 
 -- a run with a state on its way has begun
-pub has_begun : (settings : Settings) (p : Parsed) (n : ℕ) (s : Running) → slice_get (states_in settings p) n ≡ Some s
-    → (p.fault ≡ None) × (r : Running) × (start_of p.header.items settings ≡ Ok r)
+pub has_begun : (settings : Settings) (p : Parsed) (n : ℕ) (s : RunStateView) → slice_get (states_in settings p) n ≡ Some s
+    → (p.fault ≡ None) × (r : RunStateView) × (start_of p.header.items settings ≡ Ok r)
 has_begun settings p n s h = by_fault p.fault refl
   where
-    by_start : p.fault ≡ None → (o : Result Running Verdict) → start_of p.header.items settings ≡ o
-        → (p.fault ≡ None) × (r : Running) × (start_of p.header.items settings ≡ Ok r)
+    by_start : p.fault ≡ None → (o : Result RunStateView Verdict) → start_of p.header.items settings ≡ o
+        → (p.fault ≡ None) × (r : RunStateView) × (start_of p.header.items settings ≡ Ok r)
     by_start none (Ok r) is = (none, r, is)
     by_start none (Err v) is = absurd (let nothing = rw (none, is) at h in cc)
 
-    by_fault : (o : Option ℕ) → p.fault ≡ o → (p.fault ≡ None) × (r : Running) × (start_of p.header.items settings ≡ Ok r)
+    by_fault : (o : Option ℕ) → p.fault ≡ o → (p.fault ≡ None) × (r : RunStateView) × (start_of p.header.items settings ≡ Ok r)
     by_fault None is = by_start is (start_of p.header.items settings) refl
     by_fault (Some line) is = absurd (let nothing = rw is at h in cc)
 
-pub states_begun : (settings : Settings) (p : Parsed) (r : Running) → p.fault ≡ None → start_of p.header.items settings ≡ Ok r
+pub states_begun : (settings : Settings) (p : Parsed) (r : RunStateView) → p.fault ≡ None → start_of p.header.items settings ≡ Ok r
     → states_in settings p ≡ states_from p.events r
 states_begun settings p r fault start = rw (fault, start) refl
 
@@ -452,11 +452,11 @@ pub runs_only_use : InputsOnlyUse → RunsOnlyUse
 runs_only_use laws text a b n s h agree =
     let p : Parsed = script_of text in
     let begun = has_begun a p n s h in
-    let r : Running = begun.1 in
+    let r : RunStateView = begun.1 in
     let other = start_again p.header.items a b r begun.2 in
     let here : states_in a p ≡ states_from p.events r = states_begun a p r begun.0 begun.2 in
     let there : states_in b p ≡ states_from p.events (rebound_run b r) = states_begun b p (rebound_run b r) begun.0 other.0 in
-    let found : slice_get (states_from p.events r) n ≡ Some s = ap (λ (l : List Running). slice_get l n) (sym here) ∙ h in
+    let found : slice_get (states_from p.events r) n ≡ Some s = ap (λ (l : List RunStateView). slice_get l n) (sym here) ∙ h in
     ap (take (suc n)) there
     ∙ same_states laws p.events n r s b found (subst (λ (x : Settings). Agree (uses_of s) x b) (sym other.1) agree)
-    ∙ sym (ap (λ (l : List Running). map (rebound_run b) (take (suc n) l)) here)
+    ∙ sym (ap (λ (l : List RunStateView). map (rebound_run b) (take (suc n) l)) here)

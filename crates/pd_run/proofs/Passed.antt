@@ -9,7 +9,7 @@ use Rattle.pd_script.specs.declared.script_events.Event.{Event}
 use Rattle.pd_seg.specs.declared.answers.Answer.{Answer}
 use Rattle.pd_seg.specs.declared.segments.Sent.{Sent}
 use Rattle.pd_host.specs.Expiries.{advanced, deadline_of}
-use Rattle.pd_host.specs.Sender.{without_oldest}
+use Rattle.pd_host.specs.Host.{without_oldest}
 use Rattle.pd_host.specs.declared.halts.Halt.{Halt}
 use Rattle.pd_host.specs.declared.sender_state.State.{State}
 use Rattle.pd_match.specs.Agreement.{Agrees, IsFirstFailing}
@@ -18,27 +18,27 @@ use Rattle.pd_match.specs.Calls.{result_mismatch}
 use Rattle.pd_match.specs.Packets.{compared, mismatch}
 use Rattle.pd_match.specs.declared.kinds.Kind.{Kind}
 use Rattle.pd_run.specs.Laws.{PassedPacketsAgree, untaken, AreAwaited, PassedPacketsAreTaken, PassedCallsAnswer}
-use Rattle.pd_run.specs.Step.{Running, tolerance_of, noted, on_step, with_state, judged, answers, on_answer, on_expiry, expires, awaited, taken, performed}
+use Rattle.pd_run.specs.Step.{RunStateView, tolerance_of, noted, on_step, with_state, judged, answers, on_answer, on_expiry, expires, awaited, packet_taken, performed}
 use Rattle.pd_run.specs.Times.{moments_of, base_after, is_in_reach}
 use Rattle.pd_run.specs.declared.verdicts.Verdict.{Verdict}
 use Rattle.pd_run.proofs.Bounds.{given, agreed, in_reach, step_performs}
 
 -- what was judged and passed differs in nothing
-no_kind : (line : ℕ) (r s : Running) (kind : Option Kind) → judged line r kind ≡ Ok s → kind ≡ None
+no_kind : (line : ℕ) (r s : RunStateView) (kind : Option Kind) → judged line r kind ≡ Ok s → kind ≡ None
 no_kind line r s None h = refl
 no_kind line r s (Some kind) h = absurd cc
 
 -- the packet that passed
-abbrev Passed : Event → Packet → Running → Option Sent → Type 0
+abbrev Passed : Event → Packet → RunStateView → Option Sent → Type 0
 Passed e p t first = (sent : Sent) × (first ≡ Some sent) × (mismatch p (moments_of t.base e.time) sent (tolerance_of t) ≡ None)
 
-of_taken : (e : Event) (p : Packet) (t s : Running) (first : Option Sent) → taken e p t first ≡ Ok s → Passed e p t first
+of_taken : (e : Event) (p : Packet) (t s : RunStateView) (first : Option Sent) → packet_taken e p t first ≡ Ok s → Passed e p t first
 of_taken e p t s None h = absurd cc
 of_taken e p t s (Some sent) h = (sent, refl, no_kind e.line _ s (mismatch p (moments_of t.base e.time) sent (tolerance_of t)) h)
 
-of_awaited : (e : Event) (p : Packet) (s : Running) (came : Result Running Verdict)
-    → on_step (λ q. taken e p q (slice_get q.host.state.endpoint.outbox 0)) (λ v. Err v) came ≡ Ok s
-    → (t : Running) × (came ≡ Ok t) × Passed e p t (slice_get t.host.state.endpoint.outbox 0)
+of_awaited : (e : Event) (p : Packet) (s : RunStateView) (came : Result RunStateView Verdict)
+    → on_step (λ q. packet_taken e p q (slice_get q.host.state.endpoint.outbox 0)) (λ v. Err v) came ≡ Ok s
+    → (t : RunStateView) × (came ≡ Ok t) × Passed e p t (slice_get t.host.state.endpoint.outbox 0)
 of_awaited e p s (Ok t) h = (t, refl, of_taken e p t s (slice_get t.host.state.endpoint.outbox 0) h)
 of_awaited e p s (Err v) h = absurd cc
 
@@ -51,29 +51,29 @@ pub passed_packets_agree : MismatchIsFirst → PassedPacketsAgree
 passed_packets_agree law r s e p is h =
     let went : performed r e (Outbound p) ≡ Ok s = ap (performed r e) (sym is) ∙ step_performs r s e h in
     let came = of_awaited e p s (awaited (noted r) e) went in
-    let t : Running = came.0 in
+    let t : RunStateView = came.0 in
     let sent : Sent = came.2.0 in
     (t, sent, came.1, came.2.1, all_agree law p (moments_of t.base e.time) sent (tolerance_of t) came.2.2)
 
 -- Which packet is taken
 
 -- the oldest, and no other
-oldest_taken : (e : Event) (p : Packet) (t s : Running) (packets : List Sent) → untaken t ≡ packets → taken e p t (slice_get packets 0) ≡ Ok s
+oldest_taken : (e : Event) (p : Packet) (t s : RunStateView) (packets : List Sent) → untaken t ≡ packets → packet_taken e p t (slice_get packets 0) ≡ Ok s
     → (sent : Sent) × (untaken t ≡ sent ∷ untaken s)
 oldest_taken e p t s [] is h = absurd cc
 oldest_taken e p t s (sent ∷ packets) is h =
-    let next : Running = record t { host = without_oldest t.host; base = base_after t.base e.time sent.at } in
+    let next : RunStateView = record t { host = without_oldest t.host; base = base_after t.base e.time sent.at } in
     let same : next ≡ s = agreed e.line next s (mismatch p (moments_of t.base e.time) sent (tolerance_of t)) h in
     let left : untaken s ≡ packets = ap untaken (sym same) ∙ ap (drop 1) is in
     (sent, is ∙ ap (λ (l : List Sent). sent ∷ l) (sym left))
 
 -- what the next expiry put out
-of_expiry : (r t : Running) (e : Event) (at : ℕ) (came : Result State Halt) → on_expiry r e at came ≡ Ok t
+of_expiry : (r t : RunStateView) (e : Event) (at : ℕ) (came : Result State Halt) → on_expiry r e at came ≡ Ok t
     → (s : State) × (came ≡ Ok s) × (untaken t ≡ s.endpoint.outbox)
 of_expiry r t e at (Ok s) h = (s, refl, ap untaken (sym (given (record (with_state r s) { clock = at }) t h)))
 of_expiry r t e at (Err halt) h = absurd cc
 
-of_due : (r t : Running) (e : Event) (o : Option ℕ) → deadline_of r.host.state ≡ o → untaken r ≡ [] → expires r e o ≡ Ok t → AreAwaited r (untaken t)
+of_due : (r t : RunStateView) (e : Event) (o : Option ℕ) → deadline_of r.host.state ≡ o → untaken r ≡ [] → expires r e o ≡ Ok t → AreAwaited r (untaken t)
 of_due r t e None due none h = absurd cc
 of_due r t e (Some at) due none h =
     let went = of_expiry r t e at (advanced at r.host.state)
@@ -87,14 +87,14 @@ no_packets : (packets : List Sent) → (length packets == 0) ≡ true → packet
 no_packets [] e = refl
 no_packets (sent ∷ packets) e = absurd (none_less (length packets) e)
 
-of_wait : (r t : Running) (e : Event) (empty : Bool) → (length (untaken r) == 0) ≡ empty
+of_wait : (r t : RunStateView) (e : Event) (empty : Bool) → (length (untaken r) == 0) ≡ empty
     → (if empty then expires r e (deadline_of r.host.state) else Ok r) ≡ Ok t → AreAwaited r (untaken t)
 of_wait r t e true is h = of_due r t e (deadline_of r.host.state) refl (no_packets (untaken r) is) h
 of_wait r t e false is h = inl (ap untaken (sym (given r t h)))
 
-of_leaving : (e : Event) (p : Packet) (s : Running) (came : Result Running Verdict)
-    → on_step (λ q. taken e p q (slice_get q.host.state.endpoint.outbox 0)) (λ v. Err v) came ≡ Ok s
-    → (t : Running) × (sent : Sent) × (came ≡ Ok t) × (untaken t ≡ sent ∷ untaken s)
+of_leaving : (e : Event) (p : Packet) (s : RunStateView) (came : Result RunStateView Verdict)
+    → on_step (λ q. packet_taken e p q (slice_get q.host.state.endpoint.outbox 0)) (λ v. Err v) came ≡ Ok s
+    → (t : RunStateView) × (sent : Sent) × (came ≡ Ok t) × (untaken t ≡ sent ∷ untaken s)
 of_leaving e p s (Ok t) h =
     let took = oldest_taken e p t s (untaken t) refl h in
     (t, took.0, refl, took.1)
@@ -106,7 +106,7 @@ passed_packets_are_taken r s e p is h =
     let left = of_leaving e p s (awaited (noted r) e) went in
     (left.0, left.1, left.2, of_wait (noted r) left.0 e (length (untaken r) == 0) refl left.2, left.3)
 
-of_answer : (r s : Running) (e : Event) (call : Call) (came : Result (State × Answer) Halt) → on_answer r e call came ≡ Ok s
+of_answer : (r s : RunStateView) (e : Event) (call : Call) (came : Result (State × Answer) Halt) → on_answer r e call came ≡ Ok s
     → (t : State) × (a : Answer) × (came ≡ Ok (t, a)) × (result_mismatch call.result a ≡ None)
 of_answer r s e call (Ok (t, a)) h = (t, a, refl, no_kind e.line _ s (result_mismatch call.result a) h)
 of_answer r s e call (Err halt) h = absurd cc

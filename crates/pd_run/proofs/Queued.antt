@@ -18,7 +18,7 @@ use Rattle.pd_host.specs.Calls.{called}
 use Rattle.pd_host.specs.Expiries.{advanced, deadline_of}
 use Rattle.pd_host.specs.Growth.{asked_by}
 use Rattle.pd_host.specs.Requests.{is_tcp, is_tcp_level, no_delay, socket_request, option_request, flags_request, address_request, listen_request, write_request, close_request, request_in, request_of}
-use Rattle.pd_host.specs.Sender.{queued_to, without_oldest}
+use Rattle.pd_host.specs.Host.{queued_to, without_oldest}
 use Rattle.pd_host.specs.declared.halts.Halt.{Halt}
 use Rattle.pd_host.specs.declared.requests.Operation.TheVariants.{Bind, Accept, NoDelay}
 use Rattle.pd_host.specs.declared.requests.Request.TheVariants.{Socket, On}
@@ -28,7 +28,7 @@ use Rattle.pd_match.specs.Packets.{mismatch}
 use Rattle.pd_run.specs.Inbound.{segment_in}
 use Rattle.pd_run.specs.Inner.{SenderIsLawful}
 use Rattle.pd_run.specs.Limits.{is_write, is_count_over, is_action_over}
-use Rattle.pd_run.specs.Step.{Running, tolerance_of, noted, on_step, with_state, acts_at, acted, arrives, on_arrival, answers, on_answer, on_expiry, expires, awaited, taken, performed, step}
+use Rattle.pd_run.specs.Step.{RunStateView, tolerance_of, noted, on_step, with_state, acts_at, acted, arrives, on_arrival, answers, on_answer, on_expiry, expires, awaited, packet_taken, performed, step}
 use Rattle.pd_run.specs.Times.{moments_of, base_after, is_in_reach}
 use Rattle.pd_run.specs.declared.verdicts.Verdict.{Verdict}
 use Rattle.pd_run.proofs.Bounds.{given, agreed, both, action_within, in_reach, step_performs, step_unlimited}
@@ -108,13 +108,13 @@ asks UnknownCall arguments h = nothing
 -- What a step queues
 
 -- the number after the last octet that a run has queued
-abbrev pub end_of : Running → ℕ
+abbrev pub end_of : RunStateView → ℕ
 end_of r = queued_to r.host.state.endpoint.connection
 
 abbrev state_end : State → ℕ
 state_end s = queued_to s.endpoint.connection
 
-after_arrival : SenderIsLawful → (r s : Running) (e : Event) (p : Packet) (came : Result State Halt) → arrives r e p ≡ came
+after_arrival : SenderIsLawful → (r s : RunStateView) (e : Event) (p : Packet) (came : Result State Halt) → arrives r e p ≡ came
     → on_arrival r e came ≡ Ok s → end_of s ≤ end_of r + 262144
 after_arrival laws r s e p (Ok t) is h =
     let came = both (arrived (segment_in p) (acts_at r e)) (advanced (acts_at r e) r.host.state) t is in
@@ -124,7 +124,7 @@ after_arrival laws r s e p (Ok t) is h =
     omega (arith, same, before, more)
 after_arrival laws r s e p (Err halt) is h = absurd cc
 
-after_call : SenderIsLawful → (r s : Running) (e : Event) (call : Call) (came : Result (State × Answer) Halt) → answers r e call ≡ came
+after_call : SenderIsLawful → (r s : RunStateView) (e : Event) (call : Call) (came : Result (State × Answer) Halt) → answers r e call ≡ came
     → is_action_over (Calls call) ≡ false → on_answer r e call came ≡ Ok s → end_of s ≤ end_of r + 262144
 after_call laws r s e call (Ok (t, a)) is within h =
     let came = both (called call (acts_at r e)) (advanced (acts_at r e) r.host.state) (t, a) is in
@@ -135,31 +135,31 @@ after_call laws r s e call (Ok (t, a)) is within h =
     omega (arith, same, before, more, few)
 after_call laws r s e call (Err halt) is within h = absurd cc
 
-after_taking : (r s : Running) (e : Event) (p : Packet) (first : Option Sent) → taken e p r first ≡ Ok s → end_of s ≡ end_of r
+after_taking : (r s : RunStateView) (e : Event) (p : Packet) (first : Option Sent) → packet_taken e p r first ≡ Ok s → end_of s ≡ end_of r
 after_taking r s e p None h = absurd cc
 after_taking r s e p (Some sent) h =
-    let next : Running = record r { host = without_oldest r.host; base = base_after r.base e.time sent.at } in
+    let next : RunStateView = record r { host = without_oldest r.host; base = base_after r.base e.time sent.at } in
     ap end_of (sym (agreed e.line next s (mismatch p (moments_of r.base e.time) sent (tolerance_of r)) h))
 
-after_expiry : SenderIsLawful → (r s : Running) (e : Event) (at : ℕ) (came : Result State Halt) → advanced at r.host.state ≡ came
+after_expiry : SenderIsLawful → (r s : RunStateView) (e : Event) (at : ℕ) (came : Result State Halt) → advanced at r.host.state ≡ came
     → on_expiry r e at came ≡ Ok s → end_of s ≡ end_of r
 after_expiry laws r s e at (Ok t) is h =
     ap end_of (sym (given (record (with_state r t) { clock = at }) s h)) ∙ laws.queued_by_expiries at r.host.state t is
 after_expiry laws r s e at (Err halt) is h = absurd cc
 
-after_due : SenderIsLawful → (r s : Running) (e : Event) (o : Option ℕ) → expires r e o ≡ Ok s → end_of s ≡ end_of r
+after_due : SenderIsLawful → (r s : RunStateView) (e : Event) (o : Option ℕ) → expires r e o ≡ Ok s → end_of s ≡ end_of r
 after_due laws r s e None h = absurd cc
 after_due laws r s e (Some at) h =
     after_expiry laws r s e at (advanced at r.host.state) refl
     (in_reach (is_in_reach (moments_of r.base e.time) (tolerance_of r) at) e.line (on_expiry r e at (advanced at r.host.state)) s h)
 
-after_wait : SenderIsLawful → (r s : Running) (e : Event) (empty : Bool) → (if empty then expires r e (deadline_of r.host.state) else Ok r) ≡ Ok s
+after_wait : SenderIsLawful → (r s : RunStateView) (e : Event) (empty : Bool) → (if empty then expires r e (deadline_of r.host.state) else Ok r) ≡ Ok s
     → end_of s ≡ end_of r
 after_wait laws r s e true h = after_due laws r s e (deadline_of r.host.state) h
 after_wait laws r s e false h = ap end_of (sym (given r s h))
 
-after_leaving : SenderIsLawful → (r s : Running) (e : Event) (p : Packet) (came : Result Running Verdict) → awaited r e ≡ came
-    → on_step (λ q. taken e p q (slice_get q.host.state.endpoint.outbox 0)) (λ v. Err v) came ≡ Ok s
+after_leaving : SenderIsLawful → (r s : RunStateView) (e : Event) (p : Packet) (came : Result RunStateView Verdict) → awaited r e ≡ came
+    → on_step (λ q. packet_taken e p q (slice_get q.host.state.endpoint.outbox 0)) (λ v. Err v) came ≡ Ok s
     → end_of s ≤ end_of r + 262144
 after_leaving laws r s e p (Ok t) is h =
     let waited : end_of t ≡ end_of r = after_wait laws r t e (length r.host.state.endpoint.outbox == 0) is in
@@ -167,7 +167,7 @@ after_leaving laws r s e p (Ok t) is h =
     omega (arith, waited, took)
 after_leaving laws r s e p (Err v) is h = absurd cc
 
-after_action : SenderIsLawful → (r s : Running) (e : Event) (action : Action) → is_action_over action ≡ false → performed r e action ≡ Ok s
+after_action : SenderIsLawful → (r s : RunStateView) (e : Event) (action : Action) → is_action_over action ≡ false → performed r e action ≡ Ok s
     → end_of s ≤ end_of r + 262144
 after_action laws r s e (Inbound p) within h = after_arrival laws r s e p (arrives r e p) refl h
 after_action laws r s e (Outbound p) within h = after_leaving laws (noted r) s e p (awaited (noted r) e) refl h
@@ -176,6 +176,6 @@ after_action laws r s e Command within h = absurd cc
 after_action laws r s e Code within h = absurd cc
 
 -- no step queues more than one `write` may name
-pub step_queues : SenderIsLawful → (r s : Running) (e : Event) → step r e ≡ Ok s → end_of s ≤ end_of r + 262144
+pub step_queues : SenderIsLawful → (r s : RunStateView) (e : Event) → step r e ≡ Ok s → end_of s ≤ end_of r + 262144
 step_queues laws r s e h =
     after_action laws r s e e.action (action_within e (step_unlimited r s e h)) (step_performs r s e h)

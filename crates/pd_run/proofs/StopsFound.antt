@@ -3,7 +3,7 @@ use Rattle.std.proofs.Common.{◌≡◌, ℕ, ◌+◌, ◌==◌, Bool, true, fal
 use Rattle.pd_host.specs.declared.halts.Halt.TheVariants as halt
 use Rattle.pd_script.specs.declared.script_events.Event.{Event}
 use Rattle.pd_run.specs.Run.{verdict_from}
-use Rattle.pd_run.specs.Step.{Running, on_step, step}
+use Rattle.pd_run.specs.Step.{RunStateView, on_step, step}
 use Rattle.pd_run.specs.Stops.{reason_on, stop_by, stop_from, line_of, VerdictsHaveReasons}
 use Rattle.pd_run.specs.Why.{why, verdict_at, verdict_by_step, ReasonsGiveVerdicts}
 use Rattle.pd_run.specs.declared.stops.Stopped.{Stopped}
@@ -32,7 +32,7 @@ none_on : (b : Bool) (reason : Option Why) → reason ≡ None → (if b then re
 none_on true reason h = h
 none_on false reason h = refl
 
-passed_over : (line n : ℕ) (r : Running) (reason : Option Why) (rest : Option Stopped) (v : Verdict)
+passed_over : (line n : ℕ) (r : RunStateView) (reason : Option Why) (rest : Option Stopped) (v : Verdict)
     → reason ≡ None → Found line rest v → Found line (stop_by n r reason rest) v
 passed_over line n r None rest v h found = found
 passed_over line n r (Some w) rest v h found = absurd cc
@@ -42,7 +42,7 @@ no_reason line None h = refl
 no_reason line (Some w) h = absurd cc
 
 -- the event that stops the run on its line
-stopping : (line n : ℕ) (r : Running) (reason : Option Why) (rest : Option Stopped) (v : Verdict)
+stopping : (line n : ℕ) (r : RunStateView) (reason : Option Why) (rest : Option Stopped) (v : Verdict)
     → option_map (verdict_at line) reason ≡ Some v → Found line (stop_by n r reason rest) v
 stopping line n r None rest v h = absurd cc
 stopping line n r (Some w) rest v h = (record { passed = n; before = r; why = w }, refl, some_is h)
@@ -55,21 +55,21 @@ same_line line at None v h l = absurd cc
 same_line line at (Some w) v h l = let own : line_of (verdict_at at w) ≡ Some at = lined at w in cc
 
 -- an event that goes on leaves the stop to those after it
-pub stop_after : (line n : ℕ) (es rest : List Event) (r s : Running) (e : Event)
+pub stop_after : (line n : ℕ) (es rest : List Event) (r s : RunStateView) (e : Event)
     → es ≡ e ∷ rest → reason_on line r e ≡ None → step r e ≡ Ok s → stop_from line n es r ≡ stop_from line (n + 1) rest s
 stop_after line n es rest r s e split none h =
     ap (λ (l : List Event). stop_from line n l r) split
     ∙ (ap (λ (o : Option Why). stop_by n r o (on_step (stop_from line (n + 1) rest) (λ v. None) (step r e))) none
-    ∙ ap (λ (o : Result Running Verdict). on_step (stop_from line (n + 1) rest) (λ v. None) o) h)
+    ∙ ap (λ (o : Result RunStateView Verdict). on_step (stop_from line (n + 1) rest) (λ v. None) o) h)
 
 -- the claim of an event, by what its step came to
-abbrev Claim : ℕ → ℕ → Running → Event → List Event → Result Running Verdict → Type 0
+abbrev Claim : ℕ → ℕ → RunStateView → Event → List Event → Result RunStateView Verdict → Type 0
 Claim line n r e es came =
     Found line (stop_by n r (reason_on line r e) (on_step (stop_from line (n + 1) es) (λ v. None) came))
     (on_step (verdict_from (n + 1) es) (λ v. v) came)
 
 -- a run that goes on
-onwards : ReasonsGiveVerdicts → (line n : ℕ) (r s : Running) (e : Event) (es : List Event)
+onwards : ReasonsGiveVerdicts → (line n : ℕ) (r s : RunStateView) (e : Event) (es : List Event)
     → step r e ≡ Ok s → Found line (stop_from line (n + 1) es s) (verdict_from (n + 1) es s) → Claim line n r e es (step r e)
 onwards law line n r s e es is later =
     subst (Claim line n r e es) (sym is)
@@ -77,7 +77,7 @@ onwards law line n r s e es is later =
     (none_on (e.line == line) (why r e) (no_reason e.line (why r e) (law r e ∙ ap verdict_by_step is))) later)
 
 -- a run that stops here
-here : ReasonsGiveVerdicts → (line n : ℕ) (r : Running) (v : Verdict) (e : Event) (es : List Event)
+here : ReasonsGiveVerdicts → (line n : ℕ) (r : RunStateView) (v : Verdict) (e : Event) (es : List Event)
     → step r e ≡ Err v → line_of v ≡ Some line → Claim line n r e es (step r e)
 here law line n r v e es is lined_so =
     let reason : option_map (verdict_at e.line) (why r e) ≡ Some v = law r e ∙ ap verdict_by_step is in
@@ -88,9 +88,9 @@ here law line n r v e es is lined_so =
     (subst (λ b. Found line (stop_by n r (if b then why r e else None) None) v) (sym test) (stopping line n r (why r e) None v told))
 
 -- either way
-either : ReasonsGiveVerdicts → (line n : ℕ) (r : Running) (e : Event) (es : List Event) (came : Result Running Verdict)
+either : ReasonsGiveVerdicts → (line n : ℕ) (r : RunStateView) (e : Event) (es : List Event) (came : Result RunStateView Verdict)
     → step r e ≡ came
-    → ((s : Running) → line_of (verdict_from (n + 1) es s) ≡ Some line → Found line (stop_from line (n + 1) es s) (verdict_from (n + 1) es s))
+    → ((s : RunStateView) → line_of (verdict_from (n + 1) es s) ≡ Some line → Found line (stop_from line (n + 1) es s) (verdict_from (n + 1) es s))
     → line_of (on_step (verdict_from (n + 1) es) (λ v. v) came) ≡ Some line
     → Claim line n r e es (step r e)
 either law line n r e es (Ok s) is later h = onwards law line n r s e es is (later s h)

@@ -2,11 +2,11 @@
 use Rattle.std.proofs.Common.{◌≡◌, ℕ, ◌+◌, ◌<◌, ◌≤◌, Option, Some, None, refl, sym, subst, arith}
 use Rattle.std.specs.Prelude.{IfSome}
 use Rattle.pd_settings.specs.declared.fields.Settings.{Settings}
-use Rattle.pd_host.specs.ControlBlock.{ControlBlock}
+use Rattle.pd_host.specs.Connection.{ConnectionView}
 use Rattle.pd_host.specs.Expiries.{deadline_of}
 use Rattle.pd_host.specs.InputLaws.{rebound_host}
 use Rattle.pd_host.specs.Laws.{IsUpTo, begun_under}
-use Rattle.pd_host.specs.Sender.{Sender, without_oldest}
+use Rattle.pd_host.specs.Host.{HostView, without_oldest}
 use Rattle.pd_host.specs.declared.sender_state.State.{State}
 use Rattle.pd_run.specs.Inner.{InputsOnlyUse, SenderIsLawful, IsUpToDate}
 use Rattle.pd_run.specs.Step.{KeepsTime}
@@ -39,13 +39,13 @@ keeps_time laws = record {
 }
 
 -- so is a host without its oldest packet,
-pub host_taken : SenderIsLawful → (old new : Sender) (clock : ℕ) → IsUpToDate old clock → new ≡ without_oldest old → IsUpToDate new clock
+pub host_taken : SenderIsLawful → (old new : HostView) (clock : ℕ) → IsUpToDate old clock → new ≡ without_oldest old → IsUpToDate new clock
 host_taken laws old new clock up is =
     subst (λ host. IsUpToDate host clock) (sym is)
     (λ live. record { begun = (up live).begun; up_to = laws.taking (up live).begun clock old (up live).up_to })
 
 -- and one that is put under other settings
-pub host_rebound : SenderIsLawful → (old new : Sender) (settings : Settings) (clock : ℕ) → IsUpToDate old clock → new ≡ rebound_host settings old
+pub host_rebound : SenderIsLawful → (old new : HostView) (settings : Settings) (clock : ℕ) → IsUpToDate old clock → new ≡ rebound_host settings old
     → IsUpToDate new clock
 host_rebound laws old new settings clock up is =
     subst (λ host. IsUpToDate host clock) (sym is)
@@ -53,7 +53,7 @@ host_rebound laws old new settings clock up is =
 
 -- under the settings that are held
 
-under_held : (held : Settings) (o : Option ControlBlock) → begun_under held held o ≡ held
+under_held : (held : Settings) (o : Option ConnectionView) → begun_under held held o ≡ held
 under_held held None = refl
 under_held held (Some c) = refl
 

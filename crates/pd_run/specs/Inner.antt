@@ -1,7 +1,7 @@
 -- Definitions that contracts of private functions cite and no public one does.
 use Rattle.std.specs.Prelude.{◌≡◌, ℕ, None, Result, Ok, Err, alloc_error}
 use Rattle.std.specs.declared.alloc.AllocError.{AllocError}
-use Rattle.pd_host.specs.Sender.{Sender}
+use Rattle.pd_host.specs.Host.{HostView}
 use Rattle.pd_host.specs.declared.halts.Ending.{Ending}
 use Rattle.pd_host.specs.declared.halts.Ending.TheVariants.{Halted, OutOfMemory}
 use Rattle.pd_run.specs.declared.stepping.StepEnd.{StepEnd}
@@ -12,7 +12,7 @@ use Rattle.pd_host.specs.InputLaws.{RebindingKeepsUp, OnlyUsesMatter, CallsOnlyU
 use Rattle.pd_host.specs.Laws.{StartsUpToDate, AdvancesKeepUp, ArrivalsKeepUp, CallsKeepUp, TakingKeepsUp}
 
 -- the sender of a run that goes on is up to date at the run's clock
-abbrev pub IsUpToDate : Sender → ℕ → Type 0
+abbrev pub IsUpToDate : HostView → ℕ → Type 0
 IsUpToDate host clock = host.ended ≡ None → KeepsTime clock host.state
 
 -- how a step ends there where the sender has ended

@@ -11,30 +11,30 @@ use Rattle.pd_seg.specs.declared.answers.Answer.{Answer}
 use Rattle.pd_seg.specs.declared.segments.Sent.{Sent}
 use Rattle.pd_host.specs.Expiries.{advanced, deadline_of}
 use Rattle.pd_host.specs.Laws.{IsUpTo}
-use Rattle.pd_host.specs.Sender.{queued_to}
+use Rattle.pd_host.specs.Host.{queued_to}
 use Rattle.pd_host.specs.declared.sender_state.State.{State}
 use Rattle.pd_match.specs.Agreement.{Agrees, IsResult}
 use Rattle.pd_match.specs.Packets.{compared}
 use Rattle.pd_run.specs.Run.{start_of}
 use Rattle.pd_run.specs.Consulted.{rebound_run}
-use Rattle.pd_run.specs.Step.{Running, KeepsTime, tolerance_of, noted, answers, awaited, step}
+use Rattle.pd_run.specs.Step.{RunStateView, KeepsTime, tolerance_of, noted, answers, awaited, step}
 use Rattle.pd_run.specs.Times.{moments_of}
 
 -- where an expected packet passes, one had left: the oldest that nobody had taken agrees with it in every field
 abbrev pub PassedPacketsAgree : Type 0
 PassedPacketsAgree =
-    (r s : Running) (e : Event) (p : Packet) → e.action ≡ Outbound p → step r e ≡ Ok s
-    → (t : Running) × (sent : Sent) × (awaited (noted r) e ≡ Ok t)
+    (r s : RunStateView) (e : Event) (p : Packet) → e.action ≡ Outbound p → step r e ≡ Ok s
+    → (t : RunStateView) × (sent : Sent) × (awaited (noted r) e ≡ Ok t)
     × (slice_get t.host.state.endpoint.outbox 0 ≡ Some sent)
     × AllByRecursion (Agrees p (moments_of t.base e.time) sent (tolerance_of t)) compared
 
 -- the packets that nobody has taken
-abbrev pub untaken : Running → List Sent
+abbrev pub untaken : RunStateView → List Sent
 untaken r = r.host.state.endpoint.outbox
 
 -- those of which the oldest is the one that was expected: those that nobody had taken, and where there were none those that
 -- the next expiry put out
-abbrev pub AreAwaited : Running → List Sent → Type 0
+abbrev pub AreAwaited : RunStateView → List Sent → Type 0
 AreAwaited r packets =
     (packets ≡ untaken r)
     ⊎ ((at : ℕ) × (s : State) × (untaken r ≡ []) × (deadline_of r.host.state ≡ Some at)
@@ -43,23 +43,23 @@ AreAwaited r packets =
 -- where an expected packet passes, the oldest of these is taken, and all others stay
 abbrev pub PassedPacketsAreTaken : Type 0
 PassedPacketsAreTaken =
-    (r s : Running) (e : Event) (p : Packet) → e.action ≡ Outbound p → step r e ≡ Ok s
-    → (t : Running) × (sent : Sent) × (awaited (noted r) e ≡ Ok t)
+    (r s : RunStateView) (e : Event) (p : Packet) → e.action ≡ Outbound p → step r e ≡ Ok s
+    → (t : RunStateView) × (sent : Sent) × (awaited (noted r) e ≡ Ok t)
     × AreAwaited r (untaken t) × (untaken t ≡ sent ∷ untaken s)
 
 -- where a call passes, the sender answered the written result
 abbrev pub PassedCallsAnswer : Type 0
 PassedCallsAnswer =
-    (r s : Running) (e : Event) (call : Call) → e.action ≡ Calls call → step r e ≡ Ok s
+    (r s : RunStateView) (e : Event) (call : Call) → e.action ≡ Calls call → step r e ≡ Ok s
     → (t : State) × (answer : Answer) × (answers r e call ≡ Ok (t, answer)) × IsResult call.result answer
 
 -- no event changes the tolerance
 abbrev pub ToleranceStays : Type 0
-ToleranceStays = (r s : Running) (e : Event) → step r e ≡ Ok s → tolerance_of s ≡ tolerance_of r
+ToleranceStays = (r s : RunStateView) (e : Event) → step r e ≡ Ok s → tolerance_of s ≡ tolerance_of r
 
 -- a run that goes on, after n events: its sender hasn't ended and is up to date, the clock and the base lie at most 3,600
 -- seconds an event after the start, and at most 262,144 octets an event were queued
-pub record IsUnderway (n : ℕ) (r : Running) : Type 0 where
+pub record IsUnderway (n : ℕ) (r : RunStateView) : Type 0 where
   pub live : r.host.ended ≡ None
   pub clock : r.clock ≤ 3600000000 * n
   pub base : r.base ≤ 3600000000 * n
@@ -68,25 +68,25 @@ pub record IsUnderway (n : ℕ) (r : Running) : Type 0 where
 
 -- so it is before the first event,
 abbrev pub StartsUnderway : Type 0
-StartsUnderway = (header : List HeaderItem) (settings : Settings) (r : Running) → start_of header settings ≡ Ok r → IsUnderway 0 r
+StartsUnderway = (header : List HeaderItem) (settings : Settings) (r : RunStateView) → start_of header settings ≡ Ok r → IsUnderway 0 r
 
 -- and after each step that goes on
 abbrev pub StepsGoOn : Type 0
-StepsGoOn = (n : ℕ) (r s : Running) (e : Event) → IsUnderway n r → step r e ≡ Ok s → IsUnderway (n + 1) s
+StepsGoOn = (n : ℕ) (r s : RunStateView) (e : Event) → IsUnderway n r → step r e ≡ Ok s → IsUnderway (n + 1) s
 
 -- it stays so under other settings
 abbrev pub RebindingGoesOn : Type 0
-RebindingGoesOn = (n : ℕ) (r : Running) (settings : Settings) → IsUnderway n r → IsUnderway n (rebound_run settings r)
+RebindingGoesOn = (n : ℕ) (r : RunStateView) (settings : Settings) → IsUnderway n r → IsUnderway n (rebound_run settings r)
 
 -- a run that holds the settings that its connection was begun under: the timeout lies within the bounds that they say,
 -- and the next expiry lies ahead, by at most the greatest timeout
-abbrev pub IsHeldUnder : Running → Type 0
+abbrev pub IsHeldUnder : RunStateView → Type 0
 IsHeldUnder r = IsUpTo r.host.state.settings r.clock r.host.state
 
 -- so it is before the first event,
 abbrev pub StartsHeld : Type 0
-StartsHeld = (header : List HeaderItem) (settings : Settings) (r : Running) → start_of header settings ≡ Ok r → IsHeldUnder r
+StartsHeld = (header : List HeaderItem) (settings : Settings) (r : RunStateView) → start_of header settings ≡ Ok r → IsHeldUnder r
 
 -- and after each step where it was so
 abbrev pub StepsStayHeld : Type 0
-StepsStayHeld = (n : ℕ) (r s : Running) (e : Event) → IsUnderway n r → IsHeldUnder r → step r e ≡ Ok s → IsHeldUnder s
+StepsStayHeld = (n : ℕ) (r s : RunStateView) (e : Event) → IsUnderway n r → IsHeldUnder r → step r e ≡ Ok s → IsHeldUnder s

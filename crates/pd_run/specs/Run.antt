@@ -8,8 +8,8 @@ use Rattle.pd_script.specs.declared.script_events.Event.{Event}
 use Rattle.pd_script.specs.declared.script_header.HeaderItem.{HeaderItem}
 use Rattle.pd_script.specs.declared.script_header.HeaderKind.{HeaderKind}
 use Rattle.pd_script.specs.declared.script_header.HeaderKind.TheVariants.{Tolerance}
-use Rattle.pd_host.specs.Sender.{fresh}
-use Rattle.pd_run.specs.Step.{Running, on_step, step}
+use Rattle.pd_host.specs.Host.{fresh_host}
+use Rattle.pd_run.specs.Step.{RunStateView, on_step, step}
 use Rattle.pd_run.specs.declared.verdicts.Verdict.{Verdict}
 use Rattle.pd_run.specs.declared.verdicts.Verdict.TheVariants.{Pass, Syntax, Unsupported}
 
@@ -24,13 +24,13 @@ tolerance_in item = tolerance_written item.kind
 
 -- the state before the first event: a fresh host, and the last tolerance of the header. The first header item that is no
 -- valid tolerance isn't run
-abbrev pub start_of : List HeaderItem → Settings → Result Running Verdict
+abbrev pub start_of : List HeaderItem → Settings → Result RunStateView Verdict
 start_of header settings = started (find (λ item. is_none (tolerance_in item)) header)
   where
-    started : Option HeaderItem → Result Running Verdict
+    started : Option HeaderItem → Result RunStateView Verdict
     started (Some item) = Err (Unsupported item.line)
     started None = Ok (record {
-      host = fresh settings;
+      host = fresh_host settings;
       clock = 0;
       base = 0;
       written = last_or None (filter_map tolerance_in header);
@@ -38,25 +38,25 @@ start_of header settings = started (find (λ item. is_none (tolerance_in item)) 
     })
 
 -- the states after one, two, .. events, up to the stop
-abbrev pub states_from : List Event → Running → List Running
+abbrev pub states_from : List Event → RunStateView → List RunStateView
 states_from [] r = []
 states_from (e ∷ es) r = on_step (λ s. s ∷ states_from es s) (λ v. []) (step r e)
 
 -- the verdict of the events that are left, after n events
-abbrev pub verdict_from : ℕ → List Event → Running → Verdict
+abbrev pub verdict_from : ℕ → List Event → RunStateView → Verdict
 verdict_from n [] r = Pass n
 verdict_from n (e ∷ es) r = on_step (verdict_from (n + 1) es) (λ v. v) (step r e)
 
 -- the number of events up to the stop, the stop's included
-abbrev pub stepped_from : List Event → Running → ℕ
+abbrev pub stepped_from : List Event → RunStateView → ℕ
 stepped_from [] r = 0
 stepped_from (e ∷ es) r = 1 + on_step (stepped_from es) (λ v. 0) (step r e)
 
 -- what a script that was read comes to: a refused text is a syntax fault at its line and takes no steps
-abbrev pub on_script : {A : Type 0} → (ℕ → A) → (Verdict → A) → (Running → A) → Settings → Parsed → A
+abbrev pub on_script : {A : Type 0} → (ℕ → A) → (Verdict → A) → (RunStateView → A) → Settings → Parsed → A
 on_script {A} refused stopped run settings parsed = on_fault parsed.fault
   where
-    on_start : Result Running Verdict → A
+    on_start : Result RunStateView Verdict → A
     on_start (Ok r) = run r
     on_start (Err v) = stopped v
 
@@ -73,7 +73,7 @@ abbrev pub stepped_in : Settings → Parsed → ℕ
 stepped_in settings parsed = on_script (λ line. 0) (λ v. 0) (stepped_from parsed.events) settings parsed
 
 -- the states after them, up to the stop
-abbrev pub states_in : Settings → Parsed → List Running
+abbrev pub states_in : Settings → Parsed → List RunStateView
 states_in settings parsed = on_script (λ line. []) (λ v. []) (states_from parsed.events) settings parsed
 
 -- the verdict of a text under settings, run from its first event on a fresh host
@@ -85,5 +85,5 @@ abbrev pub stepped_of : List (List ℕ) → Settings → ℕ
 stepped_of text settings = stepped_in settings (script_of text)
 
 -- the states after its events, up to the stop
-abbrev pub states_of : List (List ℕ) → Settings → List Running
+abbrev pub states_of : List (List ℕ) → Settings → List RunStateView
 states_of text settings = states_in settings (script_of text)

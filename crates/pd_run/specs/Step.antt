@@ -12,7 +12,7 @@ use Rattle.pd_host.specs.Arrivals.{arrived}
 use Rattle.pd_host.specs.Calls.{called}
 use Rattle.pd_host.specs.Laws.{IsUpTo}
 use Rattle.pd_host.specs.Expiries.{advanced, deadline_of}
-use Rattle.pd_host.specs.Sender.{Sender, then_on, without_oldest}
+use Rattle.pd_host.specs.Host.{HostView, then_on, without_oldest}
 use Rattle.pd_host.specs.declared.halts.Halt.{Halt}
 use Rattle.pd_host.specs.declared.halts.Halt.TheVariants as halt
 use Rattle.pd_host.specs.declared.halts.Ending.{Ending}
@@ -33,19 +33,19 @@ use Rattle.pd_run.specs.declared.verdicts.Verdict.TheVariants.{Fail, Unsupported
 
 -- what a run holds between two events: the sender, in microseconds the clock, the base of relative times and the tolerance
 -- that the header sets, if it does, and whether a packet was expected without one
-pub record Running : Type 0 where
-  pub host : Sender
+pub record RunStateView : Type 0 where
+  pub host : HostView
   pub clock : ℕ
   pub base : ℕ
   pub written : Option ℕ
   pub compared : Bool
 
 -- the tolerance in microseconds: the header's, else the setting's
-abbrev pub tolerance_of : Running → ℕ
+abbrev pub tolerance_of : RunStateView → ℕ
 tolerance_of r = unwrap_or r.written r.host.state.settings.tolerance_us
 
 -- a packet is expected: without a header's tolerance that consults the setting's
-abbrev pub noted : Running → Running
+abbrev pub noted : RunStateView → RunStateView
 noted r = record r { compared = r.compared || is_none r.written }
 
 -- a sender's state is up to date at a moment, under the settings that its connection was begun under: these need not be held
@@ -55,7 +55,7 @@ pub record KeepsTime (now : ℕ) (s : State) : Type 0 where
   pub up_to : IsUpTo begun now s
 
 -- what follows a step: goes on from its state, or stops with its verdict
-abbrev pub on_step : {A : Type 0} → (Running → A) → (Verdict → A) → Result Running Verdict → A
+abbrev pub on_step : {A : Type 0} → (RunStateView → A) → (Verdict → A) → Result RunStateView Verdict → A
 on_step go stop (Ok r) = go r
 on_step go stop (Err v) = stop v
 
@@ -65,78 +65,78 @@ verdict_by line halt.Unsupported = Unsupported line
 verdict_by line halt.Limit = Limit line
 
 -- what was compared agrees, or the event fails by what differs first
-abbrev pub judged : ℕ → Running → Option Kind → Result Running Verdict
+abbrev pub judged : ℕ → RunStateView → Option Kind → Result RunStateView Verdict
 judged line r None = Ok r
 judged line r (Some kind) = Err (Fail line kind)
 
 -- the run with its sender in another state
-abbrev pub with_state : Running → State → Running
+abbrev pub with_state : RunStateView → State → RunStateView
 with_state r s = record r { host = record r.host { state = s } }
 
 -- a packet that arrives, and a call, act at the later of the event's time and the clock
-abbrev pub acts_at : Running → Event → ℕ
+abbrev pub acts_at : RunStateView → Event → ℕ
 acts_at r e = max (moment_of r.base e.time) r.clock
 
 -- the run after that: the clock is that moment, the base is the event's time
-abbrev pub acted : Running → Event → State → Running
+abbrev pub acted : RunStateView → Event → State → RunStateView
 acted r e s = record (with_state r s) { clock = acts_at r e; base = moment_of r.base e.time }
 
 -- a packet arrives, after all expiries up to its moment
-abbrev pub arrives : Running → Event → Packet → Result State Halt
+abbrev pub arrives : RunStateView → Event → Packet → Result State Halt
 arrives r e p = then_on (arrived (segment_in p) (acts_at r e)) (advanced (acts_at r e) r.host.state)
 
 -- what comes of the arrival: the run goes on, or a halt of the sender stops it at the event's line
-abbrev pub on_arrival : Running → Event → Result State Halt → Result Running Verdict
+abbrev pub on_arrival : RunStateView → Event → Result State Halt → Result RunStateView Verdict
 on_arrival r e (Ok s) = Ok (acted r e s)
 on_arrival r e (Err h) = Err (verdict_by e.line h)
 
 -- a call is made, after all expiries up to its moment
-abbrev pub answers : Running → Event → Call → Result (State × Answer) Halt
+abbrev pub answers : RunStateView → Event → Call → Result (State × Answer) Halt
 answers r e call = then_on (called call (acts_at r e)) (advanced (acts_at r e) r.host.state)
 
 -- what comes of the call: its answer is compared with the written result, or a halt of the sender stops the run
-abbrev pub on_answer : Running → Event → Call → Result (State × Answer) Halt → Result Running Verdict
+abbrev pub on_answer : RunStateView → Event → Call → Result (State × Answer) Halt → Result RunStateView Verdict
 on_answer r e call (Ok (s, answer)) = judged e.line (acted r e s) (result_mismatch call.result answer)
 on_answer r e call (Err h) = Err (verdict_by e.line h)
 
 -- the next expiry is performed, and the clock becomes its moment
-abbrev pub on_expiry : Running → Event → ℕ → Result State Halt → Result Running Verdict
+abbrev pub on_expiry : RunStateView → Event → ℕ → Result State Halt → Result RunStateView Verdict
 on_expiry r e at (Ok s) = Ok (record (with_state r s) { clock = at })
 on_expiry r e at (Err h) = Err (verdict_by e.line h)
 
 -- the next expiry, provided that a packet which it sends may still be the one expected; without such an expiry the packet
 -- is missing
-abbrev pub expires : Running → Event → Option ℕ → Result Running Verdict
+abbrev pub expires : RunStateView → Event → Option ℕ → Result RunStateView Verdict
 expires r e None = Err (Fail e.line Missing)
 expires r e (Some at) =
     if is_in_reach (moments_of r.base e.time) (tolerance_of r) at
     then on_expiry r e at (advanced at r.host.state)
     else Err (Fail e.line Missing)
 
--- where no packet stands untaken, the next expiry is awaited
-abbrev pub awaited : Running → Event → Result Running Verdict
+-- where no packet is untaken, the next expiry is awaited
+abbrev pub awaited : RunStateView → Event → Result RunStateView Verdict
 awaited r e = if length r.host.state.endpoint.outbox == 0 then expires r e (deadline_of r.host.state) else Ok r
 
 -- the oldest packet that nobody has taken is taken and compared
-abbrev pub taken : Event → Packet → Running → Option Sent → Result Running Verdict
-taken e p r None = Err (Fail e.line Missing)
-taken e p r (Some sent) =
+abbrev pub packet_taken : Event → Packet → RunStateView → Option Sent → Result RunStateView Verdict
+packet_taken e p r None = Err (Fail e.line Missing)
+packet_taken e p r (Some sent) =
     judged e.line (record r { host = without_oldest r.host; base = base_after r.base e.time sent.at })
     (mismatch p (moments_of r.base e.time) sent (tolerance_of r))
 
 -- a packet is expected to have left
-abbrev pub leaves : Running → Event → Packet → Result Running Verdict
-leaves r e p = on_step (λ s. taken e p s (slice_get s.host.state.endpoint.outbox 0)) (λ v. Err v) (awaited r e)
+abbrev pub leaves : RunStateView → Event → Packet → Result RunStateView Verdict
+leaves r e p = on_step (λ s. packet_taken e p s (slice_get s.host.state.endpoint.outbox 0)) (λ v. Err v) (awaited r e)
 
 -- what an action of a shape that is run does
-abbrev pub performed : Running → Event → Action → Result Running Verdict
+abbrev pub performed : RunStateView → Event → Action → Result RunStateView Verdict
 performed r e (Inbound p) = on_arrival r e (arrives r e p)
 performed r e (Outbound p) = leaves (noted r) e p
 performed r e (Calls call) = on_answer r e call (answers r e call)
 performed r e _ = Err (Unsupported e.line)
 
 -- one event, its checks in order: the next state, or the verdict of a stop
-abbrev pub step : Running → Event → Result Running Verdict
+abbrev pub step : RunStateView → Event → Result RunStateView Verdict
 step r e =
     if is_over_limit e then Err (Limit e.line)
     else (if not (is_run e) then Err (Unsupported e.line)
@@ -144,17 +144,17 @@ step r e =
     else performed r e e.action))
 
 -- what a step answered, and the state it left where the run goes on
-abbrev pub Tells : Result Running Verdict → StepEnd → Running → Type 0
+abbrev pub Tells : Result RunStateView Verdict → StepEnd → RunStateView → Type 0
 Tells outcome Go new = outcome ≡ Ok new
 Tells outcome (Stop v) new = outcome ≡ Err v
 
--- a step by whether the sender has ended: of a run that was stopped by a halt nothing is said, and one that has found no
+-- a step by whether the sender has ended: of a run that was stopped by a halt nothing is claimed, and one that has found no
 -- memory takes no further step
-abbrev pub StepsFrom : Option Ending → Running → Event → StepEnd → Running → Type 0
+abbrev pub StepsFrom : Option Ending → RunStateView → Event → StepEnd → RunStateView → Type 0
 StepsFrom None old e end new = Tells (step old e) end new
 StepsFrom (Some (Halted h)) old e end new = Unit {0}
 StepsFrom (Some OutOfMemory) old e end new = ⊥
 
 -- the same of a run, by how its sender stands before the step
-abbrev pub Steps : Running → Event → StepEnd → Running → Type 0
+abbrev pub Steps : RunStateView → Event → StepEnd → RunStateView → Type 0
 Steps old e end new = StepsFrom old.host.ended old e end new

@@ -4,7 +4,7 @@ use Rattle.pd_settings.specs.declared.fields.Settings.{Settings}
 use Rattle.pd_script.specs.declared.parsing.Parsed.{Parsed}
 use Rattle.pd_script.specs.declared.script_events.Event.{Event}
 use Rattle.pd_run.specs.Run.{start_of, verdict_from}
-use Rattle.pd_run.specs.Step.{Running, on_step, step}
+use Rattle.pd_run.specs.Step.{RunStateView, on_step, step}
 use Rattle.pd_run.specs.Why.{why, verdict_at}
 use Rattle.pd_run.specs.declared.stops.Stopped.{Stopped}
 use Rattle.pd_run.specs.declared.verdicts.Verdict.{Verdict}
@@ -12,16 +12,16 @@ use Rattle.pd_run.specs.declared.verdicts.Verdict.TheVariants as verdict
 use Rattle.pd_run.specs.declared.whys.Why.{Why}
 
 -- why an event on the line stops a run
-abbrev pub reason_on : ℕ → Running → Event → Option Why
+abbrev pub reason_on : ℕ → RunStateView → Event → Option Why
 reason_on line r e = if e.line == line then why r e else None
 
 -- an event stops a run after n others, where there is a reason; else the rest follows
-abbrev pub stop_by : ℕ → Running → Option Why → Option Stopped → Option Stopped
+abbrev pub stop_by : ℕ → RunStateView → Option Why → Option Stopped → Option Stopped
 stop_by n r (Some reason) rest = Some (record { passed = n; before = r; why = reason })
 stop_by n r None rest = rest
 
 -- where the events that are left, after n others, stop a run on a line
-abbrev pub stop_from : ℕ → ℕ → List Event → Running → Option Stopped
+abbrev pub stop_from : ℕ → ℕ → List Event → RunStateView → Option Stopped
 stop_from line n [] r = None
 stop_from line n (e ∷ es) r =
     stop_by n r (reason_on line r e) (on_step (stop_from line (n + 1) es) (λ v. None) (step r e))
@@ -30,7 +30,7 @@ stop_from line n (e ∷ es) r =
 abbrev pub stop_in : ℕ → Settings → Parsed → Option Stopped
 stop_in line settings parsed = started (start_of parsed.header.items settings)
   where
-    started : Result Running Verdict → Option Stopped
+    started : Result RunStateView Verdict → Option Stopped
     started (Ok r) = stop_from line 0 parsed.events r
     started (Err v) = None
 
@@ -44,5 +44,5 @@ line_of _ = None
 -- a law: a run with a verdict at a line stops there, by a reason with this verdict
 abbrev pub VerdictsHaveReasons : Type 0
 VerdictsHaveReasons =
-    (n line : ℕ) (es : List Event) (r : Running) → line_of (verdict_from n es r) ≡ Some line
+    (n line : ℕ) (es : List Event) (r : RunStateView) → line_of (verdict_from n es r) ≡ Some line
     → (stop : Stopped) × (stop_from line n es r ≡ Some stop) × (verdict_at line stop.why ≡ verdict_from n es r)

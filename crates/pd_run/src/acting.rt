@@ -4,7 +4,7 @@ ghost use Rattle.pd_host.specs.Arrivals.{arrived};
 ghost use Rattle.pd_host.specs.Calls.{called};
 ghost use Rattle.pd_host.specs.Outcome.{Goes, Answers};
 ghost use Rattle.pd_host.specs.Expiries.{advanced};
-ghost use Rattle.pd_host.specs.Sender.{IsShort, then_on};
+ghost use Rattle.pd_host.specs.Host.{IsShort, then_on};
 ghost use Rattle.pd_run.specs.Inbound.{segment_in};
 ghost use Rattle.pd_run.specs.Limits.{is_packet_over};
 

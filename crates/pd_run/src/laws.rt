@@ -1,5 +1,6 @@
 //! Laws of runs: functions whose contracts are the laws; they call those that they rest on.
 ghost use Rattle.pd_run.specs.Consulted.{StepsNote, StepsOnlyUse, RunsOnlyUse, RunsGoOnUnder};
+ghost use Rattle.pd_run.specs.Grammatical.{VerdictsAreGrammatical, NoOtherVerdicts};
 ghost use Rattle.pd_run.specs.Inner.{InputsOnlyUse, SenderIsLawful};
 ghost use Rattle.pd_run.specs.Laws.{PassedPacketsAgree, PassedPacketsAreTaken, PassedCallsAnswer, ToleranceStays, StartsUnderway, StepsGoOn, RebindingGoesOn, StartsHeld, StepsStayHeld};
 ghost use Rattle.pd_run.specs.Stops.{VerdictsHaveReasons};
@@ -10,6 +11,7 @@ use pd_host::{
     moments_are_lawful,
 };
 use pd_match::comparisons_are_lawful;
+use pd_script::scripts_are_grammatical;
 
 /// What runs rest on: what the sender keeps, whatever comes in.
 pub(crate) fn sender_is_lawful()
@@ -42,6 +44,14 @@ pub fn runs_are_bounded()
 {
     sender_is_lawful();
     inputs_only_use();
+}
+
+/// The verdict of a text is that of a script which the grammar gives for the text, and of no other.
+pub fn verdicts_are_grammatical()
+    ensures given { VerdictsAreGrammatical }
+    ensures only { NoOtherVerdicts }
+{
+    scripts_are_grammatical();
 }
 
 /// A run that stops has a reason for it, with the verdict of that reason: looking into a stop and running to it tell the same.

@@ -14,7 +14,10 @@ mod times;
 mod verdicts;
 mod whys;
 
-pub use laws::{runs_are_bounded, runs_only_use, steps_are_lawful, verdicts_have_reasons};
+pub use laws::{
+    runs_are_bounded, runs_only_use, steps_are_lawful, verdicts_are_grammatical,
+    verdicts_have_reasons,
+};
 pub use limits::is_over_limit;
 pub use pd_host::ConnState;
 pub use pd_match::Kind;

@@ -3,13 +3,13 @@ ghost use Rattle.std.specs.Prelude.{◌≡◌, ◌<◌, ◌^◌, false, None, So
 ghost use Rattle.std.specs.List.{list_any};
 ghost use Rattle.pd_host.specs.ConnStates.{conn_state};
 ghost use Rattle.pd_host.specs.Expiries.{advanced, deadline_of};
-ghost use Rattle.pd_host.specs.Sender.{IsShort};
+ghost use Rattle.pd_host.specs.Host.{IsShort};
 ghost use Rattle.pd_host.specs.declared.halts.Ending.TheVariants.{OutOfMemory};
 ghost use Rattle.pd_run.specs.Limits.{is_long, written_times, is_packet_over};
 ghost use Rattle.pd_run.specs.Times.{moment_of};
 ghost use Rattle.pd_run.specs.Run.{start_of};
 ghost use Rattle.pd_run.specs.Consulted.{uses_of, rebound_run};
-ghost use Rattle.pd_run.specs.Step.{tolerance_of, noted, acts_at, arrives, on_arrival, answers, on_answer, on_expiry, awaited, taken, leaves, Tells, Steps};
+ghost use Rattle.pd_run.specs.Step.{tolerance_of, noted, acts_at, arrives, on_arrival, answers, on_answer, on_expiry, awaited, packet_taken, leaves, Tells, Steps};
 
 mod telling;
 
@@ -46,10 +46,10 @@ pub struct RunState {
 }
 
 impl Model for RunState {
-    ghost use Rattle.pd_run.specs.Step.{Running};
+    ghost use Rattle.pd_run.specs.Step.{RunStateView};
     ghost use Rattle.pd_run.specs.Inner.{IsUpToDate};
 
-    ghost Value = { Running };
+    ghost Value = { RunStateView };
 
     ghost view = { λ r. record { host = r.host; clock = r.clock; base = r.base; written = r.written; compared = r.compared } };
 
@@ -299,7 +299,7 @@ impl RunState {
         }
     }
 
-    /// Where no packet stands untaken, performs the next expiry that may send the expected one.
+    /// Where no packet is untaken, performs the next expiry that may send the expected one.
     #[inline(always)]
     fn wait(&mut self, event: &Event) -> Result<StepEnd, AllocError>
         requires live { self.old.host.ended ≡ None }
@@ -343,7 +343,7 @@ impl RunState {
     fn take(&mut self, event: &Event, packet: &Packet) -> StepEnd
         requires base { self.old.base < 2 ^ 61 }
         requires short { list_any is_long (written_times event.now.time) ≡ false }
-        ensures { Tells (taken event.now packet.now self.old (slice_get self.old.host.state.endpoint.outbox 0)) result self.new }
+        ensures { Tells (packet_taken event.now packet.now self.old (slice_get self.old.host.state.endpoint.outbox 0)) result self.new }
     {
         sender_is_lawful();
         let Some(sent) = self.host.take() else {

@@ -1,9 +1,10 @@
 //! Whole runs.
 ghost use Rattle.std.specs.Prelude.{◌≡◌, ◌+◌, ◌<◌, ◌≤◌, ◌^◌, IfOk, OnOk, length};
-ghost use Rattle.pd_host.specs.Sender.{fresh};
+ghost use Rattle.pd_host.specs.Host.{fresh_host};
+ghost use Rattle.pd_run.specs.Grammatical.{IsVerdictOf};
 ghost use Rattle.pd_run.specs.Run.{verdict_of, stepped_of, verdict_from, stepped_from};
 
-use crate::laws::sender_is_lawful;
+use crate::laws::{sender_is_lawful, verdicts_are_grammatical};
 use crate::run_state::RunState;
 use crate::stepping::{Plain, StepEnd, Stepper};
 use crate::verdicts::Verdict;
@@ -17,8 +18,10 @@ use std::alloc::{AllocError, Global};
 /// # Errors
 /// `AllocError` where a growth is refused.
 pub fn run_all(alloc: Global, lines: &Lines, settings: &Settings) -> Result<Verdict, AllocError>
-    ensures { IfOk result (λ verdict. verdict ≡ verdict_of lines.now settings.now) }
+    ensures verdict { IfOk result (λ verdict. verdict ≡ verdict_of lines.now settings.now) }
+    ensures grammar { IfOk result (IsVerdictOf lines.now settings.now) }
 {
+    verdicts_are_grammatical();
     run_with(alloc, lines, settings, &mut Plain::new())
 }
 
@@ -55,7 +58,7 @@ fn run_events<S: Stepper>(
     stepper: &mut S,
 ) -> Result<Verdict, AllocError>
     requires few { length events.now ≤ 4096 }
-    requires fresh { start.host ≡ fresh settings.now }
+    requires fresh { start.host ≡ fresh_host settings.now }
     requires clock { start.clock ≡ 0 }
     requires base { start.base ≡ 0 }
     requires room { S.counted stepper.old + 4096 < 2 ^ 64 }

@@ -1,6 +1,6 @@
 //! Steps of a run, and who takes them.
 ghost use Rattle.std.specs.Prelude.{◌≡◌, ◌+◌, ◌-◌, ◌<◌, ◌^◌, ℕ, Some, IfOk, OnErr};
-ghost use Rattle.pd_host.specs.Sender.{IsShort};
+ghost use Rattle.pd_host.specs.Host.{IsShort};
 ghost use Rattle.pd_host.specs.declared.halts.Ending.TheVariants.{OutOfMemory};
 ghost use Rattle.pd_run.specs.Step.{Steps};
 ghost use Rattle.pd_run.specs.Inner.{ended_by};
@@ -36,7 +36,7 @@ pub(crate) fn end_by(ending: Ending, line: usize) -> Result<StepEnd, AllocError>
 pub trait Stepper {
     ghost counted: { Self → ℕ };
 
-    /// Takes one event from the state before it to the one after it. After a stop nothing is said of the state; one for
+    /// Takes one event from the state before it to the one after it. After a stop nothing is claimed of the state; one for
     /// which no memory was found takes no further step.
     ///
     /// # Errors

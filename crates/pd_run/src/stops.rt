@@ -1,6 +1,6 @@
 //! Where a run stops, and why.
 ghost use Rattle.std.specs.Prelude.{◌≡◌, ◌<◌, ◌≤◌, ◌^◌, None, IfOk, length};
-ghost use Rattle.pd_host.specs.Sender.{IsShort, fresh};
+ghost use Rattle.pd_host.specs.Host.{IsShort, fresh_host};
 ghost use Rattle.pd_run.specs.Stops.{reason_on, stop_from, stop_in};
 
 use crate::laws::sender_is_lawful;
@@ -64,7 +64,7 @@ fn stop_among(
     line: usize,
 ) -> Result<Option<Stopped>, AllocError>
     requires few { length events.now ≤ 4096 }
-    requires fresh { start.host ≡ fresh settings.now }
+    requires fresh { start.host ≡ fresh_host settings.now }
     requires clock { start.clock ≡ 0 }
     requires base { start.base ≡ 0 }
     ensures { IfOk result (λ stop. stop ≡ stop_from line 0 events.now start) }

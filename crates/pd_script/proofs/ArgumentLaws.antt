@@ -9,7 +9,7 @@ use Rattle.pd_lex.specs.Tokens.{Item, lexeme, line_of}
 use Rattle.pd_script.specs.Items.{is_symbol, is_any_int, is_word}
 use Rattle.pd_script.specs.Reader.{onto, machine_at, done, one}
 use Rattle.pd_script.specs.TokenReading.{symbol_at}
-use Rattle.pd_script.specs.Reading.{arguments_at, no_arguments_at}
+use Rattle.pd_script.specs.EventReading.{arguments_at, no_arguments_at}
 use Rattle.pd_script.specs.declared.drafts.Inside.{Inside}
 use Rattle.pd_script.proofs.Plain.{is_plain}
 use Rattle.pd_script.specs.declared.calls.Argument.{Argument}

@@ -14,7 +14,7 @@ use Rattle.pd_script.specs.declared.calls.Argument.TheVariants as arguments
 use Rattle.pd_script.specs.Brackets.{pairs_after}
 use Rattle.pd_script.specs.Arguments.{is_parting, Balances, argument_of, IsArgument, IsSomeArguments, IsArguments}
 use Rattle.pd_script.proofs.Laws.{ok, value_is, rest_is}
-use Rattle.pd_script.specs.Reading.{arguments_at, no_arguments_at}
+use Rattle.pd_script.specs.EventReading.{arguments_at, no_arguments_at}
 use Rattle.pd_script.proofs.ArgumentLaws.{is_empty-longer_draft}
 use Rattle.pd_script.proofs.ArgumentSteps.{onto-nil}
 use Rattle.pd_script.proofs.Machines.{onto_ok}
@@ -41,7 +41,7 @@ one_item t false false false hi hw hb = rw (hi, hw, hb) refl
 opens : (t : Item) → is_symbol 91 t ≡ true → single_draft t ≡ drafts.Opened
 opens t h = rw (symbol_no_int 91 t h, symbol_no_word 91 t h, h) refl
 
--- behind a token that is no `[` an argument is none of the short forms
+-- after a token that is no `[` an argument is none of the short forms
 no_longer : (t u : Item) (i w : Bool) → is_any_int t ≡ i → is_word t ≡ w → is_symbol 91 t ≡ false → longer_draft (single_draft t) u ≡ drafts.Mixed
 no_longer t u true w hi hw h = rw hi refl
 no_longer t u false true hi hw h = rw (hi, hw) refl
@@ -55,7 +55,7 @@ two_items t u true true h hi = rw (opens t h, hi) refl
 two_items t u true false h hi = rw (opens t h, hi) refl
 two_items t u false i h hi = rw (no_longer_at t u h) refl
 
--- behind `[`
+-- after `[`
 element : (o t c : Item) (i s : Bool) → is_symbol 91 o ≡ true → is_any_int t ≡ i → is_symbol 93 c ≡ s → drafted (longer_draft (longer_draft drafts.Opened t) c) ≡ argument_of (o ∷ t ∷ c ∷ [])
 element o t c true true ho hi hs = rw (ho, hi, hs) refl
 element o t c true false ho hi hs = rw (ho, hi, hs) refl
@@ -90,11 +90,11 @@ is_empty-draft_after d (t ∷ ts) h = is_empty-draft_after (longer_draft d t) ts
 abbrev within : List Bracket → Draft → Reader (List Argument)
 within pairs d = machine_at argument_move (record { pairs = pairs; draft = d })
 
--- what stands behind an argument: the last bracket, or a comma and more arguments
-abbrev IsBehind : List Argument → Item → List Item → List Item → Type 0
-IsBehind vs c after rest = ((is_symbol 41 c ≡ true) × (vs ≡ []) × (after ≡ rest)) ⊎ ((is_symbol 44 c ≡ true) × IsSomeArguments vs after rest)
+-- what follows an argument: the last bracket, or a comma and more arguments
+abbrev IsAfter : List Argument → Item → List Item → List Item → Type 0
+IsAfter vs c after rest = ((is_symbol 41 c ≡ true) × (vs ≡ []) × (after ≡ rest)) ⊎ ((is_symbol 44 c ≡ true) × IsSomeArguments vs after rest)
 
--- the items of the argument that go on from a state, and what stands behind it
+-- the items of the argument that go on from a state, and what follows it
 record Run (pairs : List Bracket) (d : Draft) (vs : List Argument) (ts rest : List Item) : Type 0 where
   front : List Item
   c : Item
@@ -104,11 +104,11 @@ record Run (pairs : List Bracket) (d : Draft) (vs : List Argument) (ts rest : Li
   balanced : Balances is_parting 16 pairs front
   some : is_empty (draft_after d front) ≡ false
   value : drafted (draft_after d front) ∷ more ≡ vs
-  behind : IsBehind more c after rest
+  follows : IsAfter more c after rest
 
-some_by : (front : List Item) (c : Item) (after : List Item) (more : List Argument) (ts rest : List Item) → ts ≡ front ++ c ∷ after → Balances is_parting 16 [] front → is_empty (draft_after drafts.Empty front) ≡ false → IsBehind more c after rest → IsSomeArguments (drafted (draft_after drafts.Empty front) ∷ more) ts rest
+some_by : (front : List Item) (c : Item) (after : List Item) (more : List Argument) (ts rest : List Item) → ts ≡ front ++ c ∷ after → Balances is_parting 16 [] front → is_empty (draft_after drafts.Empty front) ≡ false → IsAfter more c after rest → IsSomeArguments (drafted (draft_after drafts.Empty front) ∷ more) ts rest
 unfolding draft_after
-some_by [] c after more ts rest items balanced some behind = absurd cc
+some_by [] c after more ts rest items balanced some follows = absurd cc
 some_by (t ∷ front) c after [] ts rest items balanced some (inl h) =
     let left : c ∷ after ≡ c ∷ rest = ap (λ (x : List Item). c ∷ x) h.2 in
     (c, record { first = t; others = front; spelled = items ∙ ap (λ (x : List Item). (t ∷ front) ++ x) left; balanced = balanced; value = drafted_is t front }, h.0)
@@ -118,24 +118,24 @@ some_by (t ∷ front) c after (b ∷ more) ts rest items balanced some (inr h) =
     (c, after, record { first = t; others = front; spelled = items; balanced = balanced; value = drafted_is t front }, h.0, h.1)
 
 some_from_run : (vs : List Argument) (ts rest : List Item) → Run [] drafts.Empty vs ts rest → IsSomeArguments vs ts rest
-some_from_run vs ts rest r = subst (λ (x : List Argument). IsSomeArguments x ts rest) r.value (some_by r.front r.c r.after r.more ts rest r.items r.balanced r.some r.behind)
+some_from_run vs ts rest r = subst (λ (x : List Argument). IsSomeArguments x ts rest) r.value (some_by r.front r.c r.after r.more ts rest r.items r.balanced r.some r.follows)
 
 led_run : (pairs : List Bracket) (d : Draft) (t : Item) (ts : List Item) (vs : List Argument) (rest : List Item) (o : Option (List Bracket)) → pairs_after 16 pairs t ≡ o → is_parting pairs t ≡ false → moved (λ j. machine_at argument_move j ts) t ts (led d t o) ≡ ok vs rest → ((p : List Bracket) (e : Draft) → within p e ts ≡ ok vs rest → Run p e vs ts rest) → Run pairs d vs (t ∷ ts) rest
 unfolding draft_after
 led_run pairs d t ts vs rest None is parting e ih = absurd cc
 led_run pairs d t ts vs rest (Some next) is parting e ih =
     let R = ih next (longer_draft d t) (sym (onto-nil (within next (longer_draft d t) ts)) ∙ e) in
-    record { front = t ∷ R.front; c = R.c; after = R.after; more = R.more; items = ap (λ (x : List Item). t ∷ x) R.items; balanced = (parting, next, is, R.balanced); some = R.some; value = R.value; behind = R.behind }
+    record { front = t ∷ R.front; c = R.c; after = R.after; more = R.more; items = ap (λ (x : List Item). t ∷ x) R.items; balanced = (parting, next, is, R.balanced); some = R.some; value = R.value; follows = R.follows }
 
 outside_run : (d : Draft) (t : Item) (ts : List Item) (vs : List Argument) (rest : List Item) (a b em : Bool) → is_symbol 41 t ≡ a → is_symbol 44 t ≡ b → is_empty d ≡ em → moved (λ j. machine_at argument_move j ts) t ts (cond a (cond em stuck (ends (drafted d ∷ []))) (cond b (cond em stuck (goes fresh (drafted d ∷ []))) (led d t (pairs_after 16 [] t)))) ≡ ok vs rest → ((p : List Bracket) (e : Draft) (ws : List Argument) → within p e ts ≡ ok ws rest → Run p e ws ts rest) → Run [] d vs (t ∷ ts) rest
 unfolding draft_after
 outside_run d t ts vs rest true b true ha hb hem e ih = absurd cc
 outside_run d t ts vs rest true b false ha hb hem e ih =
-    record { front = []; c = t; after = ts; more = []; items = refl; balanced = refl; some = hem; value = value_is (drafted d ∷ []) vs ts rest e; behind = inl (ha, refl, rest_is (drafted d ∷ []) vs ts rest e) }
+    record { front = []; c = t; after = ts; more = []; items = refl; balanced = refl; some = hem; value = value_is (drafted d ∷ []) vs ts rest e; follows = inl (ha, refl, rest_is (drafted d ∷ []) vs ts rest e) }
 outside_run d t ts vs rest false true true ha hb hem e ih = absurd cc
 outside_run d t ts vs rest false true false ha hb hem e ih =
     let O = onto_ok (drafted d ∷ []) (within [] drafts.Empty ts) vs rest e in
-    record { front = []; c = t; after = ts; more = O.0; items = refl; balanced = refl; some = hem; value = O.2; behind = inr (hb, some_from_run O.0 ts rest (ih [] drafts.Empty O.0 O.1)) }
+    record { front = []; c = t; after = ts; more = O.0; items = refl; balanced = refl; some = hem; value = O.2; follows = inr (hb, some_from_run O.0 ts rest (ih [] drafts.Empty O.0 O.1)) }
 outside_run d t ts vs rest false false em ha hb hem e ih = led_run [] d t ts vs rest (pairs_after 16 [] t) refl hb e (λ p f h. ih p f vs h)
 
 run_of : (ts : List Item) (pairs : List Bracket) (d : Draft) (vs : List Argument) (rest : List Item) → within pairs d ts ≡ ok vs rest → Run pairs d vs ts rest
@@ -162,7 +162,7 @@ over_front [] pairs d ts balanced = ap (λ (p : List Bracket). within p d ts) ba
 over_front (t ∷ front) pairs d ts balanced =
     rw (part_move pairs d t balanced.1 balanced.0 balanced.2) (onto-nil (within balanced.1 (longer_draft d t) (front ++ ts)) ∙ over_front front balanced.1 (longer_draft d t) ts balanced.3)
 
--- up to what stands behind an argument
+-- up to what follows an argument
 over_argument : (a : Argument) (ts rest : List Item) → IsArgument a ts rest → (d : Draft) × (within [] drafts.Empty ts ≡ within [] d rest) × (is_empty d ≡ false) × (drafted d ≡ a)
 unfolding draft_after
 over_argument a ts rest h =

@@ -10,9 +10,9 @@ use Rattle.pd_script.specs.declared.drafts.Draft.{Draft}
 use Rattle.pd_script.specs.declared.brackets.Bracket.{Bracket}
 use Rattle.pd_script.specs.declared.calls.Argument.{Argument}
 use Rattle.pd_script.specs.Brackets.{pairs_after}
-use Rattle.pd_script.specs.Reading.{arguments_at}
+use Rattle.pd_script.specs.EventReading.{arguments_at}
 use Rattle.pd_script.proofs.Apart.{and-left, and-right, or-no}
-use Rattle.pd_script.specs.Drafts.{fresh, argument_move, move_within, led, longer_draft, drafted, is_empty, part_at, part_by, behind_token, is_between}
+use Rattle.pd_script.specs.Drafts.{fresh, argument_move, move_within, led, longer_draft, drafted, is_empty, part_at, part_by, after_token, is_between}
 
 pub onto-nil : {A : Type 0} (r : Read (List A)) → onto [] r ≡ r
 onto-nil (Ok x) = refl
@@ -59,12 +59,12 @@ part_stuck i (t ∷ ts) rest h e =
 
 -- ---- between arguments
 
--- a token stands there, outside all pairs
+-- a token is there, outside all pairs
 record Between (i : Inside) (xs : List Item) : Type 0 where
   t : Item
   ts : List Item
   items : xs ≡ t ∷ ts
-  behind : behind_token xs ≡ ts
+  after : after_token xs ≡ ts
   outside : i.pairs ≡ []
   stop : (is_symbol 41 t || is_symbol 44 t) ≡ true
 
@@ -74,7 +74,7 @@ no_pairs (b ∷ pairs) h = absurd (grind (arith, nat_tests))
 
 between : (i : Inside) (xs : List Item) → is_between i xs ≡ true → Between i xs
 between i [] h = absurd (let g = and-right (length i.pairs == 0) _ h in cc)
-between i (lexeme x ∷ ts) h = record { t = lexeme x; ts = ts; items = refl; behind = refl; outside = no_pairs i.pairs (and-left (length i.pairs == 0) _ h); stop = and-right (length i.pairs == 0) _ h }
+between i (lexeme x ∷ ts) h = record { t = lexeme x; ts = ts; items = refl; after = refl; outside = no_pairs i.pairs (and-left (length i.pairs == 0) _ h); stop = and-right (length i.pairs == 0) _ h }
 between i (ending line ∷ ts) h = absurd (let g = and-right (length i.pairs == 0) _ h in cc)
 between i (bad line ∷ ts) h = absurd (let g = and-right (length i.pairs == 0) _ h in cc)
 
@@ -99,16 +99,16 @@ last_move d t e s = rw (s, e) refl
 comma_move : (d : Draft) (t : Item) → is_empty d ≡ false → is_symbol 41 t ≡ false → (is_symbol 41 t || is_symbol 44 t) ≡ true → move_within [] d t ≡ goes fresh (drafted d ∷ [])
 comma_move d t e s h = let comma : is_symbol 44 t ≡ true = rw s at h in rw (s, comma, e) refl
 
-pub last_ends : (i : Inside) (xs : List Item) → is_between i xs ≡ true → is_empty i.draft ≡ false → next_is (is_symbol 41) xs ≡ true → within i xs ≡ Ok (drafted i.draft ∷ [], behind_token xs)
+pub last_ends : (i : Inside) (xs : List Item) → is_between i xs ≡ true → is_empty i.draft ≡ false → next_is (is_symbol 41) xs ≡ true → within i xs ≡ Ok (drafted i.draft ∷ [], after_token xs)
 unfolding machine_at
 last_ends i xs h e s =
     let B = between i xs h in
     let closing : is_symbol 41 B.t ≡ true = subst (λ (ys : List Item). next_is (is_symbol 41) ys ≡ true) B.items s in
     let move : argument_move i B.t ≡ ends (drafted i.draft ∷ []) = move_outside i B.t B.outside ∙ last_move i.draft B.t e closing in
     let here : within i (B.t ∷ B.ts) ≡ Ok (drafted i.draft ∷ [], B.ts) = rw move refl in
-    subst (λ (ys : List Item). within i ys ≡ Ok (drafted i.draft ∷ [], B.ts)) (sym B.items) here ∙ ap (λ (ys : List Item). Ok (drafted i.draft ∷ [], ys)) (sym B.behind)
+    subst (λ (ys : List Item). within i ys ≡ Ok (drafted i.draft ∷ [], B.ts)) (sym B.items) here ∙ ap (λ (ys : List Item). Ok (drafted i.draft ∷ [], ys)) (sym B.after)
 
-pub comma_parts : (i : Inside) (xs : List Item) → is_between i xs ≡ true → is_empty i.draft ≡ false → next_is (is_symbol 41) xs ≡ false → (within i xs ≡ onto (drafted i.draft ∷ []) (within fresh (behind_token xs))) × (length (behind_token xs) < length xs)
+pub comma_parts : (i : Inside) (xs : List Item) → is_between i xs ≡ true → is_empty i.draft ≡ false → next_is (is_symbol 41) xs ≡ false → (within i xs ≡ onto (drafted i.draft ∷ []) (within fresh (after_token xs))) × (length (after_token xs) < length xs)
 unfolding machine_at
 comma_parts i xs h e s =
     let B = between i xs h in
@@ -116,11 +116,11 @@ comma_parts i xs h e s =
     let move : argument_move i B.t ≡ goes fresh (drafted i.draft ∷ []) = move_outside i B.t B.outside ∙ comma_move i.draft B.t e open_bracket B.stop in
     let here : within i (B.t ∷ B.ts) ≡ onto (drafted i.draft ∷ []) (within fresh B.ts) = rw move refl in
     let less : length B.ts < length xs = omega (arith, ap length B.items) in
-    (subst (λ (ys : List Item). within i ys ≡ onto (drafted i.draft ∷ []) (within fresh B.ts)) (sym B.items) here ∙ ap (λ (ys : List Item). onto (drafted i.draft ∷ []) (within fresh ys)) (sym B.behind), subst (λ (ys : List Item). length ys < length xs) (sym B.behind) less)
+    (subst (λ (ys : List Item). within i ys ≡ onto (drafted i.draft ∷ []) (within fresh B.ts)) (sym B.items) here ∙ ap (λ (ys : List Item). onto (drafted i.draft ∷ []) (within fresh ys)) (sym B.after), subst (λ (ys : List Item). length ys < length xs) (sym B.after) less)
 
 -- ---- all arguments
 
-pub no_arguments : (xs : List Item) → next_is (is_symbol 41) xs ≡ true → arguments_at xs ≡ Ok ([], behind_token xs)
+pub no_arguments : (xs : List Item) → next_is (is_symbol 41) xs ≡ true → arguments_at xs ≡ Ok ([], after_token xs)
 unfolding arguments_at
 no_arguments [] h = absurd cc
 no_arguments (lexeme x ∷ ts) h = rw h refl

@@ -1,4 +1,4 @@
--- Decimals behind a number that stops at the greatest of 64 bits.
+-- Decimals after a number that stops at the greatest of 64 bits.
 use Rattle.std.proofs.Common.{◌≡◌, ℕ, ◌+◌, ◌-◌, ◌*◌, ◌<◌, ◌≤◌, min, List, [], ◌∷◌, ◌++◌, length, take, drop, get_or, refl, sym, ◌∙◌, arith, ◌⊎◌, inl, inr}
 use Rattle.std.specs.Prelude.{fold, replicate}
 use Rattle.std.specs.Char.{digit_value}
@@ -36,25 +36,25 @@ decimals_more ds n i lt = rw (drop_more (first_six ds) i 48 (omega (arith, lt, s
 pub decimals_over : (ds : List ℕ) (n i : ℕ) → 6 ≤ i → fold wrapped_digit n (drop i (first_six ds)) ≡ n
 decimals_over ds n i le = rw (drop_all i (first_six ds) (omega (arith, le, six_long ds))) refl
 
--- six digits behind a number
-behind_six : (v : ℕ) (ds : List ℕ) → length ds ≡ 6 → digits_value_after 10 v ds ≡ v * 1000000 + digits_value_after 10 0 ds
-behind_six v [] h = absurd (omega (arith, h))
-behind_six v (a ∷ []) h = absurd (omega (arith, h))
-behind_six v (a ∷ b ∷ []) h = absurd (omega (arith, h))
-behind_six v (a ∷ b ∷ c ∷ []) h = absurd (omega (arith, h))
-behind_six v (a ∷ b ∷ c ∷ d ∷ []) h = absurd (omega (arith, h))
-behind_six v (a ∷ b ∷ c ∷ d ∷ e ∷ []) h = absurd (omega (arith, h))
-behind_six v (a ∷ b ∷ c ∷ d ∷ e ∷ f ∷ []) h = omega arith
-behind_six v (a ∷ b ∷ c ∷ d ∷ e ∷ f ∷ g ∷ ds) h = absurd (omega (arith, h))
+-- six digits after a number
+after_six : (v : ℕ) (ds : List ℕ) → length ds ≡ 6 → digits_value_after 10 v ds ≡ v * 1000000 + digits_value_after 10 0 ds
+after_six v [] h = absurd (omega (arith, h))
+after_six v (a ∷ []) h = absurd (omega (arith, h))
+after_six v (a ∷ b ∷ []) h = absurd (omega (arith, h))
+after_six v (a ∷ b ∷ c ∷ []) h = absurd (omega (arith, h))
+after_six v (a ∷ b ∷ c ∷ d ∷ []) h = absurd (omega (arith, h))
+after_six v (a ∷ b ∷ c ∷ d ∷ e ∷ []) h = absurd (omega (arith, h))
+after_six v (a ∷ b ∷ c ∷ d ∷ e ∷ f ∷ []) h = omega arith
+after_six v (a ∷ b ∷ c ∷ d ∷ e ∷ f ∷ g ∷ ds) h = absurd (omega (arith, h))
 
--- the decimals behind the whole part
+-- the decimals after the whole part
 pub microseconds_is : (text : List ℕ) → min (min (min (number (whole_digits text)) most * 1000000) most + fold wrapped_digit 0 (six_decimals text)) most ≡ min (microseconds text) most
 unfolding microseconds
 microseconds_is text =
     let six = six_decimals text in
     let long : length six ≡ 6 = six_long (drop (whole_len text + 1) text) in
     let few : fold wrapped_digit 0 six ≡ min (digits_value_after 10 0 six) most = few_is six (omega (arith, long)) in
-    let all : number (whole_digits text ++ six) ≡ number (whole_digits text) * 1000000 + digits_value_after 10 0 six = digits_value_after-append 10 0 (whole_digits text) six ∙ behind_six (number (whole_digits text)) six long in
+    let all : number (whole_digits text ++ six) ≡ number (whole_digits text) * 1000000 + digits_value_after 10 0 six = digits_value_after-append 10 0 (whole_digits text) six ∙ after_six (number (whole_digits text)) six long in
     omega (arith, few, all)
 
 -- with no decimals

@@ -8,13 +8,13 @@ use Rattle.pd_script.specs.declared.parsing.Found.{Found}
 use Rattle.pd_script.specs.declared.deciding.NextEvent.TheVariants.{Got, End, Fault}
 use Rattle.pd_script.specs.Items.{is_end, starts_event, goes_on, next_is}
 use Rattle.pd_script.specs.Reader.{Read}
-use Rattle.pd_script.specs.Reading.{next_line, event_at}
+use Rattle.pd_script.specs.EventReading.{next_line, event_at}
 use Rattle.pd_script.specs.Script.{found_in, followed, may_follow, with_event, at_end, in_front}
 use Rattle.pd_script.specs.Next.{next_place, reach_of, got, next_in}
 use Rattle.pd_script.proofs.Laws.{ok, rest_is}
 use Rattle.pd_script.proofs.Apart.{or-right}
 
--- ---- one event more, by what stands next
+-- ---- one event more, by what comes next
 
 found_step : (n : ℕ) (ts : List Item) (r : Read Event) → next_is starts_event ts ≡ true → followed (may_follow n) (event_at ts) ≡ r → found_in (suc n) ts ≡ with_event (found_in n) r
 unfolding found_in

@@ -10,7 +10,7 @@ use Rattle.pd_script.specs.Values.{hex_number, microseconds, error_named, functi
 use Rattle.pd_script.specs.Reader.{done, one, when, machine_at}
 use Rattle.pd_script.specs.Drafts.{note_move}
 use Rattle.pd_script.specs.TokenReading.{symbol_at, int_at, dots_at}
-use Rattle.pd_script.specs.Reading.{hex_at, num_at, num_from_at, function_at, error_at, absolute_range_at, absolute_at, plus_num_from_at, relative_range_at, relative_at, any_time_at, time_at, relative_until_at, absolute_until_at, until_at, maybe_until_at, whole_at, hexadecimal_at, named_error_at, negative_at, outcome_at, arguments_at, note_at, maybe_note_at, call_at, call_action_at, command_at, code_at, inbound_at, outbound_at, action_at, event_at}
+use Rattle.pd_script.specs.EventReading.{hex_at, num_at, num_from_at, function_at, error_at, absolute_range_at, absolute_at, plus_num_from_at, relative_range_at, relative_at, any_time_at, time_at, relative_until_at, absolute_until_at, until_at, maybe_until_at, whole_at, hexadecimal_at, named_error_at, negative_at, outcome_at, arguments_at, note_at, maybe_note_at, call_at, call_action_at, command_at, code_at, inbound_at, outbound_at, action_at, event_at}
 use Rattle.pd_script.specs.PacketReading.{packet_at}
 use Rattle.pd_script.specs.PacketGrammar.{IsPacket}
 use Rattle.pd_script.specs.Spelling.{Spelling, token, made, in_turn, either, IsSymbol, IsInt, IsDots}

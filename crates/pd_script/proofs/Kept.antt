@@ -1,4 +1,4 @@
--- The events that are kept are those before the fault whose next token stands before it too.
+-- The events that are kept are those before the fault whose next token is before it too.
 use Rattle.std.proofs.Common.{◌≡◌, ℕ, zero, suc, Bool, true, false, cond, List, [], ◌∷◌, ◌++◌, length, Option, Some, None, Ok, Err, refl, sym, ap, subst, ◌∙◌, arith, append_assoc, inl, inr}
 use Rattle.std.specs.Prelude.{◌||◌, ◌⊎◌}
 use Rattle.std.specs.List.{list_all}
@@ -16,9 +16,9 @@ use Rattle.pd_script.specs.Values.{microseconds}
 use Rattle.pd_script.specs.Items.{is_header, is_num, is_symbol, is_end, starts_event, goes_on, text_of, next_is}
 use Rattle.pd_script.proofs.Plain.{is_plain}
 use Rattle.pd_script.specs.Reader.{Read, then_read}
-use Rattle.pd_script.specs.Reading.{next_line, event_at, end_at, events_at}
+use Rattle.pd_script.specs.EventReading.{next_line, event_at, end_at, events_at}
 use Rattle.pd_script.specs.Grammar.{IsTime, IsMaybeUntil, IsEvent}
-use Rattle.pd_script.specs.Script.{found_in, followed, may_follow, with_event, at_end, in_front, script_in, header_of, behind_header}
+use Rattle.pd_script.specs.Script.{found_in, followed, may_follow, with_event, at_end, in_front, script_in, header_of, after_header}
 use Rattle.pd_script.specs.Faults.{IsHeader, AreEvents, IsScript, IsKept, IsRead, IsReadTo}
 use Rattle.pd_script.proofs.HeaderLaws.{header_has_end}
 use Rattle.pd_script.proofs.Laws.{Full, Stops, ok, value_is, rest_is}
@@ -103,7 +103,7 @@ num_plain = refl
 abbrev number_of : Item → ℕ × ℕ
 number_of t = (line_of t, microseconds (text_of t))
 
--- a spelling of a time, and an action behind it
+-- a spelling of a time, and an action after it
 after_time : (t : Item) (more : List Item) (time : ℕ × Time) → ((xs : List Item) → IsTime time (t ∷ (more ++ xs)) xs) → list_all is_plain more ≡ true → Full event_at goes_on (t ∷ [])
 unfolding IsEvent IsMaybeUntil
 after_time t more time h plain =
@@ -136,7 +136,7 @@ begins_event t h = by_test (is_symbol 42 t) (is_symbol 43 t) refl refl
 both_ways : (n : ℕ) (ts rest : List Item) (es : List Event) → events_at n ts ≡ ok es [] → events_at n ts ≡ Err rest → ⊥
 both_ways n ts rest es h g = absurd (let e = sym h ∙ g in cc)
 
--- so an event may be kept only if something stands between it and the fault
+-- so an event may be kept only if something is between it and the fault
 not_at_once : (n : ℕ) (t : Item) (rest : List Item) → may_follow n t ≡ true → events_at n (t ∷ rest) ≡ Err (t ∷ rest) → ⊥
 unfolding events_at
 not_at_once zero t rest f e = absurd (let got = rw f at e in cc)
@@ -198,7 +198,7 @@ then_err : (e : Event) (x : Read (List Event)) (rest : List Item) → then_read 
 then_err e (Ok x) rest h = absurd cc
 then_err e (Err x) rest h = cc
 
--- an event that was read from what stands before a fault, with what is left of that
+-- an event that was read from what is before a fault, with what is left of that
 event_before : (us front : List Item) (e : Event) (m middle : List Item) (t : Item) (rest : List Item) → us ≡ front ++ t ∷ rest → event_at us ≡ ok e m → m ≡ middle ++ t ∷ rest → (middle ≡ [] → ⊥) → IsEvent e front middle
 event_before us front e m [] t rest parts h left some = absurd (some refl)
 event_before us front e m (u ∷ middle) t rest parts h left some =
@@ -207,7 +207,7 @@ event_before us front e m (u ∷ middle) t rest parts h left some =
     let same : P.front ++ u ∷ middle ≡ front = append_cancel_right (P.front ++ u ∷ middle) front (t ∷ rest) whole in
     subst (λ (x : List Item). IsEvent e x (u ∷ middle)) same (Reads-event.sound (P.front ++ u ∷ middle) e (u ∷ middle) (P.same u (middle ++ t ∷ rest) middle left))
 
--- what may follow an event and stands before the fault goes on
+-- what may follow an event and is before the fault goes on
 goes_on_before : (n : ℕ) (m middle : List Item) (t : Item) (rest : List Item) → next_is (may_follow n) m ≡ true → m ≡ middle ++ t ∷ rest → (middle ≡ [] → ⊥) → next_is goes_on middle ≡ true
 goes_on_before n m [] t rest f left some = absurd (some refl)
 goes_on_before zero m (u ∷ middle) t rest f left some = or-right (starts_event u) (is_end u) (subst (λ (x : List Item). next_is (may_follow zero) x ≡ true) left f)
@@ -255,11 +255,11 @@ kept_is (suc n) us front t rest parts fault = kept_by n us front t rest (next_is
 
 -- ---- with the header
 
-behind_stops : (ts : List Item) → Stops (but is_header) (behind_header ts)
-behind_stops [] = tt
-behind_stops (t ∷ ts) = by_test (is_header t) refl (behind_stops ts)
+after_stops : (ts : List Item) → Stops (but is_header) (after_header ts)
+after_stops [] = tt
+after_stops (t ∷ ts) = by_test (is_header t) refl (after_stops ts)
   where
-    by_test : (b : Bool) → is_header t ≡ b → Stops (but is_header) (behind_header ts) → Stops (but is_header) (behind_header (t ∷ ts))
+    by_test : (b : Bool) → is_header t ≡ b → Stops (but is_header) (after_header ts) → Stops (but is_header) (after_header (t ∷ ts))
     by_test true h ih = rw h ih
     by_test false h ih = rw h (not-false (is_header t) h)
 
@@ -279,19 +279,19 @@ next_refused : (front others : List Item) (e : Event) (left : List Item) → ((d
 next_refused front others e [] last h g = absurd cc
 next_refused front others e (t ∷ left) last h g = last e t left h g
 
-pub kept_with_header : (ts front : List Item) (t : Item) (rest : List Item) → ts ≡ front ++ t ∷ rest → events_at 4096 (behind_header ts) ≡ Err (t ∷ rest) → IsKept (header_of ts) (found_in 4096 (behind_header ts)).events front
+pub kept_with_header : (ts front : List Item) (t : Item) (rest : List Item) → ts ≡ front ++ t ∷ rest → events_at 4096 (after_header ts) ≡ Err (t ∷ rest) → IsKept (header_of ts) (found_in 4096 (after_header ts)).events front
 kept_with_header ts front t rest parts fault =
     let H = header_took ts in
-    let E = (Laws-events 4096).failed (behind_header ts) (t ∷ rest) fault in
-    let K = kept_is 4096 (behind_header ts) E.front t rest E.parts fault in
+    let E = (Laws-events 4096).failed (after_header ts) (t ∷ rest) fault in
+    let K = kept_is 4096 (after_header ts) E.front t rest E.parts fault in
     let whole : (H.front ++ E.front) ++ t ∷ rest ≡ front ++ t ∷ rest = append_assoc H.front E.front (t ∷ rest) ∙ ap (λ (x : List Item). H.front ++ x) (sym E.parts) ∙ sym H.parts ∙ parts in
     let same : H.front ++ E.front ≡ front = append_cancel_right (H.front ++ E.front) front (t ∷ rest) whole in
-    let stops : Stops (but is_header) E.front = Stops-front (but is_header) E.front (t ∷ rest) (subst (λ (x : List Item). Stops (but is_header) x) E.parts (behind_stops ts)) in
+    let stops : Stops (but is_header) E.front = Stops-front (but is_header) E.front (t ∷ rest) (subst (λ (x : List Item). Stops (but is_header) x) E.parts (after_stops ts)) in
     let read : header_at (H.front ++ E.front) ≡ ok (header_of ts) E.front = H.again E.front stops in
     let spelled = header_sound (H.front ++ E.front) in
-    let there : IsHeader (header_of ts) (H.front ++ E.front) E.front = subst (λ (x : List Item). IsHeader (header_of ts) (H.front ++ E.front) x) (rest_is _ _ _ _ read) (subst (λ (x : List HeaderItem). IsHeader x (H.front ++ E.front) (behind_header (H.front ++ E.front))) (value_is _ _ _ _ read) spelled) in
+    let there : IsHeader (header_of ts) (H.front ++ E.front) E.front = subst (λ (x : List Item). IsHeader (header_of ts) (H.front ++ E.front) x) (rest_is _ _ _ _ read) (subst (λ (x : List HeaderItem). IsHeader x (H.front ++ E.front) (after_header (H.front ++ E.front))) (value_is _ _ _ _ read) spelled) in
     record {
-      behind = E.front;
+      after = E.front;
       others = K.others;
       begins = subst (λ (x : List Item). IsHeader (header_of ts) x E.front) same there;
       whole = no_header_next E.front stops;
@@ -302,7 +302,7 @@ kept_with_header ts front t rest parts fault =
 
 -- ---- what the items of a text are read as
 
-read_by : (ts : List Item) → IsClosed ts → (r : Read (List Event)) → events_at 4096 (behind_header ts) ≡ r → IsFound (found_in 4096 (behind_header ts)) r → IsReadTo ts (script_in ts) (script_in ts).fault
+read_by : (ts : List Item) → IsClosed ts → (r : Read (List Event)) → events_at 4096 (after_header ts) ≡ r → IsFound (found_in 4096 (after_header ts)) r → IsReadTo ts (script_in ts) (script_in ts).fault
 unfolding script_in
 read_by ts c (Ok x) e found =
     let S = script_is ts x.0 x.1 c e in
@@ -314,4 +314,4 @@ read_by ts c (Err (t ∷ rest)) e found =
 
 pub script_read : (ts : List Item) → IsClosed ts → IsRead ts (script_in ts) (script_in ts).fault
 unfolding script_in
-script_read ts c = (header_has_end ts, read_by ts c (events_at 4096 (behind_header ts)) refl (found_is 4096 (behind_header ts)))
+script_read ts c = (header_has_end ts, read_by ts c (events_at 4096 (after_header ts)) refl (found_is 4096 (after_header ts)))

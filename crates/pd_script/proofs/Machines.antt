@@ -1,4 +1,4 @@
--- The law of a machine: it needs no item behind its last, and where it is stuck it could have gone on.
+-- The law of a machine: it needs no item after its last, and where it is stuck it could have gone on.
 use Rattle.std.proofs.Common.{◌≡◌, List, [], ◌∷◌, ◌++◌, get_or, Ok, Err, refl, ap, ◌∙◌}
 use Rattle.pd_lex.specs.Tokens.{Item}
 use Rattle.pd_script.specs.Reader.{Read, Reader, Move, stuck, ends, goes, onto, moved, machine_at}

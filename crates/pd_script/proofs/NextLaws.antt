@@ -1,4 +1,4 @@
--- The next event is the one that the grammar gives, and what is left stands at the place behind it.
+-- The next event is the one that the grammar gives, and what is left is at the place after it.
 use Rattle.std.proofs.Common.{◌≡◌, ℕ, Bool, true, false, cond, List, [], ◌∷◌, ◌++◌, Option, Ok, Err, refl, sym, ap, subst, ◌∙◌}
 use Rattle.std.proofs.lemmas.List.{append-nil}
 use Rattle.std.specs.List.{list_all}
@@ -14,7 +14,7 @@ use Rattle.pd_script.specs.declared.deciding.NextEvent.TheVariants.{Got, End, Fa
 use Rattle.pd_script.specs.Items.{is_end, starts_event, goes_on, next_is}
 use Rattle.pd_script.specs.Grammar.{IsEvent}
 use Rattle.pd_script.specs.Reader.{Read}
-use Rattle.pd_script.specs.Reading.{next_line, event_at}
+use Rattle.pd_script.specs.EventReading.{next_line, event_at}
 use Rattle.pd_script.specs.Script.{followed}
 use Rattle.pd_script.specs.Laws.{ItemsStandThere}
 use Rattle.pd_script.specs.Next.{place_of, next_place, reach_of, got, next_in, GoesOn, IsEventFault, IsNextEvent}
@@ -167,10 +167,10 @@ fault_read ts rest closed e =
         let all : ts ≡ front = parts ∙ ap (λ (x : List Item). front ++ x) none ∙ append-nil front in
         absurd (lexemes_open front (all_tokens front more event on) (subst IsClosed all closed))
     by_rest (t ∷ old) is front parts again more event on =
-        record { front = front; at = t; rest = old; parts = parts ∙ ap (λ (x : List Item). front ++ x) is; line_is = ap next_line is; fault = record { more = more ++ last_item ∷ []; event = event; behind = last_item ∷ []; before = on; follows = refl; none = λ others other left h. no_event (front ++ t ∷ others) (t ∷ others) (again t old others is) other left h } }
+        record { front = front; at = t; rest = old; parts = parts ∙ ap (λ (x : List Item). front ++ x) is; line_is = ap next_line is; fault = record { more = more ++ last_item ∷ []; event = event; after = last_item ∷ []; before = on; follows = refl; none = λ others other left h. no_event (front ++ t ∷ others) (t ∷ others) (again t old others is) other left h } }
 
-fault_behind : (ts : List Item) (event : Event) (rest : List Item) → IsClosed ts → event_at ts ≡ ok event rest → next_is goes_on rest ≡ false → IsFaultOf ts (next_line rest)
-fault_behind ts event rest closed e stops =
+fault_after : (ts : List Item) (event : Event) (rest : List Item) → IsClosed ts → event_at ts ≡ ok event rest → next_is goes_on rest ≡ false → IsFaultOf ts (next_line rest)
+fault_after ts event rest closed e stops =
     let T = Reads-event.laws.took ts event rest e in
     by_rest rest refl T.front T.parts (λ t old more h. T.same t old more h) (T.again (last_item ∷ []) refl)
   where
@@ -181,14 +181,14 @@ fault_behind ts event rest closed e stops =
         absurd (lexemes_open front (all_tokens front [] event on) (subst IsClosed all closed))
     by_rest (t ∷ old) is front parts same again =
         let off : goes_on t ≡ false = ap (λ (x : List Item). next_is goes_on x) (sym is) ∙ stops in
-        record { front = front; at = t; rest = old; parts = parts ∙ ap (λ (x : List Item). front ++ x) is; line_is = ap next_line is; fault = record { more = last_item ∷ []; event = event; behind = last_item ∷ []; before = Reads-event.sound (front ++ last_item ∷ []) event (last_item ∷ []) again; follows = refl; none = λ others other left h. other_event (front ++ t ∷ others) event t others (same t old others is) off other left h } }
+        record { front = front; at = t; rest = old; parts = parts ∙ ap (λ (x : List Item). front ++ x) is; line_is = ap next_line is; fault = record { more = last_item ∷ []; event = event; after = last_item ∷ []; before = Reads-event.sound (front ++ last_item ∷ []) event (last_item ∷ []) again; follows = refl; none = λ others other left h. other_event (front ++ t ∷ others) event t others (same t old others is) off other left h } }
 
 fault_at_once : (ts : List Item) → IsClosed ts → next_is starts_event ts ≡ false → IsFaultOf ts (next_line ts)
 unfolding IsClosed
 fault_at_once [] closed h = absurd closed
 fault_at_once (t ∷ ts) closed h =
     let L = Reads-event.laws.full in
-    record { front = []; at = t; rest = ts; parts = refl; line_is = refl; fault = record { more = L.more ++ last_item ∷ []; event = L.value; behind = last_item ∷ []; before = could_go_on [] [] L.value L.more L.reads; follows = refl; none = λ others other left g. none others other left g (next_is goes_on left) refl } }
+    record { front = []; at = t; rest = ts; parts = refl; line_is = refl; fault = record { more = L.more ++ last_item ∷ []; event = L.value; after = last_item ∷ []; before = could_go_on [] [] L.value L.more L.reads; follows = refl; none = λ others other left g. none others other left g (next_is goes_on left) refl } }
   where
     none : (others : List Item) (other : Event) (left : List Item) → IsEvent other (t ∷ others) left → (b : Bool) → next_is goes_on left ≡ b → next_is goes_on left ≡ false
     none others other left g true on = absurd (let starts : starts_event t ≡ true = event_starts (t ∷ others) other left (read_on other (t ∷ others) left g on) (Stops-next left on) in let both : true ≡ false = sym starts ∙ h in cc)
@@ -203,7 +203,7 @@ fault_by ts (Ok x) line closed e g = by_test (next_is goes_on x.1) refl
     by_test false h =
         let made : Fault (next_line x.1) ≡ Fault line = rw h at g in
         let same : next_line x.1 ≡ line = cc in
-        subst (λ (n : ℕ). IsFaultOf ts n) same (fault_behind ts x.0 x.1 closed e h)
+        subst (λ (n : ℕ). IsFaultOf ts n) same (fault_after ts x.0 x.1 closed e h)
 
 end_is_no_start : (ts : List Item) → next_is starts_event ts ≡ true → next_is is_end ts ≡ false
 end_is_no_start [] h = absurd cc

@@ -18,7 +18,7 @@ use Rattle.pd_script.proofs.Apart.{and-left, and-right, is_lexeme, lexical, symb
 use Rattle.pd_script.proofs.ArgumentLaws.{closing, plain_closing}
 use Rattle.pd_script.proofs.ArgumentSteps.{onto-nil}
 use Rattle.pd_script.proofs.ArgumentSound.{balanced_lexemes}
-use Rattle.pd_script.specs.Drafts.{note_move, note_led, note_part_at, note_part_by, is_last, behind_token}
+use Rattle.pd_script.specs.Drafts.{note_move, note_led, note_part_at, note_part_by, is_last, after_token}
 
 -- any tokens with balanced brackets, and the bracket that ends a note, whose own pair counts among the 16
 pub record IsInNote (nothing : List ℕ) (ts rest : List Item) : Type 0 where
@@ -139,7 +139,7 @@ no_pairs : (pairs : List Bracket) → (length pairs == 0) ≡ true → pairs ≡
 no_pairs [] h = refl
 no_pairs (b ∷ pairs) h = absurd (grind (arith, nat_tests))
 
-pub note_ends : (pairs : List Bracket) (xs : List Item) → is_last pairs xs ≡ true → within pairs xs ≡ Ok ([], behind_token xs)
+pub note_ends : (pairs : List Bracket) (xs : List Item) → is_last pairs xs ≡ true → within pairs xs ≡ Ok ([], after_token xs)
 unfolding machine_at
 note_ends pairs [] h = absurd (let g = and-right (length pairs == 0) _ h in cc)
 note_ends pairs (lexeme x ∷ ts) h =

@@ -11,9 +11,9 @@ use Rattle.pd_script.specs.declared.script_header.HeaderItem.{HeaderItem}
 use Rattle.pd_script.specs.declared.script_events.Event.{Event}
 use Rattle.pd_script.specs.declared.parsing.Parsed.{Parsed}
 use Rattle.pd_script.specs.Items.{is_header, is_end, starts_event, goes_on, next_is}
-use Rattle.pd_script.specs.Header.{Heading, place_behind, HasEnd}
+use Rattle.pd_script.specs.Header.{Heading, place_after_items, HasEnd}
 use Rattle.pd_script.specs.Grammar.{IsEvent}
-use Rattle.pd_script.specs.Reading.{event_at}
+use Rattle.pd_script.specs.EventReading.{event_at}
 use Rattle.pd_script.specs.Script.{script_of}
 use Rattle.pd_script.specs.Faults.{AreEvents, IsScript, IsFault, IsKept, IsRead, IsScriptOf}
 use Rattle.pd_script.proofs.Laws.{Stops, ok, value_is, rest_is}
@@ -25,42 +25,42 @@ use Rattle.pd_script.proofs.TextItems.{script_is_read}
 
 -- ---- one fault
 
--- a longer front begins with the item behind the shorter one
-longer_front : (front other : List Item) (t u : Item) (rest behind : List Item) → front ++ t ∷ rest ≡ other ++ u ∷ behind → length front < length other → (more : List Item) × (other ≡ (front ++ t ∷ []) ++ more)
-longer_front front [] t u rest behind e lt = absurd (omega arith)
-longer_front [] (x ∷ other) t u rest behind e lt = let first : t ≡ x = cc in (other, ap (λ (z : Item). z ∷ other) (sym first))
-longer_front (y ∷ front) (x ∷ other) t u rest behind e lt =
+-- a longer front begins with the item after the shorter one
+longer_front : (front other : List Item) (t u : Item) (rest after : List Item) → front ++ t ∷ rest ≡ other ++ u ∷ after → length front < length other → (more : List Item) × (other ≡ (front ++ t ∷ []) ++ more)
+longer_front front [] t u rest after e lt = absurd (omega arith)
+longer_front [] (x ∷ other) t u rest after e lt = let first : t ≡ x = cc in (other, ap (λ (z : Item). z ∷ other) (sym first))
+longer_front (y ∷ front) (x ∷ other) t u rest after e lt =
     let first : y ≡ x = cc in
-    let others : front ++ t ∷ rest ≡ other ++ u ∷ behind = cc in
-    let L = longer_front front other t u rest behind others (omega arith) in
+    let others : front ++ t ∷ rest ≡ other ++ u ∷ after = cc in
+    let L = longer_front front other t u rest after others (omega arith) in
     (L.0, ap (λ (z : Item). z ∷ other) (sym first) ∙ ap (λ (l : List Item). y ∷ l) L.1)
 
-no_longer : (front other : List Item) (t u : Item) (rest behind : List Item) → front ++ t ∷ rest ≡ other ++ u ∷ behind → IsFault front t → IsFault other u → length front < length other → ⊥
-no_longer front other t u rest behind e one two lt =
-    let L = longer_front front other t u rest behind e lt in
+no_longer : (front other : List Item) (t u : Item) (rest after : List Item) → front ++ t ∷ rest ≡ other ++ u ∷ after → IsFault front t → IsFault other u → length front < length other → ⊥
+no_longer front other t u rest after e one two lt =
+    let L = longer_front front other t u rest after e lt in
     let B = two.before in
     let whole : other ++ B.more ≡ (front ++ t ∷ []) ++ (L.0 ++ B.more) = ap (λ (x : List Item). x ++ B.more) L.1 ∙ append_assoc (front ++ t ∷ []) L.0 B.more in
     one.none (record { more = L.0 ++ B.more; header = B.header; events = B.events; script = subst (λ (x : List Item). IsScript B.header B.events x) whole B.script })
 
-same_front : (front other : List Item) (t u : Item) (rest behind : List Item) → front ++ t ∷ rest ≡ other ++ u ∷ behind → length front ≡ length other → (front ≡ other) × (t ≡ u)
-same_front [] [] t u rest behind e n = let first : t ≡ u = cc in (refl, first)
-same_front [] (x ∷ other) t u rest behind e n = absurd (omega (arith, n))
-same_front (y ∷ front) [] t u rest behind e n = absurd (omega (arith, n))
-same_front (y ∷ front) (x ∷ other) t u rest behind e n =
+same_front : (front other : List Item) (t u : Item) (rest after : List Item) → front ++ t ∷ rest ≡ other ++ u ∷ after → length front ≡ length other → (front ≡ other) × (t ≡ u)
+same_front [] [] t u rest after e n = let first : t ≡ u = cc in (refl, first)
+same_front [] (x ∷ other) t u rest after e n = absurd (omega (arith, n))
+same_front (y ∷ front) [] t u rest after e n = absurd (omega (arith, n))
+same_front (y ∷ front) (x ∷ other) t u rest after e n =
     let first : y ≡ x = cc in
-    let others : front ++ t ∷ rest ≡ other ++ u ∷ behind = cc in
-    let S = same_front front other t u rest behind others (omega (arith, n)) in
+    let others : front ++ t ∷ rest ≡ other ++ u ∷ after = cc in
+    let S = same_front front other t u rest after others (omega (arith, n)) in
     (ap (λ (z : Item). z ∷ front) first ∙ ap (λ (l : List Item). x ∷ l) S.0, S.1)
 
-one_fault : (front other : List Item) (t u : Item) (rest behind : List Item) → front ++ t ∷ rest ≡ other ++ u ∷ behind → IsFault front t → IsFault other u → (front ≡ other) × (t ≡ u)
-one_fault front other t u rest behind e one two = by_length (cases_lt (length front) (length other)) (cases_lt (length other) (length front))
+one_fault : (front other : List Item) (t u : Item) (rest after : List Item) → front ++ t ∷ rest ≡ other ++ u ∷ after → IsFault front t → IsFault other u → (front ≡ other) × (t ≡ u)
+one_fault front other t u rest after e one two = by_length (cases_lt (length front) (length other)) (cases_lt (length other) (length front))
   where
     by_length : ((length front < length other) ⊎ (length other ≤ length front)) → ((length other < length front) ⊎ (length front ≤ length other)) → (front ≡ other) × (t ≡ u)
-    by_length (inl lt) o = absurd (no_longer front other t u rest behind e one two lt)
-    by_length (inr le) (inl lt) = absurd (no_longer other front u t behind rest (sym e) two one lt)
-    by_length (inr le) (inr ge) = same_front front other t u rest behind e (omega arith)
+    by_length (inl lt) o = absurd (no_longer front other t u rest after e one two lt)
+    by_length (inr le) (inl lt) = absurd (no_longer other front u t after rest (sym e) two one lt)
+    by_length (inr le) (inr ge) = same_front front other t u rest after e (omega arith)
 
--- ---- one way to keep what stands before it
+-- ---- one way to keep what is before it
 
 pub Stops-next : (ts : List Item) → next_is goes_on ts ≡ true → Stops goes_on ts
 Stops-next [] h = absurd cc
@@ -120,13 +120,13 @@ record SameParts (h g : List HeaderItem) (es fs : List Event) : Type 0 where
 
 one_kept : (h g : List HeaderItem) (es fs : List Event) (front : List Item) → IsKept h es front → IsKept g fs front → SameParts h g es fs
 one_kept h g es fs front one two =
-    let first = header_complete h front one.behind one.begins (Stops-whole one.behind one.whole) in
-    let second = header_complete g front two.behind two.begins (Stops-whole two.behind two.whole) in
-    let both : ok h one.behind ≡ ok g two.behind = sym first ∙ second in
-    let behind : one.behind ≡ two.behind = rest_is h g one.behind two.behind both in
+    let first = header_complete h front one.after one.begins (Stops-whole one.after one.whole) in
+    let second = header_complete g front two.after two.begins (Stops-whole two.after two.whole) in
+    let both : ok h one.after ≡ ok g two.after = sym first ∙ second in
+    let after : one.after ≡ two.after = rest_is h g one.after two.after both in
     record {
-      headers = value_is h g one.behind two.behind both;
-      events = one_list es fs two.behind one.others two.others (subst (λ (x : List Item). AreEvents es x one.others) behind one.goes) two.goes one.reached two.reached one.last two.last;
+      headers = value_is h g one.after two.after both;
+      events = one_list es fs two.after one.others two.others (subst (λ (x : List Item). AreEvents es x one.others) after one.goes) two.goes one.reached two.reached one.last two.last;
     }
 
 -- ---- one way to read
@@ -153,7 +153,7 @@ parsed_is p q header events fault =
 -- headers with the same items end at the same place
 one_end : (ts : List Item) (h g : Heading) → HasEnd ts h → HasEnd ts g → h.items ≡ g.items → h ≡ g
 one_end ts h g one two same =
-    let ends : h.end ≡ g.end = one ∙ ap (λ (x : List HeaderItem). place_behind (take (length x) ts)) same ∙ sym two in
+    let ends : h.end ≡ g.end = one ∙ ap (λ (x : List HeaderItem). place_after_items (take (length x) ts)) same ∙ sym two in
     let first : ◌≡◌ {A = Heading} (record { items = h.items; end = h.end }) (record { items = g.items; end = h.end }) = ap (λ (x : List HeaderItem). record { items = x; end = h.end }) same in
     let second : ◌≡◌ {A = Heading} (record { items = g.items; end = h.end }) (record { items = g.items; end = g.end }) = ap (λ (x : Place). record { items = g.items; end = x }) ends in
     first ∙ second

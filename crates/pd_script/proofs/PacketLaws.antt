@@ -322,7 +322,7 @@ pub next_option_less : (ts : List Item) (v : PacketOption) (rest : List Item) â†
 next_option_less ts v rest e =
     let h = Reads-next_option.sound ts v rest e in
     let comma = symbol_less 44 h.0 ts h.1 h.2 in
-    let behind = not_longer v h.1 rest Reads-option h.3 in
+    let after = not_longer v h.1 rest Reads-option h.3 in
     omega arith
 
 abbrev follows_option : Item â†’ Bool

@@ -1,4 +1,4 @@
--- Places of tokens: the place behind one, and that the items of a text stand where they say.
+-- Places of tokens: the place after one, and that the items of a text stand where they say.
 use Rattle.std.proofs.Common.{◌≡◌, ℕ, ◌+◌, ◌<◌, ◌≤◌, zero, suc, Bool, true, false, List, [], ◌∷◌, length, max, refl, sym, ap, subst, ◌∙◌, arith}
 use Rattle.std.specs.List.{list_all}
 use Rattle.std.proofs.lemmas.List.{nil_from_length}
@@ -12,24 +12,24 @@ use Rattle.pd_lex.specs.Lexing.{items}
 use Rattle.pd_lex.specs.Next.{IsTokenAt}
 use Rattle.pd_lex.proofs.Fronts.{IsRest-shorter}
 use Rattle.pd_lex.proofs.Items.{items_from, items_past, items_at_end, items_at_stray}
-use Rattle.pd_lex.proofs.Order.{by_line, left_behind, gap_rest, items_behind_gap, items_behind_token, nothing_left}
+use Rattle.pd_lex.proofs.Order.{by_line, left_after, gap_rest, items_after_gap, items_after_token, nothing_left}
 use Rattle.pd_lex.proofs.Rests.{advance, same_place}
 use Rattle.pd_lex.proofs.Texts.{standing_is_place}
 use Rattle.pd_script.specs.Next.{place_of}
 
--- the place that the lexer answers behind a token is the one behind its octets
-pub token_behind : (lines : List (List ℕ)) → list_all is_line lines ≡ true → (p : Place) (t : Token) → IsTokenAt lines p t → place_after t.from (between lines t.from t.to) ≡ t.to
-token_behind lines plain p t h =
+-- the place that the lexer answers after a token is the one after its octets
+pub token_after : (lines : List (List ℕ)) → list_all is_line lines ≡ true → (p : Place) (t : Token) → IsTokenAt lines p t → place_after t.from (between lines t.from t.to) ≡ t.to
+token_after lines plain p t h =
     let text = between lines t.from t.to in
     let left = advance lines plain t.from text (octets_from lines t.to) h.from h.longest.cut in
-    same_place lines (place_after t.from text) t.to left.place h.behind (ap length left.left)
+    same_place lines (place_after t.from text) t.to left.place h.after (ap length left.left)
 
 abbrev pub is_bad : Item → Bool
 is_bad (lexeme x) = false
 is_bad (ending line) = false
 is_bad (bad line) = true
 
--- an item that is not bad, and what is behind it, are the items from its own place on
+-- an item that is not bad, and what is after it, are the items from its own place on
 abbrev pub StandThere : List (List ℕ) → List Item → Type 0
 StandThere lines those = (t : Item) (rest : List Item) → those ≡ t ∷ rest → is_bad t ≡ false → items lines (place_of t) ≡ t ∷ rest
 
@@ -44,13 +44,13 @@ module _ (lines : List (List ℕ)) (plain : list_all is_line lines ≡ true) whe
   stand_by k p h le ih nothing e = rw (items_at_end lines plain p h (nothing_left (octets_from lines p) e)) end_stands
   stand_by k p h le ih (gap rest) e =
       let r = gap_rest lines plain p h rest e in
-      let q = left_behind lines plain p h rest r in
+      let q = left_after lines plain p h rest r in
       let less = IsRest-shorter (octets_from lines p) rest r in
-      rw (items_behind_gap lines plain p h rest e) (ih (place_after p (before (octets_from lines p) rest)) q.place (omega (arith, less, ap length q.left)))
+      rw (items_after_gap lines plain p h rest e) (ih (place_after p (before (octets_from lines p) rest)) q.place (omega (arith, less, ap length q.left)))
   stand_by k p h le ih (token kind rest) e = λ t others is good. at_token t others is
     where
       cut : items lines p ≡ lexeme (record { kind = kind; text = before (octets_from lines p) rest; from = p }) ∷ items lines (place_after p (before (octets_from lines p) rest))
-      cut = items_behind_token lines plain p h rest kind e
+      cut = items_after_token lines plain p h rest kind e
 
       at_token : (t : Item) (others : List Item) → items lines p ≡ t ∷ others → items lines (place_of t) ≡ t ∷ others
       at_token t others is =

@@ -7,9 +7,9 @@ use Rattle.pd_lex.specs.Tokens.{Item, lexeme, ending, bad}
 use Rattle.pd_script.specs.declared.script_header.HeaderItem.{HeaderItem}
 use Rattle.pd_script.specs.declared.script_events.Event.{Event}
 use Rattle.pd_script.specs.Items.{is_header, is_header_kind, is_num, is_symbol, is_num_kind, is_symbol_kind, is_end, starts_event, goes_on, next_is}
-use Rattle.pd_script.specs.Script.{header_of, behind_header}
+use Rattle.pd_script.specs.Script.{header_of, after_header}
 use Rattle.pd_script.specs.Reader.{Reader, ◌>>=◌, done, one}
-use Rattle.pd_script.specs.Reading.{time_at, event_at, end_at, events_at}
+use Rattle.pd_script.specs.EventReading.{time_at, event_at, end_at, events_at}
 use Rattle.pd_script.specs.Faults.{IsHeader, AreEvents, IsScript, IsFault}
 use Rattle.pd_script.proofs.Plain.{all_plain}
 use Rattle.pd_script.proofs.Laws.{Laws, Laws-one, Laws-bind, Laws-done, Laws-when, Took, Stops, Stops-any, any, ok, widen, then_ok, value_is, rest_is, next-yes}
@@ -20,17 +20,17 @@ use Rattle.pd_script.proofs.GrammarLaws.{Reads-event, end_no_start}
 -- ---- headers
 
 abbrev pub header_at : Reader (List HeaderItem)
-header_at ts = Ok (header_of ts, behind_header ts)
+header_at ts = Ok (header_of ts, after_header ts)
 
 header_stop : (ts : List Item) → Stops (but is_header) ts → header_at ts ≡ ok [] ts
 header_stop [] h = refl
 header_stop (t ∷ ts) h = rw (not-true (is_header t) h) refl
 
-pub header_took : (ts : List Item) → Took header_at (but is_header) ts (header_of ts) (behind_header ts)
+pub header_took : (ts : List Item) → Took header_at (but is_header) ts (header_of ts) (after_header ts)
 header_took [] = record { front = []; parts = refl; same = λ t old more h. absurd cc; again = λ more h. header_stop more h }
 header_took (t ∷ ts) = by_test (is_header t) refl (header_took ts)
   where
-    by_test : (b : Bool) → is_header t ≡ b → Took header_at (but is_header) ts (header_of ts) (behind_header ts) → Took header_at (but is_header) (t ∷ ts) (header_of (t ∷ ts)) (behind_header (t ∷ ts))
+    by_test : (b : Bool) → is_header t ≡ b → Took header_at (but is_header) ts (header_of ts) (after_header ts) → Took header_at (but is_header) (t ∷ ts) (header_of (t ∷ ts)) (after_header (t ∷ ts))
     by_test true h T =
         rw h (record {
           front = t ∷ T.front;
@@ -48,17 +48,17 @@ header_took (t ∷ ts) = by_test (is_header t) refl (header_took ts)
 
 Laws-header : Laws header_at any (but is_header)
 Laws-header = record {
-  took = λ ts v rest e. subst (λ (x : List HeaderItem). Took header_at (but is_header) ts x rest) (value_is (header_of ts) v (behind_header ts) rest e) (subst (λ (x : List Item). Took header_at (but is_header) ts (header_of ts) x) (rest_is (header_of ts) v (behind_header ts) rest e) (header_took ts));
+  took = λ ts v rest e. subst (λ (x : List HeaderItem). Took header_at (but is_header) ts x rest) (value_is (header_of ts) v (after_header ts) rest e) (subst (λ (x : List Item). Took header_at (but is_header) ts (header_of ts) x) (rest_is (header_of ts) v (after_header ts) rest e) (header_took ts));
   failed = λ ts rest e. absurd cc;
   full = record { more = []; value = []; spelled = refl; reads = λ tail h. header_stop tail h };
   begins = λ ts v rest e h. Stops-any ts;
 }
 
-pub header_sound : (ts : List Item) → IsHeader (header_of ts) ts (behind_header ts)
+pub header_sound : (ts : List Item) → IsHeader (header_of ts) ts (after_header ts)
 header_sound [] = refl
 header_sound (t ∷ ts) = by_test (is_header t) refl (header_sound ts)
   where
-    by_test : (b : Bool) → is_header t ≡ b → IsHeader (header_of ts) ts (behind_header ts) → IsHeader (header_of (t ∷ ts)) (t ∷ ts) (behind_header (t ∷ ts))
+    by_test : (b : Bool) → is_header t ≡ b → IsHeader (header_of ts) ts (after_header ts) → IsHeader (header_of (t ∷ ts)) (t ∷ ts) (after_header (t ∷ ts))
     by_test true h ih = rw h (t, ts, refl, h, refl, ih)
     by_test false h ih = rw h refl
 
@@ -191,11 +191,11 @@ Laws-script n =
 -- the parts of a script that was read
 record Parts (n : ℕ) (h : List HeaderItem) (es : List Event) (ts rest : List Item) : Type 0 where
   header : h ≡ header_of ts
-  events : events_at n (behind_header ts) ≡ ok es rest
+  events : events_at n (after_header ts) ≡ ok es rest
 
 script_parts : (n : ℕ) (h : List HeaderItem) (es : List Event) (ts rest : List Item) → script_at n ts ≡ ok (h, es) rest → Parts n h es ts rest
 script_parts n h es ts rest e =
-    let b = then_ok (events_at n (behind_header ts)) (λ fs. done (header_of ts, fs)) ((h, es), rest) e in
+    let b = then_ok (events_at n (after_header ts)) (λ fs. done (header_of ts, fs)) ((h, es), rest) e in
     let value = value_is (header_of ts, b.0.0) (h, es) b.0.1 rest b.2 in
     let left : b.0.1 ≡ rest = rest_is (header_of ts, b.0.0) (h, es) b.0.1 rest b.2 in
     record { header = sym (ap (λ (x : List HeaderItem × List Event). x.0) value); events = b.1 ∙ ap (λ (x : List Event). ok x b.0.1) (ap (λ (x : List HeaderItem × List Event). x.1) value) ∙ ap (λ (x : List Item). ok es x) left }
@@ -203,8 +203,8 @@ script_parts n h es ts rest e =
 script_sound : (h : List HeaderItem) (es : List Event) (ts : List Item) → script_at 4096 ts ≡ ok (h, es) [] → IsScript h es ts
 script_sound h es ts e =
     let P = script_parts 4096 h es ts [] e in
-    let S = events_sound 4096 (behind_header ts) es [] P.events in
-    record { behind = behind_header ts; end = S.0.last; begins = subst (λ (x : List HeaderItem). IsHeader x ts (behind_header ts)) (sym P.header) (header_sound ts); goes = S.0.goes; ends = S.0.ends; limit = S.1 }
+    let S = events_sound 4096 (after_header ts) es [] P.events in
+    record { after = after_header ts; end = S.0.last; begins = subst (λ (x : List HeaderItem). IsHeader x ts (after_header ts)) (sym P.header) (header_sound ts); goes = S.0.goes; ends = S.0.ends; limit = S.1 }
 
 Stops-header : (ts : List Item) → Stops goes_on ts → Stops (but is_header) ts
 Stops-header [] h = tt
@@ -212,9 +212,9 @@ Stops-header (t ∷ ts) h = goes_on_no_header t h
 
 pub script_complete : (h : List HeaderItem) (es : List Event) (ts : List Item) → IsScript h es ts → script_at 4096 ts ≡ ok (h, es) []
 script_complete h es ts s =
-    let events = events_complete 4096 es s.behind [] (record { last = s.end; goes = s.goes; ends = s.ends }) s.limit in
-    let stops = Stops-header s.behind ((Laws-events 4096).begins s.behind es [] events (Stops-any [])) in
-    let e = header_complete h ts s.behind s.begins stops in
+    let events = events_complete 4096 es s.after [] (record { last = s.end; goes = s.goes; ends = s.ends }) s.limit in
+    let stops = Stops-header s.after ((Laws-events 4096).begins s.after es [] events (Stops-any [])) in
+    let e = header_complete h ts s.after s.begins stops in
     rw (value_is _ _ _ _ e, rest_is _ _ _ _ e, events) refl
 
 -- what was read of items, and where it went wrong
@@ -258,16 +258,16 @@ ends_closed es ts rest s c =
     let F = events_take es ts (s.last ∷ rest) s.goes in
     closed_end F.0 s.last rest F.2 s.ends (subst IsClosed F.1 c)
 
-behind_closed : (ts : List Item) → IsClosed ts → IsClosed (behind_header ts)
+after_closed : (ts : List Item) → IsClosed ts → IsClosed (after_header ts)
 unfolding IsClosed
-behind_closed [] c = c
-behind_closed (lexeme x ∷ ts) c = by_test (is_header (lexeme x)) refl (behind_closed ts c)
+after_closed [] c = c
+after_closed (lexeme x ∷ ts) c = by_test (is_header (lexeme x)) refl (after_closed ts c)
   where
-    by_test : (b : Bool) → is_header (lexeme x) ≡ b → IsClosed (behind_header ts) → IsClosed (behind_header (lexeme x ∷ ts))
+    by_test : (b : Bool) → is_header (lexeme x) ≡ b → IsClosed (after_header ts) → IsClosed (after_header (lexeme x ∷ ts))
     by_test true h ih = rw h ih
     by_test false h ih = rw h c
-behind_closed (ending line ∷ ts) c = c
-behind_closed (bad line ∷ ts) c = c
+after_closed (ending line ∷ ts) c = c
+after_closed (bad line ∷ ts) c = c
 
 pub lexemes_open : (front : List Item) → list_all is_lexeme front ≡ true → IsClosed front → ⊥
 unfolding IsClosed
@@ -287,8 +287,8 @@ prefix_lexemes (x ∷ front) m more (y ∷ before) last e h =
 not_after_all : (front more : List Item) (h : List HeaderItem) (es : List Event) → IsScript h es (front ++ more) → IsClosed front → more ≡ []
 not_after_all front [] h es s c = refl
 not_after_all front (m ∷ more) h es s c =
-    let H = header_takes h (front ++ m ∷ more) s.behind s.begins in
-    let E = events_take es s.behind (s.end ∷ []) s.goes in
+    let H = header_takes h (front ++ m ∷ more) s.after s.begins in
+    let E = events_take es s.after (s.end ∷ []) s.goes in
     let all : front ++ m ∷ more ≡ (H.0 ++ E.0) ++ s.end ∷ [] = H.1 ∙ ap (λ (x : List Item). H.0 ++ x) E.1 ∙ sym (append_assoc H.0 E.0 (s.end ∷ [])) in
     let tokens : list_all is_lexeme (H.0 ++ E.0) ≡ true = rw (list_all-append is_lexeme H.0 E.0, H.2, E.2) refl in
     absurd (lexemes_open front (prefix_lexemes front m more (H.0 ++ E.0) s.end all tokens) c)
@@ -306,11 +306,11 @@ fault_somewhere ts c e =
     absurd (let both = sym good ∙ e in cc)
 
 -- a script that was read
-pub script_is : (ts : List Item) (es : List Event) (rest : List Item) → IsClosed ts → events_at 4096 (behind_header ts) ≡ ok es rest → IsScript (header_of ts) es ts
+pub script_is : (ts : List Item) (es : List Event) (rest : List Item) → IsClosed ts → events_at 4096 (after_header ts) ≡ ok es rest → IsScript (header_of ts) es ts
 script_is ts es rest c e =
-    let S = events_sound 4096 (behind_header ts) es rest e in
-    let none : rest ≡ [] = ends_closed es (behind_header ts) rest S.0 (behind_closed ts c) in
-    record { behind = behind_header ts; end = S.0.last; begins = header_sound ts; goes = subst (λ (x : List Item). AreEvents es (behind_header ts) (S.0.last ∷ x)) none S.0.goes; ends = S.0.ends; limit = S.1 }
+    let S = events_sound 4096 (after_header ts) es rest e in
+    let none : rest ≡ [] = ends_closed es (after_header ts) rest S.0 (after_closed ts c) in
+    record { after = after_header ts; end = S.0.last; begins = header_sound ts; goes = subst (λ (x : List Item). AreEvents es (after_header ts) (S.0.last ∷ x)) none S.0.goes; ends = S.0.ends; limit = S.1 }
 
-pub script_at_fault : (ts rest : List Item) → events_at 4096 (behind_header ts) ≡ Err rest → script_at 4096 ts ≡ Err rest
+pub script_at_fault : (ts rest : List Item) → events_at 4096 (after_header ts) ≡ Err rest → script_at 4096 ts ≡ Err rest
 script_at_fault ts rest e = rw e refl

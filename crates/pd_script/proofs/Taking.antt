@@ -13,7 +13,7 @@ use Rattle.pd_lex.specs.Lexing.{items, lexeme_of}
 use Rattle.pd_lex.specs.Next.{HasText}
 use Rattle.pd_script.specs.Reader.{Read}
 use Rattle.pd_script.specs.Brackets.{pairs_after}
-use Rattle.pd_script.specs.Drafts.{longer_draft, part_by, part_at, note_part_by, note_part_at, behind_token}
+use Rattle.pd_script.specs.Drafts.{longer_draft, part_by, part_at, note_part_by, note_part_at, after_token}
 use Rattle.pd_script.specs.declared.brackets.Bracket.{Bracket}
 use Rattle.pd_script.specs.declared.drafts.Draft.{Draft}
 use Rattle.pd_script.specs.declared.drafts.Draft.TheVariants as drafts
@@ -97,13 +97,13 @@ module _ (lines : List (List ℕ)) (next : Lexed) (t : Token) (old : List Item) 
   has : stays_in_line t.kind ≡ true → t.text.now ≡ (lexeme_of lines t).text
   has = rw is at h
 
-  pub part_ok : (new : List Item) (inside : Inside) (pairs : List Bracket) (draft : Draft) → new ≡ behind_token old → pairs_after 16 inside.pairs (shown t) ≡ Some pairs → draft ≡ longer_draft inside.draft (shown t) → part_at inside old ≡ Ok (record { pairs = pairs; draft = draft }, new)
+  pub part_ok : (new : List Item) (inside : Inside) (pairs : List Bracket) (draft : Draft) → new ≡ after_token old → pairs_after 16 inside.pairs (shown t) ≡ Some pairs → draft ≡ longer_draft inside.draft (shown t) → part_at inside old ≡ Ok (record { pairs = pairs; draft = draft }, new)
   part_ok new inside pairs draft n p d = rw (n, o, is) (part_token lines t has inside pairs draft (items lines t.to) p d)
 
   pub part_err : (inside : Inside) → pairs_after 16 inside.pairs (shown t) ≡ None → part_at inside old ≡ Err old
   part_err inside p = rw (o, is) (part_none lines t has inside (items lines t.to) p)
 
-  pub note_ok : (new : List Item) (open_pairs pairs : List Bracket) → new ≡ behind_token old → pairs_after 15 open_pairs (shown t) ≡ Some pairs → note_part_at open_pairs old ≡ Ok (pairs, new)
+  pub note_ok : (new : List Item) (open_pairs pairs : List Bracket) → new ≡ after_token old → pairs_after 15 open_pairs (shown t) ≡ Some pairs → note_part_at open_pairs old ≡ Ok (pairs, new)
   note_ok new open_pairs pairs n p = rw (n, o, is) (note_token lines t has open_pairs pairs (items lines t.to) p)
 
   pub note_err : (open_pairs : List Bracket) → pairs_after 15 open_pairs (shown t) ≡ None → note_part_at open_pairs old ≡ Err old

@@ -15,10 +15,10 @@ use Rattle.pd_script.specs.declared.timing.Time.TheVariants as times
 use Rattle.pd_script.specs.declared.script_events.Event.{Event}
 use Rattle.pd_script.specs.Items.{starts_event, next_is}
 use Rattle.pd_script.specs.Reader.{Read}
-use Rattle.pd_script.specs.Reading.{event_at}
+use Rattle.pd_script.specs.EventReading.{event_at}
 use Rattle.pd_script.specs.Spelling.{made, either}
 use Rattle.pd_script.specs.Grammar.{IsAbsoluteRange, IsRelativeRange, IsTime, IsEvent}
-use Rattle.pd_script.specs.Script.{found_in, followed as followed_by, may_follow, with_event, at_end, script_in, script_of, behind_header}
+use Rattle.pd_script.specs.Script.{found_in, followed as followed_by, may_follow, with_event, at_end, script_in, script_of, after_header}
 use Rattle.pd_script.specs.declared.script_header.HeaderItem.{HeaderItem}
 use Rattle.pd_script.specs.declared.parsing.Parsed.{Parsed}
 use Rattle.pd_script.specs.Faults.{IsHeader, AreEvents, IsRead, IsReadTo}
@@ -66,10 +66,10 @@ items_lines law lines plain = in_order_lines lines 1 (items lines first_place) (
 
 -- ---- lines of events and of the fault
 
-AreLinesOf-behind : (lines : List (List ℕ)) (xs ys : List Item) → AreLinesOf lines (xs ++ ys) → AreLinesOf lines ys
+AreLinesOf-after : (lines : List (List ℕ)) (xs ys : List Item) → AreLinesOf lines (xs ++ ys) → AreLinesOf lines ys
 unfolding AreLinesOf
-AreLinesOf-behind lines [] ys h = h
-AreLinesOf-behind lines (x ∷ xs) ys h = AreLinesOf-behind lines xs ys h.1
+AreLinesOf-after lines [] ys h = h
+AreLinesOf-after lines (x ∷ xs) ys h = AreLinesOf-after lines xs ys h.1
 
 absolute_line : (n : ℕ × ℕ) (v : ℕ × Time) (ts rest : List Item) → either (IsAbsoluteRange n.0 n.1) (made (n.0, times.Absolute n.1)) v ts rest → v.0 ≡ n.0
 absolute_line n v ts rest (inl h) = sym (ap (λ (x : ℕ × Time). x.0) h.3.3.0)
@@ -112,22 +112,22 @@ events_lines lines (e ∷ es) ts rest h in_lines =
     let L = event_line e ts h.0 h.1 in
     let F = Reads-event.takes ts e h.0 h.1 in
     let first : IsLineOf lines (line_of L.0) = AreLinesOf-first lines L.0 L.1 (subst (λ (x : List Item). AreLinesOf lines x) L.2 in_lines) in
-    let others = events_lines lines es h.0 rest h.2 (AreLinesOf-behind lines F.0 h.0 (subst (λ (x : List Item). AreLinesOf lines x) F.1 in_lines)) in
+    let others = events_lines lines es h.0 rest h.2 (AreLinesOf-after lines F.0 h.0 (subst (λ (x : List Item). AreLinesOf lines x) F.1 in_lines)) in
     All-cons (λ (x : Event). IsLineOf lines x.line) e es (subst (λ (n : ℕ). IsLineOf lines n) (sym L.3) first) others
 
-behind_header_lines : (lines : List (List ℕ)) (hs : List HeaderItem) (ts behind : List Item) → IsHeader hs ts behind → AreLinesOf lines ts → AreLinesOf lines behind
-behind_header_lines lines hs ts behind h in_lines =
-    let F = header_takes hs ts behind h in
-    AreLinesOf-behind lines F.0 behind (subst (λ (x : List Item). AreLinesOf lines x) F.1 in_lines)
+after_header_lines : (lines : List (List ℕ)) (hs : List HeaderItem) (ts after : List Item) → IsHeader hs ts after → AreLinesOf lines ts → AreLinesOf lines after
+after_header_lines lines hs ts after h in_lines =
+    let F = header_takes hs ts after h in
+    AreLinesOf-after lines F.0 after (subst (λ (x : List Item). AreLinesOf lines x) F.1 in_lines)
 
 lines_by : (lines : List (List ℕ)) (ts : List Item) (parsed : Parsed) (fault : Option ℕ) → parsed.fault ≡ fault → IsReadTo ts parsed fault → AreLinesOf lines ts → HasLines lines parsed
 lines_by lines ts parsed None e r in_lines =
-    record { events = events_lines lines parsed.events r.behind (r.end ∷ []) r.goes (behind_header_lines lines parsed.header.items ts r.behind r.begins in_lines); fault = rw e tt }
+    record { events = events_lines lines parsed.events r.after (r.end ∷ []) r.goes (after_header_lines lines parsed.header.items ts r.after r.begins in_lines); fault = rw e tt }
 lines_by lines ts parsed (Some line) e r in_lines =
     let whole : AreLinesOf lines (r.0 ++ r.1 ∷ r.2) = subst (λ (x : List Item). AreLinesOf lines x) r.3 in_lines in
     let K = r.6 in
-    let at : IsLineOf lines (line_of r.1) = AreLinesOf-first lines r.1 r.2 (AreLinesOf-behind lines r.0 (r.1 ∷ r.2) whole) in
-    record { events = events_lines lines parsed.events K.behind K.others K.goes (behind_header_lines lines parsed.header.items r.0 K.behind K.begins (AreLinesOf-front lines r.0 (r.1 ∷ r.2) whole)); fault = rw e (subst (λ (n : ℕ). IsLineOf lines n) (sym r.4) at) }
+    let at : IsLineOf lines (line_of r.1) = AreLinesOf-first lines r.1 r.2 (AreLinesOf-after lines r.0 (r.1 ∷ r.2) whole) in
+    record { events = events_lines lines parsed.events K.after K.others K.goes (after_header_lines lines parsed.header.items r.0 K.after K.begins (AreLinesOf-front lines r.0 (r.1 ∷ r.2) whole)); fault = rw e (subst (λ (n : ℕ). IsLineOf lines n) (sym r.4) at) }
 
 -- ---- the number of events
 
@@ -155,4 +155,4 @@ script_has_lines law lines plain = lines_by lines (items lines first_place) (scr
 
 pub script_is_short : (lines : List (List ℕ)) → length (script_of lines).events ≤ 4096
 unfolding script_of script_in
-script_is_short lines = few_events 4096 (behind_header (items lines first_place))
+script_is_short lines = few_events 4096 (after_header (items lines first_place))

@@ -1,4 +1,4 @@
--- Single tokens are read, and what may stand around them.
+-- Single tokens are read, and what may be around them.
 use Rattle.std.proofs.Common.{◌≡◌, ℕ, Bool, true, false, List, [], ◌∷◌, Ok, refl}
 use Rattle.std.specs.Prelude.{not, ◌&&◌, ◌||◌}
 use Rattle.std.specs.Str.{bytes_eq}

@@ -27,14 +27,14 @@ abbrev pub closed : List Bracket → Item → Option (List Bracket)
 closed [] t = None
 closed (b ∷ open_pairs) t = if is_symbol (closing_octet b) t then Some open_pairs else None
 
--- the pairs that are open behind a token, by the pair that it opens: one more, of at most so many; or else one fewer, where
+-- the pairs that are open after a token, by the pair that it opens: one more, of at most so many; or else one fewer, where
 -- it closes the innermost
 abbrev pub paired : ℕ → List Bracket → Item → Option Bracket → Option (List Bracket)
 paired most open_pairs t (Some b) = if nat_lt (length open_pairs) most then Some (b ∷ open_pairs) else None
 paired most open_pairs t None = if is_closing t then closed open_pairs t else Some open_pairs
 
--- the pairs that are open behind an item, the innermost first: a bracket opens one, of at most so many, or closes the
--- innermost; other tokens change nothing, and neither the end nor a bad place can stand there
+-- the pairs that are open after an item, the innermost first: a bracket opens one, of at most so many, or closes the
+-- innermost; other tokens change nothing, and neither the end nor a bad place can be there
 abbrev pub pairs_after : ℕ → List Bracket → Item → Option (List Bracket)
 pairs_after most open_pairs (lexeme x) = paired most open_pairs (lexeme x) (opened_by (lexeme x))
 pairs_after most open_pairs (ending line) = None

@@ -12,15 +12,15 @@ use Rattle.pd_script.specs.Reader.{Read}
 use Rattle.pd_lex.specs.declared.token.Place.{Place}
 use Rattle.pd_script.specs.Items.{is_header}
 use Rattle.pd_script.specs.declared.script_header.HeaderItem.{HeaderItem}
-use Rattle.pd_script.specs.Header.{header_item, behind}
+use Rattle.pd_script.specs.Header.{header_item, place_after_item}
 
--- the items that are left: the next, as the lexer answered it, and those behind it
+-- the items that are left: the next, as the lexer answered it, and those after it
 abbrev pub left : List (List ℕ) → Lexed → List Item
 left lines (lexed.Token t) = lexeme (lexeme_of lines t) ∷ items lines t.to
 left lines lexed.End = ending (max 1 (length lines)) ∷ []
 left lines (lexed.Bad line) = bad line ∷ []
 
--- what stands next in a text, and with it what is left
+-- what comes next in a text, and with it what is left
 abbrev pub IsPeeked : Lexed → List Item → Type 0
 IsPeeked next ts = (lines : List (List ℕ)) × HasText lines next × (ts ≡ left lines next)
 
@@ -28,7 +28,7 @@ IsPeeked next ts = (lines : List (List ℕ)) × HasText lines next × (ts ≡ le
 abbrev pub shown : Token → Item
 shown t = lexeme (record { kind = t.kind; text = t.text.now; from = t.from })
 
--- what a method of a cursor answered, and what it left, are what was read; at a fault it stands there
+-- what a method of a cursor answered, and what it left, are what was read; at a fault it is there
 abbrev pub Leaves : {X : Type 0} → Result X Stop → List Item → Read X → Type 0
 Leaves (Ok x) rest read = read ≡ Ok (x, rest)
 Leaves (Err stops.Syntax) rest read = read ≡ Err rest
@@ -46,13 +46,13 @@ SkipsNote (Ok x) rest read = read ≡ Ok ([], rest)
 SkipsNote (Err stops.Syntax) rest read = read ≡ Err rest
 SkipsNote (Err stops.OutOfMemory) rest read = Unit {0}
 
--- at a place of a text a header item stands, with this place behind it
+-- at a place of a text a header item stands, with this place after it
 pub record IsItemAt (lines : List (List ℕ)) (place : Place) (item : HeaderItem) (after : Place) : Type 0 where
   pub token : Item
   pub next : items lines place ≡ token ∷ items lines after
   pub test : is_header token ≡ true
   pub value : header_item token ≡ item
-  pub end : behind place token ≡ after
+  pub end : place_after_item place token ≡ after
 
 -- what an item that passes a test stands for
 abbrev pub given : {A : Type 0} → (Item → Bool) → (Item → A) → Item → Option A

@@ -70,14 +70,14 @@ abbrev pub part_at : Inside → Reader Inside
 part_at i [] = Err []
 part_at i (t ∷ ts) = part_by i.draft t ts (pairs_after 16 i.pairs t)
 
--- what is left behind a token
-abbrev pub behind_token : List Item → List Item
-behind_token [] = []
-behind_token (lexeme x ∷ ts) = ts
-behind_token (ending line ∷ ts) = ending line ∷ ts
-behind_token (bad line ∷ ts) = bad line ∷ ts
+-- what is left after a token
+abbrev pub after_token : List Item → List Item
+after_token [] = []
+after_token (lexeme x ∷ ts) = ts
+after_token (ending line ∷ ts) = ending line ∷ ts
+after_token (bad line ∷ ts) = bad line ∷ ts
 
--- between two arguments or behind the last: outside all pairs, before a comma or the bracket that ends them
+-- between two arguments or after the last: outside all pairs, before a comma or the bracket that ends them
 abbrev pub is_between : Inside → List Item → Bool
 is_between i ts = (length i.pairs == 0) && (next_is (is_symbol (sign ")")) ts || next_is (is_symbol (sign ",")) ts)
 

@@ -20,10 +20,10 @@ AreEvents (e ∷ es) ts rest = (middle : List Item) × IsEvent e ts middle × Ar
 
 -- a script: a header, at most 4,096 events, and the end
 pub record IsScript (header : List HeaderItem) (events : List Event) (ts : List Item) : Type 0 where
-  pub behind : List Item
+  pub after : List Item
   pub end : Item
-  pub begins : IsHeader header ts behind
-  pub goes : AreEvents events behind (end ∷ [])
+  pub begins : IsHeader header ts after
+  pub goes : AreEvents events after (end ∷ [])
   pub ends : is_end end ≡ true
   pub limit : length events ≤ 4096
 
@@ -34,20 +34,20 @@ pub record Begins (front : List Item) : Type 0 where
   pub events : List Event
   pub script : IsScript header events (front ++ more)
 
--- the first item at which no script goes on: what stands before it begins a script, which goes on with plain tokens alone,
+-- the first item at which no script goes on: what is before it begins a script, which goes on with plain tokens alone,
 -- and with it nothing does
 pub record IsFault (front : List Item) (t : Item) : Type 0 where
   pub before : Begins front
   pub plain : All IsPlain before.more
   pub none : Begins (front ++ t ∷ []) → ⊥
 
--- what is kept at a fault: all of the header before it, and the events before it whose next token stands before it too
+-- what is kept at a fault: all of the header before it, and the events before it whose next token is before it too
 pub record IsKept (header : List HeaderItem) (events : List Event) (front : List Item) : Type 0 where
-  pub behind : List Item
+  pub after : List Item
   pub others : List Item
-  pub begins : IsHeader header front behind
-  pub whole : next_is is_header behind ≡ false
-  pub goes : AreEvents events behind others
+  pub begins : IsHeader header front after
+  pub whole : next_is is_header after ≡ false
+  pub goes : AreEvents events after others
   pub reached : (events ≡ []) ⊎ (next_is goes_on others ≡ true)
   pub last : (e : Event) (rest : List Item) → IsEvent e others rest → next_is goes_on rest ≡ false
 

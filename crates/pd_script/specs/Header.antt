@@ -41,16 +41,16 @@ pub record Heading : Type 0 where
   pub items : List HeaderItem
   pub end : Place
 
--- the place behind an item where one stood: behind a token's last octet
-abbrev pub behind : Place → Item → Place
-behind place (lexeme x) = place_after x.from x.text
-behind place (ending line) = place
-behind place (bad line) = place
+-- the place after an item where one stood: after a token's last octet
+abbrev pub place_after_item : Place → Item → Place
+place_after_item place (lexeme x) = place_after x.from x.text
+place_after_item place (ending line) = place
+place_after_item place (bad line) = place
 
--- the place behind the last of some items of a text; where there are none, the text's first place
-abbrev pub place_behind : List Item → Place
-place_behind ts = fold behind first_place ts
+-- the place after the last of some items of a text; where there are none, the text's first place
+abbrev pub place_after_items : List Item → Place
+place_after_items ts = fold place_after_item first_place ts
 
--- a header ends behind the last of its items; one without items at the text's first place
+-- a header ends after the last of its items; one without items at the text's first place
 abbrev pub HasEnd : List Item → Heading → Type 0
-HasEnd ts header = header.end ≡ place_behind (take (length header.items) ts)
+HasEnd ts header = header.end ≡ place_after_items (take (length header.items) ts)

@@ -23,6 +23,6 @@ abbrev pub ItemsAreReadInOneWay : Type 0
 ItemsAreReadInOneWay = (ts : List Item) (one other : Parsed) → IsRead ts one one.fault → IsRead ts other other.fault → one ≡ other
 
 -- among the items of a text from any place on, one with which an event or the end begins: from its own place on the
--- items are that one and those behind it
+-- items are that one and those after it
 abbrev pub ItemsStandThere : Type 0
 ItemsStandThere = (lines : List (List ℕ)) (p : Place) (front : List Item) (t : Item) (rest : List Item) → AreLines lines → items lines p ≡ front ++ t ∷ rest → goes_on t ≡ true → items lines (place_of t) ≡ t ∷ rest

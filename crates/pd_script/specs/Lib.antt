@@ -19,7 +19,7 @@ pub mod Reader
 pub mod TokenReading
 pub mod Drafts
 pub mod PacketReading
-pub mod Reading
+pub mod EventReading
 pub mod Script
 pub mod Next
 pub mod Cursor

@@ -10,10 +10,10 @@ use Rattle.pd_script.specs.declared.script_events.Event.{Event}
 use Rattle.pd_script.specs.Items.{is_end, starts_event, goes_on, next_is}
 use Rattle.pd_script.specs.Grammar.{IsEvent}
 use Rattle.pd_script.specs.Reader.{Read}
-use Rattle.pd_script.specs.Reading.{next_line, event_at}
+use Rattle.pd_script.specs.EventReading.{next_line, event_at}
 use Rattle.pd_script.specs.Script.{followed}
 
--- where an item stands: a token at its first octet, the end of a text behind its last line
+-- where an item stands: a token at its first octet, the end of a text after its last line
 abbrev pub place_of : Item → Place
 place_of (lexeme x) = x.from
 place_of (ending line) = record { line = line + 1; at = 0 }
@@ -24,7 +24,7 @@ abbrev pub next_place : List Item → Place
 next_place [] = first_place
 next_place (t ∷ ts) = place_of t
 
--- the line of the token that decides what stands before it; none where the text ends there
+-- the line of the token that decides what is before it; none where the text ends there
 abbrev pub reach_of : List Item → Option ℕ
 reach_of ts = if next_is is_end ts then None else Some (next_line ts)
 
@@ -40,30 +40,30 @@ next_in ts =
     else if next_is is_end ts then End
     else Fault (next_line ts)
 
--- behind an event stands what is left of it, from the place behind it on
+-- after an event stands what is left of it, from the place after it on
 abbrev pub GoesOn : List (List ℕ) → Place → NextEvent → Type 0
 GoesOn lines place (Got event after reach) = event_at (items lines place) ≡ Ok (event, items lines after)
 GoesOn lines place End = Unit {0}
 GoesOn lines place (Fault line) = Unit {0}
 
--- the first item at which no event goes on that another one or the end follows: what stands before it begins one, and
+-- the first item at which no event goes on that another one or the end follows: what is before it begins one, and
 -- with it nothing does
 pub record IsEventFault (front : List Item) (t : Item) : Type 0 where
   pub more : List Item
   pub event : Event
-  pub behind : List Item
-  pub before : IsEvent event (front ++ more) behind
-  pub follows : next_is goes_on behind ≡ true
+  pub after : List Item
+  pub before : IsEvent event (front ++ more) after
+  pub follows : next_is goes_on after ≡ true
   pub none : (others : List Item) (other : Event) (rest : List Item) → IsEvent other (front ++ t ∷ others) rest → next_is goes_on rest ≡ false
 
--- the next event from a place on in the grammar's words: it is spelled by the items up to the place behind it, there an
--- event or the end stands, and its reach is the line of that; or the end stands there; or a fault
+-- the next event from a place on in the grammar's words: it is spelled by the items up to the place after it, there an
+-- event or the end stands, and its reach is the line of that; or the end is there; or a fault
 abbrev pub IsNextEvent : List (List ℕ) → Place → NextEvent → Type 0
 IsNextEvent lines place (Got event after reach) = IsEvent event (items lines place) (items lines after) × (next_is goes_on (items lines after) ≡ true) × (reach ≡ reach_of (items lines after))
 IsNextEvent lines place End = next_is is_end (items lines place) ≡ true
 IsNextEvent lines place (Fault line) = (front : List Item) × (t : Item) × (rest : List Item) × (items lines place ≡ front ++ t ∷ rest) × (line ≡ line_of t) × IsEventFault front t × (next_is is_end (items lines place) ≡ false)
 
--- what took an event stands behind it
+-- what took an event follows it
 abbrev pub LeavesNext : NextEvent → List Item → List Item → Type 0
 LeavesNext (Got event after reach) rest ts = followed goes_on (event_at ts) ≡ Ok (event, rest)
 LeavesNext End rest ts = Unit {0}

@@ -49,7 +49,7 @@ IsPoint f = do
   point ← IsSymbol "."
   made (with_ack f)
 
--- letters of flags, and a point behind them if there is one
+-- letters of flags, and a point after them if there is one
 abbrev pub IsLettered : Spelling Flags
 IsLettered = do
   f ← IsLetters
@@ -105,7 +105,7 @@ AreBlocks = do
   bs ← Repeats IsBlock
   made (b ∷ bs)
 
--- what stands behind `TS`: `val` and `ecr`, each with a number (RFC 7323, section 3.2)
+-- what follows `TS`: `val` and `ecr`, each with a number (RFC 7323, section 3.2)
 abbrev pub IsTimestamp : Spelling PacketOption
 IsTimestamp = do
   val ← IsNamed (codes "val")
@@ -114,7 +114,7 @@ IsTimestamp = do
   e ← IsInt
   made (options.Timestamp v e)
 
--- what stands behind the name of an option
+-- what follows the name of an option
 unfoldable pub IsOptionRest : OptionName → Spelling PacketOption
 IsOptionRest names.Mss = in_turn IsInt (λ n. made (options.Mss n))
 IsOptionRest names.Wscale = in_turn IsInt (λ n. made (options.Wscale n))
@@ -124,7 +124,7 @@ IsOptionRest names.Eol = made options.Eol
 IsOptionRest names.Timestamp = IsTimestamp
 IsOptionRest names.Sack = in_turn AreBlocks (λ bs. made (options.Sack bs))
 
--- a TCP option: its name and what stands behind it
+-- a TCP option: its name and what follows it
 unfoldable pub IsOption : Spelling PacketOption
 IsOption = do
   name ← IsOptionName

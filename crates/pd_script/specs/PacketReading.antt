@@ -77,7 +77,7 @@ point_at f = do
   line ← symbol_at (sign ".")
   done (with_ack f)
 
--- letters of flags, and a point behind them if there is one
+-- letters of flags, and a point after them if there is one
 abbrev pub lettered_at : Reader Flags
 lettered_at = do
   f ← letters_at
@@ -133,7 +133,7 @@ blocks_at = do
   bs ← repeated_at is_int block_at
   done (b ∷ bs)
 
--- what stands behind `TS`: `val` and `ecr`, each with a number
+-- what follows `TS`: `val` and `ecr`, each with a number
 abbrev pub timestamp_at : Reader PacketOption
 timestamp_at = do
   val ← named_at (codes "val")
@@ -142,7 +142,7 @@ timestamp_at = do
   e ← int_at
   done (options.Timestamp v e)
 
--- what stands behind the name of an option
+-- what follows the name of an option
 unfoldable pub option_rest_at : OptionName → Reader PacketOption
 option_rest_at names.Mss = int_at >>= (λ n. done (options.Mss n))
 option_rest_at names.Wscale = int_at >>= (λ n. done (options.Wscale n))
@@ -152,7 +152,7 @@ option_rest_at names.Eol = done options.Eol
 option_rest_at names.Timestamp = timestamp_at
 option_rest_at names.Sack = blocks_at >>= (λ bs. done (options.Sack bs))
 
--- a TCP option: its name and what stands behind it
+-- a TCP option: its name and what follows it
 unfoldable pub option_at : Reader PacketOption
 option_at = do
   name ← option_name_at

@@ -5,9 +5,9 @@ use Rattle.pd_lex.specs.Lexing.{items}
 use Rattle.pd_lex.specs.declared.token.Place.{Place}
 use Rattle.pd_lex.specs.Places.{first_place}
 use Rattle.pd_script.specs.Items.{is_header, is_end, starts_event, goes_on, next_is}
-use Rattle.pd_script.specs.Header.{Heading, header_item, behind}
+use Rattle.pd_script.specs.Header.{Heading, header_item, place_after_item}
 use Rattle.pd_script.specs.Reader.{Read}
-use Rattle.pd_script.specs.Reading.{next_line, event_at}
+use Rattle.pd_script.specs.EventReading.{next_line, event_at}
 use Rattle.pd_script.specs.declared.script_header.HeaderItem.{HeaderItem}
 use Rattle.pd_script.specs.declared.script_events.Event.{Event}
 use Rattle.pd_script.specs.declared.parsing.Found.{Found}
@@ -18,15 +18,15 @@ abbrev pub header_of : List Item → List HeaderItem
 header_of [] = []
 header_of (t ∷ ts) = if is_header t then header_item t ∷ header_of ts else []
 
--- the items behind them
-abbrev pub behind_header : List Item → List Item
-behind_header [] = []
-behind_header (t ∷ ts) = if is_header t then behind_header ts else t ∷ ts
+-- the items after them
+abbrev pub after_header : List Item → List Item
+after_header [] = []
+after_header (t ∷ ts) = if is_header t then after_header ts else t ∷ ts
 
--- the place behind them, or this place where there are none
+-- the place after them, or this place where there are none
 abbrev pub header_end : Place → List Item → Place
 header_end place [] = place
-header_end place (t ∷ ts) = if is_header t then header_end (behind place t) ts else place
+header_end place (t ∷ ts) = if is_header t then header_end (place_after_item place t) ts else place
 
 -- the header of a text's items
 abbrev pub header_in : List Item → Heading
@@ -63,7 +63,7 @@ found_in (suc n) ts = if next_is starts_event ts then with_event (found_in n) (f
 -- what the items of a text are read as: a header, and at most 4,096 events
 unfoldable pub script_in : List Item → Parsed
 script_in ts =
-    let found = found_in 4096 (behind_header ts) in
+    let found = found_in 4096 (after_header ts) in
     record { header = header_in ts; events = found.events; fault = found.fault }
 
 -- what a text is read as

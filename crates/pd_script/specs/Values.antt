@@ -22,11 +22,11 @@ sign text = get_or (codes text) 0 0
 abbrev pub number : List ℕ → ℕ
 number text = digits_value 10 text
 
--- the number of hexadecimal digits behind `0x`
+-- the number of hexadecimal digits after `0x`
 abbrev pub hex_number : List ℕ → ℕ
 hex_number text = digits_value 16 (drop 2 text)
 
--- how many octets stand before the point
+-- how many octets are before the point
 abbrev pub whole_len : List ℕ → ℕ
 whole_len text = prefix_len (λ octet. not (octet == sign ".")) text
 
@@ -34,7 +34,7 @@ whole_len text = prefix_len (λ octet. not (octet == sign ".")) text
 abbrev pub whole_digits : List ℕ → List ℕ
 whole_digits text = take (whole_len text) text
 
--- the six decimals behind the point; those not written are zeros, further ones are dropped
+-- the six decimals after the point; those not written are zeros, further ones are dropped
 abbrev pub six_decimals : List ℕ → List ℕ
 six_decimals text = take 6 (drop (whole_len text + 1) text ++ replicate 6 (sign "0"))
 

@@ -50,7 +50,7 @@ impl Model for Arguments {
 /// An argument of a call.
 #[derive(Clone, Copy, Default)]
 pub enum Argument {
-    /// A whole number in digits; one above the greatest `u64` stands as that.
+    /// A whole number in digits; one above the greatest `u64` counts as that.
     Int(u64),
     /// A word.
     Constant(Constant),
@@ -121,7 +121,7 @@ impl Arguments {
         }
     }
 
-    /// Puts an argument behind the others.
+    /// Puts an argument after the others.
     ///
     /// # Errors
     /// `AllocError` where a growth is refused.

@@ -1,8 +1,8 @@
 //! A cursor over the tokens of a text.
 ghost use Rattle.std.specs.Prelude.{◌≡◌};
 ghost use Rattle.pd_lex.specs.Lexing.{items};
-ghost use Rattle.pd_script.specs.Drafts.{part_at, note_part_at, behind_token};
-ghost use Rattle.pd_script.specs.Reading.{next_line};
+ghost use Rattle.pd_script.specs.Drafts.{part_at, note_part_at, after_token};
+ghost use Rattle.pd_script.specs.EventReading.{next_line};
 ghost use Rattle.pd_script.specs.Next.{next_place};
 ghost use Rattle.pd_script.specs.Cursor.{IsPeeked, Leaves, Moves};
 
@@ -18,7 +18,7 @@ use std::marker::Model;
 pub struct Cursor<'a> {
     /// The text.
     lines: &'a Lines,
-    /// What stands next in it.
+    /// What comes next in it.
     ahead: Ahead<'a>,
 }
 
@@ -26,13 +26,13 @@ impl<'a> Model for Cursor<'a> {
     ghost use Rattle.std.specs.Prelude.{List};
     ghost use Rattle.pd_lex.specs.Tokens.{Item};
     ghost use Rattle.pd_script.specs.Cursor.{left};
-    ghost use Rattle.pd_lex.specs.Next.{HasText, HasLineBehind};
+    ghost use Rattle.pd_lex.specs.Next.{HasText, HasLineAfter};
 
     ghost Value = { List Item };
 
     ghost view = { λ c. left c.lines.now c.ahead.next };
 
-    ghost invariant = { λ c. HasText c.lines.now c.ahead.next × HasLineBehind c.lines.now c.ahead.next c.ahead.line.now };
+    ghost invariant = { λ c. HasText c.lines.now c.ahead.next × HasLineAfter c.lines.now c.ahead.next c.ahead.line.now };
 }
 
 impl<'a> Cursor<'a> {
@@ -58,7 +58,7 @@ impl<'a> Cursor<'a> {
         }
     }
 
-    /// Where the next token or the end stands: the end behind the last line.
+    /// Where the next token or the end stands: the end after the last line.
     #[tactic(auto, unfolding(pd_lex::specs::Lexing::lexeme_of))]
     pub fn next_place(&self) -> Place
         ensures { result ≡ next_place self.now }
@@ -76,7 +76,7 @@ impl<'a> Cursor<'a> {
     /// Goes over the next token; at the end and at a bad place it stays.
     #[inline(never)]
     pub fn take(&mut self)
-        ensures { self.new ≡ behind_token self.old }
+        ensures { self.new ≡ after_token self.old }
     {
         self.take_here();
     }
@@ -84,14 +84,14 @@ impl<'a> Cursor<'a> {
     /// The same, put in place: for the loop over the tokens of arguments.
     #[inline(always)]
     fn take_here(&mut self)
-        ensures { self.new ≡ behind_token self.old }
+        ensures { self.new ≡ after_token self.old }
     {
         if let Lexed::Token(token) = self.ahead.next {
             read_along(self.lines, token.to, &mut self.ahead);
         }
     }
 
-    /// What stands next: a token, the end or a bad place.
+    /// What comes next: a token, the end or a bad place.
     #[inline(always)]
     pub fn peek(&self) -> &Lexed<'a>
         ensures { IsPeeked result.now self.now }
@@ -105,7 +105,7 @@ impl<'a> Cursor<'a> {
     /// Takes a token that is a part of a note.
     ///
     /// # Errors
-    /// `Syntax` where no token stands next, or its bracket doesn't go with the open pairs; the cursor stays there.
+    /// `Syntax` where no token comes next, or its bracket doesn't go with the open pairs; the cursor stays there.
     pub fn note_part(&mut self, pairs: OpenPairs) -> Result<OpenPairs, Stop>
         ensures { Leaves result self.new (note_part_at pairs self.old) }
     {
@@ -121,7 +121,7 @@ impl<'a> Cursor<'a> {
     /// Takes a token that is a part of an argument.
     ///
     /// # Errors
-    /// `Syntax` where no token stands next, or its bracket doesn't go with the open pairs; the cursor stays there.
+    /// `Syntax` where no token comes next, or its bracket doesn't go with the open pairs; the cursor stays there.
     pub fn part(&mut self, inside: &mut Inside) -> Result<(), Stop>
         ensures { Moves result inside.new self.new (part_at inside.old self.old) }
     {

@@ -6,16 +6,16 @@ ghost use Rattle.pd_script.specs.Next.{next_in, reach_of, IsNextEvent, GoesOn, L
 use crate::cursor::Cursor;
 use crate::script_events::Event;
 use crate::stops::Stop;
-use pd_lex::{Place, items_behind_tokens};
-use pd_text::{Lines, have_lines};
+use pd_lex::{Place, items_after_tokens};
+use pd_text::Lines;
 use std::alloc::{AllocError, Global};
 use std::marker::Model;
 
-/// What stands next among the events of a text.
+/// What comes next among the events of a text.
 #[derive(Drop)]
 pub enum NextEvent {
     /// An event that another one or the end follows; the place of what follows it, at the end of
-    /// the text the start of the line behind the last; and its reach, the line of the token that
+    /// the text the start of the line after the last; and its reach, the line of the token that
     /// follows it, if one does.
     Got(Event, Place, Option<usize>),
     /// The end of the text.
@@ -107,8 +107,8 @@ impl<'a> Cursor<'a> {
 
 /// The next event of a text from a place on.
 ///
-/// It is an event where one stands there and another one or the end follows it. From the place
-/// behind it on stands what is left.
+/// It is an event where one is there and another one or the end follows it. From the place
+/// after it on stands what is left.
 ///
 /// # Errors
 /// `AllocError` where a growth is refused.
@@ -119,9 +119,9 @@ pub fn next_event(alloc: Global, lines: &Lines, place: Place) -> Result<NextEven
     ensures spelled { IfOk result (IsNextEvent lines.now place) }
     ensures goes_on { IfOk result (GoesOn lines.now place) }
 {
-    // The law of tokens does no work: that what is left stands at its place rests on it.
-    items_behind_tokens();
-    have_lines(lines);
+    // The law of tokens does no work: that what is left is at its place rests on it.
+    items_after_tokens();
+    lines.facts();
     let next = Cursor::at(lines, place).next_event(alloc)?;
     Ok(next)
 }

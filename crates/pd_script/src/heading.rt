@@ -5,11 +5,11 @@ ghost use Rattle.pd_lex.specs.Lexing.{items};
 ghost use Rattle.pd_script.specs.Items.{is_header, next_is};
 ghost use Rattle.pd_script.specs.Cursor.{given, IsItemAt, shown};
 ghost use Rattle.pd_script.specs.Header.{header_item, HasEnd};
-ghost use Rattle.pd_script.specs.Script.{header_in, behind_header};
+ghost use Rattle.pd_script.specs.Script.{header_in, after_header};
 
 use crate::script_header::{Header, HeaderItem, HeaderKind};
 use pd_lex::{Lexed, Place, Token, TokenKind, next_token};
-use pd_text::{Lines, have_lines};
+use pd_text::Lines;
 use std::alloc::{AllocError, Global};
 
 /// The header item that a token is.
@@ -27,12 +27,12 @@ fn header_item(token: &Token) -> Option<HeaderItem>
     })
 }
 
-/// The header item at a place of a text and the place behind it, if one stands there.
+/// The header item at a place of a text and the place after it, if one is there.
 fn next_header_item(lines: &Lines, place: Place) -> Option<(HeaderItem, Place)>
     ensures some { IfSome result (λ found. IsItemAt lines.now place found.0 found.1) }
     ensures none { IfNone result (next_is is_header (items lines.now place) ≡ false) }
 {
-    have_lines(lines);
+    lines.facts();
     match next_token(lines, place) {
         Lexed::Token(token) => match header_item(&token) {
             Some(item) => Some((item, token.to)),
@@ -50,7 +50,7 @@ fn next_header_item(lines: &Lines, place: Place) -> Option<(HeaderItem, Place)>
 pub fn read_header(alloc: Global, lines: &Lines) -> Result<Header, AllocError>
     ensures header { IfOk result (λ header. header ≡ header_in (items lines.now first_place)) }
     ensures end { IfOk result (HasEnd (items lines.now first_place)) }
-    ensures behind { IfOk result (λ header. items lines.now header.end ≡ behind_header (items lines.now first_place)) }
+    ensures after { IfOk result (λ header. items lines.now header.end ≡ after_header (items lines.now first_place)) }
 {
     let mut header = Header::new(alloc);
     'items: while let Some((item, after)) = next_header_item(lines, header.end()) {

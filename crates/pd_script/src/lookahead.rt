@@ -14,7 +14,7 @@ impl<'a> Cursor<'a> {
         matches!(self.peek(), Lexed::End)
     }
 
-    /// Whether the symbol of this octet stands next.
+    /// Whether the symbol of this octet comes next.
     #[tactic(auto, using(crate::proofs::Symbols::one_octet), unfolding(pd_lex::specs::Lexing::lexeme_of))]
     pub fn is_symbol(&self, octet: u8) -> bool
         ensures { result ≡ next_is (is_symbol octet) self.now }
@@ -27,7 +27,7 @@ impl<'a> Cursor<'a> {
         }
     }
 
-    /// Whether an Int of at most 4,294,967,295 stands next.
+    /// Whether an Int of at most 4,294,967,295 comes next.
     #[tactic(auto, unfolding(pd_lex::specs::Lexing::lexeme_of))]
     pub fn is_int(&self) -> bool
         ensures { result ≡ next_is is_int self.now }
@@ -40,7 +40,7 @@ impl<'a> Cursor<'a> {
         }
     }
 
-    /// Whether a Hex of at most 4,294,967,295 stands next.
+    /// Whether a Hex of at most 4,294,967,295 comes next.
     #[tactic(auto, unfolding(pd_lex::specs::Lexing::lexeme_of))]
     pub fn is_hex(&self) -> bool
         ensures { result ≡ next_is is_hex self.now }
@@ -53,7 +53,7 @@ impl<'a> Cursor<'a> {
         }
     }
 
-    /// Whether an Int or a Decimal below 4,294,967,296 seconds stands next.
+    /// Whether an Int or a Decimal below 4,294,967,296 seconds comes next.
     #[tactic(auto, unfolding(pd_lex::specs::Lexing::lexeme_of))]
     pub fn is_num(&self) -> bool
         ensures { result ≡ next_is is_num self.now }
@@ -67,7 +67,7 @@ impl<'a> Cursor<'a> {
         }
     }
 
-    /// Whether a word stands next.
+    /// Whether a word comes next.
     #[tactic(auto, unfolding(pd_lex::specs::Lexing::lexeme_of))]
     pub fn is_word(&self) -> bool
         ensures { result ≡ next_is is_word self.now }
@@ -78,7 +78,7 @@ impl<'a> Cursor<'a> {
         }
     }
 
-    /// Whether this word stands next.
+    /// Whether this word comes next.
     #[tactic(auto, unfolding(pd_lex::specs::Lexing::lexeme_of))]
     pub fn is_named(&self, name: &[u8]) -> bool
         ensures { result ≡ next_is (is_named name.now) self.now }
@@ -89,7 +89,7 @@ impl<'a> Cursor<'a> {
         }
     }
 
-    /// Whether three points stand next.
+    /// Whether three points come next.
     #[tactic(auto, unfolding(pd_lex::specs::Lexing::lexeme_of))]
     pub fn is_dots(&self) -> bool
         ensures { result ≡ next_is is_dots self.now }

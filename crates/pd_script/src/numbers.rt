@@ -14,14 +14,14 @@ pub const TIME_LIMIT: u64 = 4_294_967_296_000_000;
 /// The greatest number of a packet or a result.
 pub const MAX_NUMBER: u64 = 4_294_967_295;
 
-/// The digits behind `0x`.
+/// The digits after `0x`.
 fn hex_digits(text: &[u8]) -> &[u8]
     ensures { result.now ≡ drop 2 text.now }
 {
     if text.len() < 2 { &[] } else { &text[2..] }
 }
 
-/// The number in hexadecimal digits behind `0x`; one above the greatest `u64` stands as that.
+/// The number in hexadecimal digits after `0x`; one above the greatest `u64` counts as that.
 #[tactic(auto, using(crate::proofs::Capped::capping))]
 pub fn hex_number(text: &[u8]) -> u64
     ensures { result ≡ min (hex_number text.now) (2 ^ 64 - 1) }
@@ -29,7 +29,7 @@ pub fn hex_number(text: &[u8]) -> u64
     value_after(16, 0, hex_digits(text))
 }
 
-/// How many octets stand before the point.
+/// How many octets are before the point.
 fn whole_len(text: &[u8]) -> usize
     ensures len { result ≡ whole_len text.now }
     ensures within { result ≤ length text.now }
@@ -37,7 +37,7 @@ fn whole_len(text: &[u8]) -> usize
     text.iter().take_while(|octet| **octet != b'.').count()
 }
 
-/// The digits behind the point, which stands behind so many.
+/// The digits after the point, which follows so many.
 fn decimals(text: &[u8], len: usize) -> &[u8]
     requires { len ≤ length text.now }
     ensures { result.now ≡ drop (len + 1) text.now }
@@ -49,7 +49,7 @@ fn decimals(text: &[u8], len: usize) -> &[u8]
     }
 }
 
-/// The decimal at a place behind the point; one that isn't written is a zero.
+/// The decimal at a place after the point; one that isn't written is a zero.
 fn decimal_at(decimals: &[u8], place: usize) -> u8
     ensures { result ≡ get_or decimals.now place 48 }
 {

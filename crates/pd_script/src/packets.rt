@@ -62,14 +62,14 @@ pub struct Flags {
     pub other: bool,
 }
 
-/// Whether a letter stands among them.
+/// Whether a letter is among them.
 fn has(letters: &[u8], letter: u8) -> bool
     ensures { result ≡ list_any (λ octet. octet == letter) letters.now }
 {
     letters.iter().any(|octet| *octet == letter)
 }
 
-/// Whether a letter of a flag that isn't run stands among them.
+/// Whether a letter of a flag that isn't run is among them.
 fn has_other(letters: &[u8]) -> bool
     ensures { result ≡ list_any (λ octet. (octet == 85) || (octet == 69) || (octet == 87) || (octet == 67)) letters.now }
 {
@@ -232,7 +232,7 @@ impl OptionList {
         }
     }
 
-    /// Puts an option behind the others.
+    /// Puts an option after the others.
     ///
     /// # Errors
     /// `AllocError` where a growth is refused.
@@ -282,7 +282,7 @@ impl Blocks {
         }
     }
 
-    /// Puts a block behind the others.
+    /// Puts a block after the others.
     ///
     /// # Errors
     /// `AllocError` where a growth is refused.

@@ -5,7 +5,7 @@ use crate::script_header::Header;
 /// What a text was read as.
 #[derive(Drop)]
 pub struct Parsed {
-    /// What stands before the events.
+    /// What is before the events.
     pub header: Header,
     /// The events in order.
     pub events: Events,

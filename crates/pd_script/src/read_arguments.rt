@@ -1,6 +1,6 @@
 //! Reading the arguments of a call.
 ghost use Rattle.std.specs.Prelude.{◌≡◌, []};
-ghost use Rattle.pd_script.specs.Reading.{arguments_at};
+ghost use Rattle.pd_script.specs.EventReading.{arguments_at};
 ghost use Rattle.pd_script.specs.Drafts.{is_between, is_last, note_move};
 ghost use Rattle.pd_script.specs.Reader.{machine_at};
 ghost use Rattle.pd_script.specs.Cursor.{Leaves, SkipsNote};
@@ -13,7 +13,7 @@ use crate::stops::Stop;
 use std::alloc::Global;
 
 impl<'a> Cursor<'a> {
-    /// Whether it stands between two arguments or behind the last.
+    /// Whether it is between two arguments or after the last.
     fn is_between(&self, inside: &Inside) -> bool
         ensures { result ≡ is_between inside.now self.now }
     {
@@ -23,7 +23,7 @@ impl<'a> Cursor<'a> {
     /// Takes the arguments of a call and the bracket that ends them.
     ///
     /// # Errors
-    /// `Syntax` where an argument is empty or none goes on, and the cursor stands there; `OutOfMemory` where a growth is
+    /// `Syntax` where an argument is empty or none goes on, and the cursor is there; `OutOfMemory` where a growth is
     /// refused.
     #[inline(always)]
     pub fn arguments(&mut self, alloc: Global) -> Result<Arguments, Stop>
@@ -53,17 +53,17 @@ impl<'a> Cursor<'a> {
         }
     }
 
-    /// Whether the bracket that ends a note stands here.
+    /// Whether the bracket that ends a note is here.
     fn is_last(&self, pairs: &OpenPairs) -> bool
         ensures { result ≡ is_last pairs.now self.now }
     {
         pairs.is_empty() && self.is_symbol(b')')
     }
 
-    /// Goes over what stands in a note, and the bracket that ends it.
+    /// Goes over what is in a note, and the bracket that ends it.
     ///
     /// # Errors
-    /// `Syntax` where no note goes on; the cursor stands there.
+    /// `Syntax` where no note goes on; the cursor is there.
     pub fn note_inside(&mut self) -> Result<(), Stop>
         ensures { SkipsNote result self.new (machine_at note_move [] self.old) }
     {

@@ -1,6 +1,6 @@
 //! Reading the parts of an event.
 ghost use Rattle.std.specs.Prelude.{◌≡◌};
-ghost use Rattle.pd_script.specs.Reading.{time_at, absolute_at, relative_at, maybe_until_at, note_at, outcome_at, call_at, action_at, event_at};
+ghost use Rattle.pd_script.specs.EventReading.{time_at, absolute_at, relative_at, maybe_until_at, note_at, outcome_at, call_at, action_at, event_at};
 ghost use Rattle.pd_script.specs.Cursor.{Leaves};
 
 use crate::calls::{Call, Outcome};
@@ -13,7 +13,7 @@ use std::alloc::Global;
 
 impl<'a> Cursor<'a> {
     /// Takes a time, and answers the line of its first token with it.
-    #[tactic(auto, using(crate::proofs::Symbols::one_octet), unfolding(crate::specs::Reading::time_at, pd_lex::specs::Lexing::lexeme_of))]
+    #[tactic(auto, using(crate::proofs::Symbols::one_octet), unfolding(crate::specs::EventReading::time_at, pd_lex::specs::Lexing::lexeme_of))]
     #[inline(always)]
     fn time(&mut self) -> Result<(usize, Time), Stop>
         ensures { Leaves result self.new (time_at self.old) }
@@ -66,7 +66,7 @@ impl<'a> Cursor<'a> {
     }
 
     /// Takes the end of a blocking call, if one is written.
-    #[tactic(auto, unfolding(crate::specs::Reading::maybe_until_at))]
+    #[tactic(auto, unfolding(crate::specs::EventReading::maybe_until_at))]
     #[inline(always)]
     fn until(&mut self) -> Result<Option<Until>, Stop>
         ensures { Leaves result self.new (maybe_until_at self.old) }
@@ -85,7 +85,7 @@ impl<'a> Cursor<'a> {
     }
 
     /// Takes the result of a call.
-    #[tactic(auto, unfolding(crate::specs::Reading::outcome_at))]
+    #[tactic(auto, unfolding(crate::specs::EventReading::outcome_at))]
     #[inline(always)]
     fn outcome(&mut self) -> Result<Outcome, Stop>
         ensures { Leaves result self.new (outcome_at self.old) }
@@ -106,7 +106,7 @@ impl<'a> Cursor<'a> {
     }
 
     /// Goes over a note.
-    #[tactic(auto, unfolding(crate::specs::Reading::note_at))]
+    #[tactic(auto, unfolding(crate::specs::EventReading::note_at))]
     fn note(&mut self) -> Result<(), Stop>
         ensures { Leaves result self.new (note_at self.old) }
     {
@@ -114,7 +114,7 @@ impl<'a> Cursor<'a> {
         self.note_inside()
     }
 
-    #[tactic(auto, unfolding(crate::specs::Reading::call_at))]
+    #[tactic(auto, unfolding(crate::specs::EventReading::call_at))]
     #[inline(always)]
     fn call(&mut self, alloc: Global) -> Result<Call, Stop>
         ensures { Leaves result self.new (call_at self.old) }
@@ -134,7 +134,7 @@ impl<'a> Cursor<'a> {
         })
     }
 
-    #[tactic(auto, using(crate::proofs::Symbols::one_octet), unfolding(crate::specs::Reading::action_at, pd_lex::specs::Lexing::lexeme_of))]
+    #[tactic(auto, using(crate::proofs::Symbols::one_octet), unfolding(crate::specs::EventReading::action_at, pd_lex::specs::Lexing::lexeme_of))]
     #[inline(always)]
     fn action(&mut self, alloc: Global) -> Result<Action, Stop>
         ensures { Leaves result self.new (action_at self.old) }
@@ -179,8 +179,8 @@ impl<'a> Cursor<'a> {
     /// Takes an event.
     ///
     /// # Errors
-    /// `Syntax` where no event goes on, and the cursor stands there; `OutOfMemory` where a growth is refused.
-    #[tactic(auto, unfolding(crate::specs::Reading::event_at))]
+    /// `Syntax` where no event goes on, and the cursor is there; `OutOfMemory` where a growth is refused.
+    #[tactic(auto, unfolding(crate::specs::EventReading::event_at))]
     #[inline(always)]
     pub fn event(&mut self, alloc: Global) -> Result<Event, Stop>
         ensures { Leaves result self.new (event_at self.old) }

@@ -124,7 +124,7 @@ impl<'a> Cursor<'a> {
         Ok(PacketOption::Timestamp(u64::from(val), u64::from(ecr)))
     }
 
-    /// Takes what stands behind the name of an option.
+    /// Takes what follows the name of an option.
     #[tactic(auto, unfolding(crate::specs::PacketReading::option_rest_at))]
     fn option_rest(&mut self, alloc: Global, name: OptionName) -> Result<PacketOption, Stop>
         ensures { Leaves result self.new (option_rest_at name self.old) }
@@ -201,7 +201,7 @@ impl<'a> Cursor<'a> {
     /// Takes a packet; an inbound one has a window and lists its options.
     ///
     /// # Errors
-    /// `Syntax` where no packet goes on, and the cursor stands there; `OutOfMemory` where a growth is refused.
+    /// `Syntax` where no packet goes on, and the cursor is there; `OutOfMemory` where a growth is refused.
     #[tactic(auto, unfolding(crate::specs::PacketReading::packet_at))]
     pub fn packet(&mut self, alloc: Global, inbound: bool) -> Result<Packet, Stop>
         ensures { Leaves result self.new (packet_at inbound self.old) }

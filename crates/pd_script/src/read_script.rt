@@ -13,14 +13,14 @@ use crate::heading::read_header;
 use crate::parsing::{Found, Parsed};
 use crate::script_events::Events;
 use pd_lex::{first_lines, longest_pieces};
-use pd_text::{Lines, have_lines};
+use pd_text::Lines;
 use std::alloc::{AllocError, Global};
 
 /// The greatest number of events of a script.
 pub const MAX_EVENTS: usize = 4_096;
 
 impl<'a> Cursor<'a> {
-    /// Takes all events. Behind the last that a script may have, another one is the fault, and what
+    /// Takes all events. After the last that a script may have, another one is the fault, and what
     /// it follows isn't kept.
     fn events(&mut self, alloc: Global) -> Result<Found, AllocError>
         ensures { IfOk result (λ found. found ≡ found_in 4096 self.old) }
@@ -68,14 +68,14 @@ pub fn parse(alloc: Global, lines: &Lines) -> Result<Parsed, AllocError>
     ensures limit { IfOk result (λ parsed. length parsed.events ≤ 4096) }
     ensures lines { IfOk result (λ parsed. HasLines lines.now parsed) }
 
-    // The header ends behind the last of its items.
+    // The header ends after the last of its items.
     ensures end { IfOk result (λ parsed. HasEnd (items lines.now first_place) parsed.header) }
 {
     // The laws of tokens do no work: what is said of the items and their lines rests on them.
     longest_pieces();
     first_lines();
     let parsed = read(alloc, lines)?;
-    have_lines(lines);
+    lines.facts();
     Ok(parsed)
 }
 

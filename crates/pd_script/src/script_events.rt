@@ -96,7 +96,7 @@ impl Events {
         }
     }
 
-    /// Puts an event behind the others.
+    /// Puts an event after the others.
     ///
     /// # Errors
     /// `AllocError` where a growth is refused.

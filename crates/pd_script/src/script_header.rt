@@ -7,7 +7,7 @@ use pd_lex::{Place, number};
 use std::alloc::{AllocError, Global};
 use std::marker::Model;
 
-/// An option or a command that stands before a script's events.
+/// An option or a command that is before a script's events.
 #[derive(Clone, Copy)]
 pub struct HeaderItem {
     /// The line of its first octet, counted from 1.
@@ -32,7 +32,7 @@ pub enum HeaderKind {
 pub struct Header {
     /// The items in order.
     items: Vec<HeaderItem>,
-    /// The place behind the last item, or of the text's first octet.
+    /// The place after the last item, or of the text's first octet.
     end: Place,
 }
 
@@ -47,7 +47,7 @@ impl Model for Header {
 /// The greatest tolerance, in microseconds.
 const MAX_TOLERANCE: u64 = 1_000_000;
 
-/// What stands before the number of a tolerance.
+/// What is before the number of a tolerance.
 const TOLERANCE: &[u8] = b"--tolerance_usecs=";
 
 impl HeaderKind {
@@ -85,7 +85,7 @@ impl Header {
         }
     }
 
-    /// Puts one more item behind the others, with the place behind it.
+    /// Puts one more item after the others, with the place after it.
     ///
     /// # Errors
     /// `AllocError` where a growth is refused.
@@ -111,7 +111,7 @@ impl Header {
         self.items.as_slice()
     }
 
-    /// The place behind the last item, where the first event is looked for; without items the
+    /// The place after the last item, where the first event is looked for; without items the
     /// first place of a text.
     pub fn end(&self) -> Place
         ensures { result ≡ self.now.end }

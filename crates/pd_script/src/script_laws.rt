@@ -1,7 +1,7 @@
 //! Laws of scripts.
 ghost use Rattle.pd_script.specs.Laws.{ScriptsAreGrammatical, NoOthersAreGrammatical, ItemsAreReadInOneWay, ItemsStandThere};
 
-use pd_lex::{items_behind_tokens, longest_pieces};
+use pd_lex::{items_after_tokens, longest_pieces};
 
 /// Three laws, and no work: what a text is read as is what the grammar gives for its tokens, it gives
 /// nothing else, and no tokens are read in two ways.
@@ -14,9 +14,9 @@ pub fn scripts_are_grammatical()
 }
 
 /// A law, and no work: from the place of an item with which an event or the end begins, in a text,
-/// the items are that one and those behind it.
+/// the items are that one and those after it.
 pub fn items_stand_there()
     ensures { ItemsStandThere }
 {
-    items_behind_tokens();
+    items_after_tokens();
 }

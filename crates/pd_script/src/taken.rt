@@ -4,7 +4,7 @@ ghost use Rattle.pd_script.specs.declared.stops.Stop.TheVariants.{Syntax};
 ghost use Rattle.pd_script.specs.Items.{is_small};
 ghost use Rattle.pd_script.specs.TokenReading.{symbol_at, int_at, dots_at};
 ghost use Rattle.pd_script.specs.PacketReading.{int_from_at, int_of_at, named_at, letters_at, option_name_at};
-ghost use Rattle.pd_script.specs.Reading.{hex_at, num_at, num_from_at, command_at, code_at, function_at, error_at};
+ghost use Rattle.pd_script.specs.EventReading.{hex_at, num_at, num_from_at, command_at, code_at, function_at, error_at};
 ghost use Rattle.pd_script.specs.Cursor.{Leaves};
 
 use crate::calls::{ErrorName, Function};

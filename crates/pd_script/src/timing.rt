@@ -15,7 +15,7 @@ pub enum Time {
     RelativeRange(u64, u64),
 }
 
-/// When a blocking call comes back, in microseconds, as written behind `...`.
+/// When a blocking call comes back, in microseconds, as written after `...`.
 #[derive(Clone, Copy)]
 pub enum Until {
     /// Since the start of the run.

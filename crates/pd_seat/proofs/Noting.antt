@@ -5,7 +5,7 @@ use Rattle.std.proofs.lemmas.List.{length-reverse}
 use Rattle.pd_book.specs.declared.act.Act.{Act}
 use Rattle.pd_book.specs.Acts.{jobs, job, without}
 use Rattle.pd_book.specs.Legal.{Legal}
-use Rattle.pd_book.specs.Story.{Story, Contents, told}
+use Rattle.pd_book.specs.Story.{Story, BookView, told}
 use Rattle.pd_seat.specs.Seats.{unended}
 use Rattle.pd_seat.specs.Kept.{IsNoted, IsSeat}
 use Rattle.pd_seat.proofs.Jobs.{fewer_tasks}
@@ -15,7 +15,7 @@ pub one_longer : {A : Type 0} (new old : List A) (x : A) → reverse new ≡ x �
 one_longer new old x e = omega (arith, ap length e, length-reverse new, length-reverse old)
 
 -- after an act that starts and ends no job
-pub more_noted : (book book' : Contents) (notes notes' : List ℕ) (cap cap' : ℕ) (act : Act) (n : ℕ)
+pub more_noted : (book book' : BookView) (notes notes' : List ℕ) (cap cap' : ℕ) (act : Act) (n : ℕ)
     → IsNoted book notes cap → book'.story ≡ told book.story act → Legal book'.story.opening book'.story.past
     → jobs book.story.opening (act ∷ book.story.past) ≡ jobs book.story.opening book.story.past
     → reverse notes' ≡ n ∷ reverse notes → length notes + 1 + length (jobs book.story.opening book.story.past) ≤ cap' → IsNoted book' notes' cap'
@@ -27,7 +27,7 @@ more_noted book book' notes notes' cap cap' act n k now legal same more room =
     }
 
 -- after the end of an outstanding job
-pub ended_noted : (book book' : Contents) (notes notes' : List ℕ) (cap cap' : ℕ) (act : Act) (n j : ℕ)
+pub ended_noted : (book book' : BookView) (notes notes' : List ℕ) (cap cap' : ℕ) (act : Act) (n j : ℕ)
     → IsNoted book notes cap → book'.story ≡ told book.story act → Legal book'.story.opening book'.story.past
     → IsSome (job book.story.opening book.story.past j)
     → jobs book.story.opening (act ∷ book.story.past) ≡ without j (jobs book.story.opening book.story.past)

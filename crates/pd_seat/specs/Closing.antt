@@ -1,14 +1,14 @@
 -- What a closing gives back.
 use Rattle.std.specs.Prelude.{◌≡◌, List, length}
 use Rattle.pd_book.specs.Legal.{Legal}
-use Rattle.pd_book.specs.Story.{Contents}
+use Rattle.pd_book.specs.Story.{BookView}
 use Rattle.pd_seat.specs.declared.closing.CloseFault.{CloseFault}
 use Rattle.pd_seat.specs.declared.closing.CloseFault.TheVariants.{MissingSeat, Differs}
-use Rattle.pd_seat.specs.Seats.{Noted, SeatView, EachOnce, Accounts}
+use Rattle.pd_seat.specs.Seats.{HeldView, SeatView, EachOnce, Accounts}
 
 -- the book, whose history is legal and has a note for each act; in it each seat's acts stand once, in its order, and no
 -- others
-pub record Closes (held : Noted) (seats : List SeatView) (book : Contents) : Type 0 where
+pub record Closes (held : HeldView) (seats : List SeatView) (book : BookView) : Type 0 where
   pub same : book ≡ held.book
   pub legal : Legal book.story.opening book.story.past
   pub noted : length held.notes ≡ length book.story.past
@@ -17,7 +17,7 @@ pub record Closes (held : Noted) (seats : List SeatView) (book : Contents) : Typ
 
 -- some seats are missing, and all comes back; or the seats' acts aren't those that are noted, and the book alone comes
 -- back, with its legal history
-abbrev pub ClosesNot : Noted → List SeatView → CloseFault Noted → Type 0
+abbrev pub ClosesNot : HeldView → List SeatView → CloseFault HeldView → Type 0
 ClosesNot held seats (MissingSeat back them) = ¬ EachOnce held.seats seats × (back ≡ held) × (them.items ≡ seats)
 ClosesNot held seats (Differs book) = EachOnce held.seats seats × ¬ Accounts held seats × (book ≡ held.book) × Legal book.story.opening book.story.past
 
@@ -25,5 +25,5 @@ ClosesNot held seats (Differs book) = EachOnce held.seats seats × ¬ Accounts h
 -- of a `Differs` that the seats' numbers are 0 to the last, each once, and that the book's history is legal, and nothing of
 -- notes
 abbrev pub ClosesNotAt : {H : Type 0} → List SeatView → CloseFault H → Type 0
-ClosesNotAt seats (MissingSeat back them) = (held : Noted) × (¬ EachOnce held.seats seats × (them.items ≡ seats))
-ClosesNotAt seats (Differs book) = (held : Noted) × (EachOnce held.seats seats × (¬ Accounts held seats × ((book ≡ held.book) × Legal book.story.opening book.story.past)))
+ClosesNotAt seats (MissingSeat back them) = (held : HeldView) × (¬ EachOnce held.seats seats × (them.items ≡ seats))
+ClosesNotAt seats (Differs book) = (held : HeldView) × (EachOnce held.seats seats × (¬ Accounts held seats × ((book ≡ held.book) × Legal book.story.opening book.story.past)))

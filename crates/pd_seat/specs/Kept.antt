@@ -3,11 +3,11 @@ use Rattle.std.specs.Prelude.{◌≡◌, ◌+◌, ◌≤◌, ℕ, List, length, 
 use Rattle.pd_book.specs.declared.act.Act.{Act}
 use Rattle.pd_book.specs.Acts.{jobs}
 use Rattle.pd_book.specs.Legal.{Legal}
-use Rattle.pd_book.specs.Story.{Contents}
+use Rattle.pd_book.specs.Story.{BookView}
 use Rattle.pd_seat.specs.Seats.{unended}
 
 -- the history is legal, each act has a note, and there is room for a note for the end of each outstanding job
-pub record IsNoted (book : Contents) (notes : List ℕ) (capacity : ℕ) : Type 0 where
+pub record IsNoted (book : BookView) (notes : List ℕ) (capacity : ℕ) : Type 0 where
   pub legal : Legal book.story.opening book.story.past
   pub noted : length notes ≡ length book.story.past
   pub room : length notes + length (jobs book.story.opening book.story.past) ≤ capacity

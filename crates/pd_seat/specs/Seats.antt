@@ -1,17 +1,17 @@
--- Acts with the numbers of the seats that made them. The newest act stands first.
+-- Acts with the numbers of the seats that made them. The newest act comes first.
 use Rattle.std.specs.Prelude.{ℕ, zero, suc, ◌≡◌, ◌≢◌, ◌<◌, ◌≤◌, ◌==◌, Bool, not, List, [], ◌∷◌, ◌++◌, length, filter, if◌then◌else◌, All, count_by, Result, MatchResult}
 use Rattle.std.specs.List.{list_any}
 use Rattle.pd_settings.specs.declared.fields.Settings.{Settings}
 use Rattle.pd_book.specs.declared.act.Act.{Act}
 use Rattle.pd_book.specs.declared.act.Act.TheVariants.{Start, Finish, Abandon}
 use Rattle.pd_book.specs.Legal.{Legal}
-use Rattle.pd_book.specs.Report.{Shown, shown}
-use Rattle.pd_book.specs.Story.{Contents, told}
+use Rattle.pd_book.specs.Report.{ReportView, shown}
+use Rattle.pd_book.specs.Story.{BookView, told}
 
 -- a book, the seat that made each of its acts, and how many seats there are
-pub record Noted : Type 0 where
+pub record HeldView : Type 0 where
   pub seats : ℕ
-  pub book : Contents
+  pub book : BookView
   pub notes : List ℕ
 
 -- a seat: its number, the acts that it made, and the length of the longest history of which it was shown a report
@@ -30,7 +30,7 @@ new_seats number zero = []
 new_seats number (suc more) = new_seat number ∷ new_seats (suc number) more
 
 -- a book without acts, which keeps at most so many tracks and has none yet, and so many seats
-pub record IsNew (cache : ℕ) (settings : Settings) (count : ℕ) (held : Noted) : Type 0 where
+pub record IsNew (cache : ℕ) (settings : Settings) (count : ℕ) (held : HeldView) : Type 0 where
   pub seats : held.seats ≡ count
   pub story : held.book.story ≡ record { opening = settings; past = [] }
   pub tracks : held.book.tracks ≡ record { entries = []; most = cache }
@@ -47,7 +47,7 @@ abbrev pub with_act : SeatView → Act → SeatView
 with_act seat act = record { number = seat.number; own = act ∷ seat.own; longest = seat.longest }
 
 -- the act was recorded, noted with the seat's number, and is the seat's last; nothing else was
-pub record Records (held : Noted) (seat : SeatView) (act : Act) (held' : Noted) (seat' : SeatView) : Type 0 where
+pub record Records (held : HeldView) (seat : SeatView) (act : Act) (held' : HeldView) (seat' : SeatView) : Type 0 where
   pub story : held'.book.story ≡ told held.book.story act
   pub notes : held'.notes ≡ seat.number ∷ held.notes
   pub seats : held'.seats ≡ held.seats
@@ -70,12 +70,12 @@ abbrev pub is_unended : List Act → ℕ → Bool
 is_unended acts number = list_any (λ (job : ℕ). job == number) (unended acts)
 
 -- the acts noted with the seat's number are its own, and the history is no shorter than one of which it was shown a report
-pub record Agrees (held : Noted) (seat : SeatView) : Type 0 where
+pub record Agrees (held : HeldView) (seat : SeatView) : Type 0 where
   pub own : made_by seat.number held.notes held.book.story.past ≡ seat.own
   pub longest : seat.longest ≤ length held.book.story.past
 
 -- the report of a legal history, each act of which has a note, that agrees with the seat; the seat remembers its length
-pub record IsShownFrom (held : Noted) (seat : SeatView) (report : Shown) (seat' : SeatView) : Type 0 where
+pub record IsShownFrom (held : HeldView) (seat : SeatView) (report : ReportView) (seat' : SeatView) : Type 0 where
   pub legal : Legal held.book.story.opening held.book.story.past
   pub noted : length held.notes ≡ length held.book.story.past
   pub agrees : Agrees held seat
@@ -83,8 +83,8 @@ pub record IsShownFrom (held : Noted) (seat : SeatView) (report : Shown) (seat' 
   pub remembered : seat' ≡ record { number = seat.number; own = seat.own; longest = length held.book.story.past }
 
 -- the same, of some history
-abbrev pub IsShown : SeatView → Shown → SeatView → Type 0
-IsShown seat report seat' = (held : Noted) × IsShownFrom held seat report seat'
+abbrev pub IsShown : SeatView → ReportView → SeatView → Type 0
+IsShown seat report seat' = (held : HeldView) × IsShownFrom held seat report seat'
 
 -- the seats' numbers are 0 to the last, each once
 pub record EachOnce (count : ℕ) (seats : List SeatView) : Type 0 where
@@ -92,6 +92,6 @@ pub record EachOnce (count : ℕ) (seats : List SeatView) : Type 0 where
   pub each : (number : ℕ) → number < count → count_by (λ (seat : SeatView). seat.number == number) seats ≡ 1
 
 -- each act is noted with one of the numbers, and the acts noted with a seat's number are the seat's own
-pub record Accounts (held : Noted) (seats : List SeatView) : Type 0 where
+pub record Accounts (held : HeldView) (seats : List SeatView) : Type 0 where
   pub notes : All (λ note. note < held.seats) held.notes
   pub own : All (λ (seat : SeatView). made_by seat.number held.notes held.book.story.past ≡ seat.own) seats

@@ -13,9 +13,7 @@ use crate::comparing::is_own;
 use crate::faults::ShowFault;
 use crate::recording::{drop_job, make_room, note, record, reserve};
 use crate::seat::Seat;
-use pd_book::{
-    Act, Book, BookFault, Done, FinishFault, Job, Report, Ruling, SharedEdit, acts_are_legal,
-};
+use pd_book::{Act, Book, BookFault, Done, FinishFault, Job, Report, Ruling, SharedEdit};
 use pd_settings::{Key, Settings, Value};
 use pd_text::{LineEdit, Lines, Name, Text};
 use pd_track::Track;
@@ -37,10 +35,10 @@ pub struct Held {
 
 impl Model for Held {
     ghost use Rattle.std.specs.Prelude.{reverse, vec_capacity};
-    ghost use Rattle.pd_seat.specs.Seats.{Noted};
+    ghost use Rattle.pd_seat.specs.Seats.{HeldView};
     ghost use Rattle.pd_seat.specs.Kept.{IsNoted};
 
-    ghost Value = { Noted };
+    ghost Value = { HeldView };
 
     ghost view = { λ h. record { seats = h.seats; book = h.book; notes = reverse h.notes.items } };
 
@@ -76,7 +74,7 @@ impl Held {
         Ok((held, made))
     }
 
-    /// Adds a script behind the others.
+    /// Adds a script after the others.
     ///
     /// # Errors
     /// `OutOfMemory` for what is noted, else the book's.
@@ -92,7 +90,7 @@ impl Held {
         reserve(&mut self.notes, outstanding + 1, &mut seat.own, open + 1)?;
         let (text, act) = added(*self.notes.allocator(), &name, lines)?;
         self.book.add_shared(name, text)?;
-        acts_are_legal(&self.book);
+        self.book.facts();
         note(&mut self.notes, seat.number);
         record(&mut seat.own, act);
         Ok(())
@@ -131,7 +129,7 @@ impl Held {
         reserve(&mut self.notes, outstanding + 1, &mut seat.own, open + 1)?;
         let act = edited(&self.book, name, &edit)?;
         self.book.edit_shared(name, edit)?;
-        acts_are_legal(&self.book);
+        self.book.facts();
         note(&mut self.notes, seat.number);
         record(&mut seat.own, act);
         Ok(())
@@ -153,7 +151,7 @@ impl Held {
         reserve(&mut self.notes, outstanding + 1, &mut seat.own, open + 1)?;
         let act = Act::Remove(self.book.kept_name(name)?);
         self.book.remove(name)?;
-        acts_are_legal(&self.book);
+        self.book.facts();
         note(&mut self.notes, seat.number);
         record(&mut seat.own, act);
         Ok(())
@@ -177,7 +175,7 @@ impl Held {
         let Some(key) = Key::named(key) else {
             return Ok(());
         };
-        acts_are_legal(&self.book);
+        self.book.facts();
         note(&mut self.notes, seat.number);
         record(&mut seat.own, Act::Set(key, value));
         Ok(())
@@ -214,7 +212,7 @@ impl Held {
         let Some(job) = self.book.start()? else {
             return Ok(None);
         };
-        acts_are_legal(&self.book);
+        self.book.facts();
         if let Some(act) = act {
             note(&mut self.notes, seat.number);
             record(&mut seat.own, act);
@@ -241,7 +239,7 @@ impl Held {
         }
         make_room(&mut seat.own, seat.open_jobs.as_slice(), done.number())?;
         let ruling = self.book.finish(done)?;
-        acts_are_legal(&self.book);
+        self.book.facts();
         note(&mut self.notes, seat.number);
         record(&mut seat.own, Act::Finish(done.number(), ruling));
         drop_job(&mut seat.open_jobs, done.number());
@@ -274,7 +272,7 @@ impl Held {
         }
         make_room(&mut seat.own, seat.open_jobs.as_slice(), number)?;
         self.book.abandon(number)?;
-        acts_are_legal(&self.book);
+        self.book.facts();
         note(&mut self.notes, seat.number);
         record(&mut seat.own, Act::Abandon(number));
         drop_job(&mut seat.open_jobs, number);

@@ -88,7 +88,7 @@ impl SegOptions {
         }
     }
 
-    /// Adds an option behind the others.
+    /// Adds an option after the others.
     ///
     /// # Errors
     /// `AllocError` where a growth is refused; the options are as before then.

@@ -48,7 +48,7 @@ impl SackBlocks {
         }
     }
 
-    /// Adds a block behind the others.
+    /// Adds a block after the others.
     ///
     /// # Errors
     /// `AllocError` where a growth is refused; the blocks are as before then.

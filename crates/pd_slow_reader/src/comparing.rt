@@ -1,7 +1,7 @@
 //! Reads texts both ways and keeps what differs.
 use crate::machine::Machine;
 use crate::octets::Octets;
-use crate::reading::Reading;
+use crate::reading::SlowReading;
 use crate::steps::Steps;
 use crate::texts::text;
 use pd_text::Lines;
@@ -19,7 +19,7 @@ pub struct Comparison {
     pub alloc: Global,
     /// What the slow reader read, and the product whole and event by event.
     machine: Machine,
-    whole: Reading,
+    whole: SlowReading,
     steps: Steps,
     texts: usize,
     /// How many edited scripts were read again, and how many of their events were kept.
@@ -38,7 +38,7 @@ impl Comparison {
         Comparison {
             alloc,
             machine: Machine::new(alloc),
-            whole: Reading::new(alloc),
+            whole: SlowReading::new(alloc),
             steps: Steps::new(alloc),
             texts: 0,
             edits: 0,
@@ -153,7 +153,7 @@ impl Comparison {
 
 impl Octets {
     /// Adds the line of a fault or `-`, and how many items a header has and how many events there are.
-    fn add_reading(&mut self, reading: &Reading) {
+    fn add_reading(&mut self, reading: &SlowReading) {
         match reading.fault {
             Some(line) => self.add_number(b"", line),
             None => self.add(b" -"),

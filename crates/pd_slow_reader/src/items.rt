@@ -1,6 +1,6 @@
 //! The items of a text: its tokens, up to its end or the first place where no token can be read.
 use crate::octets::halves;
-use crate::spelling::{Kind, SPELLINGS, Step};
+use crate::spelling::{Kind, SPELLINGS, SpellingPart};
 
 /// The greatest number of a time, a packet or a result.
 const MAX_NUMBER: u64 = 4_294_967_295;
@@ -33,7 +33,7 @@ impl<'a> Items<'a> {
         piece
     }
 
-    /// Takes the longest piece that stands next, of any kind.
+    /// Takes the longest piece that comes next, of any kind.
     fn take_piece(&mut self) -> Token<'a> {
         let (kind, most) = self.longest();
         let (text, rest) = self.rest.split_at(most.min(self.rest.len()));
@@ -47,13 +47,13 @@ impl<'a> Items<'a> {
         Token { kind, text, line }
     }
 
-    /// The kind of the longest piece that stands next, and how many octets it has.
+    /// The kind of the longest piece that comes next, and how many octets it has.
     fn longest(&self) -> (Kind, usize) {
         let mut longest = Kind::Nothing;
         let mut most = 0usize;
         let mut taken = Some(0usize);
         for step in &SPELLINGS {
-            if let Step::Is(kind) = *step {
+            if let SpellingPart::Is(kind) = *step {
                 let octets = taken.unwrap_or(0);
                 if octets > most {
                     longest = kind;

@@ -2,7 +2,7 @@
 use crate::grammar::{GRAMMAR, Name, Part};
 use crate::items::{Items, Token};
 use crate::measures::Measures;
-use crate::reading::Reading;
+use crate::reading::SlowReading;
 use crate::spelling::Kind;
 use std::alloc::Global;
 use std::mem::swap;
@@ -16,7 +16,7 @@ const MAX_PARTS: usize = 1_000;
 /// The rest of no way.
 const NONE: usize = usize::MAX;
 
-/// Where the parts of a way stand in the grammar that have to come yet.
+/// Where the parts of a way are in the grammar that have to come yet.
 #[derive(Clone, Copy)]
 struct Rest {
     at: usize,
@@ -41,7 +41,7 @@ struct Rule {
 #[derive(Drop)]
 pub struct Machine {
     rules: Vec<Rule>,
-    /// The rests of ways that stand around others.
+    /// The rests of ways that are around others.
     rests: Vec<Rest>,
     /// The ways that have to be written out.
     open: Vec<Way>,
@@ -52,7 +52,7 @@ pub struct Machine {
     /// How many events have begun with the last token.
     begun: usize,
     /// What was read.
-    pub reading: Reading,
+    pub reading: SlowReading,
     /// Whether no memory was found, or there were too many parts before one token.
     pub is_short: bool,
 }
@@ -66,7 +66,7 @@ impl Machine {
             left: Vec::new(alloc),
             is_whole: false,
             begun: 0,
-            reading: Reading::new(alloc),
+            reading: SlowReading::new(alloc),
             is_short: false,
         };
         machine.find_rules();
@@ -137,23 +137,23 @@ impl Machine {
         self.is_short = true;
     }
 
-    /// Writes out the next part of a way, or goes on with this token; at its end the rest that stands around it goes on.
+    /// Writes out the next part of a way, or goes on with this token; at its end the rest that is around it goes on.
     fn go_on_in(&mut self, way: Way, token: Token<'_>) {
         let Way { rest, measures } = way;
-        let behind = Rest {
+        let following = Rest {
             at: rest.at.saturating_add(1),
             after: rest.after,
         };
         let around = self.rests.get(rest.after).copied();
         match (part_at(rest.at), around) {
-            (Part::Of(name), _) => self.write_out(name, behind, measures),
+            (Part::Of(name), _) => self.write_out(name, following, measures),
             (Part::Way(_), Some(rest)) => self.push(rest, measures),
             (Part::Way(_), None) => self.is_whole = true,
-            (part, _) => self.take(part, token, behind, measures),
+            (part, _) => self.take(part, token, following, measures),
         }
     }
 
-    /// Goes on behind this part, if the token is what it asks for.
+    /// Goes on after this part, if the token is what it asks for.
     fn take(&mut self, part: Part, token: Token<'_>, rest: Rest, measures: Measures) {
         let mut measures = measures;
         if !token.text.is_empty() && measures.take(part, token) {
@@ -208,7 +208,7 @@ impl Machine {
     }
 }
 
-/// A part of the grammar; behind the last the beginning of a way, as behind any other way.
+/// A part of the grammar; after the last the beginning of a way, as after any other way.
 fn part_at(at: usize) -> Part {
     GRAMMAR.get(at).copied().unwrap_or(Part::Way(Name::Script))
 }

@@ -47,7 +47,7 @@ impl Octets {
     }
 }
 
-/// What stands before the first mark and after it.
+/// What is before the first mark and after it.
 pub fn halves(octets: &[u8], mark: u8) -> (&[u8], &[u8]) {
     for at in 0..octets.len() {
         if octets[at] == mark {

@@ -4,20 +4,20 @@ use pd_text::Lines;
 use std::alloc::Global;
 
 #[derive(Drop)]
-pub struct Reading {
+pub struct SlowReading {
     /// The line at which no script goes on.
     pub fault: Option<usize>,
-    /// How many options and commands stand before the events.
+    /// How many options and commands are before the events.
     pub header: usize,
-    /// Their lines, and then those of the events, before a fault of those whose next token stands before it.
+    /// Their lines, and then those of the events, before a fault of those whose next token is before it.
     pub lines: Vec<usize>,
     /// Whether no memory was found for some of them.
     pub is_short: bool,
 }
 
-impl Reading {
-    pub fn new(alloc: Global) -> Reading {
-        Reading {
+impl SlowReading {
+    pub fn new(alloc: Global) -> SlowReading {
+        SlowReading {
             fault: None,
             header: 0,
             lines: Vec::new(alloc),
@@ -32,7 +32,7 @@ impl Reading {
         self.lines.clear();
     }
 
-    pub fn is_same(&self, other: &Reading) -> bool {
+    pub fn is_same(&self, other: &SlowReading) -> bool {
         self.fault == other.fault
             && self.header == other.header
             && self.lines.as_slice() == other.lines.as_slice()

@@ -1,6 +1,6 @@
 //! How each kind of piece of a text is spelled.
 use Class::*;
-use Step::{Any, Is, Many, One, Quoted, Text, To, Unless};
+use SpellingPart::{Any, Is, Many, One, Quoted, Text, To, Unless};
 
 /// A kind of piece: what parts tokens, a token, or nothing.
 #[derive(Clone, Copy)]
@@ -58,7 +58,7 @@ pub enum Class {
 
 /// A step of how a piece is spelled.
 #[derive(Clone, Copy)]
-pub enum Step {
+pub enum SpellingPart {
     /// These octets.
     Text(&'static [u8]),
     /// One octet of a class; one or more; as many as there are.
@@ -69,7 +69,7 @@ pub enum Step {
     To(&'static [u8]),
     /// Everything up to the first `"` that no backslash takes, and it.
     Quoted,
-    /// Nothing, where these octets don't stand next.
+    /// Nothing, where these octets don't come next.
     Unless(&'static [u8]),
     /// The steps since the last such one spell a piece of this kind.
     Is(Kind),
@@ -77,7 +77,7 @@ pub enum Step {
 
 /// How pieces are spelled. Of two that are equally long the first is taken.
 #[rattlefmt::skip]
-pub static SPELLINGS: [Step; 42] = [
+pub static SPELLINGS: [SpellingPart; 42] = [
     Many(Blank), Is(Kind::Blanks),
     Text(b"//"), Any(InLine), Is(Kind::LineComment),
     Text(b"/*"), To(b"*/"), Is(Kind::BlockComment),
@@ -123,7 +123,7 @@ impl Class {
         }
     }
 
-    /// How many octets of this class stand at the front.
+    /// How many octets of this class are at the front.
     pub fn front_len(self, octets: &[u8]) -> usize {
         for at in 0..octets.len() {
             if !self.has(octets[at]) {
@@ -134,8 +134,8 @@ impl Class {
     }
 }
 
-impl Step {
-    /// How many octets are taken after this step too, if it is spelled so behind those that were taken before.
+impl SpellingPart {
+    /// How many octets are taken after this step too, if it is spelled so after those that were taken before.
     pub fn after(self, text: &[u8], taken: usize) -> Option<usize> {
         let rest = text.get(taken..).unwrap_or(&[]);
         let (octets, is_spelled) = match self {

@@ -1,5 +1,5 @@
 //! What the product reads in a text event by event.
-use crate::reading::Reading;
+use crate::reading::SlowReading;
 use pd_lex::Place;
 use pd_script::{Event, Header, MAX_EVENTS, NextEvent, next_event, read_header};
 use pd_text::Lines;
@@ -7,10 +7,10 @@ use std::alloc::Global;
 
 #[derive(Drop)]
 pub struct Steps {
-    pub reading: Reading,
+    pub reading: SlowReading,
     /// The place after the header.
     pub start: Place,
-    pub events: Vec<Step>,
+    pub events: Vec<EventStep>,
     /// Where the next event is to stand, and in which line if that is known.
     place: Place,
     expected: Option<usize>,
@@ -18,7 +18,7 @@ pub struct Steps {
 
 /// An event's line, the place after it, and the line of what follows if it isn't the end.
 #[derive(Clone, Copy)]
-pub struct Step {
+pub struct EventStep {
     pub line: usize,
     pub after: Place,
     pub reach: Option<usize>,
@@ -28,7 +28,7 @@ impl Steps {
     pub fn new(alloc: Global) -> Steps {
         let start = Place { line: 1, at: 0 };
         Steps {
-            reading: Reading::new(alloc),
+            reading: SlowReading::new(alloc),
             start,
             events: Vec::new(alloc),
             place: start,
@@ -36,7 +36,7 @@ impl Steps {
         }
     }
 
-    /// Reads a text, of copies. Where an event doesn't stand at the place of the one before, in the line of its reach, the
+    /// Reads a text, of copies. Where an event isn't at the place of the one before, in the line of its reach, the
     /// reading ends without a fault.
     pub fn read(&mut self, alloc: Global, lines: &Lines) {
         self.reading.clear();
@@ -65,7 +65,7 @@ impl Steps {
         self.expected = None;
     }
 
-    /// Reads what stands next, and tells whether to go on.
+    /// Reads what comes next, and tells whether to go on.
     fn read_next(&mut self, alloc: Global, lines: &Lines) -> bool {
         match next_event(alloc, lines, self.place) {
             Ok(NextEvent::Got(event, after, reach)) => {
@@ -107,7 +107,7 @@ impl Steps {
             return false;
         }
         self.reading.add(line);
-        if self.events.push(Step { line, after, reach }).is_err() {
+        if self.events.push(EventStep { line, after, reach }).is_err() {
             self.reading.is_short = true;
         }
         self.place = after;

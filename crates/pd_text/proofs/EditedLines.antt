@@ -27,8 +27,8 @@ edited_octets lines edit =
     let first = edit.from - 1 in
     let n : first + edit.remove - first ≡ edit.remove = omega arith in
     let same : octets_of (removed lines edit) ≡ octets_of (take edit.remove (drop first lines)) = ap (λ (m : ℕ). octets_of (take m (drop first lines))) n in
-    let behind : octets_of (drop edit.remove (drop first lines)) ≡ octets_of (drop (first + edit.remove) lines) = ap octets_of (drop-drop edit.remove first lines) in
-    omega (arith, same, behind, octets_append (take first lines ++ edit.insert) (drop (first + edit.remove) lines), octets_append (take first lines) edit.insert, octets_split lines first, octets_split (drop first lines) edit.remove)
+    let after : octets_of (drop edit.remove (drop first lines)) ≡ octets_of (drop (first + edit.remove) lines) = ap octets_of (drop-drop edit.remove first lines) in
+    omega (arith, same, after, octets_append (take first lines ++ edit.insert) (drop (first + edit.remove) lines), octets_append (take first lines) edit.insert, octets_split lines first, octets_split (drop first lines) edit.remove)
 
 -- the tests of the limits
 

@@ -1,4 +1,4 @@
--- Lines in one row of octets: where each begins, some of them, and others put behind them.
+-- Lines in one row of octets: where each begins, some of them, and others put after them.
 use Rattle.std.proofs.Common.{◌≡◌, ℕ, zero, suc, ◌+◌, ◌-◌, ◌≤◌, ◌<◌, nat_le, ◌==◌, List, [], ◌∷◌, ◌++◌, map, length, take, drop, slice_get, slice_index_or, Some, Bool, true, false, ◌&&◌, refl, sym, ap, subst, ◌∙◌, arith, length-append}
 use Rattle.std.specs.List.{list_all}
 use Rattle.std.proofs.Math.Seq.{drop-append-add, drop-append_seam, take-length}
@@ -165,7 +165,7 @@ same_lines octets others s t a (x ∷ xs) h e k =
     inner octets s a x t h parts.0 parts.1 ∙ (ap (λ (l : List ℕ). take (x - a) (drop (a - s) l)) k ∙ sym (inner others s a x t h parts.0 parts.1)) in
     rw (line, same_lines octets others s t x xs (omega (arith, h, parts.0)) parts.2 k) refl
 
--- ---- lines put behind others
+-- ---- lines put after others
 
 lines_before : (octets more : List ℕ) (at last : ℕ) (ends : List ℕ) → are_ends at last ends ≡ true → last ≤ length octets → lines_from at (octets ++ more) ends ≡ lines_from at octets ends
 lines_before octets more at last [] h k = refl
@@ -179,28 +179,28 @@ append_lines octets at last (x ∷ xs) ys h =
     ap (λ (ls : List (List ℕ)). octets_between octets at x ∷ ls) (append_lines octets x last xs ys (both (nat_le at x) (are_ends x last xs) h).1)
 
 -- the lines of further octets come after the others
-pub lines_behind : (octets more : List ℕ) (ends others : List ℕ) → are_ends 0 (length octets) ends ≡ true → lines_from 0 (octets ++ more) (ends ++ others) ≡ lines_from 0 octets ends ++ lines_from (length octets) (octets ++ more) others
-lines_behind octets more ends others h =
+pub lines_put_after : (octets more : List ℕ) (ends others : List ℕ) → are_ends 0 (length octets) ends ≡ true → lines_from 0 (octets ++ more) (ends ++ others) ≡ lines_from 0 octets ends ++ lines_from (length octets) (octets ++ more) others
+lines_put_after octets more ends others h =
     append_lines (octets ++ more) 0 (length octets) ends others h
     ∙ ap (λ (ls : List (List ℕ)). ls ++ lines_from (length octets) (octets ++ more) others) (lines_before octets more 0 (length octets) ends h (omega arith))
 
-pub ends_behind : (octets more : List ℕ) (ends others : List ℕ) → are_ends 0 (length octets) ends ≡ true → are_ends (length octets) (length (octets ++ more)) others ≡ true → are_ends 0 (length (octets ++ more)) (ends ++ others) ≡ true
-ends_behind octets more ends others h k = append_ends 0 (length octets) (length (octets ++ more)) ends others h k
+pub ends_after : (octets more : List ℕ) (ends others : List ℕ) → are_ends 0 (length octets) ends ≡ true → are_ends (length octets) (length (octets ++ more)) others ≡ true → are_ends 0 (length (octets ++ more)) (ends ++ others) ≡ true
+ends_after octets more ends others h k = append_ends 0 (length octets) (length (octets ++ more)) ends others h k
 
 pub lines_more : (lines others : List (List ℕ)) → AreLines lines → AreLines others → AreLines (lines ++ others)
 lines_more lines others h k = rw (list_all-append is_line lines others, h, k) refl
 
--- what a list of lines keeps, with others put behind them
-pub kept_behind : (octets more all : List ℕ) (ends others places : List ℕ) (lines : List (List ℕ)) → all ≡ octets ++ more → places ≡ ends ++ others
+-- what a list of lines keeps, with others put after them
+pub kept_after : (octets more all : List ℕ) (ends others places : List ℕ) (lines : List (List ℕ)) → all ≡ octets ++ more → places ≡ ends ++ others
     → (are_ends 0 (length octets) ends ≡ true) × AreLines (lines_from 0 octets ends)
     → are_ends (length octets) (length (octets ++ more)) others ≡ true → lines_from (length octets) (octets ++ more) others ≡ lines → AreLines lines
     → (lines_from 0 all places ≡ lines_from 0 octets ends ++ lines) × (are_ends 0 (length all) places ≡ true) × AreLines (lines_from 0 all places)
-kept_behind octets more all ends others places lines a p kept e l k =
+kept_after octets more all ends others places lines a p kept e l k =
     let whole : lines_from 0 (octets ++ more) (ends ++ others) ≡ lines_from 0 octets ends ++ lines =
-    lines_behind octets more ends others kept.0 ∙ ap (λ (ls : List (List ℕ)). lines_from 0 octets ends ++ ls) l in
-    rw (a, p) (whole, ends_behind octets more ends others kept.0 e, rw whole (lines_more (lines_from 0 octets ends) lines kept.1 k))
+    lines_put_after octets more ends others kept.0 ∙ ap (λ (ls : List (List ℕ)). lines_from 0 octets ends ++ ls) l in
+    rw (a, p) (whole, ends_after octets more ends others kept.0 e, rw whole (lines_more (lines_from 0 octets ends) lines kept.1 k))
 
--- a line behind others
+-- a line after others
 pub one_line : (octets line : List ℕ) (end : ℕ) → end ≡ length octets + length line → lines_from (length octets) (octets ++ line) (end ∷ []) ≡ line ∷ []
 one_line octets line end e =
     let n : end - length octets ≡ length line = omega (arith, e) in
@@ -212,7 +212,7 @@ one_end octets line end e =
     let last : (end == length (octets ++ line)) ≡ true = grind (arith, nat_tests, e, length-append octets line) in
     rw (le, last) refl
 
--- a place in a row of octets, where these stand behind others
+-- a place in a row of octets, where these follow others
 abbrev pub moved : ℕ → ℕ → ℕ → ℕ
 moved from to place = to + (place - from)
 
@@ -235,11 +235,11 @@ moved_ends s t a to (x ∷ xs) h e =
     let le : nat_le (moved s to a) (moved s to x) ≡ true = grind (arith, nat_tests, h, parts.0) in
     rw (le, moved_ends s t x to xs (omega (arith, h, parts.0)) parts.2) refl
 
--- lines of another list put behind others
-pub others_behind : (octets others : List ℕ) (s t : ℕ) (ends : List ℕ) → are_ends s t ends ≡ true → t ≤ length others
+-- lines of another list put after others
+pub others_after : (octets others : List ℕ) (s t : ℕ) (ends : List ℕ) → are_ends s t ends ≡ true → t ≤ length others
     → (are_ends (length octets) (length (octets ++ octets_between others s t)) (map (moved s (length octets)) ends) ≡ true)
     × (lines_from (length octets) (octets ++ octets_between others s t) (map (moved s (length octets)) ends) ≡ lines_from s others ends)
-others_behind octets others s t ends e le =
+others_after octets others s t ends e le =
     let first : moved s (length octets) s ≡ length octets = omega arith in
     let last : moved s (length octets) t ≡ length (octets ++ octets_between others s t) =
     omega (arith, up s t ends e, le, length-append octets (octets_between others s t), length_between others s t (up s t ends e) le) in

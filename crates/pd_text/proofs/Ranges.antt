@@ -45,7 +45,7 @@ at_least (x ∷ lines) = omega (arith, at_least lines, sum_by-append (λ (l : Li
 pub octets_append : (xs ys : List (List ℕ)) → octets_of (xs ++ ys) ≡ octets_of xs + octets_of ys
 octets_append xs ys = sum_by-append (λ (l : List ℕ). length l + 1) xs ys
 
--- the octets of a text are those before a place and those behind it
+-- the octets of a text are those before a place and those after it
 pub octets_split : (lines : List (List ℕ)) (n : ℕ) → octets_of lines ≡ octets_of (take n lines) + octets_of (drop n lines)
 octets_split lines n = ap octets_of (sym (take-append-drop n lines)) ∙ octets_append (take n lines) (drop n lines)
 

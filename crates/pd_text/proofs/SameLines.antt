@@ -20,7 +20,7 @@ front_step zero (x ∷ xs) (y ∷ ys) a b t ha hb e =
     rw same refl
 front_step (suc i) (x ∷ xs) (y ∷ ys) a b t ha hb e = front_step i xs ys a b t ha hb e
 
--- behind the last line of one none is equal
+-- after the last line of one none is equal
 pub front_ended : (i : ℕ) (xs ys : List (List ℕ)) → min (length xs) (length ys) ≤ i → front (drop i xs) (drop i ys) ≡ 0
 front_ended zero [] ys h = refl
 front_ended zero (x ∷ xs) [] h = refl

@@ -1,4 +1,4 @@
--- Lines that stand one after another in one row of octets.
+-- Lines that come one after another in one row of octets.
 use Rattle.std.specs.Prelude.{ℕ, zero, suc, ◌-◌, ◌==◌, Bool, ◌&&◌, nat_le, List, [], ◌∷◌, take, drop}
 
 -- the octets from one place up to another
@@ -15,7 +15,7 @@ abbrev pub are_ends : ℕ → ℕ → List ℕ → Bool
 are_ends at last [] = at == last
 are_ends at last (end ∷ ends) = nat_le at end && are_ends end last ends
 
--- where a line begins, the first of which begins at a place; behind the last line, where that one ends
+-- where a line begins, the first of which begins at a place; after the last line, where that one ends
 abbrev pub start_at : ℕ → ℕ → List ℕ → ℕ
 start_at at zero ends = at
 start_at at (suc i) [] = at

@@ -23,6 +23,10 @@ octets_of lines = sum_by (λ (line : List ℕ). length line + 1) lines
 abbrev pub FitsText : List (List ℕ) → Type 0
 FitsText lines = (length lines ≤ 4096) × (octets_of lines ≤ 65536)
 
--- the same as a test
+-- lines, none of which holds a newline, within the limits of a text
+abbrev pub IsText : List (List ℕ) → Type 0
+IsText lines = FitsText lines × AreLines lines
+
+-- the limits as a test
 abbrev pub fits_text : List (List ℕ) → Bool
 fits_text lines = nat_le (length lines) 4096 && nat_le (octets_of lines) 65536

@@ -13,7 +13,6 @@ mod shared_text;
 
 pub use faults::TextFault;
 pub use line_edit::LineEdit;
-pub use line_facts::have_lines;
 pub use line_list::LineList;
 pub use room::{MAX_LINES, MAX_OCTETS};
 pub use script_lines::Lines;

@@ -89,7 +89,7 @@ impl LineList {
         self.octets.len()
     }
 
-    /// Line `i`, counted from 0, or `None` behind the last.
+    /// Line `i`, counted from 0, or `None` after the last.
     #[inline(always)]
     pub fn get(&self, i: usize) -> Option<&[u8]>
         ensures line { option_copied result ≡ slice_get self.now i }

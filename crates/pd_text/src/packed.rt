@@ -1,4 +1,4 @@
-//! Lines that stand one after another in one row of octets, and where each ends.
+//! Lines that come one after another in one row of octets, and where each ends.
 ghost use Rattle.std.specs.Prelude.{◌≡◌, ◌+◌, ◌-◌, ◌^◌, ◌≤◌, ◌<◌, ◌++◌, ℕ, Some, length, map, take, drop, slice_get, IfOk, IsTrue, vec_len, vec_capacity};
 ghost use Rattle.pd_text.specs.Packed.{octets_between, lines_from, are_ends, start_at};
 
@@ -14,7 +14,7 @@ pub struct Packed<'a> {
 }
 
 impl<'a> Packed<'a> {
-    /// Where line `i` begins, counted from 0; behind the last line, where that one ends.
+    /// Where line `i` begins, counted from 0; after the last line, where that one ends.
     #[inline(always)]
     pub fn start(&self, i: usize) -> usize
         requires { i ≤ length self.now.ends.now }
@@ -44,7 +44,7 @@ impl<'a> Packed<'a> {
         self.part(i, i + 1)
     }
 
-    /// Whether lines `from` up to `to` stand at the same places in both, with the same octets.
+    /// Whether lines `from` up to `to` are at the same places in both, with the same octets.
     pub fn stands_as(&self, other: &Packed<'_>, from: usize, to: usize) -> bool
         requires ends { IsTrue (are_ends 0 (length self.now.octets.now) self.now.ends.now) }
         requires others { IsTrue (are_ends 0 (length other.now.octets.now) other.now.ends.now) }
@@ -95,7 +95,7 @@ pub fn place_after(octets: usize, more: usize) -> Result<u32, AllocError>
     }
 }
 
-/// Adds the ends of lines that stood after the first `from` octets, and now stand after the first `to`; there is room for them.
+/// Adds the ends of lines that was after the first `from` octets, and now are after the first `to`; there is room for them.
 pub fn push_moved(ends: &mut Vec<u32>, more: &[u32], from: u32, to: u32)
     requires room { vec_len ends.old + length more.now ≤ vec_capacity ends.old }
     requires places { (last : ℕ) × IsTrue (are_ends from last more.now) × (to + (last - from) < 2 ^ 32) }

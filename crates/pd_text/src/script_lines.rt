@@ -70,6 +70,18 @@ impl Lines {
         self.list.is_same(&other.list)
     }
 
+    /// An equal text of its own.
+    ///
+    /// # Errors
+    /// `AllocError` where a growth is refused.
+    pub fn copy(&self) -> Result<Lines, AllocError>
+        ensures { IfOk result (λ copy. copy ≡ self.now) }
+    {
+        Ok(Lines {
+            list: self.list.copy()?,
+        })
+    }
+
     /// How many of their first lines are equal; takes no memory.
     pub fn same_front(&self, other: &Lines) -> usize
         ensures { result ≡ front self.now other.now }
@@ -112,11 +124,11 @@ fn lines_after(list: &LineList, edit: &LineEdit, size: Size) -> Result<LineList,
 {
     let len = list.len();
     let first = edit.from - 1;
-    let behind = first + edit.remove;
+    let after = first + edit.remove;
     let mut new = LineList::new(list.allocator());
     new.reserve(size.lines, size.octets)?;
     new.push_lines(list, 0, first)?;
     new.push_lines(&edit.insert, 0, edit.insert.len())?;
-    new.push_lines(list, behind, len)?;
+    new.push_lines(list, after, len)?;
     Ok(new)
 }

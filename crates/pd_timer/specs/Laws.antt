@@ -1,18 +1,18 @@
 -- What holds of every timer that the rules reach.
 use Rattle.std.specs.Prelude.{◌≡◌, ℕ, ◌+◌, ◌≤◌, None, IsSomeAnd}
 use Rattle.pd_settings.specs.declared.fields.Settings.{Settings}
-use Rattle.pd_timer.specs.Timer.{Timer, initial, sampled, started, restarted, stopped, backed_off, reinitialized}
+use Rattle.pd_timer.specs.Rto.{RtoView, initial, sampled, started, restarted, stopped, expired_rto, reinitialized}
 
 -- a timer that goes by these settings, with its timeout within their bounds
-pub record GoesBy (settings : Settings) (t : Timer) : Type 0 where
+pub record GoesBy (settings : Settings) (t : RtoView) : Type 0 where
   pub least : t.min_rto_us ≡ settings.min_rto_us
   pub greatest : t.max_rto_us ≡ settings.max_rto_us
   pub not_below : settings.min_rto_us ≤ t.rto
   pub not_above : t.rto ≤ settings.max_rto_us
 
 -- a rule keeps the timer's timeout within the bounds of the settings
-abbrev pub KeepsWithin : (Timer → Timer) → Type 0
-KeepsWithin rule = (settings : Settings) (t : Timer) → GoesBy settings t → GoesBy settings (rule t)
+abbrev pub KeepsWithin : (RtoView → RtoView) → Type 0
+KeepsWithin rule = (settings : Settings) (t : RtoView) → GoesBy settings t → GoesBy settings (rule t)
 
 -- the timeout lies within its bounds from the first on (RFC 6298, sections 2.4 and 2.5)
 pub record StaysWithin : Type 0 where
@@ -21,19 +21,19 @@ pub record StaysWithin : Type 0 where
   pub start : (now : ℕ) → KeepsWithin (started now)
   pub restart : (now : ℕ) → KeepsWithin (restarted now)
   pub stop : KeepsWithin stopped
-  pub expiry : (now : ℕ) → KeepsWithin (backed_off now)
+  pub expiry : (now : ℕ) → KeepsWithin (expired_rto now)
   pub establishment : KeepsWithin reinitialized
 
--- the timer runs, and expires at the moment or up to the greatest timeout behind it
-abbrev pub RunsFrom : ℕ → Timer → Type 0
+-- the timer runs, and expires at the moment or up to the greatest timeout after it
+abbrev pub RunsFrom : ℕ → RtoView → Type 0
 RunsFrom now t = IsSomeAnd t.deadline (λ moment. (now ≤ moment) × (moment ≤ now + t.max_rto_us))
 
--- where a deadline is set at a moment, it lies at or behind that, by at most the greatest timeout (RFC 6298, section 2.5)
+-- where a deadline is set at a moment, it lies at or after that, by at most the greatest timeout (RFC 6298, section 2.5)
 pub record ExpiresInTime : Type 0 where
-  pub start : (now : ℕ) (t : Timer) → t.rto ≤ t.max_rto_us → t.deadline ≡ None → RunsFrom now (started now t)
-  pub restart : (now : ℕ) (t : Timer) → t.rto ≤ t.max_rto_us → RunsFrom now (restarted now t)
-  pub expiry : (now : ℕ) (t : Timer) → RunsFrom now (backed_off now t)
+  pub start : (now : ℕ) (t : RtoView) → t.rto ≤ t.max_rto_us → t.deadline ≡ None → RunsFrom now (started now t)
+  pub restart : (now : ℕ) (t : RtoView) → t.rto ≤ t.max_rto_us → RunsFrom now (restarted now t)
+  pub expiry : (now : ℕ) (t : RtoView) → RunsFrom now (expired_rto now t)
 
 -- an expiry never lowers RTO (RFC 6298, section 5.5: back off the timer)
 abbrev pub BacksOff : Type 0
-BacksOff = (now : ℕ) (t : Timer) → t.rto ≤ t.max_rto_us → t.rto ≤ (backed_off now t).rto
+BacksOff = (now : ℕ) (t : RtoView) → t.rto ≤ t.max_rto_us → t.rto ≤ (expired_rto now t).rto

@@ -1,3 +1,3 @@
 -- The definitions that the contracts cite.
 pub mod Laws
-pub mod Timer
+pub mod Rto

@@ -1,6 +1,6 @@
 //! What was measured of the round trip.
 ghost use Rattle.std.specs.Prelude.{◌≡◌, ◌<◌, ◌^◌};
-ghost use Rattle.pd_timer.specs.Timer.{IsEstimate, first_estimate, next_estimate, timeout_of};
+ghost use Rattle.pd_timer.specs.Rto.{IsEstimate, first_estimate, next_estimate, timeout_of};
 
 /// SRTT and RTTVAR, the smoothed round-trip time and its variation, in microseconds (RFC 6298, section 2).
 #[derive(Clone, Copy)]

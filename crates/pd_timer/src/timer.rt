@@ -1,9 +1,6 @@
 //! The timer: its timeout, and the moment of the next expiry while it runs.
 ghost use Rattle.std.specs.Prelude.{◌≡◌, ◌<◌, ◌^◌};
-ghost use Rattle.pd_settings.specs.Keys.{Takes, domain_of};
-ghost use Rattle.pd_settings.specs.declared.keys.Key.TheVariants.{MinRtoUs, MaxRtoUs};
-ghost use Rattle.pd_settings.specs.declared.values.Value.TheVariants.{Number};
-ghost use Rattle.pd_timer.specs.Timer.{IsTimer, initial, clamped, sampled, started, restarted, stopped, backed_off, reinitialized};
+ghost use Rattle.pd_timer.specs.Rto.{IsRtoView, initial, clamped, sampled, started, restarted, stopped, expired_rto, reinitialized};
 
 use crate::estimate::Estimate;
 use pd_settings::Settings;
@@ -33,9 +30,9 @@ pub struct Rto {
 }
 
 impl Model for Rto {
-    ghost use Rattle.pd_timer.specs.Timer.{Timer, IsBounded};
+    ghost use Rattle.pd_timer.specs.Rto.{RtoView, IsBounded};
 
-    ghost Value = { Timer };
+    ghost Value = { RtoView };
 
     ghost view = { λ t. record { estimate = t.estimate; rto = t.rto; min_rto_us = t.min_rto_us; max_rto_us = t.max_rto_us; deadline = t.deadline } };
 
@@ -52,14 +49,6 @@ impl Clone for Rto {
 
 impl Copy for Rto {}
 
-/// A fact of settings: the bounds of timeouts are in their ranges.
-fn have_ranges(settings: &Settings)
-    ensures least { Takes (domain_of MinRtoUs) (Number settings.now.min_rto_us) }
-    ensures greatest { Takes (domain_of MaxRtoUs) (Number settings.now.max_rto_us) }
-{
-    let _ranges = *settings;
-}
-
 /// A timeout within its bounds, in microseconds (RFC 6298, sections 2.4 and 2.5).
 fn clamp(timeout_us: u128, min_rto_us: u64, max_rto_us: u64) -> u64
     ensures { result ≡ clamped min_rto_us max_rto_us timeout_us }
@@ -70,13 +59,13 @@ fn clamp(timeout_us: u128, min_rto_us: u64, max_rto_us: u64) -> u64
 }
 
 impl Rto {
-    /// A timer that doesn't run, with the timeout that stands before any measurement. Of the settings it looks at
+    /// A timer that doesn't run, with the timeout that is before any measurement. Of the settings it looks at
     /// `min_rto_us` and `max_rto_us` alone.
     pub fn new(settings: &Settings) -> Rto
         ensures value { result ≡ initial settings.now.min_rto_us settings.now.max_rto_us }
-        ensures known { IsTimer result }
+        ensures known { IsRtoView result }
     {
-        have_ranges(settings);
+        settings.facts();
         Rto {
             estimate: None,
             rto: clamp(
@@ -93,7 +82,7 @@ impl Rto {
     /// RTO, the retransmission timeout, in microseconds.
     pub fn rto(&self) -> u64
         ensures value { result ≡ self.now.rto }
-        ensures known { IsTimer self.now }
+        ensures known { IsRtoView self.now }
     {
         self.rto
     }
@@ -101,7 +90,7 @@ impl Rto {
     /// The moment of the next expiry, while the timer runs.
     pub fn deadline(&self) -> Option<u64>
         ensures value { result ≡ self.now.deadline }
-        ensures known { IsTimer self.now }
+        ensures known { IsRtoView self.now }
     {
         self.deadline
     }
@@ -153,7 +142,7 @@ impl Rto {
     /// sections 5.5 and 5.6).
     pub fn expire(&mut self, now: u64)
         requires { now < 2 ^ 62 }
-        ensures { self.new ≡ backed_off now self.old }
+        ensures { self.new ≡ expired_rto now self.old }
     {
         self.rto = (2 * self.rto).min(self.max_rto_us);
         self.restart(now);

@@ -1,11 +1,11 @@
--- A run behind a track begins at the last place where it may.
+-- A run after a track begins at the last place where it may.
 use Rattle.std.proofs.Common.{◌≡◌, ℕ, ◌%◌, ◌≤◌, ◌==◌, ◌&&◌, Bool, true, false, nat_le, refl, sym, subst, arith, ◌⊎◌, inl, inr, List}
 use Rattle.std.proofs.lemmas.Bool.Decides.{nat_tests}
 use Rattle.pd_settings.specs.Uses.{agrees}
 use Rattle.pd_settings.specs.declared.fields.Settings.{Settings}
 use Rattle.pd_settings.proofs.Agreements.{agrees_is}
 use Rattle.pd_track.specs.Laws.{MayBegin, RunsBeginLast}
-use Rattle.pd_track.specs.Reuse.{Source, greatest, serves, uses, kept, reached}
+use Rattle.pd_track.specs.Reuse.{TrackView, greatest, serves, uses, kept, reached}
 use Rattle.pd_track.proofs.Greatest.{greatest_within, greatest_passes, greatest_last}
 
 all_three : (a b c : Bool) → ((a && b) && c) ≡ true → (a ≡ true) × (b ≡ true) × (c ≡ true)
@@ -20,7 +20,7 @@ three true true false h k l = absurd cc
 three true false c h k l = absurd cc
 three false b c h k l = absurd cc
 
-module _ (track : Source) (text : List (List ℕ)) (settings : Settings) where
+module _ (track : TrackView) (text : List (List ℕ)) (settings : Settings) where
   serving_may : (n : ℕ) → n ≤ kept track.text text → serves track settings n ≡ true → MayBegin track text settings n
   serving_may n le h =
       let each = all_three (n % 4 == 0) (nat_le n (reached track.text track.settings)) (agrees (uses track n) track.settings settings) h in

@@ -10,7 +10,7 @@ use Rattle.pd_script.specs.declared.parsing.Parsed.{Parsed}
 use Rattle.pd_script.specs.declared.script_events.Event.{Event}
 use Rattle.pd_run.specs.Consulted.{uses_of, rebound_run, StepsNote}
 use Rattle.pd_run.specs.Run.{start_of, states_from, states_in, states_of}
-use Rattle.pd_run.specs.Step.{Running, on_step, step}
+use Rattle.pd_run.specs.Step.{RunStateView, on_step, step}
 use Rattle.pd_run.specs.declared.verdicts.Verdict.{Verdict}
 use Rattle.pd_run.proofs.Consulted.{agree_on_fewer, includes_itself, includes_too}
 use Rattle.pd_track.specs.Reuse.{AreHeld, fourths}
@@ -18,29 +18,29 @@ use Rattle.pd_track.proofs.Fourths.{fourths_take}
 
 -- Lists
 
-all_imp : (P Q : Running → Type 0) (rs : List Running) → ((r : Running) → P r → Q r) → AllByRecursion P rs → AllByRecursion Q rs
+all_imp : (P Q : RunStateView → Type 0) (rs : List RunStateView) → ((r : RunStateView) → P r → Q r) → AllByRecursion P rs → AllByRecursion Q rs
 all_imp P Q [] g h = tt
 all_imp P Q (r ∷ rs) g h = (g r h.0, all_imp P Q rs g h.1)
 
-all_both : (P Q R : Running → Type 0) (rs : List Running) → ((r : Running) → P r → Q r → R r) → AllByRecursion P rs → AllByRecursion Q rs → AllByRecursion R rs
+all_both : (P Q R : RunStateView → Type 0) (rs : List RunStateView) → ((r : RunStateView) → P r → Q r → R r) → AllByRecursion P rs → AllByRecursion Q rs → AllByRecursion R rs
 all_both P Q R [] g h k = tt
 all_both P Q R (r ∷ rs) g h k = (g r h.0 k.0, all_both P Q R rs g h.1 k.1)
 
-all_append : (P : Running → Type 0) (rs ss : List Running) → AllByRecursion P rs → AllByRecursion P ss → AllByRecursion P (rs ++ ss)
+all_append : (P : RunStateView → Type 0) (rs ss : List RunStateView) → AllByRecursion P rs → AllByRecursion P ss → AllByRecursion P (rs ++ ss)
 all_append P [] ss h k = k
 all_append P (r ∷ rs) ss h k = (h.0, all_append P rs ss h.1 k)
 
-all_take : (P : Running → Type 0) (n : ℕ) (rs : List Running) → AllByRecursion P rs → AllByRecursion P (take n rs)
+all_take : (P : RunStateView → Type 0) (n : ℕ) (rs : List RunStateView) → AllByRecursion P rs → AllByRecursion P (take n rs)
 all_take P zero rs h = tt
 all_take P (suc n) [] h = tt
 all_take P (suc n) (r ∷ rs) h = (h.0, all_take P n rs h.1)
 
-all_fourths : (P : Running → Type 0) (j : ℕ) (rs : List Running) → AllByRecursion P rs → AllByRecursion P (fourths j rs)
+all_fourths : (P : RunStateView → Type 0) (j : ℕ) (rs : List RunStateView) → AllByRecursion P rs → AllByRecursion P (fourths j rs)
 all_fourths P j [] h = tt
 all_fourths P zero (r ∷ rs) h = (h.0, all_fourths P 3 rs h.1)
 all_fourths P (suc j) (r ∷ rs) h = all_fourths P j rs h.1
 
-all_at : (P : Running → Type 0) (rs : List Running) (n : ℕ) (r : Running) → AllByRecursion P rs → slice_get rs n ≡ Some r → P r
+all_at : (P : RunStateView → Type 0) (rs : List RunStateView) (n : ℕ) (r : RunStateView) → AllByRecursion P rs → slice_get rs n ≡ Some r → P r
 all_at P [] n r h is = absurd cc
 all_at P (s ∷ rs) zero r h is = let same : s ≡ r = cc in subst P same h.0
 all_at P (s ∷ rs) (suc n) r h is = all_at P rs n r h.1 is
@@ -56,95 +56,95 @@ agree_across u a b c h k key e = sym (h key e) ∙ k key e
 -- Runs
 
 -- the states of a run hold the settings that it is under
-stay : StepsNote → (es : List Event) (r : Running) (settings : Settings) → r.host.state.settings ≡ settings
-    → AllByRecursion (λ (s : Running). s.host.state.settings ≡ settings) (states_from es r)
+stay : StepsNote → (es : List Event) (r : RunStateView) (settings : Settings) → r.host.state.settings ≡ settings
+    → AllByRecursion (λ (s : RunStateView). s.host.state.settings ≡ settings) (states_from es r)
 stay law [] r settings h = tt
 stay law (e ∷ es) r settings h = go (λ t. stay law es t settings) (step r e) refl
   where
-    go : ((t : Running) → t.host.state.settings ≡ settings → AllByRecursion (λ (s : Running). s.host.state.settings ≡ settings) (states_from es t))
-        → (o : Result Running Verdict) → step r e ≡ o
-        → AllByRecursion (λ (s : Running). s.host.state.settings ≡ settings) (on_step (λ t. t ∷ states_from es t) (λ v. []) o)
+    go : ((t : RunStateView) → t.host.state.settings ≡ settings → AllByRecursion (λ (s : RunStateView). s.host.state.settings ≡ settings) (states_from es t))
+        → (o : Result RunStateView Verdict) → step r e ≡ o
+        → AllByRecursion (λ (s : RunStateView). s.host.state.settings ≡ settings) (on_step (λ t. t ∷ states_from es t) (λ v. []) o)
     go rest (Ok t) o = let same : t.host.state.settings ≡ settings = (law r t e o).0 ∙ h in (same, rest t same)
     go rest (Err v) o = tt
 
 -- so what it keeps agrees with them
-pub new_held : StepsNote → (es : List Event) (r : Running) (settings : Settings) → r.host.state.settings ≡ settings → AreHeld settings (fourths 3 (states_from es r))
+pub new_held : StepsNote → (es : List Event) (r : RunStateView) (settings : Settings) → r.host.state.settings ≡ settings → AreHeld settings (fourths 3 (states_from es r))
 new_held law es r settings h =
-    all_fourths (λ (s : Running). Agree (uses_of s) settings s.host.state.settings) 3 (states_from es r)
-    (all_imp (λ (s : Running). s.host.state.settings ≡ settings) (λ (s : Running). Agree (uses_of s) settings s.host.state.settings) (states_from es r)
+    all_fourths (λ (s : RunStateView). Agree (uses_of s) settings s.host.state.settings) 3 (states_from es r)
+    (all_imp (λ (s : RunStateView). s.host.state.settings ≡ settings) (λ (s : RunStateView). Agree (uses_of s) settings s.host.state.settings) (states_from es r)
     (λ s e. agree_equal (uses_of s) settings s.host.state.settings (sym e)) (stay law es r settings h))
 
-pub held_more : (settings : Settings) (before after : List Running) → AreHeld settings before → AreHeld settings after → AreHeld settings (before ++ after)
-held_more settings before after = all_append (λ (s : Running). Agree (uses_of s) settings s.host.state.settings) before after
+pub held_more : (settings : Settings) (before after : List RunStateView) → AreHeld settings before → AreHeld settings after → AreHeld settings (before ++ after)
+held_more settings before after = all_append (λ (s : RunStateView). Agree (uses_of s) settings s.host.state.settings) before after
 
-pub held_first : (settings : Settings) (n : ℕ) (checkpoints : List Running) → AreHeld settings checkpoints → AreHeld settings (take n checkpoints)
-held_first settings n checkpoints = all_take (λ (s : Running). Agree (uses_of s) settings s.host.state.settings) n checkpoints
+pub held_first : (settings : Settings) (n : ℕ) (checkpoints : List RunStateView) → AreHeld settings checkpoints → AreHeld settings (take n checkpoints)
+held_first settings n checkpoints = all_take (λ (s : RunStateView). Agree (uses_of s) settings s.host.state.settings) n checkpoints
 
-pub held_at : (settings : Settings) (checkpoints : List Running) (n : ℕ) (s : Running) → AreHeld settings checkpoints → slice_get checkpoints n ≡ Some s → Agree (uses_of s) settings s.host.state.settings
-held_at settings checkpoints n s = all_at (λ (s : Running). Agree (uses_of s) settings s.host.state.settings) checkpoints n s
+pub held_at : (settings : Settings) (checkpoints : List RunStateView) (n : ℕ) (s : RunStateView) → AreHeld settings checkpoints → slice_get checkpoints n ≡ Some s → Agree (uses_of s) settings s.host.state.settings
+held_at settings checkpoints n s = all_at (λ (s : RunStateView). Agree (uses_of s) settings s.host.state.settings) checkpoints n s
 
 -- a state has consulted all that those before it have
-abbrev AreBefore : Running → List Running → Type 0
-AreBefore s rs = AllByRecursion (λ (t : Running). Includes (uses_of s) (uses_of t)) rs
+abbrev AreBefore : RunStateView → List RunStateView → Type 0
+AreBefore s rs = AllByRecursion (λ (t : RunStateView). Includes (uses_of s) (uses_of t)) rs
 
-come_before : StepsNote → (es : List Event) (m : ℕ) (r s : Running) → slice_get (states_from es r) m ≡ Some s
+come_before : StepsNote → (es : List Event) (m : ℕ) (r s : RunStateView) → slice_get (states_from es r) m ≡ Some s
     → Includes (uses_of s) (uses_of r) × AreBefore s (take (suc m) (states_from es r))
 come_before law [] m r s h = absurd cc
 come_before law (e ∷ es) m r s h = go (come_before law es) m (step r e) refl h
   where
-    go : ((m : ℕ) (r s : Running) → slice_get (states_from es r) m ≡ Some s → Includes (uses_of s) (uses_of r) × AreBefore s (take (suc m) (states_from es r)))
-        → (m : ℕ) (o : Result Running Verdict) → step r e ≡ o → slice_get (on_step (λ t. t ∷ states_from es t) (λ v. []) o) m ≡ Some s
+    go : ((m : ℕ) (r s : RunStateView) → slice_get (states_from es r) m ≡ Some s → Includes (uses_of s) (uses_of r) × AreBefore s (take (suc m) (states_from es r)))
+        → (m : ℕ) (o : Result RunStateView Verdict) → step r e ≡ o → slice_get (on_step (λ t. t ∷ states_from es t) (λ v. []) o) m ≡ Some s
         → Includes (uses_of s) (uses_of r) × AreBefore s (take (suc m) (on_step (λ t. t ∷ states_from es t) (λ v. []) o))
     go rest zero (Ok t) o h =
         let same : t ≡ s = cc in
-        subst (λ (u : Running). Includes (uses_of u) (uses_of r) × AreBefore u (t ∷ [])) same ((law r t e o).1, (includes_itself (uses_of t), tt))
+        subst (λ (u : RunStateView). Includes (uses_of u) (uses_of r) × AreBefore u (t ∷ [])) same ((law r t e o).1, (includes_itself (uses_of t), tt))
     go rest (suc m) (Ok t) o h =
         let later = rest m t s h in
         (includes_too (uses_of s) (uses_of t) (uses_of r) later.0 (law r t e o).1, (later.0, later.1))
     go rest m (Err v) o h = absurd cc
 
 -- a run has no states on its way, or those from a first one
-begun : (settings : Settings) (p : Parsed) → (states_in settings p ≡ []) ⊎ ((r : Running) × (states_in settings p ≡ states_from p.events r))
+begun : (settings : Settings) (p : Parsed) → (states_in settings p ≡ []) ⊎ ((r : RunStateView) × (states_in settings p ≡ states_from p.events r))
 begun settings p = by_fault p.fault refl
   where
-    by_start : p.fault ≡ None → (o : Result Running Verdict) → start_of p.header.items settings ≡ o
-        → (states_in settings p ≡ []) ⊎ ((r : Running) × (states_in settings p ≡ states_from p.events r))
+    by_start : p.fault ≡ None → (o : Result RunStateView Verdict) → start_of p.header.items settings ≡ o
+        → (states_in settings p ≡ []) ⊎ ((r : RunStateView) × (states_in settings p ≡ states_from p.events r))
     by_start none (Ok r) is = inr (r, rw (none, is) refl)
     by_start none (Err v) is = inl (rw (none, is) refl)
 
-    by_fault : (o : Option ℕ) → p.fault ≡ o → (states_in settings p ≡ []) ⊎ ((r : Running) × (states_in settings p ≡ states_from p.events r))
+    by_fault : (o : Option ℕ) → p.fault ≡ o → (states_in settings p ≡ []) ⊎ ((r : RunStateView) × (states_in settings p ≡ states_from p.events r))
     by_fault None is = by_start is (start_of p.header.items settings) refl
     by_fault (Some line) is = inl (rw is refl)
 
-first_of_run : StepsNote → (settings : Settings) (p : Parsed) (m : ℕ) (s : Running) → slice_get (states_in settings p) m ≡ Some s
+first_of_run : StepsNote → (settings : Settings) (p : Parsed) (m : ℕ) (s : RunStateView) → slice_get (states_in settings p) m ≡ Some s
     → AreBefore s (take (suc m) (states_in settings p))
 first_of_run law settings p m s h = go (begun settings p)
   where
-    go : ((states_in settings p ≡ []) ⊎ ((r : Running) × (states_in settings p ≡ states_from p.events r))) → AreBefore s (take (suc m) (states_in settings p))
-    go (inl none) = subst (λ (rs : List Running). AreBefore s (take (suc m) rs)) (sym none) tt
+    go : ((states_in settings p ≡ []) ⊎ ((r : RunStateView) × (states_in settings p ≡ states_from p.events r))) → AreBefore s (take (suc m) (states_in settings p))
+    go (inl none) = subst (λ (rs : List RunStateView). AreBefore s (take (suc m) rs)) (sym none) tt
     go (inr some) =
-        subst (λ (rs : List Running). AreBefore s (take (suc m) rs)) (sym some.1)
-        (come_before law p.events m some.0 s (subst (λ (rs : List Running). slice_get rs m ≡ Some s) some.1 h)).1
+        subst (λ (rs : List RunStateView). AreBefore s (take (suc m) rs)) (sym some.1)
+        (come_before law p.events m some.0 s (subst (λ (rs : List RunStateView). slice_get rs m ≡ Some s) some.1 h)).1
 
-unmapped : (settings : Settings) (s : Running) (rs : List Running) → AreBefore s (map (rebound_run settings) rs) → AreBefore s rs
+unmapped : (settings : Settings) (s : RunStateView) (rs : List RunStateView) → AreBefore s (map (rebound_run settings) rs) → AreBefore s rs
 unmapped settings s [] h = tt
 unmapped settings s (r ∷ rs) h = (h.0, unmapped settings s rs h.1)
 
 -- the first states that a run kept, up to one of them
-pub kept_before_last : StepsNote → (text : List (List ℕ)) (settings : Settings) (q : ℕ) (s : Running) (checkpoints : List Running)
+pub kept_before_last : StepsNote → (text : List (List ℕ)) (settings : Settings) (q : ℕ) (s : RunStateView) (checkpoints : List RunStateView)
     → slice_get (states_of text settings) (4 * q + 3) ≡ Some (rebound_run settings s)
     → map (rebound_run settings) checkpoints ≡ take (suc q) (fourths 3 (states_of text settings))
     → AreBefore s checkpoints
 kept_before_last law text settings q s checkpoints found are =
     unmapped settings s checkpoints
     (subst (AreBefore s) (sym (are ∙ fourths_take 3 q (4 * q + 3) (states_of text settings) refl))
-    (all_fourths (λ (t : Running). Includes (uses_of s) (uses_of t)) 3 (take (suc (4 * q + 3)) (states_of text settings))
+    (all_fourths (λ (t : RunStateView). Includes (uses_of s) (uses_of t)) 3 (take (suc (4 * q + 3)) (states_of text settings))
     (first_of_run law settings (script_of text) (4 * q + 3) (rebound_run settings s) found)))
 
 -- where other settings agree on what was consulted up to the last of them, what is held in all of them agrees with those too
-pub held_too : (old new : Settings) (s : Running) (checkpoints : List Running) → AreBefore s checkpoints → Agree (uses_of s) old new → AreHeld old checkpoints → AreHeld new checkpoints
+pub held_too : (old new : Settings) (s : RunStateView) (checkpoints : List RunStateView) → AreBefore s checkpoints → Agree (uses_of s) old new → AreHeld old checkpoints → AreHeld new checkpoints
 held_too old new s checkpoints before agree held =
-    all_both (λ (t : Running). Includes (uses_of s) (uses_of t)) (λ (t : Running). Agree (uses_of t) old t.host.state.settings)
-    (λ (t : Running). Agree (uses_of t) new t.host.state.settings) checkpoints
+    all_both (λ (t : RunStateView). Includes (uses_of s) (uses_of t)) (λ (t : RunStateView). Agree (uses_of t) old t.host.state.settings)
+    (λ (t : RunStateView). Agree (uses_of t) new t.host.state.settings) checkpoints
     (λ t includes holds. agree_across (uses_of t) old new t.host.state.settings (agree_on_fewer (uses_of s) (uses_of t) old new includes agree) holds)
     before held

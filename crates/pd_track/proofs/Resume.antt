@@ -12,10 +12,10 @@ use Rattle.pd_settings.specs.declared.use_set.UseSet.{UseSet}
 use Rattle.pd_run.specs.Consulted.{uses_of, rebound_run, StepsNote, RunsOnlyUse}
 use Rattle.pd_run.specs.Laws.{IsUnderway, StartsUnderway, StepsGoOn}
 use Rattle.pd_run.specs.Run.{start_of, verdict_in, stepped_in, states_in, verdict_of, stepped_of, states_of, verdict_from, stepped_from, states_from}
-use Rattle.pd_run.specs.Step.{Running}
+use Rattle.pd_run.specs.Step.{RunStateView}
 use Rattle.pd_run.proofs.Consulted.{start_again}
 use Rattle.pd_run.proofs.States.{Onward, resume, states_same, states_underway}
-use Rattle.pd_track.specs.Reuse.{Source, AreHeld, fourths, kept, uses, uses_in}
+use Rattle.pd_track.specs.Reuse.{TrackView, AreHeld, fourths, kept, uses, uses_in}
 use Rattle.pd_track.specs.Resuming.{BeginsIn, Resumes, script_events}
 use Rattle.pd_track.proofs.Fourths.{slice_get-fourths, fourths_take, fourths_rest}
 use Rattle.pd_track.proofs.Held.{held_at, held_too, kept_before_last}
@@ -25,17 +25,17 @@ none_before : (n : ℕ) → 0 + n ≡ n
 none_before n = omega arith
 
 -- what a run is that begins in a state
-verdict_in_begun : (settings : Settings) (p : Parsed) (r : Running) → p.fault ≡ None → start_of p.header.items settings ≡ Ok r → verdict_in settings p ≡ verdict_from 0 p.events r
+verdict_in_begun : (settings : Settings) (p : Parsed) (r : RunStateView) → p.fault ≡ None → start_of p.header.items settings ≡ Ok r → verdict_in settings p ≡ verdict_from 0 p.events r
 verdict_in_begun settings p r fault start = rw (fault, start) refl
 
-stepped_in_begun : (settings : Settings) (p : Parsed) (r : Running) → p.fault ≡ None → start_of p.header.items settings ≡ Ok r → stepped_in settings p ≡ stepped_from p.events r
+stepped_in_begun : (settings : Settings) (p : Parsed) (r : RunStateView) → p.fault ≡ None → start_of p.header.items settings ≡ Ok r → stepped_in settings p ≡ stepped_from p.events r
 stepped_in_begun settings p r fault start = rw (fault, start) refl
 
-states_in_begun : (settings : Settings) (p : Parsed) (r : Running) → p.fault ≡ None → start_of p.header.items settings ≡ Ok r → states_in settings p ≡ states_from p.events r
+states_in_begun : (settings : Settings) (p : Parsed) (r : RunStateView) → p.fault ≡ None → start_of p.header.items settings ≡ Ok r → states_in settings p ≡ states_from p.events r
 states_in_begun settings p r fault start = rw (fault, start) refl
 
 -- a script with a state on its way has no fault
-no_fault : (settings : Settings) (p : Parsed) (s : Running) (q : ℕ) → slice_get (fourths 3 (states_in settings p)) q ≡ Some s → p.fault ≡ None
+no_fault : (settings : Settings) (p : Parsed) (s : RunStateView) (q : ℕ) → slice_get (fourths 3 (states_in settings p)) q ≡ Some s → p.fault ≡ None
 no_fault settings p s q found = go p.fault refl
   where
     go : (o : Option ℕ) → p.fault ≡ o → p.fault ≡ None
@@ -43,7 +43,7 @@ no_fault settings p s q found = go p.fault refl
     go (Some line) is = absurd (let none = rw is at found in cc)
 
 -- the run that goes on in this state after so many events, with these states before it, gives what the whole run gives
-record GoesOn (text : List (List ℕ)) (settings : Settings) (passed : ℕ) (state : Running) (before : List Running) : Type 0 where
+record GoesOn (text : List (List ℕ)) (settings : Settings) (passed : ℕ) (state : RunStateView) (before : List RunStateView) : Type 0 where
   pub fourth : passed % 4 ≡ 0
   pub within : passed ≤ length (script_events text)
   pub underway : IsUnderway passed state
@@ -51,7 +51,7 @@ record GoesOn (text : List (List ℕ)) (settings : Settings) (passed : ℕ) (sta
   pub steps : passed + stepped_from (drop passed (script_events text)) state ≡ stepped_of text settings
   pub kept : before ++ fourths 3 (states_from (drop passed (script_events text)) state) ≡ fourths 3 (states_of text settings)
 
-module _ (text : List (List ℕ)) (settings : Settings) (r : Running) (begins : BeginsIn text settings r) where
+module _ (text : List (List ℕ)) (settings : Settings) (r : RunStateView) (begins : BeginsIn text settings r) where
   pub verdict_begun : verdict_of text settings ≡ verdict_from 0 (script_events text) r
   verdict_begun = verdict_in_begun settings (script_of text) r begins.fault begins.start
 
@@ -74,13 +74,13 @@ module _ (text : List (List ℕ)) (settings : Settings) (r : Running) (begins : 
     held = tt;
   }
 
-slice_get-take : (m : ℕ) (rs : List Running) → slice_get (take (suc m) rs) m ≡ slice_get rs m
+slice_get-take : (m : ℕ) (rs : List RunStateView) → slice_get (take (suc m) rs) m ≡ slice_get rs m
 slice_get-take m [] = refl
 slice_get-take zero (r ∷ rs) = refl
 slice_get-take (suc m) (r ∷ rs) = slice_get-take m rs
 
 -- from the state after the first m + 1 events, a multiple of 4
-resumes_at : StepsGoOn → (text : List (List ℕ)) (settings : Settings) (r s : Running) (q m : ℕ) → m ≡ 4 * q + 3 → BeginsIn text settings r → IsUnderway 0 r
+resumes_at : StepsGoOn → (text : List (List ℕ)) (settings : Settings) (r s : RunStateView) (q m : ℕ) → m ≡ 4 * q + 3 → BeginsIn text settings r → IsUnderway 0 r
     → slice_get (states_from (script_events text) r) m ≡ Some s
     → GoesOn text settings (suc m) s (take (suc q) (fourths 3 (states_from (script_events text) r)))
 resumes_at law text settings r s q m is begins underway found =
@@ -93,12 +93,12 @@ resumes_at law text settings r s q m is begins underway found =
       underway = subst (λ (n : ℕ). IsUnderway n s) (none_before (suc m)) (states_underway law (script_events text) 0 m r s underway found);
       verdict = onward.verdict 0 (suc m) (omega arith) ∙ sym (verdict_begun text settings r begins);
       steps = onward.steps ∙ sym (stepped_begun text settings r begins);
-      kept = ap (λ (rest : List Running). take (suc q) (fourths 3 (states_from (script_events text) r)) ++ fourths 3 rest) onward.states
+      kept = ap (λ (rest : List RunStateView). take (suc q) (fourths 3 (states_from (script_events text) r)) ++ fourths 3 rest) onward.states
           ∙ (all ∙ ap (fourths 3) (sym (states_begun text settings r begins)));
     }
 
 -- from a state that a run of another text has kept, which begins as this one does
-resumes_kept : StepsGoOn → (old text : List (List ℕ)) (settings : Settings) (r s : Running) (q : ℕ) → BeginsIn text settings r → IsUnderway 0 r
+resumes_kept : StepsGoOn → (old text : List (List ℕ)) (settings : Settings) (r s : RunStateView) (q : ℕ) → BeginsIn text settings r → IsUnderway 0 r
     → ((script_of old).header ≡ (script_of text).header) × (take (4 * suc q) (script_of old).events ≡ take (4 * suc q) (script_of text).events)
     → slice_get (fourths 3 (states_of old settings)) q ≡ Some s
     → GoesOn text settings (4 * suc q) s (take (suc q) (fourths 3 (states_of old settings)))
@@ -115,25 +115,25 @@ resumes_kept law old text settings r s q begins underway same checkpoint =
     let states : take (suc (4 * q + 3)) (states_from (script_events old) r) ≡ take (suc (4 * q + 3)) (states_from (script_events text) r) =
     states_same (suc (4 * q + 3)) (script_events old) (script_events text) r events in
     let there : slice_get (states_from (script_events old) r) (4 * q + 3) ≡ Some s =
-    sym (slice_get-fourths 3 q (states_from (script_events old) r)) ∙ (ap (λ (rs : List Running). slice_get (fourths 3 rs) q) (sym old_states) ∙ checkpoint) in
+    sym (slice_get-fourths 3 q (states_from (script_events old) r)) ∙ (ap (λ (rs : List RunStateView). slice_get (fourths 3 rs) q) (sym old_states) ∙ checkpoint) in
     let here : slice_get (states_from (script_events text) r) (4 * q + 3) ≡ Some s =
     sym (slice_get-take (4 * q + 3) (states_from (script_events text) r))
-    ∙ (ap (λ (rs : List Running). slice_get rs (4 * q + 3)) (sym states) ∙ (slice_get-take (4 * q + 3) (states_from (script_events old) r) ∙ there)) in
+    ∙ (ap (λ (rs : List RunStateView). slice_get rs (4 * q + 3)) (sym states) ∙ (slice_get-take (4 * q + 3) (states_from (script_events old) r) ∙ there)) in
     let checkpoints : take (suc q) (fourths 3 (states_of old settings)) ≡ take (suc q) (fourths 3 (states_from (script_events text) r)) =
-    ap (λ (rs : List Running). take (suc q) (fourths 3 rs)) old_states
+    ap (λ (rs : List RunStateView). take (suc q) (fourths 3 rs)) old_states
     ∙ (fourths_take 3 q (4 * q + 3) (states_from (script_events old) r) refl
     ∙ (ap (fourths 3) states ∙ sym (fourths_take 3 q (4 * q + 3) (states_from (script_events text) r) refl))) in
     let whole : GoesOn text settings (suc (4 * q + 3)) s (take (suc q) (fourths 3 (states_from (script_events text) r))) =
     resumes_at law text settings r s q (4 * q + 3) refl begins underway here in
-    subst (λ (rs : List Running). GoesOn text settings (4 * suc q) s rs) (sym checkpoints)
+    subst (λ (rs : List RunStateView). GoesOn text settings (4 * suc q) s rs) (sym checkpoints)
     (subst (λ (n : ℕ). GoesOn text settings n s (take (suc q) (fourths 3 (states_from (script_events text) r)))) (sym count) whole)
 
 -- a run that begins is underway
-pub begun_underway : StartsUnderway → (text : List (List ℕ)) (settings : Settings) (r : Running) → BeginsIn text settings r → IsUnderway 0 r
+pub begun_underway : StartsUnderway → (text : List (List ℕ)) (settings : Settings) (r : RunStateView) → BeginsIn text settings r → IsUnderway 0 r
 begun_underway law text settings r begins = law (script_of text).header.items settings r begins.start
 
 -- what a run had consulted in a state that it kept
-pub uses_are : (track : Source) (count : ℕ) (s : Running) → 0 < count
+pub uses_are : (track : TrackView) (count : ℕ) (s : RunStateView) → 0 < count
     → slice_get (fourths 3 (states_of track.text track.settings)) (count - 1) ≡ Some (rebound_run track.settings s)
     → uses_of s ≡ uses track (4 * count)
 uses_are track zero s some checkpoint = absurd (omega arith)
@@ -146,7 +146,7 @@ uses_are track (suc q) s some checkpoint =
     sym (ap (uses track) count ∙ ap uses_in found)
 
 -- the states that a run kept, up to one that serves, are those of the run under the other settings, but for the settings held
-module _ (law : RunsOnlyUse) (track : Source) (settings : Settings) (s : Running) (q : ℕ)
+module _ (law : RunsOnlyUse) (track : TrackView) (settings : Settings) (s : RunStateView) (q : ℕ)
     (checkpoint : slice_get (fourths 3 (states_of track.text track.settings)) q ≡ Some (rebound_run track.settings s))
     (agree : Agree (uses_of s) track.settings settings) where
   there : slice_get (states_of track.text track.settings) (4 * q + 3) ≡ Some (rebound_run track.settings s)
@@ -162,13 +162,13 @@ module _ (law : RunsOnlyUse) (track : Source) (settings : Settings) (s : Running
   last_state : slice_get (fourths 3 (states_of track.text settings)) q ≡ Some (rebound_run settings s)
   last_state =
       sym (slice_get-take q (fourths 3 (states_of track.text settings)))
-      ∙ (ap (λ (rs : List Running). slice_get rs q) first_states
+      ∙ (ap (λ (rs : List RunStateView). slice_get rs q) first_states
       ∙ (slice_get-map (rebound_run settings) (take (suc q) (fourths 3 (states_of track.text track.settings))) q
       ∙ ap (option_map (rebound_run settings)) (slice_get-take q (fourths 3 (states_of track.text track.settings)) ∙ checkpoint)))
 
 -- from the last state of a track that serves
 pub resumes_after : FirstEventsOfScriptsStay → StartsUnderway → StepsGoOn → StepsNote → RunsOnlyUse
-    → (track : Source) (text : List (List ℕ)) (settings : Settings) (r s : Running) (count events : ℕ) (checkpoints : List Running)
+    → (track : TrackView) (text : List (List ℕ)) (settings : Settings) (r s : RunStateView) (count events : ℕ) (checkpoints : List RunStateView)
     → AreLines track.text → AreLines text → 0 < count → BeginsIn text settings r → events ≡ kept track.text text → 4 * count ≤ events
     → Agree (uses track (4 * count)) track.settings settings
     → slice_get (fourths 3 (states_of track.text track.settings)) (count - 1) ≡ Some (rebound_run track.settings s)
@@ -193,7 +193,7 @@ resumes_after same starts steps notes law track text settings r s (suc q) events
       underway = whole.underway;
       verdict = whole.verdict;
       steps = whole.steps;
-      kept = ap (λ (rs : List Running). rs ++ fourths 3 (states_from (drop (4 * suc q) (script_events text)) (rebound_run settings s))) checkpoints_here ∙ whole.kept;
+      kept = ap (λ (rs : List RunStateView). rs ++ fourths 3 (states_from (drop (4 * suc q) (script_events text)) (rebound_run settings s))) checkpoints_here ∙ whole.kept;
       bound = refl;
       held =
           held_too track.settings settings s checkpoints
@@ -201,15 +201,15 @@ resumes_after same starts steps notes law track text settings r s (suc q) events
     }
 
 -- what is held in a kept state agrees with the track's settings on all that was consulted up to there
-pub held_there : (track : Source) (k : ℕ) (checkpoints : List Running) (o : Option Running)
+pub held_there : (track : TrackView) (k : ℕ) (checkpoints : List RunStateView) (o : Option RunStateView)
     → map (rebound_run track.settings) checkpoints ≡ fourths 3 (states_of track.text track.settings) → AreHeld track.settings checkpoints → o ≡ slice_get checkpoints k
-    → IfSome o (λ (s : Running). Agree (uses track (4 * (k + 1))) track.settings s.host.state.settings)
+    → IfSome o (λ (s : RunStateView). Agree (uses track (4 * (k + 1))) track.settings s.host.state.settings)
 held_there track k checkpoints None are held is = tt
 held_there track k checkpoints (Some s) are held is =
     let some : 0 < k + 1 = omega arith in
     let last : k + 1 - 1 ≡ k = omega arith in
     let found : slice_get (fourths 3 (states_of track.text track.settings)) k ≡ Some (rebound_run track.settings s) =
-    ap (λ (rs : List Running). slice_get rs k) (sym are)
+    ap (λ (rs : List RunStateView). slice_get rs k) (sym are)
     ∙ (slice_get-map (rebound_run track.settings) checkpoints k ∙ ap (option_map (rebound_run track.settings)) (sym is)) in
     let consulted : uses_of s ≡ uses track (4 * (k + 1)) =
     uses_are track (k + 1) s some (subst (λ (n : ℕ). slice_get (fourths 3 (states_of track.text track.settings)) n ≡ Some (rebound_run track.settings s)) (sym last) found) in

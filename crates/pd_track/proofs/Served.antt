@@ -4,7 +4,7 @@ use Rattle.std.proofs.lemmas.Bool.Decides.{nat_tests}
 use Rattle.pd_settings.specs.Uses.{agrees}
 use Rattle.pd_settings.specs.declared.fields.Settings.{Settings}
 use Rattle.pd_run.specs.Run.{states_of}
-use Rattle.pd_track.specs.Reuse.{Source, greatest, serves, uses, reached, fourths}
+use Rattle.pd_track.specs.Reuse.{TrackView, greatest, serves, uses, reached, fourths}
 use Rattle.pd_track.proofs.Fourths.{length-fourths}
 use Rattle.pd_track.proofs.Greatest.{greatest_is}
 
@@ -19,7 +19,7 @@ first_two true true s h = h refl refl
 first_two true false s h = refl
 first_two false b s h = refl
 
-module _ (old : Source) (settings : Settings) (k q most : ℕ)
+module _ (old : TrackView) (settings : Settings) (k q most : ℕ)
     (most_is : most ≡ min (k / 4) (length (fourths 3 (states_of old.text old.settings))))
     (within : q ≤ most)
     (none : (j : ℕ) → q < j → j ≤ most → agrees (uses old (4 * j)) old.settings settings ≡ false) where

@@ -2,26 +2,26 @@
 use Rattle.std.proofs.Common.{◌≡◌, ℕ, ◌+◌, ◌-◌, ◌%◌, ◌==◌, List, [], ◌∷◌, ◌++◌, cond, Result, Ok, sym, ap, subst, ◌∙◌, arith, append_assoc}
 use Rattle.pd_script.specs.declared.script_events.Event.{Event}
 use Rattle.pd_run.specs.Run.{verdict_from, stepped_from, states_from}
-use Rattle.pd_run.specs.Step.{Running, on_step, step}
+use Rattle.pd_run.specs.Step.{RunStateView, on_step, step}
 use Rattle.pd_run.specs.declared.verdicts.Verdict.{Verdict}
 use Rattle.pd_run.proofs.Steps.{verdict_after, stepped_after}
 use Rattle.pd_track.specs.Reuse.{fourths}
 use Rattle.pd_track.proofs.Fourths.{fourths_next}
 
 -- after a step that goes on, its state is the first of those left
-states_after : (es rest : List Event) (r s : Running) (e : Event)
+states_after : (es rest : List Event) (r s : RunStateView) (e : Event)
     → es ≡ e ∷ rest → step r e ≡ Ok s → states_from es r ≡ s ∷ states_from rest s
 states_after es rest r s e split h =
     ap (λ (l : List Event). states_from l r) split
-    ∙ ap (λ (o : Result Running Verdict). on_step (λ (t : Running). t ∷ states_from rest t) (λ v. []) o) h
+    ∙ ap (λ (o : Result RunStateView Verdict). on_step (λ (t : RunStateView). t ∷ states_from rest t) (λ v. []) o) h
 
 -- a run after n events, and after one more
-pub record Advances (n passed : ℕ) (es rest : List Event) (old new : Running) : Type 0 where
+pub record Advances (n passed : ℕ) (es rest : List Event) (old new : RunStateView) : Type 0 where
   pub verdict : verdict_from n es old ≡ verdict_from passed rest new
   pub steps : stepped_from es old ≡ 1 + stepped_from rest new
   pub states : fourths (3 - n % 4) (states_from es old) ≡ cond ((n + 1) % 4 == 0) (new ∷ []) [] ++ fourths (3 - passed % 4) (states_from rest new)
 
-pub advances : (n passed : ℕ) (es rest : List Event) (old new : Running) (e : Event) → passed ≡ n + 1 → es ≡ e ∷ rest → step old e ≡ Ok new
+pub advances : (n passed : ℕ) (es rest : List Event) (old new : RunStateView) (e : Event) → passed ≡ n + 1 → es ≡ e ∷ rest → step old e ≡ Ok new
     → Advances n passed es rest old new
 advances n passed es rest old new e one_more split told =
     subst (λ (p : ℕ). Advances n p es rest old new) (sym one_more) (record {
@@ -33,5 +33,5 @@ advances n passed es rest old new e one_more split told =
     })
 
 -- the states kept so far, and those left
-pub kept_more : (before more after left whole : List Running) → after ≡ before ++ more → before ++ (more ++ left) ≡ whole → after ++ left ≡ whole
+pub kept_more : (before more after left whole : List RunStateView) → after ≡ before ++ more → before ++ (more ++ left) ≡ whole → after ++ left ≡ whole
 kept_more before more after left whole e h = rw e (rw append_assoc h)

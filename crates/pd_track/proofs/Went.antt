@@ -7,9 +7,9 @@ use Rattle.pd_reparse.specs.Reading.{DecidedScript, reading_of, events_of}
 use Rattle.pd_reparse.specs.declared.decided.Decided.{Decided}
 use Rattle.pd_run.specs.Consulted.{rebound_run, StepsNote}
 use Rattle.pd_run.specs.Run.{stepped_of, verdict_from, stepped_from, states_from}
-use Rattle.pd_run.specs.Step.{Running}
+use Rattle.pd_run.specs.Step.{RunStateView}
 use Rattle.pd_run.specs.declared.verdicts.Verdict.{Verdict}
-use Rattle.pd_track.specs.Reuse.{Handed, AreHeld, from, steps, fourths}
+use Rattle.pd_track.specs.Reuse.{JobView, AreHeld, from, steps, fourths}
 use Rattle.pd_track.specs.Resuming.{Resumes, IsOutcome, script_events}
 use Rattle.pd_track.proofs.Held.{new_held, held_more}
 use Rattle.pd_track.proofs.Rebound.{fourths_map, own_states}
@@ -26,7 +26,7 @@ take_whole (suc n) [] h = refl
 take_whole (suc n) (d ∷ ds) h = ap (λ (w : List Decided). d ∷ w) (take_whole n ds (omega arith))
 
 -- what is stepped after the events that needn't be run is the steps of the job
-pub steps_are : (job : Handed) (passed rest : ℕ) → passed ≡ from job → passed + rest ≡ stepped_of job.task.text job.task.settings → rest ≡ steps job
+pub steps_are : (job : JobView) (passed rest : ℕ) → passed ≡ from job → passed + rest ≡ stepped_of job.task.text job.task.settings → rest ≡ steps job
 steps_are job passed rest p h = go (stepped_of job.task.text job.task.settings == 0) refl
   where
     go : (b : Bool) → (stepped_of job.task.text job.task.settings == 0) ≡ b → rest ≡ cond b 0 (stepped_of job.task.text job.task.settings - from job)
@@ -38,11 +38,11 @@ on_ok (Ok x) P p = p
 on_ok (Err x) P p = tt
 
 -- a run from where it was taken up comes to what the whole run does
-pub record Whole (job : Handed) (came : Verdict) (reading : DecidedScript) (checkpoints : List Running) (taken : ℕ) : Type 0 where
+pub record Whole (job : JobView) (came : Verdict) (reading : DecidedScript) (checkpoints : List RunStateView) (taken : ℕ) : Type 0 where
   pub outcome : IsOutcome job.task came reading checkpoints
   pub steps : taken ≡ steps job
 
-pub whole : StepsNote → (job : Handed) (reading : DecidedScript) (passed : ℕ) (state : Running) (before after : List Running) (es : List Event) (came : Verdict) (taken : ℕ)
+pub whole : StepsNote → (job : JobView) (reading : DecidedScript) (passed : ℕ) (state : RunStateView) (before after : List RunStateView) (es : List Event) (came : Verdict) (taken : ℕ)
     → reading ≡ reading_of job.task.text → es ≡ drop passed (script_events job.task.text) → passed ≡ from job
     → Resumes job.task.text job.task.settings passed state before
     → came ≡ verdict_from passed es state → after ≡ before ++ fourths 3 (states_from es state) → taken ≡ stepped_from es state
@@ -54,7 +54,7 @@ whole law job reading passed state before after es came taken read rest p resume
     kept =
         ap (map (rebound_run job.task.settings)) s
         ∙ (map-append (rebound_run job.task.settings) before (fourths 3 (states_from es state))
-        ∙ (ap (λ (w : List Running). map (rebound_run job.task.settings) before ++ w)
+        ∙ (ap (λ (w : List RunStateView). map (rebound_run job.task.settings) before ++ w)
         (sym (fourths_map (rebound_run job.task.settings) 3 (states_from es state)) ∙ ap (fourths 3) (own_states law es state job.task.settings resumes.bound))
         ∙ (ap (λ (w : List Event). map (rebound_run job.task.settings) before ++ fourths 3 (states_from w state)) rest ∙ resumes.kept)));
     held =

@@ -1,22 +1,22 @@
--- Where a run behind a track begins, by what holds of it.
+-- Where a run after a track begins, by what holds of it.
 use Rattle.std.specs.Prelude.{◌≡◌, ℕ, ◌%◌, ◌≤◌, List}
 use Rattle.pd_settings.specs.Uses.{Agree}
 use Rattle.pd_settings.specs.declared.fields.Settings.{Settings}
-use Rattle.pd_track.specs.Reuse.{Source, uses, kept, reached, from_track}
+use Rattle.pd_track.specs.Reuse.{TrackView, uses, kept, reached, from_track}
 
--- a text's run under settings may begin behind so many events of a track's: there are none, or the track keeps the state
+-- a text's run under settings may begin after so many events of a track's: there are none, or the track keeps the state
 -- there; the lines with which both texts begin decide these events, and these consulted no setting that differs
-pub record MayBegin (track : Source) (text : List (List ℕ)) (settings : Settings) (events : ℕ) : Type 0 where
+pub record MayBegin (track : TrackView) (text : List (List ℕ)) (settings : Settings) (events : ℕ) : Type 0 where
   pub fourth : events % 4 ≡ 0
   pub passed : events ≤ reached track.text track.settings
   pub decided : events ≤ kept track.text text
   pub agree : Agree (uses track events) track.settings settings
 
 -- it begins at the last place where it may
-pub record BeginsLast (track : Source) (text : List (List ℕ)) (settings : Settings) (events : ℕ) : Type 0 where
+pub record BeginsLast (track : TrackView) (text : List (List ℕ)) (settings : Settings) (events : ℕ) : Type 0 where
   pub there : MayBegin track text settings events
   pub last : (other : ℕ) → MayBegin track text settings other → other ≤ events
 
--- each run behind a track begins so
+-- each run after a track begins so
 abbrev pub RunsBeginLast : Type 0
-RunsBeginLast = (track : Source) (text : List (List ℕ)) (settings : Settings) → BeginsLast track text settings (from_track track text settings)
+RunsBeginLast = (track : TrackView) (text : List (List ℕ)) (settings : Settings) → BeginsLast track text settings (from_track track text settings)

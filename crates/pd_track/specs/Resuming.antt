@@ -6,10 +6,10 @@ use Rattle.pd_script.specs.declared.script_events.Event.{Event}
 use Rattle.pd_run.specs.Consulted.{rebound_run}
 use Rattle.pd_run.specs.Laws.{IsUnderway}
 use Rattle.pd_run.specs.Run.{start_of, verdict_of, stepped_of, states_of, verdict_from, stepped_from, states_from}
-use Rattle.pd_run.specs.Step.{Running}
+use Rattle.pd_run.specs.Step.{RunStateView}
 use Rattle.pd_run.specs.declared.verdicts.Verdict.{Verdict}
 use Rattle.pd_reparse.specs.Reading.{DecidedScript, reading_of}
-use Rattle.pd_track.specs.Reuse.{AreHeld, fourths, Source, Handed, kept}
+use Rattle.pd_track.specs.Reuse.{AreHeld, fourths, TrackView, JobView, kept}
 use Rattle.pd_track.specs.declared.task.Task.{Task}
 
 -- the events that a text is
@@ -17,13 +17,13 @@ abbrev pub script_events : List (List ℕ) → List Event
 script_events text = (script_of text).events
 
 -- the run of a text under settings begins in this state
-pub record BeginsIn (text : List (List ℕ)) (settings : Settings) (state : Running) : Type 0 where
+pub record BeginsIn (text : List (List ℕ)) (settings : Settings) (state : RunStateView) : Type 0 where
   pub fault : (script_of text).fault ≡ None
   pub start : start_of (script_of text).header.items settings ≡ Ok state
 
 -- the run that goes on in this state after so many events, with these checkpoints but for the settings held in them, gives
 -- what the whole run gives
-pub record Resumes (text : List (List ℕ)) (settings : Settings) (passed : ℕ) (state : Running) (checkpoints : List Running) : Type 0 where
+pub record Resumes (text : List (List ℕ)) (settings : Settings) (passed : ℕ) (state : RunStateView) (checkpoints : List RunStateView) : Type 0 where
   pub fourth : passed % 4 ≡ 0
   pub within : passed ≤ length (script_events text)
   pub underway : IsUnderway passed state
@@ -34,17 +34,17 @@ pub record Resumes (text : List (List ℕ)) (settings : Settings) (passed : ℕ)
   pub held : AreHeld settings checkpoints
 
 -- what the whole run of a task comes to, what is read of its text, and every fourth state but for the settings held in it
-pub record IsOutcome (task : Task) (came : Verdict) (reading : DecidedScript) (checkpoints : List Running) : Type 0 where
+pub record IsOutcome (task : Task) (came : Verdict) (reading : DecidedScript) (checkpoints : List RunStateView) : Type 0 where
   pub verdict : came ≡ verdict_of task.text task.settings
   pub read : reading ≡ reading_of task.text
   pub kept : map (rebound_run task.settings) checkpoints ≡ fourths 3 (states_of task.text task.settings)
   pub held : AreHeld task.settings checkpoints
 
 -- how many events of a track's text another text keeps: none without a track
-abbrev pub kept_of_track : Option Source → List (List ℕ) → ℕ
+abbrev pub kept_of_track : Option TrackView → List (List ℕ) → ℕ
 kept_of_track None text = 0
 kept_of_track (Some track) text = kept track.text text
 
 -- how many events of its track's text a job keeps
-abbrev pub kept_before : Handed → ℕ
+abbrev pub kept_before : JobView → ℕ
 kept_before job = kept_of_track job.track job.task.text

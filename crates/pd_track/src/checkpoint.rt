@@ -14,9 +14,9 @@ pub struct Checkpoint {
 }
 
 impl Model for Checkpoint {
-    ghost use Rattle.pd_run.specs.Step.{Running};
+    ghost use Rattle.pd_run.specs.Step.{RunStateView};
 
-    ghost Value = { Running };
+    ghost Value = { RunStateView };
 
     ghost view = { λ s. s.state };
 }

@@ -1,10 +1,11 @@
 //! Results of jobs.
 ghost use Rattle.std.specs.Prelude.{◌≡◌};
+ghost use Rattle.pd_run.specs.Grammatical.{IsVerdictOf};
 ghost use Rattle.pd_run.specs.Run.{verdict_of};
 
 use crate::task::Task;
 use crate::track::Track;
-use pd_run::Verdict;
+use pd_run::{Verdict, verdicts_are_grammatical};
 use pd_settings::Settings;
 use pd_text::{Name, Text};
 use std::marker::Model;
@@ -77,8 +78,10 @@ impl Done {
 
     /// The verdict of that text under these settings.
     pub fn verdict(&self) -> Verdict
-        ensures { result ≡ verdict_of self.now.text self.now.settings }
+        ensures verdict { result ≡ verdict_of self.now.text self.now.settings }
+        ensures grammar { IsVerdictOf self.now.text self.now.settings result }
     {
+        verdicts_are_grammatical();
         self.verdict
     }
 

@@ -21,9 +21,9 @@ pub struct Job {
 
 impl Model for Job {
     ghost use Rattle.std.specs.Prelude.{◌≡◌};
-    ghost use Rattle.pd_track.specs.Reuse.{Handed, front_of};
+    ghost use Rattle.pd_track.specs.Reuse.{JobView, front_of};
 
-    ghost Value = { Handed };
+    ghost Value = { JobView };
 
     ghost view = { λ j. record { task = j.task; track = j.track } };
 

@@ -1,6 +1,6 @@
 //! Runs under way, which keep each fourth state.
 ghost use Rattle.std.specs.Prelude.{◌≡◌, ◌+◌, ◌-◌, ◌<◌, ◌≤◌, ◌^◌, ◌%◌, ◌==◌, ◌++◌, ◌∷◌, [], ℕ, length, map, IfOk, OnOk, if◌then◌else◌};
-ghost use Rattle.pd_reparse.specs.Steps.{events_behind};
+ghost use Rattle.pd_reparse.specs.Steps.{events_after};
 ghost use Rattle.pd_run.specs.Laws.{IsUnderway};
 ghost use Rattle.pd_run.specs.Run.{verdict_from, stepped_from, states_from};
 ghost use Rattle.pd_track.specs.Reuse.{fourths};
@@ -60,9 +60,9 @@ impl Progress {
         requires few { length events.now ≤ 4096 }
         requires underway { IsUnderway self.passed self.state }
         requires room { S.counted stepper.old + length events.now < 2 ^ 64 }
-        ensures verdict { IfOk result (λ ended. ended.verdict ≡ verdict_from self.passed (events_behind self.passed events.now) self.state) }
-        ensures checkpoints { IfOk result (λ ended. ended.checkpoints ≡ self.checkpoints ++ fourths 3 (states_from (events_behind self.passed events.now) self.state)) }
-        ensures steps { OnOk result (S.counted stepper.new ≡ S.counted stepper.old + stepped_from (events_behind self.passed events.now) self.state) }
+        ensures verdict { IfOk result (λ ended. ended.verdict ≡ verdict_from self.passed (events_after self.passed events.now) self.state) }
+        ensures checkpoints { IfOk result (λ ended. ended.checkpoints ≡ self.checkpoints ++ fourths 3 (states_from (events_after self.passed events.now) self.state)) }
+        ensures steps { OnOk result (S.counted stepper.new ≡ S.counted stepper.old + stepped_from (events_after self.passed events.now) self.state) }
         ensures few { OnOk result (S.counted stepper.new ≤ S.counted stepper.old + length events.now) }
     {
         runs_are_bounded();

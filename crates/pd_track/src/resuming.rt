@@ -1,6 +1,6 @@
 //! Where a run begins: at its first event, or in a state that an earlier one kept.
 ghost use Rattle.std.specs.Prelude.{◌≡◌, ◌+◌, ◌*◌, ◌-◌, ◌≤◌, ◌<◌, ℕ, length, map, take, drop, slice_get, Some, true, false, IfOk};
-ghost use Rattle.pd_text.specs.Text.{front, AreLines};
+ghost use Rattle.pd_text.specs.Text.{front};
 ghost use Rattle.pd_reparse.specs.Reading.{reading_of, kept_of};
 ghost use Rattle.pd_run.specs.Consulted.{rebound_run};
 ghost use Rattle.pd_run.specs.Run.{states_of};
@@ -41,15 +41,8 @@ fn read_after(alloc: Global, track: &Track, text: &Text, same: usize) -> Result<
     ensures reading { IfOk result (λ r. r.reading ≡ reading_of text.now) }
     ensures kept { IfOk result (λ r. r.kept ≡ kept track.now.text text.now) }
 {
-    have_lines(track.text());
+    track.text().facts();
     reread(alloc, track.reading(), text.lines(), same)
-}
-
-/// A fact of texts: no line holds a newline.
-fn have_lines(text: &Text)
-    ensures { AreLines text.now }
-{
-    let _first = text.lines().line(1);
 }
 
 /// Begins a job's run, which before its first event is in this state, where the track allows.
@@ -103,8 +96,8 @@ fn begin_after(
     }
     first_events();
     runs_are_bounded();
-    have_lines(track.text());
-    have_lines(text);
+    track.text().facts();
+    text.facts();
     runs_only_use();
     let checkpoints = first_of(track, count)?;
     let mut state = state_at(track, count).copy()?;

@@ -24,9 +24,9 @@ pub struct Track {
 }
 
 impl Model for Track {
-    ghost use Rattle.pd_track.specs.Reuse.{Source};
+    ghost use Rattle.pd_track.specs.Reuse.{TrackView};
 
-    ghost Value = { Source };
+    ghost Value = { TrackView };
 
     ghost view = { λ t. t.trail.value };
 }

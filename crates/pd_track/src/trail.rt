@@ -26,9 +26,9 @@ pub struct Trail {
 }
 
 impl Model for Trail {
-    ghost use Rattle.pd_track.specs.Reuse.{Source, IsTrack};
+    ghost use Rattle.pd_track.specs.Reuse.{TrackView, IsTrack};
 
-    ghost Value = { Source };
+    ghost Value = { TrackView };
 
     ghost view = { λ t. record { text = t.text; settings = t.settings } };
 

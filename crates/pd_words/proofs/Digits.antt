@@ -10,7 +10,7 @@ use Rattle.std.proofs.lemmas.List.Sums.{fold-append}
 use Rattle.std.proofs.lemmas.Bool.Decides.{nat_tests}
 use Rattle.pd_words.specs.Words.{are_digits, is_count, number_of}
 
--- a number with one digit more behind it
+-- a number with one digit more after it
 abbrev pub more_by : ℕ → ℕ → ℕ
 more_by n digit = n * 10 + (digit - 48)
 

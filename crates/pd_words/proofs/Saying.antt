@@ -1,4 +1,4 @@
--- What is said of lines, and why nothing was.
+-- What is written of lines, and why nothing was.
 use Rattle.std.proofs.Common.{◌≡◌, ◌≢◌, ◌∙◌, ◌∷◌, ◌++◌, zero, suc, true, false, ℕ, Bool, is_ok, ◌⊎◌, inl, inr, List, [], take, Option, Result, Ok, Err, OnOk, OnErr, refl, ap}
 use Rattle.std.specs.Io.KnownBytes.{Appends}
 use Rattle.clap.specs.Words.{Kinds}
@@ -17,19 +17,19 @@ part_front zero a b = (0, refl)
 part_front (suc n) [] b = (0, refl)
 part_front (suc n) (x ∷ a) b = let part = part_front n a b in (suc part.0, ap (λ (l : List ℕ). x ∷ l) part.1)
 
-part_behind : (a : List ℕ) (n : ℕ) (b : List ℕ) → (m : ℕ) × (a ++ take n b ≡ take m (a ++ b))
-part_behind [] n b = (n, refl)
-part_behind (x ∷ a) n b = let part = part_behind a n b in (suc part.0, ap (λ (l : List ℕ). x ∷ l) part.1)
+part_after : (a : List ℕ) (n : ℕ) (b : List ℕ) → (m : ℕ) × (a ++ take n b ≡ take m (a ++ b))
+part_after [] n b = (n, refl)
+part_after (x ∷ a) n b = let part = part_after a n b in (suc part.0, ap (λ (l : List ℕ). x ∷ l) part.1)
 
--- what was said of a line is said of a longer one, and nothing more was taken
+-- what was written of a line is written of a longer one, and nothing more was taken
 pub says_front : (w w1 : Option (List ℕ)) (a b : List ℕ) → Says false w w1 a → Says false w w1 (a ++ b)
 says_front w w1 a b s = let part = part_front s.2.0 a b in (s.0, s.1, (part.0, s.2.1 ∙ part.1))
 
--- a line, and what was said behind it
+-- a line, and what was written after it
 pub says_then : (told : Bool) (w w1 w2 : Option (List ℕ)) (a b : List ℕ) → Says true w w1 a → Says told w1 w2 b → Says told w w2 (a ++ b)
 says_then true w w1 w2 a b s t = (s.0 ++ t.0, appends_then w w1 w2 s.0 t.0 s.1 t.1, rw (s.2, t.2) refl)
 says_then false w w1 w2 a b s t =
-    let part = part_behind a t.2.0 b in
+    let part = part_after a t.2.0 b in
     (s.0 ++ t.0, appends_then w w1 w2 s.0 t.0 s.1 t.1, (part.0, rw (s.2, t.2.1) part.1))
 
 -- words that aren't refused met want of memory

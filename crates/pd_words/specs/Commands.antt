@@ -19,7 +19,7 @@ fitted lines = if fits_text lines then Some lines else None
 abbrev pub edit_of : ℕ → ℕ → Option (List (List ℕ)) → Option LineEdit
 edit_of from remove insert = option_map (λ lines. record { from = from; remove = remove; insert = lines }) insert
 
--- what stands in an input: a command, or a fault in its place
+-- what is in an input: a command, or a fault in its place
 pub data Item : Type 0 where
   does : Command → Item
   stops : ServeFault → Item
@@ -40,12 +40,12 @@ items_at (asks.Set key value) after rest = does (Set key value) ∷ rest 0
 items_at asks.Show after rest = does Show ∷ rest 0
 items_at asks.Settle after rest = does Settle ∷ rest 0
 
--- what stands in lines, of which the first so many belong to the command before; their end acts as a settle
+-- what is in lines, of which the first so many belong to the command before; their end acts as a settle
 abbrev pub items : ℕ → List (List ℕ) → List Item
 items n [] = does Settle ∷ []
 items zero (line ∷ after) = items_at (request_of line) after (λ n. items n after)
 items (suc n) (line ∷ after) = items n after
 
--- what stands in the octets of an input, cut at newlines, with a carriage return before one dropped
+-- what is in the octets of an input, cut at newlines, with a carriage return before one dropped
 abbrev pub commands : List ℕ → List Item
 commands input = items 0 (lines input)

@@ -1,4 +1,4 @@
--- The definitions of the words of the programs, of their input and commands, and of what is said.
+-- The definitions of the words of the programs, of their input and commands, and of what is written.
 pub mod Chosen
 pub mod Commands
 pub mod Input

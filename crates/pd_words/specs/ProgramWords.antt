@@ -131,11 +131,11 @@ asks_explain words = has_flag (codes "explain") words
 abbrev pub asks_json : List Text → Bool
 asks_json words = has_flag (codes "json") words
 
--- `--workers`, whatever its number, stands beside `--steps` or `--explain`
+-- `--workers`, whatever its number, is beside `--steps` or `--explain`
 abbrev pub are_in_conflict : List Text → Bool
 are_in_conflict words = is_written (codes "workers") words && (asks_steps words || asks_explain words)
 
--- `--only` or `--json` stands without `--explain`
+-- `--only` or `--json` is without `--explain`
 abbrev pub are_lonely : List Text → Bool
 are_lonely words = not (asks_explain words) && (is_written (codes "only") words || asks_json words)
 

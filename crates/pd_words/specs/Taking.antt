@@ -46,7 +46,7 @@ abbrev pub Gives : Option Command → List ℕ → List ℕ → Type 0
 Gives None old new = commands old ≡ does Settle ∷ []
 Gives (Some command) old new = commands old ≡ does command ∷ commands new
 
--- a fault that an input holds stands first in it
+-- a fault that an input holds comes first in it
 abbrev pub FaultIn : ServeFault → List Item → Type 0
 FaultIn BadCommand items = items ≡ stops BadCommand ∷ []
 FaultIn Truncated items = items ≡ stops Truncated ∷ []

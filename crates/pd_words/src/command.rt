@@ -28,7 +28,7 @@ pub enum Command {
 /// Takes the next command off the input, or none at its end.
 ///
 /// # Errors
-/// `BadCommand` and `Truncated` where they stand next in the input, `Read`, `OutOfMemory`.
+/// `BadCommand` and `Truncated` where they come next in the input, `Read`, `OutOfMemory`.
 pub fn next_command<R: Read>(
     alloc: Global,
     intake: &mut Intake,

@@ -5,6 +5,6 @@
 pub struct Exit {
     /// 0 where each row of the last report passes, 1 where one doesn't, 2 at a fault.
     pub status: u8,
-    /// Whether all that was to be said stands on standard error; false is the writer's fault.
+    /// Whether all that was to be written is on standard error; false is the writer's fault.
     pub told: bool,
 }

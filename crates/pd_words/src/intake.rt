@@ -129,7 +129,7 @@ impl Intake {
         }
     }
 
-    /// Moves what stands before the first newline to the line, as far as it fits. The newline goes.
+    /// Moves what is before the first newline to the line, as far as it fits. The newline goes.
     fn take_piece(&mut self, line: &mut Vec<u8>, cap: usize) -> Result<bool, ServeFault>
         requires { length line.old.items ≤ cap }
         ensures piece { IfOk result (λ found. (piece : List ℕ) × CutsPiece piece found self.old.0 self.new.0 × (line.new.items ≡ take cap (line.old.items ++ piece))) }

@@ -1,4 +1,4 @@
-//! The words of the programs and of their input: options, lines, commands, faults, and what is said of them.
+//! The words of the programs and of their input: options, lines, commands, faults, and what is written of them.
 #![tactic(auto)]
 
 mod call_words;

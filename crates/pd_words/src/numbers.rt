@@ -23,7 +23,7 @@ pub fn number(word: &[u8]) -> Option<u64>
     Some(n)
 }
 
-/// A number with one digit more behind it, where it fits.
+/// A number with one digit more after it, where it fits.
 fn with_digit(n: u64, digit: u8) -> Option<u64>
     requires { is_ascii_digit digit ≡ true }
     ensures { let more = n * 10 + (digit - 48) in

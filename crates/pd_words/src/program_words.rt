@@ -49,7 +49,7 @@ pub(crate) fn free_command<'a>(alloc: Global) -> Result<Command<'a>, Error>
     )
 }
 
-/// What each word may be beside the others. Where `--workers` may stand beside all of them, `clap` asks for `--explain` beside
+/// What each word may be beside the others. Where `--workers` may be beside all of them, `clap` asks for `--explain` beside
 /// it too.
 pub(crate) fn ruled_command<'a>(
     alloc: Global,

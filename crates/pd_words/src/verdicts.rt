@@ -1,10 +1,10 @@
 //! The octets of a verdict.
 ghost use Rattle.std.specs.Prelude.{◌≡◌, ◌++◌, OnOk};
 ghost use Rattle.std.specs.Fmt.{decimal};
-ghost use Rattle.pd_words.specs.Verdicts.{verdict_text, kind_word};
+ghost use Rattle.pd_words.specs.Verdicts.{verdict_text};
 
 use itoa::Buffer;
-use pd_run::{Kind, Verdict};
+use pd_run::Verdict;
 use std::alloc::AllocError;
 
 /// Adds the text of a verdict.
@@ -19,7 +19,7 @@ pub fn put_verdict(out: &mut Vec<u8>, verdict: Verdict) -> Result<(), AllocError
         Verdict::Fail(line, kind) => {
             put_number(out, b"fail ", line)?;
             out.extend_from_slice(b" ")?;
-            out.extend_from_slice(kind_word(kind))
+            out.extend_from_slice(kind.word().as_bytes())
         }
         Verdict::Syntax(line) => put_number(out, b"syntax ", line),
         Verdict::Unsupported(line) => put_number(out, b"unsupported ", line),
@@ -37,21 +37,4 @@ pub fn put_number(out: &mut Vec<u8>, word: &[u8], n: usize) -> Result<(), AllocE
     let mut digits = Buffer::new();
     out.extend_from_slice(word)?;
     out.extend_from_slice(digits.format(n).as_bytes())
-}
-
-/// The word for what a script failed at.
-fn kind_word(kind: Kind) -> &'static [u8]
-    ensures { result.now ≡ kind_word kind }
-{
-    match kind {
-        Kind::Time => b"time",
-        Kind::Flags => b"flags",
-        Kind::Seq => b"seq",
-        Kind::Ack => b"ack",
-        Kind::Win => b"win",
-        Kind::Options => b"options",
-        Kind::Result => b"result",
-        Kind::Missing => b"missing",
-        Kind::Backwards => b"backwards",
-    }
 }

@@ -58,14 +58,14 @@ fn are_refused_together(matches: &ArgMatches<'_>) -> bool
     is_in_conflict(matches) || is_lonely(matches)
 }
 
-/// Whether `--workers` stands beside an option that goes without workers.
+/// Whether `--workers` is beside an option that goes without workers.
 fn is_in_conflict(matches: &ArgMatches<'_>) -> bool
     ensures { (words : List Text) → HasMatchesOf pdregress words matches.now → result ≡ are_in_conflict words }
 {
     is_written(matches, "workers") && (has_flag(matches, "steps") || has_flag(matches, "explain"))
 }
 
-/// Whether an option stands without `--explain`, to which it belongs.
+/// Whether an option is without `--explain`, to which it belongs.
 fn is_lonely(matches: &ArgMatches<'_>) -> bool
     ensures { (words : List Text) → HasMatchesOf pdregress words matches.now → result ≡ are_lonely words }
 {

@@ -1,4 +1,4 @@
--- What is said below the line of a refusal.
+-- What is written below the line of a refusal.
 use Rattle.std.proofs.Common.{◌≡◌, ℕ, List, [], ◌++◌, refl}
 use Rattle.pd_explain.specs.BlockLines.{AreIndented}
 use Rattle.pd_record.specs.declared.refusals.NotRecorded.{NotRecorded}

@@ -1,4 +1,4 @@
--- The lines of a recording, one behind another.
+-- The lines of a recording, one after another.
 use Rattle.std.proofs.Common.{◌≡◌, ℕ, ◌+◌, ◌-◌, ◌<◌, nat_le, length, Option, Some, None, unwrap_or, get_or, if◌then◌else◌, Bor, arith, Bool, true, false, not, ◌⊎◌, inl, inr, List, [], ◌∷◌, ◌++◌, take, refl, sym, ap, subst, ◌∙◌, append-nil, cond}
 use Rattle.std.proofs.lemmas.List.{flat_map_more}
 use Rattle.std.proofs.lemmas.Bool.Decides.{nat_tests}
@@ -42,7 +42,7 @@ written_on tr text out new w (inr g) = (
   λ f. not_both tr g.0 f,
 )
 
--- a line, and what a trace has behind it
+-- a line, and what a trace has after it
 pub written_turn : (tr : Bool) (text more : List (List ℕ)) (out mid new line : List ℕ) → IsWritten tr text out → (is_dropped line ≡ false) × (mid ≡ out ++ (line ++ 10 ∷ [])) → GoesOn tr mid new → more ≡ text ++ line ∷ [] → IsWritten tr more new
 written_turn tr text more out mid new line w l g e = subst (λ (t : List (List ℕ)). IsWritten tr t new) (sym e) (written_on tr (text ++ line ∷ []) mid new (written_line tr text out mid line w l.0 l.1) g)
 

@@ -79,7 +79,7 @@ Comes (Ok settings) trace (Err fault) input = ⊥
 Comes (Err fault) trace end input = (end ≡ Err fault) ⊎ (end ≡ Err (Serving OutOfMemory))
 
 -- a recording is written whole with status 0, or some of its first octets with that of a failed write; without one nothing is
--- written, and the lines that tell why are said, with status 1 for a refusal and 2 for a fault
+-- written, and the lines that tell why are written, with status 1 for a refusal and 2 for a fault
 abbrev pub Ends : Result Outcome ProgramFault → Exit → Option (List ℕ) → Option (List ℕ) → Option (List ℕ) → Option (List ℕ) → Type 0
 Ends (Ok (Recorded whole)) exit out_before out_after err_before err_after =
     ((exit.status ≡ 0) × (exit.told ≡ true) × Appends out_before out_after whole.items × Appends err_before err_after [])

@@ -49,7 +49,7 @@ fn put_line(out: &mut Vec<u8>, line: &[u8]) -> Result<(), ServeFault>
     Ok(())
 }
 
-/// Adds the line of an event behind its last line, if a trace is written; whether an event ends there.
+/// Adds the line of an event after its last line, if a trace is written; whether an event ends there.
 fn put_mark(
     alloc: Global,
     out: &mut Vec<u8>,
@@ -94,7 +94,7 @@ fn add_line(out: &mut Vec<u8>, line: &[u8]) -> Result<(), AllocError>
 
 /// The line of an event in a trace.
 fn trace_line(alloc: Global, mark: &Mark) -> Result<Vec<u8>, AllocError> {
-    let standing = pd_explain::Standing {
+    let standing = pd_explain::SenderSnapshot {
         state: mark.standing.state,
         figures: mark.standing.figures,
         expiry: mark.standing.expiry,

@@ -7,7 +7,7 @@ use pd_seat::{CloseFault, Held, Seat};
 use pd_settings::Settings;
 use std::alloc::Global;
 use std::mem;
-use test_rows::{MISSING, REFUSED, Said, Task, Texts, Words, call, move_last, say_acts};
+use test_rows::{GivenJob, MISSING, REFUSED, Said, Texts, Words, call, move_last, say_acts};
 
 /// A book, and what there is of it.
 #[derive(Drop)]
@@ -15,7 +15,7 @@ pub struct Bench {
     held: Held,
     seats: Vec<Seat>,
     away: Vec<Seat>,
-    tasks: Vec<Task>,
+    tasks: Vec<GivenJob>,
 }
 
 /// Makes a call of a book that seats share, the last of these; whether there is such a call.

@@ -26,7 +26,7 @@ const LISTS: &str = "random_lists.txt";
 /// The status where the input or the output failed, or what tells the stories found no memory.
 const NOT_TOLD: u8 = 2;
 
-/// What is told.
+/// What is reported.
 #[derive(Clone, Copy)]
 enum Asked {
     All,

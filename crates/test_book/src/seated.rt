@@ -3,7 +3,7 @@ use pd_book::{Act, Done, Report};
 use pd_seat::{Held, Seat};
 use pd_settings::Value;
 use pd_text::{LineEdit, Lines, Name};
-use test_rows::{Calls, Task, abandoned, changed, finished, started};
+use test_rows::{Calls, GivenJob, abandoned, changed, finished, started};
 
 /// A book that seats share, and one of them.
 #[derive(Drop)]
@@ -29,7 +29,7 @@ impl<'a> Calls for Seated<'a> {
         changed(self.held.set(self.seat, key, value))
     }
 
-    fn start(&mut self) -> Result<Task, &'static str> {
+    fn start(&mut self) -> Result<GivenJob, &'static str> {
         let number = self.seat.number();
         started(self.held.start(self.seat), Some(number))
     }

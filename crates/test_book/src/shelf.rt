@@ -1,6 +1,6 @@
 //! Books alone, and the jobs that they gave.
 use std::alloc::Global;
-use test_rows::{Alone, REFUSED, Said, Task, Texts, Words, call};
+use test_rows::{Alone, GivenJob, REFUSED, Said, Texts, Words, call};
 
 /// How many tracks a book keeps where a story doesn't say.
 const CACHE: usize = 64;
@@ -9,7 +9,7 @@ const CACHE: usize = 64;
 #[derive(Drop)]
 pub struct Shelf {
     book: Alone,
-    tasks: Vec<Task>,
+    tasks: Vec<GivenJob>,
 }
 
 /// Makes a call of a book, the last of these; whether there is such a call.

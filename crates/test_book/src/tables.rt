@@ -4,7 +4,7 @@ use crate::story::Story;
 use std::alloc::{AllocError, Global};
 use test_rows::{Form, Teller, call_of};
 
-/// The story that is told, and what is told of its table.
+/// The story that is told, and what is reported of its table.
 #[derive(Drop)]
 pub struct Tables {
     pub teller: Teller,

@@ -9,7 +9,8 @@ use std::alloc::{AllocError, Global};
 use std::sync::{Mutex, Wait};
 use std::thread::Threads;
 use test_rows::{
-    Calls, Form, Said, Task, Texts, Words, abandoned, call, changed, finished, say_report, started,
+    Calls, Form, GivenJob, Said, Texts, Words, abandoned, call, changed, finished, say_report,
+    started,
 };
 
 /// The size of a book's cache.
@@ -40,7 +41,7 @@ impl<'a, 'b, R: Wait> Calls for Chair<'a, 'b, R> {
         changed(self.desk.set(self.rt, self.seat, key, value))
     }
 
-    fn start(&mut self) -> Result<Task, &'static str> {
+    fn start(&mut self) -> Result<GivenJob, &'static str> {
         let number = self.seat.number();
         started(self.desk.start(self.rt, self.seat), Some(number))
     }
@@ -131,7 +132,7 @@ impl<'a, R: Wait> Shuts for Door<'a, R> {
 /// Makes a call that is written, and says its answer.
 pub fn call_at(
     chair: &mut impl Sits,
-    tasks: &mut Vec<Task>,
+    tasks: &mut Vec<GivenJob>,
     texts: &Texts,
     word: &str,
     words: &mut Words<'_>,

@@ -3,14 +3,14 @@ use crate::chairs::{CACHE, say_shown};
 use pd_book::{Act, Report, Ruling};
 use pd_text::{LineEdit, LineList, Name, Text};
 use std::alloc::Global;
-use test_rows::{Alone, Calls, Said, Task, Texts, Words, call, finish};
+use test_rows::{Alone, Calls, GivenJob, Said, Texts, Words, call, finish};
 
 /// A book, and the jobs that were started there.
 #[derive(Drop)]
 pub struct Hand {
     alloc: Global,
     book: Alone,
-    tasks: Vec<Task>,
+    tasks: Vec<GivenJob>,
     texts: Texts,
 }
 

@@ -72,10 +72,10 @@ fn say_rest(said: &mut Said, act: &Act) {
     }
 }
 
-fn say_name(said: &mut Said, name: &Name, behind: &str) {
+fn say_name(said: &mut Said, name: &Name, after: &str) {
     said.say(" ");
     said.say_octets(name.as_slice());
-    said.say(behind);
+    said.say(after);
 }
 
 /// Says the first line of an edit, how many lines go, and those that come.

@@ -2,7 +2,7 @@
 use crate::calls::Calls;
 use crate::replies::{abandoned, changed, finished, started};
 use crate::said::REFUSED;
-use crate::tasks::Task;
+use crate::tasks::GivenJob;
 use pd_book::{Act, Book, Done, Report};
 use pd_settings::{Settings, Value};
 use pd_text::{LineEdit, Lines, Name};
@@ -40,7 +40,7 @@ impl Calls for Alone {
         changed(self.book.set(key, value))
     }
 
-    fn start(&mut self) -> Result<Task, &'static str> {
+    fn start(&mut self) -> Result<GivenJob, &'static str> {
         started(self.book.start(), None)
     }
 

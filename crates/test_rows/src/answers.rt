@@ -32,10 +32,10 @@ fn parts(verdict: Verdict) -> (&'static str, &'static str, usize, &'static str) 
 }
 
 pub fn say_verdict(said: &mut Said, verdict: Verdict) {
-    let (full, short, number, behind) = parts(verdict);
+    let (full, short, number, after) = parts(verdict);
     match said.form {
         Form::Short => said.count(short, number as u64, ""),
-        Form::Full => said.count(full, number as u64, behind),
+        Form::Full => said.count(full, number as u64, after),
     }
 }
 

@@ -3,7 +3,7 @@ use crate::changes::change;
 use crate::jobs::work;
 use crate::looks::look;
 use crate::said::Said;
-use crate::tasks::Task;
+use crate::tasks::GivenJob;
 use crate::texts::Texts;
 use crate::words::Words;
 use pd_book::{Act, Done, Report};
@@ -20,7 +20,7 @@ pub trait Calls {
 
     fn set(&mut self, key: &[u8], value: Value) -> &'static str;
     /// The next job, or why there is none.
-    fn start(&mut self) -> Result<Task, &'static str>;
+    fn start(&mut self) -> Result<GivenJob, &'static str>;
     /// Ends a job that this seat started, or another, with a result.
     fn finish(&mut self, done: &Done, seat: Option<usize>) -> &'static str;
     /// Gives up a job that this seat started, or another.
@@ -37,7 +37,7 @@ pub trait Calls {
 /// many verdicts owed, as there were.
 pub fn call<C: Calls>(
     book: &mut C,
-    tasks: &mut Vec<Task>,
+    tasks: &mut Vec<GivenJob>,
     texts: &Texts,
     word: &str,
     words: &mut Words<'_>,

@@ -4,7 +4,7 @@ ghost use Rattle.std.specs.Prelude.{◌<◌, vec_len, vec_capacity};
 use crate::answers::{say_ran, say_start};
 use crate::calls::Calls;
 use crate::said::{MISSING, REFUSED, Said};
-use crate::tasks::{Ran, Task, run};
+use crate::tasks::{GivenJob, Ran, run};
 use crate::texts::Texts;
 use crate::values::with;
 use crate::words::Words;
@@ -16,7 +16,7 @@ use std::alloc::Global;
 /// Starts, runs or ends a job; whether there is such a call.
 pub fn work<C: Calls>(
     book: &mut C,
-    tasks: &mut Vec<Task>,
+    tasks: &mut Vec<GivenJob>,
     texts: &Texts,
     word: &str,
     words: &mut Words<'_>,
@@ -25,6 +25,7 @@ pub fn work<C: Calls>(
     match word {
         "start" => start(book, tasks, said),
         "run" => say_run(tasks, texts, words, said),
+        "checkpoint" => say_checkpoint(tasks, texts, words, said),
         "finish" => say_finish(book, tasks, texts, words, said),
         "give" => give(book, tasks, texts, words, said),
         "abandon" => abandon(book, tasks, words, said),
@@ -34,7 +35,7 @@ pub fn work<C: Calls>(
 }
 
 /// Starts a job, once there is room to keep it.
-fn start<C: Calls>(book: &mut C, tasks: &mut Vec<Task>, said: &mut Said) {
+fn start<C: Calls>(book: &mut C, tasks: &mut Vec<GivenJob>, said: &mut Said) {
     if tasks.reserve(1).is_err() {
         return said.say(REFUSED);
     }
@@ -44,7 +45,7 @@ fn start<C: Calls>(book: &mut C, tasks: &mut Vec<Task>, said: &mut Said) {
     }
 }
 
-fn keep(tasks: &mut Vec<Task>, task: Task, said: &mut Said)
+fn keep(tasks: &mut Vec<GivenJob>, task: GivenJob, said: &mut Said)
     requires { vec_len tasks.old < vec_capacity tasks.old }
 {
     say_start(said, &task.job);
@@ -52,12 +53,12 @@ fn keep(tasks: &mut Vec<Task>, task: Task, said: &mut Said)
 }
 
 /// The job of a number, of those from 1 on.
-pub fn job(tasks: &[Task], number: u64) -> Option<&Task> {
+pub fn job(tasks: &[GivenJob], number: u64) -> Option<&GivenJob> {
     tasks.get((number as usize).wrapping_sub(1))
 }
 
 /// The seat that a job was given to.
-fn seat_of(tasks: &[Task], number: u64) -> Option<usize> {
+fn seat_of(tasks: &[GivenJob], number: u64) -> Option<usize> {
     match job(tasks, number) {
         Some(task) => task.seat,
         None => None,
@@ -66,7 +67,7 @@ fn seat_of(tasks: &[Task], number: u64) -> Option<usize> {
 
 /// The result of the job of a number, or why there is none.
 fn result_of<'a>(
-    tasks: &'a mut Vec<Task>,
+    tasks: &'a mut Vec<GivenJob>,
     texts: &Texts,
     number: u64,
 ) -> Result<&'a Ran, &'static str> {
@@ -77,15 +78,31 @@ fn result_of<'a>(
 }
 
 /// Runs a job, and says its verdict and its steps.
-fn say_run(tasks: &mut Vec<Task>, texts: &Texts, words: &mut Words<'_>, said: &mut Said) {
+fn say_run(tasks: &mut Vec<GivenJob>, texts: &Texts, words: &mut Words<'_>, said: &mut Said) {
     match result_of(tasks, texts, words.number()) {
         Ok(ran) => say_ran(said, ran.done.verdict(), ran.steps),
         Err(word) => said.say(word),
     }
 }
 
+/// Says the clock of a state that the run of a job leaves: for the number k the one after 4k + 4 events.
+fn say_checkpoint(
+    tasks: &mut Vec<GivenJob>,
+    texts: &Texts,
+    words: &mut Words<'_>,
+    said: &mut Said,
+) {
+    match result_of(tasks, texts, words.number()) {
+        Ok(ran) => match ran.done.track().checkpoint(words.number() as usize) {
+            Some(checkpoint) => said.count("clock ", checkpoint.state().clock(), " us"),
+            None => said.say("none"),
+        },
+        Err(word) => said.say(word),
+    }
+}
+
 /// Says how many steps a job took, which is run first if it wasn't yet.
-pub fn say_steps(tasks: &mut Vec<Task>, texts: &Texts, number: u64, said: &mut Said) {
+pub fn say_steps(tasks: &mut Vec<GivenJob>, texts: &Texts, number: u64, said: &mut Said) {
     match result_of(tasks, texts, number) {
         Ok(ran) => said.number(ran.steps),
         Err(word) => said.say(word),
@@ -95,7 +112,7 @@ pub fn say_steps(tasks: &mut Vec<Task>, texts: &Texts, number: u64, said: &mut S
 /// Finishes a job, which is run first if it wasn't yet.
 pub fn finish<C: Calls>(
     book: &mut C,
-    tasks: &mut Vec<Task>,
+    tasks: &mut Vec<GivenJob>,
     texts: &Texts,
     number: u64,
 ) -> &'static str {
@@ -108,7 +125,7 @@ pub fn finish<C: Calls>(
 
 fn say_finish<C: Calls>(
     book: &mut C,
-    tasks: &mut Vec<Task>,
+    tasks: &mut Vec<GivenJob>,
     texts: &Texts,
     words: &mut Words<'_>,
     said: &mut Said,
@@ -119,7 +136,7 @@ fn say_finish<C: Calls>(
 /// Finishes a job with the result of one that no book handed out.
 fn give<C: Calls>(
     book: &mut C,
-    tasks: &[Task],
+    tasks: &[GivenJob],
     texts: &Texts,
     words: &mut Words<'_>,
     said: &mut Said,
@@ -139,7 +156,7 @@ fn finish_foreign<C: Calls>(book: &mut C, alloc: Global, job: Job) -> &'static s
 
 /// The job of the number, the script, the tolerance and the text that a call names, with the other settings of the job of
 /// that number.
-fn foreign(tasks: &[Task], texts: &Texts, words: &mut Words<'_>) -> Result<Job, TextFault> {
+fn foreign(tasks: &[GivenJob], texts: &Texts, words: &mut Words<'_>) -> Result<Job, TextFault> {
     let number = words.number();
     let octets = words.name();
     let settings = settings_like(tasks, number, words.number());
@@ -149,7 +166,7 @@ fn foreign(tasks: &[Task], texts: &Texts, words: &mut Words<'_>) -> Result<Job, 
 }
 
 /// The settings of the job of a number, or the defaults where there is none, with a tolerance in microseconds.
-fn settings_like(tasks: &[Task], number: u64, tolerance: u64) -> Settings {
+fn settings_like(tasks: &[GivenJob], number: u64, tolerance: u64) -> Settings {
     let settings = match job(tasks, number) {
         Some(task) => task.job.settings(),
         None => Settings::new(),
@@ -157,7 +174,7 @@ fn settings_like(tasks: &[Task], number: u64, tolerance: u64) -> Settings {
     with(&settings, b"tolerance_us", Value::Number(tolerance)).unwrap_or(settings)
 }
 
-fn abandon<C: Calls>(book: &mut C, tasks: &[Task], words: &mut Words<'_>, said: &mut Said) {
+fn abandon<C: Calls>(book: &mut C, tasks: &[GivenJob], words: &mut Words<'_>, said: &mut Said) {
     let number = words.number();
     said.say(book.abandon(number, seat_of(tasks, number)));
 }

@@ -26,7 +26,7 @@ pub use jobs::{finish, say_steps};
 pub use moves::move_last;
 pub use replies::{abandoned, changed, finished, started};
 pub use said::{Form, MISSING, REFUSED, Said};
-pub use tasks::Task;
+pub use tasks::GivenJob;
 pub use teller::{Teller, call_of};
 pub use texts::Texts;
 pub use values::{say_value, value_of, with};

@@ -4,14 +4,14 @@ use crate::answers::{say_job, say_owed, say_report};
 use crate::calls::Calls;
 use crate::jobs::job;
 use crate::said::{MISSING, Said};
-use crate::tasks::Task;
+use crate::tasks::GivenJob;
 use crate::words::Words;
 use pd_book::Act;
 
 /// Looks at a book, or at a job; whether there is such a call.
 pub fn look<C: Calls>(
     book: &mut C,
-    tasks: &[Task],
+    tasks: &[GivenJob],
     word: &str,
     words: &mut Words<'_>,
     said: &mut Said,
@@ -37,7 +37,7 @@ fn look_back(acts: &[Act], word: &str, said: &mut Said) -> bool {
     true
 }
 
-fn say_one(tasks: &[Task], words: &mut Words<'_>, said: &mut Said) {
+fn say_one(tasks: &[GivenJob], words: &mut Words<'_>, said: &mut Said) {
     match job(tasks, words.number()) {
         Some(task) => say_job(said, &task.job),
         None => said.say(MISSING),

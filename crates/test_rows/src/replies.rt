@@ -1,5 +1,5 @@
 //! The replies of a book in words.
-use crate::tasks::Task;
+use crate::tasks::GivenJob;
 use pd_book::{BookFault, FinishFault, Job, Ruling};
 
 /// `ok`, or the refusal of a change.
@@ -14,9 +14,9 @@ pub fn changed(reply: Result<(), BookFault>) -> &'static str {
 pub fn started(
     reply: Result<Option<Job>, BookFault>,
     seat: Option<usize>,
-) -> Result<Task, &'static str> {
+) -> Result<GivenJob, &'static str> {
     match reply {
-        Ok(Some(job)) => Ok(Task::new(job, seat)),
+        Ok(Some(job)) => Ok(GivenJob::new(job, seat)),
         Ok(None) => Err("none"),
         Err(fault) => Err(fault.text()),
     }

@@ -93,11 +93,11 @@ impl Said {
         self.is_whole &= self.text.push(char::from(digit)).is_ok();
     }
 
-    /// Says a number, what stands before it and what behind it.
-    pub fn count(&mut self, before: &str, number: u64, behind: &str) {
+    /// Says a number, what is before it and what after it.
+    pub fn count(&mut self, before: &str, number: u64, after: &str) {
         self.say(before);
         self.number(number);
-        self.say(behind);
+        self.say(after);
     }
 
     /// Whether the call found no memory.

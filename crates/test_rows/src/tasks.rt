@@ -5,7 +5,7 @@ use std::alloc::{AllocError, Global};
 
 /// A job that a book gave, the seat that it gave it to, if it has seats, and the result once the job was run.
 #[derive(Drop)]
-pub struct Task {
+pub struct GivenJob {
     pub job: Job,
     pub seat: Option<usize>,
     ran: Option<Ran>,
@@ -18,9 +18,9 @@ pub struct Ran {
     pub steps: u64,
 }
 
-impl Task {
-    pub fn new(job: Job, seat: Option<usize>) -> Task {
-        Task {
+impl GivenJob {
+    pub fn new(job: Job, seat: Option<usize>) -> GivenJob {
+        GivenJob {
             job,
             seat,
             ran: None,

@@ -9,7 +9,7 @@ const GIVES: &str = " -> ";
 
 const OR: &str = " or ";
 
-/// What stands before a mark, and what behind it: nothing where there is no mark.
+/// What is before a mark, and what after it: nothing where there is no mark.
 fn halves<'a>(text: &'a str, mark: &str) -> (&'a str, &'a str) {
     text.split_once(mark).unwrap_or((text, ""))
 }

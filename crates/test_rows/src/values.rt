@@ -8,20 +8,7 @@ pub fn with(settings: &Settings, key: &[u8], value: Value) -> Result<Settings, S
 }
 
 pub fn value_of(settings: &Settings, key: Key) -> Value {
-    match key {
-        Key::Mss => Value::Number(u64::from(settings.mss)),
-        Key::Sack => Value::Truth(settings.sack),
-        Key::Wscale => Value::Number(u64::from(settings.wscale)),
-        Key::Sndbuf => Value::Number(u64::from(settings.sndbuf)),
-        Key::RcvWnd => Value::Number(u64::from(settings.rcv_wnd)),
-        Key::InitialSsthresh => Value::Number(u64::from(settings.initial_ssthresh)),
-        Key::InitialWindow => Value::Word(settings.initial_window),
-        Key::MinRtoUs => Value::Number(settings.min_rto_us),
-        Key::MaxRtoUs => Value::Number(settings.max_rto_us),
-        Key::GranularityUs => Value::Number(settings.granularity_us),
-        Key::Nagle => Value::Truth(settings.nagle),
-        Key::ToleranceUs => Value::Number(settings.tolerance_us),
-    }
+    settings.value_at(key)
 }
 
 pub fn say_value(said: &mut Said, value: Value) {

@@ -223,7 +223,7 @@ impl Trial {
         row.expect("whether recovery goes on", is_recovering);
         self.compare_runs(row);
         self.compare_octet(row);
-        self.compare_behind(row);
+        self.compare_after(row);
         row.expect_segment("the rescue", self.board.rescue());
     }
 
@@ -249,7 +249,7 @@ impl Trial {
     }
 
     /// Compares what is answered where octets were sent again up to a number.
-    fn compare_behind(&self, row: &mut Row<'_>) {
+    fn compare_after(&self, row: &mut Row<'_>) {
         let high_rxt = row.octets();
         row.expect("the pipe", self.board.pipe(high_rxt));
         row.expect_some("the next lost octet", self.board.next_lost(high_rxt));

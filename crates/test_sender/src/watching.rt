@@ -8,7 +8,7 @@ use pd_settings::Settings;
 use std::alloc::{AllocError, Global};
 
 /// The stepper of the product, and the names of the states so far, each where it differs from the one before. A run goes
-/// on with a copy behind each event, and where it stops a copy is tried too.
+/// on with a copy after each event, and where it stops a copy is tried too.
 #[derive(Drop)]
 pub struct Watching {
     steps: Plain,

@@ -1,7 +1,7 @@
 //! Jobs that a book hands out, and results that come back.
 ghost use Rattle.std.specs.Prelude.{◌≡◌, ◌≢◌, ◌+◌, ◌≤◌, is_some, length, IsSome, OnOk, OnErr, IfOk, IfErr, IfSome, None, Some, option_map, option_copied};
 ghost use Rattle.std.specs.Map.Iter.{deref_pair};
-ghost use Rattle.pd_book.specs.Acts.{present, stands, next, started, jobs, job, fresh, ruling};
+ghost use Rattle.pd_book.specs.Acts.{present, stands, next, started, jobs, job, is_unchanged, ruling};
 ghost use Rattle.pd_book.specs.Report.{shown};
 ghost use Rattle.pd_book.specs.Story.{told, told_start, handed_task};
 ghost use Rattle.pd_book.specs.Given.{GivesStart, GivesFinish, GivesAbandon};
@@ -122,10 +122,10 @@ impl Book {
         self.outstanding(number).is_some()
     }
 
-    /// Whether the script of an outstanding job stands unchanged since the job's start.
+    /// Whether the script of an outstanding job is unchanged since the job's start.
     fn is_fresh(&self, done: &Done) -> bool
         requires { job self.now.story.opening self.now.story.past done.now.number ≡ Some done.now }
-        ensures { result ≡ fresh self.now.story.past done.now }
+        ensures { result ≡ is_unchanged self.now.story.past done.now }
     {
         self.records.scripts.runs(done.name(), done.number())
     }

@@ -2,23 +2,23 @@
 ghost use Rattle.std.specs.Prelude.{◌≡◌};
 ghost use Rattle.pd_explain.specs.States.{state_word};
 
-use crate::causes::{Awaited, Cause, Comparison, Failed, Reply, Setback, Standing, Wait};
+use crate::causes::{Awaited, Cause, Comparison, Failed, Reply, SenderSnapshot, Setback, Wait};
 use crate::rules::Rule;
 use pd_host::{ConnState, Figures, Recovery, Windows};
 use std::alloc::{AllocError, Global};
 
-/// A fact that is told.
+/// A fact that is reported.
 #[derive(Clone, Copy)]
 pub struct Fact<'a> {
     /// Its name in text; one without a name stands only in JSON.
     pub label: &'static str,
     /// Its key in JSON.
     pub key: &'static str,
-    /// What is told.
+    /// What is reported.
     pub value: Told<'a>,
 }
 
-/// What is told.
+/// What is reported.
 #[derive(Clone, Copy)]
 pub enum Told<'a> {
     /// Octets, as a script has them.
@@ -35,7 +35,7 @@ pub enum Told<'a> {
 
 use Told::{Moment, Nothing, Number, Octets, Words};
 
-/// Facts in the order in which they are told.
+/// Facts in the order in which they are reported.
 pub type Facts<'a> = Vec<Fact<'a>>;
 
 /// A fact with its name in text and its key in JSON.
@@ -48,7 +48,7 @@ fn figure<'a>(label: &'static str, key: &'static str, number: u32) -> Fact<'a> {
     named(label, key, Number(u64::from(number)))
 }
 
-/// What is told of a cause, but for a refusal of the grammar.
+/// What is reported of a cause, but for a refusal of the grammar.
 ///
 /// # Errors
 /// `AllocError` where a growth is refused.
@@ -163,13 +163,16 @@ fn at_or<'a>(moment: Option<u64>, nothing: &'static str) -> Told<'a> {
 ///
 /// # Errors
 /// `AllocError` where a growth is refused.
-pub fn facts_of_sender<'a>(alloc: Global, standing: &Standing) -> Result<Facts<'a>, AllocError> {
+pub fn facts_of_sender<'a>(
+    alloc: Global,
+    standing: &SenderSnapshot,
+) -> Result<Facts<'a>, AllocError> {
     let mut facts = Vec::new(alloc);
     put_sender(&mut facts, standing)?;
     Ok(facts)
 }
 
-fn put_sender<'a>(facts: &mut Facts<'a>, standing: &Standing) -> Result<(), AllocError> {
+fn put_sender<'a>(facts: &mut Facts<'a>, standing: &SenderSnapshot) -> Result<(), AllocError> {
     let Some(figures) = standing.figures else {
         return facts.extend_from_slice(&[named("connection", "connection", Words("none"))]);
     };

@@ -13,21 +13,6 @@ pub fn verdict_name(verdict: Verdict) -> &'static str {
     }
 }
 
-/// The name of what differs first, as in a report.
-pub fn kind_name(kind: Kind) -> &'static str {
-    match kind {
-        Kind::Time => "time",
-        Kind::Flags => "flags",
-        Kind::Seq => "seq",
-        Kind::Ack => "ack",
-        Kind::Win => "win",
-        Kind::Options => "options",
-        Kind::Result => "result",
-        Kind::Missing => "missing",
-        Kind::Backwards => "backwards",
-    }
-}
-
 /// What a verdict says.
 pub fn verdict_words(verdict: Verdict) -> &'static str {
     match verdict {

@@ -1,7 +1,7 @@
 //! The block of an explanation as a JSON object.
 use crate::blocks::facts::{Fact, Told, facts_of, facts_of_sender, named, state_name};
-use crate::blocks::headings::{kind_name, verdict_name, verdict_words};
-use crate::causes::{Cause, Failure, Standing};
+use crate::blocks::headings::{verdict_name, verdict_words};
+use crate::causes::{Cause, Failure, SenderSnapshot};
 use crate::explanations::Explanation;
 use crate::refusals::Refusal;
 use crate::shown::as_shown;
@@ -35,7 +35,7 @@ fn line_of(alloc: Global, object: Members) -> Result<Vec<u8>, AllocError> {
     Ok(out)
 }
 
-/// Adds what stands in the first line of a text.
+/// Adds what is in the first line of a text.
 fn put_heading(
     alloc: Global,
     object: &mut Members,
@@ -57,13 +57,13 @@ fn put_heading(
         Verdict::Fail(_, kind) => put_facts(
             alloc,
             object,
-            &[named("", "kind", Told::Words(kind_name(kind)))],
+            &[named("", "kind", Told::Words(kind.word()))],
         ),
         _ => Ok(()),
     }
 }
 
-/// Adds what is told of a cause.
+/// Adds what is reported of a cause.
 fn put_cause(alloc: Global, object: &mut Members, cause: &Cause) -> Result<(), AllocError> {
     put_facts(alloc, object, &facts_of(alloc, cause)?)?;
     match cause {
@@ -122,7 +122,7 @@ fn packets_of(alloc: Global, packets: &[Vec<u8>]) -> Result<Value, AllocError> {
 }
 
 /// How a sender stands as an object.
-fn state_of(alloc: Global, standing: &Standing) -> Result<Value, AllocError> {
+fn state_of(alloc: Global, standing: &SenderSnapshot) -> Result<Value, AllocError> {
     let mut state = Map::new(alloc);
     let name = Told::Words(state_name(standing.state));
     put_facts(alloc, &mut state, &[named("", "name", name)])?;
@@ -130,7 +130,7 @@ fn state_of(alloc: Global, standing: &Standing) -> Result<Value, AllocError> {
     Ok(Value::Object(state))
 }
 
-/// Adds the line at which no script goes on, the column of its token, and what could stand there.
+/// Adds the line at which no script goes on, the column of its token, and what could be there.
 fn put_refusal(alloc: Global, object: &mut Members, refusal: &Refusal) -> Result<(), AllocError> {
     put(object, alloc, "text", letters(alloc, &refusal.text)?)?;
     let column = match refusal.mark {

@@ -5,8 +5,8 @@ ghost use Rattle.pd_explain.specs.BlockLines.{AreIndented, IsBlock};
 ghost use Rattle.pd_explain.specs.Inner.{AddsLines};
 
 use crate::blocks::facts::{Fact, Told, facts_of, facts_of_sender, state_name};
-use crate::blocks::headings::{kind_name, verdict_name, verdict_words};
-use crate::causes::{Cause, Failure, Standing, Untaken};
+use crate::blocks::headings::{verdict_name, verdict_words};
+use crate::causes::{Cause, Failure, SenderSnapshot, Untaken};
 use crate::explanations::Explanation;
 use crate::refusals::Refusal;
 use crate::shown::{as_shown, cut_around, cut_line};
@@ -59,14 +59,14 @@ fn heading(alloc: Global, name: &Name, explanation: &Explanation) -> Result<Vec<
     put_words(&mut line, verdict_name(explanation.verdict))?;
     if let Verdict::Fail(_, kind) = explanation.verdict {
         put_words(&mut line, " ")?;
-        put_words(&mut line, kind_name(kind))?;
+        put_words(&mut line, kind.word())?;
     }
     put_words(&mut line, ": ")?;
     put_words(&mut line, verdict_words(explanation.verdict))?;
     as_shown(alloc, &line)
 }
 
-/// Adds what is told of a cause.
+/// Adds what is reported of a cause.
 #[tactic(auto, using(crate::proofs::BlockLemmas::then_lines))]
 fn put_cause(alloc: Global, out: &mut Vec<u8>, cause: &Cause) -> Result<(), AllocError>
     ensures { OnOk result (AddsLines out.old.items out.new.items) }
@@ -131,7 +131,7 @@ fn put_fact(alloc: Global, out: &mut Vec<u8>, label: &str, told: Told<'_>) -> Re
     put_line(alloc, out, &line)
 }
 
-/// Adds what is told; octets as they are.
+/// Adds what is reported; octets as they are.
 fn put_told(alloc: Global, out: &mut Vec<u8>, told: Told<'_>) -> Result<(), AllocError> {
     match told {
         Told::Octets(octets) => out.extend_from_slice(octets),
@@ -166,7 +166,11 @@ fn put_untaken(alloc: Global, out: &mut Vec<u8>, untaken: &Untaken) -> Result<()
 }
 
 /// Adds how the sender stands, in one line.
-fn put_standing(alloc: Global, out: &mut Vec<u8>, standing: &Standing) -> Result<(), AllocError>
+fn put_standing(
+    alloc: Global,
+    out: &mut Vec<u8>,
+    standing: &SenderSnapshot,
+) -> Result<(), AllocError>
     ensures { OnOk result (AddsLines out.old.items out.new.items) }
 {
     let mut line = Vec::new(alloc);
@@ -179,13 +183,17 @@ fn put_standing(alloc: Global, out: &mut Vec<u8>, standing: &Standing) -> Result
 ///
 /// # Errors
 /// `AllocError` where a growth is refused.
-pub fn write_standing(alloc: Global, standing: &Standing) -> Result<Vec<u8>, AllocError> {
+pub fn write_standing(alloc: Global, standing: &SenderSnapshot) -> Result<Vec<u8>, AllocError> {
     let mut out = Vec::new(alloc);
     put_state(alloc, &mut out, standing)?;
     Ok(out)
 }
 
-fn put_state(alloc: Global, out: &mut Vec<u8>, standing: &Standing) -> Result<(), AllocError> {
+fn put_state(
+    alloc: Global,
+    out: &mut Vec<u8>,
+    standing: &SenderSnapshot,
+) -> Result<(), AllocError> {
     put_words(out, state_name(standing.state))?;
     for fact in &facts_of_sender(alloc, standing)? {
         put_figure(alloc, out, fact)?;
@@ -200,7 +208,7 @@ fn put_figure(alloc: Global, out: &mut Vec<u8>, fact: &Fact<'_>) -> Result<(), A
     put_told(alloc, out, fact.value)
 }
 
-/// Adds the line at which no script goes on, its token marked, and what could stand there.
+/// Adds the line at which no script goes on, its token marked, and what could be there.
 #[tactic(auto, using(crate::proofs::BlockLemmas::then_lines))]
 fn put_refusal(alloc: Global, out: &mut Vec<u8>, refusal: &Refusal) -> Result<(), AllocError>
     ensures { OnOk result (AddsLines out.old.items out.new.items) }
@@ -246,7 +254,7 @@ fn put_mark(alloc: Global, out: &mut Vec<u8>, column: usize) -> Result<(), Alloc
     put_line(alloc, out, &line)
 }
 
-/// Adds what could stand there, as a list in a sentence.
+/// Adds what could be there, as a list in a sentence.
 fn put_expected(
     alloc: Global,
     out: &mut Vec<u8>,
@@ -263,7 +271,7 @@ fn put_expected(
     put_line(alloc, out, &line)
 }
 
-/// What stands before an item of a list of so many.
+/// What is before an item of a list of so many.
 fn before_item(place: usize, count: usize) -> &'static str {
     if place == 0 {
         " "

@@ -104,7 +104,7 @@ fn lined_up(
     laid(alloc, time, &parts, other_time, &others)
 }
 
-/// The same of the parts: what stands on the right of a part is laid first.
+/// The same of the parts: what is on the right of a part is laid first.
 fn laid(
     alloc: Global,
     time: &[u8],

@@ -13,7 +13,7 @@ ghost use Rattle.pd_explain.specs.Shown.{shown};
 
 use crate::causes::columns::{Pair, event_of, event_sent, pair_of};
 use crate::causes::failures::{
-    Awaited, Comparison, Failed, Failure, Reply, Setback, Standing, Untaken, Wait,
+    Awaited, Comparison, Failed, Failure, Reply, SenderSnapshot, Setback, Untaken, Wait,
 };
 use crate::causes::reasons::Reason;
 use crate::causes::writings::Writing;
@@ -26,7 +26,7 @@ use pd_script::{Action, Event, Packet, Time};
 use pd_seg::{Answer, Sent};
 use std::alloc::{AllocError, Global};
 
-/// The most untaken packets that are told one by one.
+/// The most untaken packets that are listed one by one.
 const MAX_UNTAKEN: usize = 10;
 
 /// What of an event that stopped a run, and is written so, didn't happen as written; nothing where a rule stopped it.
@@ -99,11 +99,11 @@ fn failure(alloc: Global, stop: &Stopped, failed: Failed) -> Result<Failure, All
     })
 }
 
-fn standing(run: &RunState) -> Standing
+fn standing(run: &RunState) -> SenderSnapshot
     ensures { result ≡ standing_of run.now.host }
 {
     let host = run.host();
-    Standing {
+    SenderSnapshot {
         state: host.state(),
         figures: host.figures(),
         expiry: host.deadline(),
@@ -143,7 +143,7 @@ fn first_moment(time: Time) -> u64 {
     }
 }
 
-/// What is told of an awaited event, which is shown so.
+/// What is reported of an awaited event, which is shown so.
 fn wait(
     alloc: Global,
     event: &Event,

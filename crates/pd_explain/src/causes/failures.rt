@@ -1,4 +1,4 @@
-//! What is told of an event that didn't happen as written. Texts are octets as a script has them, neither shown nor cut.
+//! What is reported of an event that didn't happen as written. Texts are octets as a script has them, neither shown nor cut.
 use crate::causes::reasons::Reason;
 use pd_host::{ConnState, Figures};
 use pd_match::Kind;
@@ -11,7 +11,7 @@ pub struct Failure {
     /// The packets that were put out and not taken, the one compared left out.
     pub untaken: Untaken,
     /// The sender at the stop.
-    pub standing: Standing,
+    pub standing: SenderSnapshot,
 }
 
 /// What failed.
@@ -101,7 +101,7 @@ pub struct Untaken {
 
 /// How a sender stands.
 #[derive(Clone, Copy)]
-pub struct Standing {
+pub struct SenderSnapshot {
     /// The name of its state.
     pub state: ConnState,
     /// The numbers of its connection, if it has one.

@@ -20,12 +20,12 @@ pub enum Reason {
 
 /// A piece of a sentence.
 #[derive(Clone, Copy)]
-enum Piece {
+enum Phrase {
     Words(&'static str),
     Number(u32),
 }
 
-use Piece::{Number, Words};
+use Phrase::{Number, Words};
 
 /// The numbers that reasons name, 0 where there is no connection.
 #[derive(Clone, Copy)]
@@ -224,7 +224,7 @@ fn said_of_segment(alloc: Global, hold: Hold, numbers: Numbers) -> Result<Vec<u8
 }
 
 /// The pieces one after the other.
-fn said(alloc: Global, pieces: &[Piece]) -> Result<Vec<u8>, AllocError> {
+fn said(alloc: Global, pieces: &[Phrase]) -> Result<Vec<u8>, AllocError> {
     let mut buffer = Buffer::new();
     let mut words = Vec::new(alloc);
     for piece in pieces {

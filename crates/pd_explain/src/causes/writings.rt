@@ -17,12 +17,12 @@ pub struct Writing {
 
 /// From a place up to another one.
 #[derive(Clone, Copy)]
-struct Extent {
+struct Stretch {
     from: Place,
     to: Place,
 }
 
-/// The octets of an event as written, where so many others stand between a place and it.
+/// The octets of an event as written, where so many others are between a place and it.
 ///
 /// # Errors
 /// `AllocError` where a growth is refused.
@@ -55,18 +55,18 @@ fn place_after(alloc: Global, lines: &Lines, place: Place) -> Result<Place, Allo
 /// Where the parts of an event stand, as far as it was read.
 #[derive(Clone, Copy)]
 struct EventParts {
-    event: Extent,
-    time: Extent,
-    result: Extent,
+    event: Stretch,
+    time: Stretch,
+    result: Stretch,
     /// What was read last.
-    reading: Reading,
+    reading: EventPart,
     /// How many brackets are open.
     depth: usize,
 }
 
 /// What of an event was read last.
 #[derive(Clone, Copy, PartialEq, Eq)]
-enum Reading {
+enum EventPart {
     Time,
     /// The arrow of a packet, and what follows it.
     Packet,
@@ -79,12 +79,12 @@ enum Reading {
 
 /// Where the parts of the event between two places stand.
 fn parts_of(lines: &Lines, from: Place, until: Place) -> EventParts {
-    let nothing = Extent { from, to: from };
+    let nothing = Stretch { from, to: from };
     let mut parts = EventParts {
         event: nothing,
         time: nothing,
         result: nothing,
-        reading: Reading::Time,
+        reading: EventPart::Time,
         depth: 0,
     };
     let mut place = from;
@@ -124,28 +124,28 @@ impl EventParts {
             _ => {}
         }
         match (self.reading, parts.reading) {
-            (Reading::Time, Reading::Time) => parts.time.to = token.to,
-            (Reading::Equals, _) => parts.result = Extent {
+            (EventPart::Time, EventPart::Time) => parts.time.to = token.to,
+            (EventPart::Equals, _) => parts.result = Stretch {
                 from: token.from,
                 to: token.to,
             },
-            (Reading::Result, Reading::Result) => parts.result.to = token.to,
+            (EventPart::Result, EventPart::Result) => parts.result.to = token.to,
             _ => {}
         }
         parts
     }
 
     /// What is read with the next token: a time up to an arrow, a result from an equals sign outside brackets up to a note.
-    fn reading_after(self, token: &Token<'_>) -> Reading {
+    fn reading_after(self, token: &Token<'_>) -> EventPart {
         let symbol = match token.kind {
             TokenKind::Symbol => token.symbol,
             _ => 0,
         };
         match (self.reading, symbol) {
-            (Reading::Time, b'<' | b'>') => Reading::Packet,
-            (Reading::Time, b'=') if self.depth == 0 => Reading::Equals,
-            (Reading::Equals, _) => Reading::Result,
-            (Reading::Result, b'(') => Reading::Note,
+            (EventPart::Time, b'<' | b'>') => EventPart::Packet,
+            (EventPart::Time, b'=') if self.depth == 0 => EventPart::Equals,
+            (EventPart::Equals, _) => EventPart::Result,
+            (EventPart::Result, b'(') => EventPart::Note,
             (reading, _) => reading,
         }
     }
@@ -160,7 +160,7 @@ fn is_closing(symbol: u8) -> bool {
 }
 
 /// The octets between two places of a text, lines parted by newlines.
-fn octets_of(alloc: Global, lines: &Lines, extent: Extent) -> Result<Vec<u8>, AllocError> {
+fn octets_of(alloc: Global, lines: &Lines, extent: Stretch) -> Result<Vec<u8>, AllocError> {
     let mut out = Vec::new(alloc);
     for number in extent.from.line..=extent.to.line {
         let Some(line) = lines.line(number) else {

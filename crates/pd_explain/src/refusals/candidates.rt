@@ -1,9 +1,9 @@
-//! What could stand where no script goes on: candidates, each tried by reading a text with it.
+//! What could be where no script goes on: candidates, each tried by reading a text with it.
 use crate::refusals::trying::{goes_on, is_script};
 use itoa::Buffer;
 use std::alloc::{AllocError, Global};
 
-/// A token that stands nowhere but inside an argument or a note.
+/// A token that is nowhere but inside an argument or a note.
 const ONLY_INSIDE: &[u8] = b";";
 
 /// A word that is no name that counts.
@@ -34,7 +34,7 @@ const FIRST: [(&str, &str); 3] = [
 /// What comes before the numbers.
 const BEFORE_NUMBERS: [(&str, &str); 3] = [("``", "a command"), ("%{}%", "code"), (".", "`.`")];
 
-/// What comes behind the numbers.
+/// What comes after the numbers.
 const BEHIND_NUMBERS: [(&str, &str); 5] = [
     ("0x0", "a hexadecimal number up to 0xffffffff"),
     ("-", "`-`"),
@@ -65,14 +65,14 @@ const LAST: [(&str, &str); 4] = [("=", "`=`"), (",", "`,`"), ("<", "`<`"), (">",
 #[derive(Drop)]
 struct Trials<'a> {
     alloc: Global,
-    /// The octets behind which they are tried.
+    /// The octets after which they are tried.
     before: &'a [u8],
     /// What those are called with which a script goes on.
     expected: Vec<&'static str>,
 }
 
-/// What could stand behind the octets of a script's first tokens, in the order of the tables. The end less the start is given
-/// where a packet's length stands next.
+/// What could follow the octets of a script's first tokens, in the order of the tables. The end less the start is given
+/// where a packet's length comes next.
 ///
 /// # Errors
 /// `AllocError` where a growth is refused.
@@ -121,7 +121,7 @@ impl Trials<'_> {
         if !begins_event {
             self.try_number(difference)?;
         }
-        self.try_behind_numbers(is_word)?;
+        self.try_after_numbers(is_word)?;
         self.try_end(begins_event)
     }
 
@@ -135,7 +135,7 @@ impl Trials<'_> {
         self.try_all(&BEFORE_NUMBERS)
     }
 
-    fn try_behind_numbers(&mut self, is_word: bool) -> Result<(), AllocError> {
+    fn try_after_numbers(&mut self, is_word: bool) -> Result<(), AllocError> {
         self.try_all(&BEHIND_NUMBERS)?;
         if !is_word {
             self.try_all(&NAMES)?;
@@ -143,7 +143,7 @@ impl Trials<'_> {
         self.try_all(&LAST)
     }
 
-    /// What stands behind a whole event: the time of the next one, and the end of the text.
+    /// What follows a whole event: the time of the next one, and the end of the text.
     fn try_end(&mut self, begins_event: bool) -> Result<(), AllocError> {
         if begins_event {
             self.tell("a time")?;

@@ -5,13 +5,13 @@ use pd_text::Lines;
 /// Blanks and comments of a line, gone over.
 #[derive(Clone, Copy)]
 struct Gap {
-    /// Whether a comment goes on behind the line.
+    /// Whether a comment goes on after the line.
     is_open: bool,
-    /// How many octets of the line stand before what follows them, or before the comment.
+    /// How many octets of the line are before what follows them, or before the comment.
     column: usize,
 }
 
-/// In which column of a line something begins no token, where blanks and comments alone stand between a place and it.
+/// In which column of a line something begins no token, where blanks and comments alone are between a place and it.
 pub fn bad_column(lines: &Lines, place: Place, line: usize) -> usize {
     let mut gap = Gap {
         is_open: false,
@@ -20,14 +20,14 @@ pub fn bad_column(lines: &Lines, place: Place, line: usize) -> usize {
     let mut at = place.at;
     for number in place.line..line.saturating_add(1) {
         let octets = lines.line(number).unwrap_or(&[]);
-        gap = behind_gaps(octets, at, gap.is_open);
+        gap = after_gaps(octets, at, gap.is_open);
         at = 0;
     }
     gap.column
 }
 
 /// Goes over blanks and comments of a line from a column on, within a comment or not.
-fn behind_gaps(line: &[u8], at: usize, is_inside: bool) -> Gap {
+fn after_gaps(line: &[u8], at: usize, is_inside: bool) -> Gap {
     let mut is_open = is_inside;
     let mut column = 0;
     let mut rest = &line[at.min(line.len())..];

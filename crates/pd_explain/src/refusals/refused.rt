@@ -1,6 +1,6 @@
-//! What is told of a text that is no script.
+//! What is reported of a text that is no script.
 
-/// Where no script goes on, and what could stand there.
+/// Where no script goes on, and what could be there.
 #[derive(Drop)]
 pub struct Refusal {
     /// The line, counted from 1.
@@ -9,6 +9,6 @@ pub struct Refusal {
     pub text: Vec<u8>,
     /// In which column of `text` the refused token begins, counted from 0; nothing at the end of the text.
     pub mark: Option<usize>,
-    /// What could stand there, in words.
+    /// What could be there, in words.
     pub expected: Vec<&'static str>,
 }

@@ -13,7 +13,7 @@ const SOME_EVENT: &[u8] = b"*``";
 
 /// A token of the remnant.
 #[derive(Clone, Copy)]
-struct Piece {
+struct RemnantToken {
     /// Where it begins in the text.
     from: Place,
     /// Where it ends among the remnant's octets.
@@ -27,15 +27,15 @@ struct Piece {
 /// The tokens of a text from the last event that is read on, up to those that begin on the refused line.
 #[derive(Drop)]
 pub struct Remnant {
-    /// The tokens' octets in one line, apart from each other where they stand apart in the text, with as many events before
+    /// The tokens' octets in one line, apart from each other where they are apart in the text, with as many events before
     /// them as tell.
     octets: Vec<u8>,
     /// How many of the octets are those events.
     opening: usize,
     /// The tokens in order.
-    pieces: Vec<Piece>,
-    /// The place behind the last token.
-    behind: Place,
+    pieces: Vec<RemnantToken>,
+    /// The place after the last token.
+    after: Place,
 }
 
 /// How many events of a text are followed by another one, and where the next event begins; the last that a script may have
@@ -81,14 +81,14 @@ impl Remnant {
             octets: Vec::new(alloc),
             opening: 0,
             pieces: Vec::new(alloc),
-            behind: place,
+            after: place,
         };
         for _ in 0..telling_events(events) {
             remnant.octets.extend_from_slice(SOME_EVENT)?;
         }
         remnant.opening = remnant.octets.len();
         for _ in 0..MAX_OCTETS {
-            match next_token(lines, remnant.behind) {
+            match next_token(lines, remnant.after) {
                 Lexed::Token(token) if token.from.line <= line => remnant.put(&token)?,
                 _ => break,
             }
@@ -97,7 +97,7 @@ impl Remnant {
     }
 
     fn put(&mut self, token: &Token) -> Result<(), AllocError> {
-        if token.from.line != self.behind.line || token.from.at != self.behind.at {
+        if token.from.line != self.after.line || token.from.at != self.after.at {
             self.octets.push(b' ')?;
         }
         self.octets.extend_from_slice(octets_of(token))?;
@@ -105,14 +105,14 @@ impl Remnant {
             TokenKind::Int => Some(token.number),
             _ => None,
         };
-        let piece = Piece {
+        let piece = RemnantToken {
             from: token.from,
             end: self.octets.len(),
             symbol: token.symbol,
             number,
         };
         self.pieces.push(piece)?;
-        self.behind = token.to;
+        self.after = token.to;
         Ok(())
     }
 
@@ -146,14 +146,14 @@ impl Remnant {
         Ok(low)
     }
 
-    /// How many octets of the refused line stand before what is refused: a token, or what begins none; nothing at the end of
+    /// How many octets of the refused line are before what is refused: a token, or what begins none; nothing at the end of
     /// the text.
     pub fn column_of(&self, lines: &Lines, line: usize, taken: usize) -> Option<usize> {
         if let Some(piece) = self.pieces.get(taken) {
             return Some(piece.from.at);
         }
-        match next_token(lines, self.behind) {
-            Lexed::Bad(_) => Some(bad_column(lines, self.behind, line)),
+        match next_token(lines, self.after) {
+            Lexed::Bad(_) => Some(bad_column(lines, self.after, line)),
             Lexed::Token(_) | Lexed::End => None,
         }
     }

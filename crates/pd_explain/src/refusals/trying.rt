@@ -9,7 +9,7 @@ use std::alloc::{AllocError, Global};
 /// The line on which a candidate stands, in the text that is tried.
 const TRIED: usize = 2;
 
-/// Whether a script goes on with a candidate behind these octets. One for which a text has no room isn't tried.
+/// Whether a script goes on with a candidate after these octets. One for which a text has no room isn't tried.
 ///
 /// # Errors
 /// `AllocError` where a growth is refused.
@@ -39,7 +39,7 @@ pub fn is_refused(alloc: Global, octets: &[u8]) -> Result<bool, AllocError> {
     }
 }
 
-/// The fault of a text of three lines: these octets, a candidate, and nothing, so that the end of the text stands on a line of
+/// The fault of a text of three lines: these octets, a candidate, and nothing, so that the end of the text is on a line of
 /// its own. A text that has no room for them is refused at the candidate.
 fn fault_of(alloc: Global, before: &[u8], candidate: &[u8]) -> Result<Option<usize>, AllocError> {
     let mut list = LineList::new(alloc);

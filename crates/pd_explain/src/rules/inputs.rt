@@ -1,7 +1,7 @@
 //! What the sender doesn't run in the state that it is in.
 ghost use Rattle.std.specs.Prelude.{◌≡◌, None};
 ghost use Rattle.pd_match.specs.Agreement.{flags_of};
-ghost use Rattle.pd_host.specs.ControlBlock.{ControlBlock};
+ghost use Rattle.pd_host.specs.Connection.{ConnectionView};
 ghost use Rattle.pd_host.specs.Figures.{figures_in};
 ghost use Rattle.pd_host.specs.Handshake.{is_listening, is_syn_alone};
 ghost use Rattle.pd_run.specs.Inbound.{segment_in};
@@ -133,7 +133,7 @@ fn is_syn_alone(flags: Flags) -> bool
 
 /// Of a segment on a connection, by whether it is closed, and by an RST.
 fn contents_rule(packet: &Packet, is_closed: bool, is_reset: bool) -> Input
-    ensures { (c : ControlBlock) → is_closed ≡ is_closed_by c → is_reset ≡ c.reset → result ≡ contents_rule c (segment_in packet.now) }
+    ensures { (c : ConnectionView) → is_closed ≡ is_closed_by c → is_reset ≡ c.reset → result ≡ contents_rule c (segment_in packet.now) }
 {
     if packet.end > packet.start {
         Input::Payload

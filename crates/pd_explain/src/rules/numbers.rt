@@ -34,7 +34,7 @@ pub enum Number {
     Edge,
     /// The third argument of a `write`.
     Write,
-    /// How many packets stand untaken.
+    /// How many packets are untaken.
     Outbox,
 }
 

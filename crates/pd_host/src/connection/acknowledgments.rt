@@ -1,9 +1,7 @@
 //! What an acceptable ACK changes on a connection.
 ghost use Rattle.std.specs.Prelude.{◌≡◌, ◌+◌, ◌≤◌, ◌<◌, ◌^◌, false, Some, IfOk, OnOk, IfSome};
 ghost use Rattle.pd_board.specs.Choice.{run_at};
-ghost use Rattle.pd_board.specs.Scoreboard.{IsScoreboard};
 ghost use Rattle.pd_recover.specs.Choice.{IsSendable, segment_of};
-ghost use Rattle.pd_recover.specs.Congestion.{IsCongestion};
 ghost use Rattle.pd_host.specs.Acknowledgments.{told_block, told_blocks, blocks_in, blocks_of, with_blocks, scored, with_timing, with_new_window, news_of, answering, taking, next_found, sent_as, noted_by, noted_on, octets_of, pipe_of, entered_on};
 ghost use Rattle.pd_host.specs.Handshake.{looked_at};
 ghost use Rattle.pd_host.specs.Steps.{FollowsQueued};
@@ -65,20 +63,6 @@ fn score_options(board: &mut Board, options: &[SegOption]) -> Result<bool, Alloc
     Ok(fresh)
 }
 
-/// A fact of congestion control: its windows and counts lie in their ranges.
-fn have_ranges(congestion: &Cong)
-    ensures { IsCongestion congestion.now }
-{
-    let _cwnd = congestion.cwnd();
-}
-
-/// A fact of scoreboards: their numbers are in order and lie in their ranges.
-fn have_order(board: &Board)
-    ensures { IsScoreboard board.now }
-{
-    let _smss = board.smss();
-}
-
 /// Congestion control notes a segment that filled the room of its window.
 fn note_by(congestion: &mut Cong, filling: Filling, sent: &NextSegment)
     requires some { (segment_of sent.now).start ≤ (segment_of sent.now).end }
@@ -96,7 +80,7 @@ fn note_by(congestion: &mut Cong, filling: Filling, sent: &NextSegment)
 
 impl Connection {
     /// The number, the blocks, the timer and the window of a segment that passed all checks are taken, and congestion
-    /// control is told: what follows.
+    /// control learns: what follows.
     ///
     /// # Errors
     /// `AllocError` where the scoreboard finds no memory for a block, or has found none before.
@@ -169,7 +153,7 @@ impl Connection {
         Some(News { fresh, lost })
     }
 
-    /// Congestion control is told what the segment acknowledged: what follows.
+    /// Congestion control learns what the segment acknowledged: what follows.
     fn answer(&mut self, segment: &Segment, acked: u32, fresh: bool, before: &Established) -> Then
         ensures told { self.new ≡ (answering segment.now acked fresh before.now self.old self.old.established).0 }
         ensures next { result ≡ (answering segment.now acked fresh before.now self.old self.old.established).1 }
@@ -229,7 +213,7 @@ impl Connection {
         let Some(established) = &self.established else {
             return None;
         };
-        have_ranges(&established.congestion);
+        established.congestion.facts();
         let congestion = &established.congestion;
         match filling {
             Filling::NextSeg => congestion.step_c(&self.board, established.rwnd, pipe),
@@ -253,7 +237,7 @@ impl Connection {
         requires sendable { IsSendable self.old.board (segment_of sent.now) }
         ensures { OnOk result (self.new ≡ noted_on filling sent.now (sent_as now sent.now self.old) self.old.established) }
     {
-        have_order(&self.board);
+        self.board.facts();
         self.send_as(sent, now)?;
         self.note(filling, sent);
         Ok(())

@@ -1,9 +1,9 @@
 //! Which segment a connection sends next, and what a segment has.
 ghost use Rattle.std.specs.Prelude.{◌≡◌, ◌<◌, ◌^◌, Some, IfSome, IfOk};
-ghost use Rattle.pd_host.specs.ControlBlock.{data_end};
+ghost use Rattle.pd_host.specs.Connection.{data_end};
 ghost use Rattle.pd_host.specs.Packets.{covers_fin, ends_data, data_of};
 ghost use Rattle.pd_host.specs.Holds.{is_enough};
-ghost use Rattle.pd_host.specs.Sending.{window_edge, usable, unsent, sendable, unsent_segment, leaves_now, is_held_back, next_new, next_again, found, past_sacked, sent_on};
+ghost use Rattle.pd_host.specs.Sending.{window_edge, usable, unsent, sendable, unsent_segment, is_full, is_all, is_half_window, leaves_now, is_held_back, next_new, next_again, found, past_sacked, sent_on};
 ghost use Rattle.pd_host.specs.Steps.{IsQueued};
 
 use super::Connection;
@@ -102,25 +102,41 @@ impl Connection {
             && !self.covers_fin(self.unsent_segment(established))
     }
 
+    /// Whether a full segment can leave.
+    fn is_full(&self, established: &Established) -> bool
+        ensures { result ≡ is_full self.now established.now }
+    {
+        self.sendable(established) >= u32::from(self.board.smss())
+    }
+
+    /// Whether all that is queued can leave.
+    fn is_all(&self, established: &Established) -> bool
+        ensures { result ≡ is_all self.now established.now }
+    {
+        self.unsent() <= self.usable(established)
+    }
+
+    /// Whether at least half of the largest window seen can leave.
+    fn is_half_window(&self, established: &Established) -> bool
+        ensures { result ≡ is_half_window self.now established.now }
+    {
+        u64::from(self.sendable(established)) * 2 >= u64::from(self.widest)
+    }
+
     /// Whether a segment of new octets leaves.
     pub fn leaves_now(&self, established: &Established) -> bool
         ensures { result ≡ leaves_now self.now established.now }
     {
-        let octets = self.sendable(established);
-        let is_full = octets >= u32::from(self.board.smss());
-        let is_all = self.unsent() <= self.usable(established);
-        let is_half_window = u64::from(octets) * 2 >= u64::from(self.widest);
-        is_full || ((is_all || is_half_window) && !self.is_held_back(established))
+        self.is_full(established)
+            || ((self.is_all(established) || self.is_half_window(established))
+                && !self.is_held_back(established))
     }
 
     /// Whether what could leave is a segment worth sending, Nagle's algorithm apart.
     pub fn is_enough(&self, established: &Established) -> bool
         ensures { result ≡ is_enough self.now established.now }
     {
-        let octets = self.sendable(established);
-        octets >= u32::from(self.board.smss())
-            || self.unsent() <= self.usable(established)
-            || u64::from(octets) * 2 >= u64::from(self.widest)
+        self.is_full(established) || self.is_all(established) || self.is_half_window(established)
     }
 
     fn next_new(&self, established: &Established) -> Option<Span>

@@ -16,11 +16,11 @@ fn synchronized(peer_fin: PeerFin, is_fin_queued: bool, is_all_acked: bool) -> C
         (PeerFin::Awaited, false, _) => ConnState::Established,
         (PeerFin::Awaited, true, false) => ConnState::FinWait1,
         (PeerFin::Awaited, true, true) => ConnState::FinWait2,
-        (PeerFin::BeforeOurs | PeerFin::BehindOurs, false, _) => ConnState::CloseWait,
+        (PeerFin::BeforeOurs | PeerFin::AfterOurs, false, _) => ConnState::CloseWait,
         (PeerFin::BeforeOurs, true, false) => ConnState::LastAck,
         (PeerFin::BeforeOurs, true, true) => ConnState::Closed,
-        (PeerFin::BehindOurs, true, false) => ConnState::Closing,
-        (PeerFin::BehindOurs, true, true) => ConnState::TimeWait,
+        (PeerFin::AfterOurs, true, false) => ConnState::Closing,
+        (PeerFin::AfterOurs, true, true) => ConnState::TimeWait,
     }
 }
 

@@ -2,11 +2,12 @@
 ghost use Rattle.std.specs.Prelude.{◌≡◌, ◌+◌, ◌<◌, ◌≤◌, ◌^◌, IfSome};
 ghost use Rattle.std.specs.Bool.{OnTrue};
 ghost use Rattle.pd_recover.specs.Acks.{IsAck, IsNamed, acked, is_duplicate, grown_by, half_of, counted, new_segment, first_outstanding, told_by_sack, told_by_number, selective_duplicate, plain_duplicate, limited_transmit, advanced};
-ghost use Rattle.pd_recover.specs.Congestion.{growth, widened};
+ghost use Rattle.pd_recover.specs.Cong.{growth, widened};
 
 use super::Cong;
 use crate::feedback::{Ack, News};
 use crate::responses::Then;
+use pd_board::DUP_THRESH;
 use pd_seg::Span;
 
 /// The greatest window that growth leads to, in octets.
@@ -106,7 +107,10 @@ impl Cong {
         if ack.una < self.recovery_point {
             return Then::Ordinary;
         }
-        if self.dup_acks < 3 && !lost {
+        if self.dup_acks < DUP_THRESH && !lost {
+            if !self.sends_early {
+                return Then::Ordinary;
+            }
             self.high_rxt = ack.una;
             return Then::LimitedTransmit;
         }
@@ -157,12 +161,12 @@ impl Cong {
         ensures then { result ≡ (plain_duplicate ack self.old).1 }
         ensures named { IsNamed ack result }
     {
-        if self.dup_acks < 3 {
+        if self.dup_acks < DUP_THRESH {
             return self.transmit_limited(ack);
         }
-        if self.dup_acks == 3 {
+        if self.dup_acks == DUP_THRESH {
             let half = self.half(ack);
-            self.cwnd = half + 3 * u32::from(ack.smss);
+            self.cwnd = half + DUP_THRESH * u32::from(ack.smss);
             self.ssthresh = half;
             self.recovering = true;
             return Then::FastRetransmit(ack.first_outstanding());
@@ -178,6 +182,9 @@ impl Cong {
         ensures then { result ≡ (limited_transmit ack self.old).1 }
         ensures named { IsNamed ack result }
     {
+        if !self.sends_early {
+            return Then::Nothing;
+        }
         let Some(segment) = new_segment(ack.smss, ack.una, ack.top, ack.end, ack.rwnd) else {
             return Then::Nothing;
         };
@@ -222,7 +229,7 @@ impl Cong {
     fn count(&mut self)
         ensures { self.new ≡ counted self.old }
     {
-        self.dup_acks = (self.dup_acks + 1).min(4);
+        self.dup_acks = (self.dup_acks + 1).min(DUP_THRESH + 1);
     }
 
     /// Half of what is outstanding, without what limited transmit has sent (RFC 5681, section 3.1, equation 4).

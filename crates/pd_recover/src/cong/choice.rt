@@ -1,8 +1,8 @@
 //! What loss recovery sends, and when.
 ghost use Rattle.std.specs.Prelude.{◌≡◌, ◌+◌, ◌≤◌, IfSome};
 ghost use Rattle.std.specs.Bool.{OnTrue};
-ghost use Rattle.pd_board.specs.Scoreboard.{IsScoreboard};
-ghost use Rattle.pd_recover.specs.Choice.{IsSendable, segment_of, first_given, next_segment, step_c_segment, limited_segment, new_data, has_room, noted};
+ghost use Rattle.pd_board.specs.Board.{IsBoardView};
+ghost use Rattle.pd_recover.specs.Choice.{IsSendable, segment_of, first_given, next_send, step_c_segment, limited_segment, new_data, has_room, noted};
 
 use super::Cong;
 use super::acks::new_segment;
@@ -14,7 +14,7 @@ use pd_seg::Span;
 fn new_data(board: &Board, rwnd: u32) -> Option<Span>
     ensures value { result ≡ new_data rwnd board.now }
     ensures sendable { IfSome result (IsSendable board.now) }
-    ensures known { IsScoreboard board.now }
+    ensures known { IsBoardView board.now }
 {
     new_segment(board.smss(), board.una(), board.top(), board.end(), rwnd)
 }
@@ -23,7 +23,7 @@ impl Cong {
     /// NextSeg: the segment to send next in loss recovery, by the first rule that gives one (RFC 6675, section 4). The
     /// peer's window is in octets.
     pub fn next_send(&self, board: &Board, rwnd: u32) -> Option<NextSegment>
-        ensures value { result ≡ next_segment rwnd board.now self.now }
+        ensures value { result ≡ next_send rwnd board.now self.now }
         ensures sendable { IfSome result (λ sent. IsSendable board.now (segment_of sent)) }
     {
         let unsent = new_data(board, rwnd);

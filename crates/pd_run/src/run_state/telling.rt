@@ -1,7 +1,7 @@
 //! Why a run stops at an event, found on copies of it.
 ghost use Rattle.std.specs.Prelude.{◌≡◌, ◌<◌, ◌^◌, false, None, IfOk, slice_get};
 ghost use Rattle.std.specs.List.{list_any};
-ghost use Rattle.pd_host.specs.Sender.{IsShort};
+ghost use Rattle.pd_host.specs.Host.{IsShort};
 ghost use Rattle.pd_run.specs.Limits.{is_long, written_times, is_packet_over};
 ghost use Rattle.pd_run.specs.Step.{arrives, answers, noted};
 ghost use Rattle.pd_run.specs.Why.{why, why_none, why_taken, why_left, why_arrived, why_answered};

@@ -2,7 +2,7 @@
 use crate::chairs::{Sits, free, say_shown};
 use crate::hand::{Hand, make_again, say_scratch};
 use crate::orders::choices::Choices;
-use crate::orders::stage::{Spot, Stage, Standing};
+use crate::orders::stage::{Spot, Stage, TurnOrder};
 use crate::orders::{CALLERS, PLAYERS, WORKERS};
 use crate::progress::TURNS;
 use pd_book::Act;
@@ -123,7 +123,7 @@ impl<'a> Director<'a> {
         rt: &R,
         stage: &Stage,
         who: usize,
-        standing: Standing,
+        standing: TurnOrder,
         hand: &mut Hand,
     ) {
         let place = standing.place(who);
@@ -185,7 +185,7 @@ impl<'a> Director<'a> {
 
     /// Whether the turn was taken, as many workers wait for one as have jobs, and all callers but those that settle while a
     /// verdict is owed.
-    fn is_at_rest(&self, standing: Standing, is_owed: bool) -> bool {
+    fn is_at_rest(&self, standing: TurnOrder, is_owed: bool) -> bool {
         let mut workers = 0usize;
         let mut are_heard = true;
         for who in 0..PLAYERS {

@@ -27,14 +27,14 @@ pub struct Place {
 
 /// The players, whose turn it is, and whether nobody waits for a turn any more.
 #[derive(Clone, Copy)]
-pub struct Standing {
+pub struct TurnOrder {
     places: [Place; PLAYERS],
     pub turn: Option<usize>,
     is_over: bool,
 }
 
 /// All players as they go on at first.
-const AT_FIRST: Standing = Standing {
+const AT_FIRST: TurnOrder = TurnOrder {
     places: [Place {
         spot: Spot::Away,
         job: 0,
@@ -43,7 +43,7 @@ const AT_FIRST: Standing = Standing {
     is_over: false,
 };
 
-impl Standing {
+impl TurnOrder {
     /// A player's place; that of one who has ended where there is no such player.
     pub fn place(&self, who: usize) -> Place {
         self.places.get(who).copied().unwrap_or(Place {
@@ -90,7 +90,7 @@ impl Standing {
 /// Where players wait for their turns, and callers answer.
 #[derive(Drop)]
 pub struct Stage {
-    standing: Mutex<Standing>,
+    standing: Mutex<TurnOrder>,
     moved: Condvar,
     pub answers: Vec<Mutex<Said>>,
 }
@@ -112,7 +112,7 @@ impl Stage {
         }
     }
 
-    pub fn look<R: Wait>(&self, rt: &R) -> Standing {
+    pub fn look<R: Wait>(&self, rt: &R) -> TurnOrder {
         *self.standing.lock(rt)
     }
 

@@ -34,7 +34,7 @@ fn is_pending(line: &str, other: &str) -> bool {
     name == wanted && (standing == "pending" || is_count)
 }
 
-/// What stands before the first blank, and after it.
+/// What is before the first blank, and after it.
 fn halves(line: &str) -> (&str, &str) {
     line.split_once(" ").unwrap_or((line, ""))
 }

@@ -26,7 +26,7 @@ struct Beside<'a, R> {
 }
 
 /// Makes calls at the first of these seats, while a thread at each other one does what its letter says. Says the answers of
-/// the calls and those of the other seats; `late` behind them where a thread wasn't woken.
+/// the calls and those of the other seats; `late` after them where a thread wasn't woken.
 pub fn answer_beside<R: Threads + Wait + Sync>(
     rt: &R,
     alloc: Global,

@@ -6,7 +6,7 @@ use pd_seat::Seat;
 use pd_settings::Value;
 use std::alloc::Global;
 use std::sync::Wait;
-use test_rows::{MISSING, REFUSED, Said, Task, Texts, Words, move_last, say_steps};
+use test_rows::{GivenJob, MISSING, REFUSED, Said, Texts, Words, move_last, say_steps};
 
 /// The seats that left, the texts that were written, and each job that was started by hand, the first first.
 #[derive(Drop)]
@@ -14,7 +14,7 @@ pub struct Kept {
     alloc: Global,
     away: Vec<Seat>,
     texts: Texts,
-    tasks: Vec<Task>,
+    tasks: Vec<GivenJob>,
 }
 
 impl Kept {

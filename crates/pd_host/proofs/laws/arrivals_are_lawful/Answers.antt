@@ -1,5 +1,5 @@
 -- The laws hold.
-use Rattle.pd_host.proofs.Behind.{puts_out_behind}
+use Rattle.pd_host.proofs.After.{puts_out_after}
 use Rattle.pd_host.proofs.Consulted.{only_uses_matter}
 use Rattle.pd_host.proofs.ExactRst.{only_an_exact_rst_resets}
 use Rattle.pd_host.proofs.Harmless.{outside_is_harmless}
@@ -10,7 +10,7 @@ pub returns : goal.returns
 returns c = record {
   outside = outside_is_harmless;
   resets = only_an_exact_rst_resets;
-  packets = puts_out_behind;
+  packets = puts_out_after;
   settings = only_uses_matter;
   uses = arrivals_note;
 }

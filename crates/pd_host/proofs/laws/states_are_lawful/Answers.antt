@@ -1,5 +1,5 @@
 -- The laws hold.
-use Rattle.pd_host.proofs.Ended.{boards_are_scoreboards, calls_stay_in_range, ends_for_good}
+use Rattle.pd_host.proofs.Ended.{boards_are_lawful, calls_stay_in_range, ends_for_good}
 use Rattle.pd_host.proofs.FigureOfCalls.{expiries_stay, calls_move}
 use Rattle.pd_host.proofs.FigureOfSegments.{segments_move}
 use Rattle.pd_host.proofs.States.{starts_lawful, advances_stay_lawful, arrivals_stay_lawful, calls_stay_lawful, taking_stays_lawful}
@@ -12,7 +12,7 @@ returns c = record {
   arrivals = arrivals_stay_lawful c.timers_are_lawful.ensures.bounds c.recovery_is_lawful.ensures.windows;
   calls = calls_stay_lawful c.timers_are_lawful.ensures.bounds c.recovery_is_lawful.ensures.windows;
   taking = taking_stays_lawful;
-  boards = boards_are_scoreboards;
+  boards = boards_are_lawful;
   range = calls_stay_in_range;
   resets = ends_for_good;
   figure = record { calls = calls_move; arrivals = segments_move; expiries = expiries_stay };

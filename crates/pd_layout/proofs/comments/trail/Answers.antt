@@ -5,7 +5,7 @@ use Rattle.pd_layout.specs.Laid.{trail, after_end}
 use Rattle.pd_layout.proofs.CommentEnds.{trail_inside, trail_opens}
 use Rattle.pd_layout.proofs.comments.trail.Goals as goal
 
--- what is read behind the comment that a line begins with
+-- what is read after the comment that a line begins with
 past : (line comment : List ℕ) (o : Option (List ℕ)) → bytes_eq (take 3 line) (codes " /*") ≡ true → comment ≡ drop 3 line → o ≡ after_end comment
     → trail false line ≡ option_map_or (λ rest. trail false rest) o (Some true)
 past line comment o begins is said =
@@ -16,7 +16,7 @@ past line comment o begins is said =
 
 pub loop-comment-preserved : goal.loop-comment-preserved
 loop-comment-preserved c =
-    sym (past c.loop-comment.rest.now c.in-Some.comment.now (Some c.in-Some-after_end.behind.now) c.in-Some.ensures.cases.0 c.in-Some.ensures.cases.1 (c.in-Some-after_end.ensures.what))
+    sym (past c.loop-comment.rest.now c.in-Some.comment.now (Some c.in-Some-after_end.after.now) c.in-Some.ensures.cases.0 c.in-Some.ensures.cases.1 (c.in-Some-after_end.ensures.what))
     ∙ c.loop-comment.invariant
 
 pub returns-in-None : goal.returns-in-None

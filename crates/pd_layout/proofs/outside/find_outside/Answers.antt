@@ -1,35 +1,43 @@
 -- Each turn goes past a token.
-use Rattle.std.proofs.Common.{◌≡◌, ◌≢◌, ◌≤◌, ◌∙◌, ◌+◌, ◌&&◌, ◌==◌, true, false, length, sym, arith, refl}
+use Rattle.std.proofs.Common.{◌≡◌, ◌≤◌, ◌∙◌, ◌+◌, List, length, sym, ap, arith}
 use Rattle.pd_lex.specs.Lexing.{items}
-use Rattle.pd_script.specs.Cursor.{shown}
+use Rattle.pd_lex.specs.Next.{HasText}
+use Rattle.pd_lex.specs.Tokens.{Item}
+use Rattle.pd_lex.specs.declared.token.Lexed.TheVariants as lexed
+use Rattle.pd_script.specs.Cursor.{left}
 use Rattle.pd_script.specs.Items.{is_symbol}
-use Rattle.pd_layout.proofs.Tokens.{goes_on, finds, fewer, few_items, no_symbol, in_brackets}
+use Rattle.pd_layout.specs.Laid.{outside}
+use Rattle.pd_layout.proofs.Tokens.{goes_on, finds, fewer, few_items, what_is_left}
 use Rattle.pd_layout.proofs.outside.find_outside.Goals as goal
-use Rattle.pd_layout.proofs.outside.find_outside.Goals.{else-is_symbol-via-then-is_symbol+else-depth-eq0, else-is_symbol-via-else-is_symbol}
 
-pub depth_behind-depth-requires : goal.depth_behind-depth-requires
-depth_behind-depth-requires c = omega (arith, few_items c.args.lines.now c.args.from c.line-first.ensures.fits, c.tokens.invariant.few)
+pub depth_after-depth-requires : goal.depth_after-depth-requires
+depth_after-depth-requires c = omega (arith, few_items c.args.lines.now c.args.from c.line-first.ensures.fits, c.tokens.invariant.few)
 
-pub returns-then-depth-eq0 : goal.returns-then-depth-eq0
-returns-then-depth-eq0 c =
-    let symbol : is_symbol c.args.octet (shown c.in-Token.token) ≡ true = sym c.is_symbol.ensures ∙ c.if-is_symbol.true in
-    let here : (is_symbol c.args.octet (shown c.in-Token.token) && c.depth_behind-depth.result == 0) ≡ true = rw (symbol, c.if-depth-eq0.true) refl in
-    sym (finds c.args.lines.now c.in-Token.token c.in-Token.ensures.text c.tokens.place c.in-Token.ensures.next c.args.octet c.tokens.depth c.depth_behind-depth.result c.depth_behind-depth.ensures here)
-    ∙ c.tokens.invariant.same
+pub returns-then-is_outside : goal.returns-then-is_outside
+returns-then-is_outside c =
+    let was : c.tokens.ahead.next ≡ lexed.Token c.in-Token.token = c.in-Token.is in
+    let text : HasText c.args.lines.now (lexed.Token c.in-Token.token) = rw was at c.tokens.invariant.text in
+    let same : outside (is_symbol c.args.octet) c.tokens.depth (left c.args.lines.now (lexed.Token c.in-Token.token)) ≡ outside (is_symbol c.args.octet) 0 (items c.args.lines.now c.args.from) = rw was at c.tokens.invariant.same in
+    sym (finds c.args.lines.now c.in-Token.token text c.args.octet c.tokens.depth c.depth_after-depth.result c.depth_after-depth.ensures (sym c.is_outside.ensures ∙ c.if-is_outside.true))
+    ∙ same
 
 pub tokens-preserved : goal.tokens-preserved
 tokens-preserved c =
-    let none : (is_symbol c.args.octet (shown c.in-Token.token) && c.depth_behind-depth.result == 0) ≡ false =
-    elim c.else-is_symbol.branch [
-      | else-is_symbol-via-then-is_symbol+else-depth-eq0 w ↦ in_brackets _ c.depth_behind-depth.result w.if-depth-eq0.false
-      | else-is_symbol-via-else-is_symbol w ↦ no_symbol _ c.depth_behind-depth.result (sym c.is_symbol.ensures ∙ w.if-is_symbol.false)
-    ] in
+    let was : c.tokens.ahead.next ≡ lexed.Token c.in-Token.token = c.in-Token.is in
+    let text : HasText c.args.lines.now (lexed.Token c.in-Token.token) = rw was at c.tokens.invariant.text in
+    let same : outside (is_symbol c.args.octet) c.tokens.depth (left c.args.lines.now (lexed.Token c.in-Token.token)) ≡ outside (is_symbol c.args.octet) 0 (items c.args.lines.now c.args.from) = rw was at c.tokens.invariant.same in
+    let few : c.tokens.depth + length (left c.args.lines.now (lexed.Token c.in-Token.token)) ≤ length (items c.args.lines.now c.args.from) = rw was at c.tokens.invariant.few in
+    let next : items c.args.lines.now c.in-Token.token.to ≡ left c.args.lines.now c.read_along.new.ahead.next =
+    what_is_left c.args.lines.now c.in-Token.token.to c.read_along.new.ahead.next c.read_along.ensures.next in
     record {
       same =
-          sym (goes_on c.args.lines.now c.in-Token.token c.in-Token.ensures.text c.tokens.place c.in-Token.ensures.next c.args.octet c.tokens.depth c.depth_behind-depth.result c.depth_behind-depth.ensures none)
-          ∙ c.tokens.invariant.same;
+          ap (λ (ts : List Item). outside (is_symbol c.args.octet) c.depth_after-depth.result ts) (sym next)
+          ∙ sym (goes_on c.args.lines.now c.in-Token.token text c.args.octet c.tokens.depth c.depth_after-depth.result c.depth_after-depth.ensures (sym c.is_outside.ensures ∙ c.if-is_outside.false))
+          ∙ same;
       few =
-          let less : c.depth_behind-depth.result + length (items c.args.lines.now c.in-Token.token.to) ≤ c.tokens.depth + length (items c.args.lines.now c.tokens.place) =
-          fewer c.args.lines.now c.in-Token.token c.in-Token.ensures.text c.tokens.place c.in-Token.ensures.next c.args.octet c.tokens.depth c.depth_behind-depth.result c.depth_behind-depth.ensures in
-          omega (arith, less, c.tokens.invariant.few);
+          let less : c.depth_after-depth.result + length (items c.args.lines.now c.in-Token.token.to) ≤ c.tokens.depth + length (left c.args.lines.now (lexed.Token c.in-Token.token)) =
+          fewer c.args.lines.now c.in-Token.token text c.args.octet c.tokens.depth c.depth_after-depth.result c.depth_after-depth.ensures in
+          omega (arith, less, few, ap length next);
+      text = c.read_along.ensures.text;
+      line = c.read_along.ensures.after;
     }

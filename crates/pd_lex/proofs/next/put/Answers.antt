@@ -1,4 +1,4 @@
--- A token that was found is the piece that stands there.
+-- A token that was found is the piece that is there.
 use Rattle.std.proofs.Common.{◌+◌}
 use Rattle.pd_lex.specs.declared.token.Place.{Place}
 use Rattle.pd_lex.specs.Places.{octets_from, between}
@@ -21,8 +21,8 @@ returns c =
     let whole = step_whole lines from left.place left.line c.args.rest.now kind n left.rest_is (rw c.in-Some.is at c.requires.piece) left.some (rw c.in-Some.is at c.requires.within) in
     record {
       next = items_at_token lines c.requires.plain from to kind left.place whole.0 whole.1;
-      cut = record { skipped = here; longest = longest_token (octets_from lines from) (octets_from lines to) kind whole.1; from = left.place; behind = whole.0 };
+      cut = record { skipped = here; longest = longest_token (octets_from lines from) (octets_from lines to) kind whole.1; from = left.place; after = whole.0 };
       line = token_line lines c.requires.plain from to kind left.place whole.1;
       text = whole.3;
-      behind = (left.place.from_one, c.requires.known);
+      after = (left.place.from_one, c.requires.known);
     }

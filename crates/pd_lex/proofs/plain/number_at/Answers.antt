@@ -1,4 +1,4 @@
--- The digits are an Int where nothing goes on behind them, and a Decimal with what a point adds.
+-- The digits are an Int where nothing goes on after them, and a Decimal with what a point adds.
 use Rattle.std.proofs.Common.{◌≡◌, ◌≤◌, false, nat_lt, length, take, drop, arith}
 use Rattle.std.specs.List.{prefix_len}
 use Rattle.std.proofs.lemmas.List.{length-take}

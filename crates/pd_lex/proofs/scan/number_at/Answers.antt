@@ -1,4 +1,4 @@
--- The digits, and what goes on behind them.
+-- The digits, and what goes on after them.
 use Rattle.std.proofs.Common.{◌≡◌, ◌∙◌, true, false, nat_lt, drop, arith}
 use Rattle.std.specs.List.{prefix_len}
 use Rattle.pd_lex.specs.Octets.{is_digit, is_word}

@@ -1,4 +1,4 @@
--- One digit behind the others.
+-- One digit after the others.
 use Rattle.std.proofs.Common.{◌≡◌, ℕ, ◌+◌, ◌-◌, ◌/◌, ◌%◌, List, [], ◌∷◌, ◌++◌, sym, ap, ◌∙◌, append_assoc}
 use Rattle.pd_print.specs.Numbers.{digits_of}
 use Rattle.pd_print.proofs.DigitLemmas.{digits_of-more, positive}

@@ -1,4 +1,4 @@
--- The blocks so far, each behind a blank.
+-- The blocks so far, each after a blank.
 use Rattle.std.proofs.Common.{◌≡◌, ◌++◌, take, flat_map}
 use Rattle.pd_print.specs.Options.{block_text}
 use Rattle.pd_print.proofs.option_texts.put_blocks.Given as goal

@@ -1,4 +1,4 @@
--- The options so far, each behind a comma.
+-- The options so far, each after a comma.
 use Rattle.std.proofs.Common.{◌≡◌, ◌++◌, take, flat_map}
 use Rattle.pd_print.specs.Options.{next_option_text}
 use Rattle.pd_print.proofs.option_texts.put_others.Given as goal

@@ -1,4 +1,4 @@
--- What is left stands behind what was read so far.
+-- What is left follows what was read so far.
 use Rattle.std.proofs.Common.{◌↔◌, ◌++◌, List, drop}
 use Rattle.pd_layout.specs.Sameness.{AreTheSame}
 use Rattle.pd_script.specs.declared.script_events.Event.{Event}

@@ -10,35 +10,35 @@ use Rattle.pd_record.proofs.recording.record.Goals as goal
 
 pub returns-then-branch-clause-recorded : goal.returns-then-branch-clause-recorded
 returns-then-branch-clause-recorded c =
-    let laws : Bases = record { behind = c.advances_are_lawful.ensures.packets; one_by_one = c.sending_goes_one_by_one.ensures; starts = c.runs_are_bounded.ensures.start; steps = c.runs_are_bounded.ensures.step; reasons = c.verdicts_have_reasons.ensures.reasons } in
+    let laws : Bases = record { after = c.advances_are_lawful.ensures.packets; one_by_one = c.sending_goes_one_by_one.ensures; starts = c.runs_are_bounded.ensures.start; steps = c.runs_are_bounded.ensures.step; reasons = c.verdicts_have_reasons.ensures.reasons } in
     let read : IsRead (script_of c.args.lines.now) (Some c.in-Some.script) = subst (IsRead (script_of c.args.lines.now)) c.in-Some.is c.in_ok-script.ensures.read in
     let tracks : tracks_of c.in-Some.script.header.items c.in-Some.script.events.items c.args.settings.now ≡ Ok c.in_ok-tracks.tracks = subst (λ (es : List Event). tracks_of c.in-Some.script.header.items es c.args.settings.now ≡ Ok c.in_ok-tracks.tracks) c.as_slice.ensures.value c.in_ok-tracks.ensures in
     on_ok c.keep.result (kept_recording laws c.args.lines.now c.args.settings.now c.in_ok-tracks.tracks c.in-Some.script c.keep.result read tracks (c.in_ok-is_kept.ensures.0 c.if-branch.true).1 c.keep.ensures.same) (λ x both. both.once)
 
 pub returns-then-branch-clause-again : goal.returns-then-branch-clause-again
 returns-then-branch-clause-again c =
-    let laws : Bases = record { behind = c.advances_are_lawful.ensures.packets; one_by_one = c.sending_goes_one_by_one.ensures; starts = c.runs_are_bounded.ensures.start; steps = c.runs_are_bounded.ensures.step; reasons = c.verdicts_have_reasons.ensures.reasons } in
+    let laws : Bases = record { after = c.advances_are_lawful.ensures.packets; one_by_one = c.sending_goes_one_by_one.ensures; starts = c.runs_are_bounded.ensures.start; steps = c.runs_are_bounded.ensures.step; reasons = c.verdicts_have_reasons.ensures.reasons } in
     let read : IsRead (script_of c.args.lines.now) (Some c.in-Some.script) = subst (IsRead (script_of c.args.lines.now)) c.in-Some.is c.in_ok-script.ensures.read in
     let tracks : tracks_of c.in-Some.script.header.items c.in-Some.script.events.items c.args.settings.now ≡ Ok c.in_ok-tracks.tracks = subst (λ (es : List Event). tracks_of c.in-Some.script.header.items es c.args.settings.now ≡ Ok c.in_ok-tracks.tracks) c.as_slice.ensures.value c.in_ok-tracks.ensures in
     on_ok c.keep.result (kept_recording laws c.args.lines.now c.args.settings.now c.in_ok-tracks.tracks c.in-Some.script c.keep.result read tracks (c.in_ok-is_kept.ensures.0 c.if-branch.true).1 c.keep.ensures.same) (λ x both. both.twice)
 
 pub returns-clause-recorded : goal.returns-clause-recorded
 returns-clause-recorded c =
-    let laws : Bases = record { behind = c.advances_are_lawful.ensures.packets; one_by_one = c.sending_goes_one_by_one.ensures; starts = c.runs_are_bounded.ensures.start; steps = c.runs_are_bounded.ensures.step; reasons = c.verdicts_have_reasons.ensures.reasons } in
+    let laws : Bases = record { after = c.advances_are_lawful.ensures.packets; one_by_one = c.sending_goes_one_by_one.ensures; starts = c.runs_are_bounded.ensures.start; steps = c.runs_are_bounded.ensures.step; reasons = c.verdicts_have_reasons.ensures.reasons } in
     let read : IsRead (script_of c.args.lines.now) (Some c.in-Some.script) = subst (IsRead (script_of c.args.lines.now)) c.in-Some.is c.in_ok-script.ensures.read in
     let tracks : tracks_of c.in-Some.script.header.items c.in-Some.script.events.items c.args.settings.now ≡ Ok c.in_ok-tracks.tracks = subst (λ (es : List Event). tracks_of c.in-Some.script.header.items es c.args.settings.now ≡ Ok c.in_ok-tracks.tracks) c.as_slice.ensures.value c.in_ok-tracks.ensures in
     on_ok c.write.result (written_recording laws c.args.lines.now c.args.settings.now c.in_ok-tracks.tracks c.in-Some.script c.write.result read tracks c.write.ensures.written) (λ x both. both.once)
 
 pub returns-clause-again : goal.returns-clause-again
 returns-clause-again c =
-    let laws : Bases = record { behind = c.advances_are_lawful.ensures.packets; one_by_one = c.sending_goes_one_by_one.ensures; starts = c.runs_are_bounded.ensures.start; steps = c.runs_are_bounded.ensures.step; reasons = c.verdicts_have_reasons.ensures.reasons } in
+    let laws : Bases = record { after = c.advances_are_lawful.ensures.packets; one_by_one = c.sending_goes_one_by_one.ensures; starts = c.runs_are_bounded.ensures.start; steps = c.runs_are_bounded.ensures.step; reasons = c.verdicts_have_reasons.ensures.reasons } in
     let read : IsRead (script_of c.args.lines.now) (Some c.in-Some.script) = subst (IsRead (script_of c.args.lines.now)) c.in-Some.is c.in_ok-script.ensures.read in
     let tracks : tracks_of c.in-Some.script.header.items c.in-Some.script.events.items c.args.settings.now ≡ Ok c.in_ok-tracks.tracks = subst (λ (es : List Event). tracks_of c.in-Some.script.header.items es c.args.settings.now ≡ Ok c.in_ok-tracks.tracks) c.as_slice.ensures.value c.in_ok-tracks.ensures in
     on_ok c.write.result (written_recording laws c.args.lines.now c.args.settings.now c.in_ok-tracks.tracks c.in-Some.script c.write.result read tracks c.write.ensures.written) (λ x both. both.twice)
 
 pub returns-clause-settled : goal.returns-clause-settled
 returns-clause-settled c =
-    let laws : Bases = record { behind = c.advances_are_lawful.ensures.packets; one_by_one = c.sending_goes_one_by_one.ensures; starts = c.runs_are_bounded.ensures.start; steps = c.runs_are_bounded.ensures.step; reasons = c.verdicts_have_reasons.ensures.reasons } in
+    let laws : Bases = record { after = c.advances_are_lawful.ensures.packets; one_by_one = c.sending_goes_one_by_one.ensures; starts = c.runs_are_bounded.ensures.start; steps = c.runs_are_bounded.ensures.step; reasons = c.verdicts_have_reasons.ensures.reasons } in
     let read : IsRead (script_of c.args.lines.now) (Some c.in-Some.script) = subst (IsRead (script_of c.args.lines.now)) c.in-Some.is c.in_ok-script.ensures.read in
     let tracks : tracks_of c.in-Some.script.header.items c.in-Some.script.events.items c.args.settings.now ≡ Ok c.in_ok-tracks.tracks = subst (λ (es : List Event). tracks_of c.in-Some.script.header.items es c.args.settings.now ≡ Ok c.in_ok-tracks.tracks) c.as_slice.ensures.value c.in_ok-tracks.ensures in
     settled_recording c.args.lines.now c.args.settings.now c.in-Some.script.header.items (events_of c.in_ok-tracks.tracks) c.write.result c.write.ensures.written (written_recording laws c.args.lines.now c.args.settings.now c.in_ok-tracks.tracks c.in-Some.script c.write.result read tracks c.write.ensures.written)

@@ -1,4 +1,4 @@
--- Each turn takes the event that stands next, and the last one that may come is kept where the end follows it.
+-- Each turn takes the event that comes next, and the last one that may come is kept where the end follows it.
 use Rattle.std.proofs.Common.{◌≡◌, ◌∙◌, suc, ◌+◌, ◌-◌, true, false, is_some, Some, None, sym, ap, arith}
 use Rattle.pd_script.specs.declared.parsing.Found.{Found}
 use Rattle.pd_script.proofs.Finding.{found_got, found_last, found_over, found_fault, found_zero}

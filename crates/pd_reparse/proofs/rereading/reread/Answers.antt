@@ -1,4 +1,4 @@
--- What is kept is what the first lines decide, and the rest is read behind it.
+-- What is kept is what the first lines decide, and the rest is read after it.
 use Rattle.std.proofs.Common.{◌≡◌, ◌∙◌, ℕ, ap, sym, length, take, arith}
 use Rattle.pd_lex.specs.declared.token.Place.{Place}
 use Rattle.std.proofs.lemmas.List.{length-take-le}
@@ -9,8 +9,8 @@ use Rattle.pd_reparse.proofs.rereading.reread.Goals as goal
 pub first_events-requires : goal.first_events-requires
 first_events-requires c = let w = kept_within c.args.same c.args.old.now in omega (arith, w, c.count_within-kept.ensures)
 
-pub place_behind-place-requires-clause-within : goal.place_behind-place-requires-clause-within
-place_behind-place-requires-clause-within c = let w = kept_within c.args.same c.args.old.now in omega (arith, w, c.count_within-kept.ensures)
+pub place_after-place-requires-clause-within : goal.place_after-place-requires-clause-within
+place_after-place-requires-clause-within c = let w = kept_within c.args.same c.args.old.now in omega (arith, w, c.count_within-kept.ensures)
 
 pub read_on-requires : goal.read_on-requires
 read_on-requires c =
@@ -28,5 +28,5 @@ returns-clause-reading c =
     let header : c.in_ok-header.header ≡ old.header = c.in_ok-header.ensures ∙ c.header.ensures in
     let events : c.in_ok-events.events ≡ take (kept_of same old) old.events = c.in_ok-events.ensures ∙ ap (λ (n : ℕ). take n old.events) count in
     let some : kept_of same old ≡ 0 → ⊥ = λ z. omega (arith, z, c.if-kept-eq0.false, count) in
-    let behind : (start : Place) → last_place start (take (kept_of same old) old.events) ≡ c.place_behind-place.result = λ start. ap (λ (n : ℕ). last_place start (take n old.events)) (sym count) ∙ c.place_behind-place.ensures start in
-    read_again c.first_lines.ensures.order c.first_lines.ensures.same c.items_stand_there.ensures c.args.lines.now same old c.in_ok-reading-2.reading c.place_behind-place.result c.have_lines.ensures c.requires c.in_ok-header.header c.in_ok-events.events header events some behind c.in_ok-reading-2.ensures
+    let after : (start : Place) → last_place start (take (kept_of same old) old.events) ≡ c.place_after-place.result = λ start. ap (λ (n : ℕ). last_place start (take n old.events)) (sym count) ∙ c.place_after-place.ensures start in
+    read_again c.first_lines.ensures.order c.first_lines.ensures.same c.items_stand_there.ensures c.args.lines.now same old c.in_ok-reading-2.reading c.place_after-place.result c.facts.ensures c.requires c.in_ok-header.header c.in_ok-events.events header events some after c.in_ok-reading-2.ensures

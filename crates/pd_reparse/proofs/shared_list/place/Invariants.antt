@@ -1,4 +1,4 @@
--- What is left behind the blocks so far.
+-- What is left after the blocks so far.
 use Rattle.std.proofs.Common.{◌≡◌, ◌+◌, length, take}
 use Rattle.pd_reparse.specs.Blocks.{items_in}
 use Rattle.pd_reparse.proofs.shared_list.place.Given as goal

@@ -1,4 +1,4 @@
--- The whole part in microseconds, and six decimals behind it.
+-- The whole part in microseconds, and six decimals after it.
 use Rattle.std.proofs.Common.{◌∙◌, sym}
 use Rattle.pd_script.proofs.Capped.{microseconds_is, whole_is}
 use Rattle.pd_script.proofs.numbers.microseconds.Goals as goal

@@ -16,7 +16,7 @@ pub returns-clause-limit : goal.returns-clause-limit
 returns-clause-limit c = subst (λ (p : Parsed). length p.events ≤ 4096) (sym c.in_ok-parsed.ensures) (script_is_short c.args.lines.now)
 
 pub returns-clause-lines : goal.returns-clause-lines
-returns-clause-lines c = let lines = c.args.lines.now in subst (λ (p : Parsed). HasLines lines p) (sym c.in_ok-parsed.ensures) (script_has_lines c.first_lines.ensures.order lines c.have_lines.ensures)
+returns-clause-lines c = let lines = c.args.lines.now in subst (λ (p : Parsed). HasLines lines p) (sym c.in_ok-parsed.ensures) (script_has_lines c.first_lines.ensures.order lines c.facts.ensures)
 
 pub returns-clause-end : goal.returns-clause-end
 returns-clause-end c = let lines = c.args.lines.now in subst (λ (p : Parsed). HasEnd (items lines first_place) p.header) (sym c.in_ok-parsed.ensures) (script_is_read lines).0

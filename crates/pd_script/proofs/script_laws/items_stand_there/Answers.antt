@@ -3,4 +3,4 @@ use Rattle.pd_script.proofs.NextLaws.{item_stands}
 use Rattle.pd_script.proofs.script_laws.items_stand_there.Goals as goal
 
 pub returns : goal.returns
-returns c = item_stands c.items_behind_tokens.ensures
+returns c = item_stands c.items_after_tokens.ensures

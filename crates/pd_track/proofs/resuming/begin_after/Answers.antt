@@ -13,6 +13,6 @@ returns-clause-resumes c =
     subst (λ s. Resumes c.args.text.now c.args.settings.now (4 * c.serving-count.result) s c.in_ok-checkpoints.checkpoints) (ap (rebound_run c.args.settings.now) (sym c.in_ok-state.ensures.ok) ∙ sym c.rebind.ensures)
     (resumes_after c.first_events.ensures.scripts c.runs_are_bounded.ensures.start c.runs_are_bounded.ensures.step c.runs_only_use.ensures.notes c.runs_only_use.ensures.runs
     c.args.track.now c.args.text.now c.args.settings.now c.args.fresh c.state_at.result.now c.serving-count.result c.args.events c.in_ok-checkpoints.checkpoints
-    (subst AreLines c.text.ensures c.have_lines.ensures) c.have_lines-2.ensures (omega arith) c.requires.fresh c.requires.events c.serving-count.ensures.kept
+    (subst AreLines c.text.ensures c.facts.ensures.1) c.facts-2.ensures.1 (omega arith) c.requires.fresh c.requires.events c.serving-count.ensures.kept
     ((agrees_is (uses c.args.track.now (4 * c.serving-count.result)) c.args.track.now.settings c.args.settings.now).0 (c.serving-count.ensures.agreeing (omega arith)))
     c.state_at.ensures c.in_ok-checkpoints.ensures.states c.in_ok-checkpoints.ensures.held)

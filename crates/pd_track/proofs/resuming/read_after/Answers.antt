@@ -7,5 +7,5 @@ use Rattle.pd_track.proofs.resuming.read_after.Goals as goal
 pub reread-requires : goal.reread-requires
 reread-requires c =
     reads_front c.args.track.now.text c.lines.result.now c.reading.result.now c.args.same
-    (subst AreLines c.text.ensures c.have_lines.ensures) c.reading.ensures
+    (subst AreLines c.text.ensures c.facts.ensures.1) c.reading.ensures
     (subst (λ t. c.args.same ≡ front c.args.track.now.text t) (sym c.lines.ensures) c.requires)

@@ -2,21 +2,21 @@
 use Rattle.std.proofs.Common.{◌≡◌, ◌+◌, ◌∙◌, ap, refl, drop}
 use Rattle.pd_script.specs.declared.parsing.Parsed.{Parsed}
 use Rattle.pd_reparse.specs.Reading.{DecidedScript, events_of}
-use Rattle.pd_reparse.specs.Steps.{events_behind}
+use Rattle.pd_reparse.specs.Steps.{events_after}
 use Rattle.pd_run.specs.Run.{stepped_from}
 use Rattle.pd_track.specs.Resuming.{script_events}
 use Rattle.pd_track.proofs.Went.{Whole, whole, drop_map}
 use Rattle.pd_track.proofs.running.go_on.Given as given
 use Rattle.pd_track.proofs.running.go_on.Goals as goal
 
-came : (g : given.Over) (c : goal.In_ok-ended g) → Whole c.args.job.now c.in_ok-ended.ended.verdict c.args.reading c.in_ok-ended.ended.checkpoints (stepped_from (events_behind c.args.progress.passed c.events.result.now) c.args.progress.state)
+came : (g : given.Over) (c : goal.In_ok-ended g) → Whole c.args.job.now c.in_ok-ended.ended.verdict c.args.reading c.in_ok-ended.ended.checkpoints (stepped_from (events_after c.args.progress.passed c.events.result.now) c.args.progress.state)
 came g c =
-    let rest : events_behind c.args.progress.passed c.events.result.now ≡ drop c.args.progress.passed (script_events c.args.job.now.task.text) =
+    let rest : events_after c.args.progress.passed c.events.result.now ≡ drop c.args.progress.passed (script_events c.args.job.now.task.text) =
     drop_map c.args.progress.passed c.events.result.now
     ∙ (ap (λ ds. drop c.args.progress.passed (events_of ds)) (c.events.ensures.value ∙ ap (λ (r : DecidedScript). r.events) c.requires.reading)
     ∙ ap (λ (p : Parsed). drop c.args.progress.passed p.events) (c.readings.ensures c.args.job.now.task.text)) in
     whole c.runs_only_use.ensures.notes c.args.job.now c.args.reading c.args.progress.passed c.args.progress.state c.args.progress.checkpoints c.in_ok-ended.ended.checkpoints
-    (events_behind c.args.progress.passed c.events.result.now) c.in_ok-ended.ended.verdict (stepped_from (events_behind c.args.progress.passed c.events.result.now) c.args.progress.state)
+    (events_after c.args.progress.passed c.events.result.now) c.in_ok-ended.ended.verdict (stepped_from (events_after c.args.progress.passed c.events.result.now) c.args.progress.state)
     c.requires.reading rest c.requires.passed c.requires.resumes c.in_ok-ended.ensures.verdict c.in_ok-ended.ensures.checkpoints refl
 
 pub returns-clause-outcome : goal.returns-clause-outcome

@@ -3,7 +3,7 @@ use Rattle.std.proofs.Common.{◌≡◌, ◌∙◌, Option, Some, List, find, �
 use Rattle.pd_track.specs.declared.task.Task.{Task}
 use Rattle.pd_book.specs.Acts.{job}
 use Rattle.pd_book.specs.Replay.{give_up}
-use Rattle.pd_book.specs.Story.{Contents}
+use Rattle.pd_book.specs.Story.{BookView}
 use Rattle.pd_book.proofs.Calls.{abandon_kept}
 use Rattle.pd_book.proofs.book_core.Book.abandon.Goals as goal
 
@@ -13,7 +13,7 @@ invariant_of-self c =
     let j = c.args.number in
     let h = c.in-Some._task.now in
     let k = c.abandon.ensures in
-    let found : job c.self.inside.opening past j ≡ Some h = ap (λ (x : Contents). job x.story.opening x.story.past j) c.self.view_is ∙ (search rules) in
+    let found : job c.self.inside.opening past j ≡ Some h = ap (λ (x : BookView). job x.story.opening x.story.past j) c.self.view_is ∙ (search rules) in
     let kept : find (λ (t : Task). j == t.number) c.self.inside.records.tasks.items ≡ Some h = ap (λ (ts : List Task). find (λ (t : Task). j == t.number) ts) c.self.invariant.tasks ∙ found in
     abandon_kept c.self.inside.opening past _ c.self.inside.settings c.self.inside.records.scripts _ c.self.inside.records.tasks.items _ c.self.inside.numbers _ _ h j
     c.self.invariant

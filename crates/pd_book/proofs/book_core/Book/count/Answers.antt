@@ -2,11 +2,11 @@
 use Rattle.std.proofs.Common.{◌∙◌, List, length, ap, sym, reverse}
 use Rattle.pd_book.specs.Acts.{texts}
 use Rattle.pd_book.specs.Kept.{Entry}
-use Rattle.pd_book.specs.Story.{Contents}
+use Rattle.pd_book.specs.Story.{BookView}
 use Rattle.pd_book.proofs.Faithful.{length-kept}
 use Rattle.pd_book.proofs.book_core.Book.count.Goals as goal
 
 pub returns : goal.returns
 returns c =
     c.len.ensures ∙ (ap (λ (es : List Entry). length es) c.self.invariant.scripts
-    ∙ (sym (length-kept c.self.inside.opening (reverse c.self.inside.records.acts.items)) ∙ ap (λ (s : Contents). length (texts s.story.past)) c.self.view_is))
+    ∙ (sym (length-kept c.self.inside.opening (reverse c.self.inside.records.acts.items)) ∙ ap (λ (s : BookView). length (texts s.story.past)) c.self.view_is))

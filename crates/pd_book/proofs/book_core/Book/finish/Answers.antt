@@ -1,7 +1,7 @@
 -- The book after a finish is the replay of its acts.
 use Rattle.std.proofs.Common.{◌∙◌, reverse, rules, ap, sym}
 use Rattle.pd_book.specs.Acts.{job, ruling}
-use Rattle.pd_book.specs.Story.{Contents}
+use Rattle.pd_book.specs.Story.{BookView}
 use Rattle.pd_book.proofs.Calls.{finish_kept}
 use Rattle.pd_book.proofs.book_core.Book.finish.Goals as goal
 
@@ -11,6 +11,6 @@ invariant_of-self c =
     let h = c.args.done.now in
     finish_kept c.self.inside.opening (reverse c.self.inside.records.acts.items) _ c.self.inside.settings c.self.inside.records.scripts _ c.self.inside.records.tasks.items _ c.self.inside.numbers _ _ h _
     c.self.invariant
-    (ap (λ (x : Contents). job x.story.opening x.story.past h.number) c.self.view_is ∙ (search rules))
-    (c.ruling-ruling.ensures ∙ ap (λ (x : Contents). ruling x.story.past h) (sym c.self.view_is))
+    (ap (λ (x : BookView). job x.story.opening x.story.past h.number) c.self.view_is ∙ (search rules))
+    (c.ruling-ruling.ensures ∙ ap (λ (x : BookView). ruling x.story.past h) (sym c.self.view_is))
     k.past k.scripts k.tasks k.capacity

@@ -3,19 +3,19 @@ use Rattle.std.proofs.Common.{◌≡◌, ◌∙◌, ◌+◌, ◌≤◌, refl, fa
 use Rattle.std.proofs.lemmas.List.{length-reverse}
 use Rattle.pd_book.specs.declared.act.Act.TheVariants as act
 use Rattle.pd_book.specs.Acts.{stands}
-use Rattle.pd_book.specs.Story.{Story, Contents}
+use Rattle.pd_book.specs.Story.{Story, BookView}
 use Rattle.pd_book.specs.Refusals.{full, name_refusal, add_refusal}
 use Rattle.pd_book.proofs.Calls.{recorded, has_room}
 use Rattle.pd_book.proofs.Faithful.{absent-kept}
-use Rattle.pd_book.proofs.Legality.{adds_legal, both_none}
+use Rattle.pd_book.proofs.Legality.{add_legal, both_none}
 use Rattle.pd_book.proofs.book_core.Book.keep.Goals as goal
 
 pub add-requires : goal.add-requires
 add-requires c =
     let name = c.args.name in
     let story : Story = record { opening = c.self.inside.opening; past = reverse c.self.inside.records.acts.items } in
-    let allowed : add_refusal story name ≡ None = ap (λ (x : Contents). add_refusal x.story name) c.self.view_is ∙ c.requires.allowed in
-    let may = (adds_legal story c.self.invariant.legal name c.args.text c.texts_have_lines.ensures allowed).0 in
+    let allowed : add_refusal story name ≡ None = ap (λ (x : BookView). add_refusal x.story name) c.self.view_is ∙ c.requires.allowed in
+    let may = (add_legal story c.self.invariant.legal name c.args.text c.facts.ensures allowed).0 in
     rw c.self.invariant.scripts (absent-kept name story.opening story.past may.1)
 
 pub invariant_of-self-2 : goal.invariant_of-self-2
@@ -24,8 +24,8 @@ invariant_of-self-2 c =
     let name = c.args.name in
     let text = c.args.text in
     let story : Story = record { opening = c.self.inside.opening; past = reverse acts } in
-    let allowed : add_refusal story name ≡ None = ap (λ (x : Contents). add_refusal x.story name) c.self.view_is ∙ c.requires.allowed in
-    let may = (adds_legal story c.self.invariant.legal name text c.texts_have_lines.ensures allowed).0 in
+    let allowed : add_refusal story name ≡ None = ap (λ (x : BookView). add_refusal x.story name) c.self.view_is ∙ c.requires.allowed in
+    let may = (add_legal story c.self.invariant.legal name text c.facts.ensures allowed).0 in
     let room = has_room 1 story (both_none (name_refusal story.past name) (full 1 story) allowed).1 in
     let few : length (reverse acts) + length c.self.inside.records.tasks.items + 1 ≤ 65536 = omega (arith, ap length c.self.invariant.tasks, room) in
     recorded c.self.inside.opening (reverse acts) _ c.self.inside.settings _ c.self.inside.records.scripts _ c.self.inside.records.tasks.items c.self.inside.numbers _ _ (act.Add name text)

@@ -1,12 +1,12 @@
 -- The tasks kept are as many as the outstanding jobs.
 use Rattle.std.proofs.Common.{◌∙◌, ◌≤◌, ◌+◌, length, ap, arith, reverse}
 use Rattle.pd_book.specs.Acts.{jobs}
-use Rattle.pd_book.specs.Story.{Contents}
+use Rattle.pd_book.specs.Story.{BookView}
 use Rattle.pd_book.proofs.book_core.Book.outstanding_count.Goals as goal
 
 pub returns-clause-count : goal.returns-clause-count
 returns-clause-count c =
-    let kept = ap length c.self.invariant.tasks ∙ ap (λ (x : Contents). length (jobs x.story.opening x.story.past)) c.self.view_is in
+    let kept = ap length c.self.invariant.tasks ∙ ap (λ (x : BookView). length (jobs x.story.opening x.story.past)) c.self.view_is in
     omega (arith, c.len.ensures, c.self.inside.records.tasks.ok, kept)
 
 pub returns-clause-few : goal.returns-clause-few

@@ -4,11 +4,11 @@ use Rattle.std.specs.List.{count_by}
 use Rattle.std.specs.Map.{values_of}
 use Rattle.pd_book.specs.Report.{owed}
 use Rattle.pd_book.specs.Kept.{Entry}
-use Rattle.pd_book.specs.Story.{Contents}
+use Rattle.pd_book.specs.Story.{BookView}
 use Rattle.pd_book.proofs.Rows.{pending_script, owed_kept}
 use Rattle.pd_book.proofs.book_core.Book.owed.Goals as goal
 
 pub returns : goal.returns
 returns c =
     c.owed.ensures ∙ (ap (λ (es : List Entry). count_by pending_script (values_of es)) c.self.invariant.scripts
-    ∙ (sym (owed_kept c.self.inside.opening (reverse c.self.inside.records.acts.items) c.self.invariant.legal) ∙ ap (λ (s : Contents). owed s.story.opening s.story.past) c.self.view_is))
+    ∙ (sym (owed_kept c.self.inside.opening (reverse c.self.inside.records.acts.items) c.self.invariant.legal) ∙ ap (λ (s : BookView). owed s.story.opening s.story.past) c.self.view_is))

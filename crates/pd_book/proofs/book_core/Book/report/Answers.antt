@@ -4,9 +4,9 @@ use Rattle.std.specs.List.{All}
 use Rattle.pd_settings.specs.declared.fields.Settings.{Settings}
 use Rattle.pd_book.specs.declared.row.Row.{Row}
 use Rattle.pd_book.specs.Acts.{now}
-use Rattle.pd_book.specs.Report.{Shown, IsRunUnder, shown}
+use Rattle.pd_book.specs.Report.{ReportView, IsRunUnder, shown}
 use Rattle.pd_book.specs.Kept.{Entry, kept_row}
-use Rattle.pd_book.specs.Story.{Contents}
+use Rattle.pd_book.specs.Story.{BookView}
 use Rattle.pd_book.proofs.Rows.{rows_kept, rows_run}
 use Rattle.pd_book.proofs.book_core.Book.report.Goals as goal
 
@@ -25,6 +25,6 @@ returns c =
     let opening = c.self.inside.opening in
     let rows : c.in_ok-rows.rows.items ≡ (shown opening past).rows =
     c.in_ok-rows.ensures ∙ (ap (λ (es : List Entry). map kept_row es) c.self.invariant.scripts ∙ sym (rows_kept opening past c.self.invariant.legal)) in
-    let under : Settings → List Row → Shown = λ s rs. record { settings = s; rows = rs } in
+    let under : Settings → List Row → ReportView = λ s rs. record { settings = s; rows = rs } in
     c.new.ensures ∙ (ap (under c.self.inside.settings) rows ∙ (ap (λ (s : Settings). under s (shown opening past).rows) c.self.invariant.settings
-    ∙ ap (λ (x : Contents). shown x.story.opening x.story.past) c.self.view_is))
+    ∙ ap (λ (x : BookView). shown x.story.opening x.story.past) c.self.view_is))

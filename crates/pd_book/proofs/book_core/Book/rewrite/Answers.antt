@@ -5,7 +5,7 @@ use Rattle.std.specs.Str.{bytes_eq}
 use Rattle.std.proofs.lemmas.List.{length-reverse}
 use Rattle.pd_text.specs.Edit.{edited}
 use Rattle.pd_book.specs.Acts.{texts, text_of}
-use Rattle.pd_book.specs.Story.{Contents}
+use Rattle.pd_book.specs.Story.{BookView}
 use Rattle.pd_book.specs.Refusals.{text_refusal, taken_room}
 use Rattle.pd_book.proofs.Calls.{edit_kept, has_room}
 use Rattle.pd_book.proofs.book_core.Book.rewrite.Goals as goal
@@ -17,12 +17,12 @@ invariant_of-self-3 c =
     let d = c.args.edit in
     let acts = c.self.inside.records.acts.items in
     let room = has_room 1 c.args.self.now.story c.requires.room in
-    let few : length (reverse acts) + length c.self.inside.records.tasks.items + 1 ≤ 65536 = omega (arith, ap length c.self.invariant.tasks, ap (λ (x : Contents). taken_room x.story) c.self.view_is, room) in
+    let few : length (reverse acts) + length c.self.inside.records.tasks.items + 1 ≤ 65536 = omega (arith, ap length c.self.invariant.tasks, ap (λ (x : BookView). taken_room x.story) c.self.view_is, room) in
     edit_kept c.self.inside.opening (reverse acts) _ c.self.inside.settings c.self.inside.records.scripts _ c.self.inside.records.tasks.items c.self.inside.numbers _ _ n d c.in_ok-text.text
     c.self.invariant
-    (ap (λ (x : Contents). text_refusal (lookup (bytes_eq n) (texts x.story.past)) d) c.self.view_is ∙ c.requires.allowed)
+    (ap (λ (x : BookView). text_refusal (lookup (bytes_eq n) (texts x.story.past)) d) c.self.view_is ∙ c.requires.allowed)
     c.requires.inserted
-    (c.in_ok-text.ensures ∙ (c.requires.text ∙ ap (λ (x : Contents). edited (text_of x.story.past n) d) (sym c.self.view_is)))
+    (c.in_ok-text.ensures ∙ (c.requires.text ∙ ap (λ (x : BookView). edited (text_of x.story.past n) d) (sym c.self.view_is)))
     c.rewrite.ensures.written
     c.rewrite.ensures.distinct
     (c.record.ensures.past ∙ cc (c.in_ok-reserve.ensures.items, c.in_ok-kept_name.ensures))

@@ -1,17 +1,17 @@
 -- What holds of what a legal history shows.
 use Rattle.std.proofs.Common.{◌≡◌, Result, Ok, Err, IfOk, sym, subst}
-use Rattle.pd_book.specs.Report.{Shown}
+use Rattle.pd_book.specs.Report.{ReportView}
 use Rattle.pd_book.proofs.Rows.{rows_run}
-use Rattle.pd_book.proofs.Splits.{current, rows_are_scripts, rows_of_scratch, from_scratch}
+use Rattle.pd_book.proofs.Splits.{current, rows_are_scripts, rows_of_scratch, from_scratch, rows_grammars, whole_answered, rows_of_whole}
 use Rattle.pd_book.proofs.book_core.Book.show.Goals as goal
 
 -- a fact of the value that a result has
-fact_of : {E : Type 0} (P : Shown → Type 0) (value : Shown) (r : Result Shown E) → IfOk r (λ x. x ≡ value) → P value → IfOk r P
+fact_of : {E : Type 0} (P : ReportView → Type 0) (value : ReportView) (r : Result ReportView E) → IfOk r (λ x. x ≡ value) → P value → IfOk r P
 fact_of P value (Ok x) e h = subst P (sym e) h
 fact_of P value (Err x) e h = tt
 
 pub returns-clause-current : goal.returns-clause-current
-returns-clause-current c = fact_of _ _ c.report.result c.report.ensures (current c.args.self.now.story.opening c.args.self.now.story.past c.acts_are_legal.ensures)
+returns-clause-current c = fact_of _ _ c.report.result c.report.ensures (current c.args.self.now.story.opening c.args.self.now.story.past c.facts.ensures)
 
 pub returns-clause-scripts : goal.returns-clause-scripts
 returns-clause-scripts c = fact_of _ _ c.report.result c.report.ensures (rows_are_scripts c.args.self.now.story.opening c.args.self.now.story.past)
@@ -24,3 +24,12 @@ returns-clause-scratch c = fact_of _ _ c.report.result c.report.ensures (from_sc
 
 pub returns-clause-rows : goal.returns-clause-rows
 returns-clause-rows c = fact_of _ _ c.report.result c.report.ensures (rows_of_scratch c.args.self.now.story.opening c.args.self.now.story.past)
+
+pub returns-clause-grammar : goal.returns-clause-grammar
+returns-clause-grammar c = fact_of _ _ c.report.result c.report.ensures (rows_grammars c.verdicts_are_grammatical.ensures.given c.args.self.now.story.opening c.args.self.now.story.past)
+
+pub returns-clause-whole : goal.returns-clause-whole
+returns-clause-whole c = fact_of _ _ c.report.result c.report.ensures (whole_answered c.verdicts_are_grammatical.ensures.given c.args.self.now.story.opening c.args.self.now.story.past)
+
+pub returns-clause-parts : goal.returns-clause-parts
+returns-clause-parts c = fact_of _ _ c.report.result c.report.ensures (rows_of_whole c.verdicts_are_grammatical.ensures.given c.args.self.now.story.opening c.args.self.now.story.past)

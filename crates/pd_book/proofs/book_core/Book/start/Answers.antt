@@ -3,7 +3,7 @@ use Rattle.std.proofs.Common.{◌∙◌, ◌∷◌, ◌+◌, ◌≤◌, List, re
 use Rattle.std.proofs.lemmas.List.{length-reverse}
 use Rattle.pd_book.specs.declared.act.Act.{Act}
 use Rattle.pd_book.specs.Acts.{next, now, started}
-use Rattle.pd_book.specs.Story.{Contents}
+use Rattle.pd_book.specs.Story.{BookView}
 use Rattle.pd_book.specs.Refusals.{taken_room}
 use Rattle.pd_book.proofs.Calls.{start_kept, has_room}
 use Rattle.pd_book.proofs.book_core.Book.start.Goals as goal
@@ -14,14 +14,14 @@ invariant_of-self-2 c =
     let t = rw c.in-Some.is at c.in_ok-prepared.ensures.room in
     let acts = c.self.inside.records.acts.items in
     let room = has_room 2 c.args.self.now.story t in
-    let few : length (reverse acts) + length c.self.inside.records.tasks.items + 2 ≤ 65536 = omega (arith, ap length c.self.invariant.tasks, ap (λ (x : Contents). taken_room x.story) c.self.view_is, room) in
+    let few : length (reverse acts) + length c.self.inside.records.tasks.items + 2 ≤ 65536 = omega (arith, ap length c.self.invariant.tasks, ap (λ (x : BookView). taken_room x.story) c.self.view_is, room) in
     let p = c.in-Some.prepared in
     let k = c.start.ensures in
     start_kept c.self.inside.opening (reverse acts) _ c.self.inside.settings c.self.inside.records.scripts _ c.self.inside.records.tasks.items _ c.self.inside.numbers _ _ _ p.job.task p.act
     c.self.invariant
-    (ap (λ (x : Contents). next x.story.past) c.self.view_is ∙ s.waiting)
-    (s.number ∙ ap (λ (x : Contents). started x.story.past + 1) (sym c.self.view_is))
-    (s.settings ∙ ap (λ (x : Contents). now x.story.opening x.story.past) (sym c.self.view_is))
+    (ap (λ (x : BookView). next x.story.past) c.self.view_is ∙ s.waiting)
+    (s.number ∙ ap (λ (x : BookView). started x.story.past + 1) (sym c.self.view_is))
+    (s.settings ∙ ap (λ (x : BookView). now x.story.opening x.story.past) (sym c.self.view_is))
     s.start
     (k.past ∙ ap (λ (x : List Act). p.act ∷ reverse x) c.in_ok-reserve.ensures.items)
     k.scripts

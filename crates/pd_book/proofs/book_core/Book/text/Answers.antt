@@ -6,7 +6,7 @@ use Rattle.std.specs.Str.{bytes_eq}
 use Rattle.pd_book.specs.declared.script.Script.{Script}
 use Rattle.pd_book.specs.Acts.{texts}
 use Rattle.pd_book.specs.Kept.{Entry}
-use Rattle.pd_book.specs.Story.{Contents}
+use Rattle.pd_book.specs.Story.{BookView}
 use Rattle.pd_book.proofs.Faithful.{lookup-kept}
 use Rattle.pd_book.proofs.book_core.Book.text.Goals as goal
 
@@ -14,4 +14,4 @@ pub returns : goal.returns
 returns c =
     let test = bytes_eq c.args.name.now in
     c.text.ensures ∙ (ap (λ (es : List Entry). option_map (λ (s : Script). s.text) (lookup test es)) c.self.invariant.scripts
-    ∙ (sym (lookup-kept test c.self.inside.opening (reverse c.self.inside.records.acts.items)) ∙ ap (λ (s : Contents). lookup test (texts s.story.past)) c.self.view_is))
+    ∙ (sym (lookup-kept test c.self.inside.opening (reverse c.self.inside.records.acts.items)) ∙ ap (λ (s : BookView). lookup test (texts s.story.past)) c.self.view_is))

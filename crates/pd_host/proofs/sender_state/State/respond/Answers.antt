@@ -2,7 +2,7 @@
 use Rattle.std.proofs.Common.{subst, refl, ap, ◌∙◌}
 use Rattle.pd_recover.specs.declared.responses.Then.{Then}
 use Rattle.pd_host.specs.Acknowledgments.{filled}
-use Rattle.pd_host.specs.Sender.{then_on}
+use Rattle.pd_host.specs.Host.{then_on}
 use Rattle.pd_host.specs.Sending.{ordinary}
 use Rattle.pd_host.specs.Steps.{FollowsQueued, led_on}
 use Rattle.pd_host.specs.declared.fillings.Filling.TheVariants.{NextSeg, NewData}

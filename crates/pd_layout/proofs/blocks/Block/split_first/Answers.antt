@@ -1,4 +1,4 @@
--- The first line of a block, and the block behind it.
+-- The first line of a block, and the block after it.
 use Rattle.std.proofs.Common.{◌≡◌, ◌∙◌, ℕ, ◌+◌, ◌-◌, nat_le, true, List, Option, Some, None, slice_get, if◌then◌else◌, sym, ap, arith, tests}
 use Rattle.pd_layout.proofs.NextLines.{block_next}
 use Rattle.pd_layout.proofs.blocks.Block.split_first.Goals as goal

@@ -1,6 +1,6 @@
 -- Each turn records the packet that leaves next, until none does.
 use Rattle.std.proofs.Common.{◌≡◌, ◌≢◌, ◌+◌, ◌-◌, Some, None, nat_le, sym, ap, subst, ◌∙◌, arith}
-use Rattle.pd_record.specs.Tape.{Tape, leaves_next, left_by}
+use Rattle.pd_record.specs.Recorder.{RecorderView, leaves_next, left_by}
 use Rattle.pd_record.specs.Inner.{Sound}
 use Rattle.pd_record.specs.declared.refusals.NotRecorded.TheVariants.{OutOfMemory}
 use Rattle.pd_record.proofs.Bounds.{unmet_sound}
@@ -29,7 +29,7 @@ packets-preserved c =
     let step = comes_got (4096 - c.packets.counter) (4096 - (c.packets.counter + 1)) c.args.line c.args.until c.packets.before.items c.packets.self c.leave.new.self c.in-Some.sent c.in_ok-recorded.recorded (omega (arith, c.packets-test.true)) next c.in_ok-recorded.ensures.packet in
     record {
       sound = subst Sound (sym c.in_ok-keep_unmet.ensures) (unmet_sound c.leave.new.self c.in-Some.sent.at c.in_ok-recorded.ensures.sound c.in_ok-recorded.ensures.reached);
-      base = ap (λ (t : Tape). t.base) c.in_ok-keep_unmet.ensures ∙ (c.in_ok-recorded.ensures.base ∙ c.packets.invariant.base);
+      base = ap (λ (t : RecorderView). t.base) c.in_ok-keep_unmet.ensures ∙ (c.in_ok-recorded.ensures.base ∙ c.packets.invariant.base);
       left = rw (c.in_ok-keep.ensures, c.in_ok-keep_unmet.ensures) (sym step ∙ c.packets.invariant.left);
     }
 

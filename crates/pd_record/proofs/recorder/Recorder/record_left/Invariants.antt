@@ -1,6 +1,6 @@
 -- What was recorded so far and what is left make all that leaves.
 use Rattle.std.proofs.Common.{◌≡◌, ◌-◌, []}
-use Rattle.pd_record.specs.Tape.{comes}
+use Rattle.pd_record.specs.Recorder.{comes}
 use Rattle.pd_record.specs.Inner.{Sound}
 use Rattle.pd_record.proofs.recorder.Recorder.record_left.Given as goal
 

@@ -1,14 +1,14 @@
 -- What is sent again lies among what was sent.
 use Rattle.std.proofs.Common.{◌≡◌, ℕ, ◌≤◌, sym, Some, arith}
 use Rattle.pd_board.specs.Choice.{next_lost, next_hole}
-use Rattle.pd_board.specs.Scoreboard.{Scoreboard}
+use Rattle.pd_board.specs.Board.{BoardView}
 use Rattle.pd_recover.proofs.Found.{least}
 use Rattle.pd_recover.proofs.cong.Cong.first_given.Goals as goal
 
-lost_within : (high_rxt x : ℕ) (s : Scoreboard) → next_lost high_rxt s ≡ Some x → (s.una ≤ x) × (x ≤ s.top)
+lost_within : (high_rxt x : ℕ) (s : BoardView) → next_lost high_rxt s ≡ Some x → (s.una ≤ x) × (x ≤ s.top)
 lost_within high_rxt x s e = let h = least _ s.una s.top x e in (h.from, omega (arith, h.to))
 
-hole_within : (high_rxt x : ℕ) (s : Scoreboard) → next_hole high_rxt s ≡ Some x → (s.una ≤ x) × (x ≤ s.top)
+hole_within : (high_rxt x : ℕ) (s : BoardView) → next_hole high_rxt s ≡ Some x → (s.una ≤ x) × (x ≤ s.top)
 hole_within high_rxt x s e = let h = least _ s.una s.top x e in (h.from, omega (arith, h.to))
 
 pub run_at-requires-clause-low : goal.run_at-requires-clause-low

@@ -2,7 +2,7 @@
 use Rattle.std.proofs.Common.{◌≡◌, Option, sym, subst, ap, ◌∙◌}
 use Rattle.std.specs.Prelude.{IfSome}
 use Rattle.pd_recover.specs.declared.segments.NextSegment.{NextSegment}
-use Rattle.pd_recover.specs.Choice.{IsSendable, segment_of, first_given, next_segment}
+use Rattle.pd_recover.specs.Choice.{IsSendable, segment_of, first_given, next_send}
 use Rattle.pd_recover.proofs.Chosen.{if_some}
 use Rattle.pd_recover.proofs.Sendable.{next_sendable}
 use Rattle.pd_recover.proofs.cong.Cong.next_send.Goals as goal
@@ -11,6 +11,6 @@ pub returns-clause-sendable : goal.returns-clause-sendable
 returns-clause-sendable c =
     let P : NextSegment → Type 0 = λ sent. IsSendable c.args.board.now (segment_of sent) in
     let Q : Option NextSegment → Type 0 = λ o. IfSome o P in
-    let e : c.first_given.result ≡ next_segment c.args.rwnd c.args.board.now c.args.self.now =
+    let e : c.first_given.result ≡ next_send c.args.rwnd c.args.board.now c.args.self.now =
     c.first_given.ensures ∙ ap (λ o. first_given o c.args.board.now c.args.self.now) c.new_data-unsent.ensures.value in
-    subst Q (sym e) (if_some P (next_segment c.args.rwnd c.args.board.now c.args.self.now) (next_sendable c.args.rwnd c.args.board.now c.args.self.now c.new_data-unsent.ensures.known))
+    subst Q (sym e) (if_some P (next_send c.args.rwnd c.args.board.now c.args.self.now) (next_sendable c.args.rwnd c.args.board.now c.args.self.now c.new_data-unsent.ensures.known))

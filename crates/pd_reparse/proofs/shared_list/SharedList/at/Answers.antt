@@ -1,4 +1,4 @@
--- The item stands in its block.
+-- The item is in its block.
 use Rattle.std.proofs.Common.{◌≡◌, ◌∙◌, ◌+◌, ◌++◌, ◌<◌, [], length, take, get_or, sym, ap, arith}
 use Rattle.pd_reparse.specs.Blocks.{items_in}
 use Rattle.pd_reparse.proofs.Blocks.{at_in_block, default_other}

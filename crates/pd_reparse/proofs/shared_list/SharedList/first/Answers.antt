@@ -1,7 +1,7 @@
--- Whole blocks, and the first of what stands behind them.
+-- Whole blocks, and the first of what follows them.
 use Rattle.std.proofs.Common.{◌≡◌, ◌∙◌, ◌+◌, ◌-◌, ◌++◌, ◌<◌, ◌≤◌, [], length, take, get_or, sym, ap, arith}
 use Rattle.pd_reparse.specs.Blocks.{items_in}
-use Rattle.pd_reparse.proofs.Blocks.{default_other, first_in_block, first_behind}
+use Rattle.pd_reparse.proofs.Blocks.{default_other, first_in_block, first_after}
 use Rattle.pd_reparse.proofs.shared_list.SharedList.first.Goals.{then-whole-len+in_ok-rest, else-whole-len+in_ok-rest-2}
 use Rattle.pd_reparse.proofs.shared_list.SharedList.first.Goals as goal
 
@@ -22,5 +22,5 @@ returns g c =
           rw (w.blocks-is, w.rest-is, ← c.self.view_is, ← count) (w.in_ok-rest.ensures ∙ ap (λ l. items_in l ++ take (j + 1) w.index.result.now) front ∙ sym (first_in_block i (j + 1) bs rest w.index.result.now there inside w.index.ensures))
       | else-whole-len+in_ok-rest-2 w ↦
           let all : i ≡ length bs = omega (arith, c.len.ensures, w.if-whole-len.false, c.place-whole.ensures.within) in
-          rw (w.blocks-is, w.rest-is, ← c.self.view_is, ← count) (ap (λ l. items_in l ++ w.in_ok-rest-2.rest.items) front ∙ ap (λ l. items_in (take i bs) ++ l) (w.in_ok-rest-2.ensures ∙ ap (λ l. take (j + 1) l) w.as_slice-else-whole-len.ensures.value) ∙ sym (first_behind i (j + 1) bs rest all))
+          rw (w.blocks-is, w.rest-is, ← c.self.view_is, ← count) (ap (λ l. items_in l ++ w.in_ok-rest-2.rest.items) front ∙ ap (λ l. items_in (take i bs) ++ l) (w.in_ok-rest-2.ensures ∙ ap (λ l. take (j + 1) l) w.as_slice-else-whole-len.ensures.value) ∙ sym (first_after i (j + 1) bs rest all))
     ]

@@ -1,7 +1,7 @@
 -- The sender is up to date at the moment of the expiry.
 use Rattle.std.proofs.Common.{ap, ◌∙◌}
 use Rattle.pd_host.specs.Expiries.{deadline_of}
-use Rattle.pd_run.specs.Step.{Running, KeepsTime}
+use Rattle.pd_run.specs.Step.{RunStateView, KeepsTime}
 use Rattle.pd_run.proofs.Bounds.{host_after_expiry}
 use Rattle.pd_run.proofs.Timed.{keeps_time}
 use Rattle.pd_run.proofs.run_state.RunState.expire.Goals as goal
@@ -9,6 +9,6 @@ use Rattle.pd_run.proofs.run_state.RunState.expire.Goals as goal
 pub invariant_of-self-2 : goal.invariant_of-self-2
 invariant_of-self-2 c =
     host_after_expiry KeepsTime (keeps_time c.sender_is_lawful.ensures) c.self.inside.host c.advance.new.self c.self.inside.clock c.args.at c.in-Ok.field-0 c.self.invariant
-    (ap (λ (r : Running). r.host.ended) c.self.view_is ∙ c.requires.live)
-    (ap (λ (r : Running). deadline_of r.host.state) c.self.view_is ∙ c.requires.due)
+    (ap (λ (r : RunStateView). r.host.ended) c.self.view_is ∙ c.requires.live)
+    (ap (λ (r : RunStateView). deadline_of r.host.state) c.self.view_is ∙ c.requires.due)
     c.in-Ok.ensures

@@ -3,7 +3,7 @@ use Rattle.std.proofs.lemmas.Result.{err_from_is_err_and}
 use Rattle.pd_script.specs.Items.{is_symbol, next_is}
 use Rattle.pd_script.specs.Reader.{Read, onto, machine_at}
 use Rattle.pd_script.specs.Drafts.{argument_move, fresh, drafted, part_at, is_between, is_empty}
-use Rattle.pd_script.specs.Reading.{arguments_at}
+use Rattle.pd_script.specs.EventReading.{arguments_at}
 use Rattle.pd_script.specs.declared.calls.Argument.{Argument}
 use Rattle.pd_script.proofs.ArgumentSteps.{onto-nil, onto-append, part_goes, part_stuck, empty_stuck, last_ends, comma_parts, no_arguments, some_arguments}
 use Rattle.pd_script.proofs.Taking.{err_moves}

@@ -1,4 +1,4 @@
--- Each turn takes the event that stands next, and the last one that may come is kept where the end follows it.
+-- Each turn takes the event that comes next, and the last one that may come is kept where the end follows it.
 use Rattle.std.proofs.Common.{◌≡◌, ◌∙◌, sym, suc, ◌+◌, ◌-◌, false, is_some, None, arith}
 use Rattle.pd_script.specs.Script.{found_in, at_end}
 use Rattle.pd_script.proofs.Finding.{found_got, found_last, found_over, found_fault, found_zero, in_front-append, in_front-none}

@@ -9,5 +9,5 @@ invariant_of-self-2 c =
     let book = c.self.inside.book in
     let number = c.args.number in
     ended_noted book c.abandon.new.self c.self.inside.notes.items c.note.new.notes.items _ _ (Abandon number) c.seat.inside.number number
-    c.self.invariant c.in_ok-abandon.ensures.ok c.acts_are_legal.ensures c.in_ok-abandon.ensures.outstanding
+    c.self.invariant c.in_ok-abandon.ensures.ok c.facts.ensures c.in_ok-abandon.ensures.outstanding
     refl c.note.ensures.past c.note.ensures.capacity

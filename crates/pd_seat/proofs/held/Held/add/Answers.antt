@@ -11,7 +11,7 @@ invariant_of-self-2 c =
     let book = c.self.inside.book in
     let act = Add c.args.name c.in_ok-text.text in
     more_noted book c.add_shared.new.self c.self.inside.notes.items c.note.new.notes.items _ _ act c.seat.inside.number
-    c.self.invariant c.in_ok-add_shared.ensures.ok c.acts_are_legal.ensures refl
+    c.self.invariant c.in_ok-add_shared.ensures.ok c.facts.ensures refl
     (c.note.ensures.past ∙ ap (λ (l : List ℕ). c.seat.inside.number ∷ reverse l) c.reserve.ensures.notes.0)
     (omega (arith, c.in_ok-reserve.ensures.room.0, c.reserve.ensures.notes.1, c.self.inside.notes.ok, c.outstanding_count-outstanding.ensures.count, c.note.ensures.capacity))
 

@@ -11,6 +11,6 @@ invariant_of-self-2 c =
     let book = c.self.inside.book in
     let done = c.args.done.now in
     ended_noted book c.finish.new.self c.self.inside.notes.items c.note.new.notes.items _ _ (Finish done.number c.in_ok-ruling.ruling) c.seat.inside.number done.number
-    c.self.invariant c.in_ok-ruling.ensures.ok c.acts_are_legal.ensures
+    c.self.invariant c.in_ok-ruling.ensures.ok c.facts.ensures
     (is_some_of (job book.story.opening book.story.past done.number) done c.in_ok-ruling.ensures.own)
     refl c.note.ensures.past c.note.ensures.capacity

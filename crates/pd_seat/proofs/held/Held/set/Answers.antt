@@ -15,7 +15,7 @@ invariant_of-self-2 c =
     let named : key_named c.args.key.now ≡ Some c.in-Some.key = sym c.named.ensures ∙ c.in-Some.is in
     let now = content (λ (key : Key). c.set.new.self.story ≡ told book.story (Set key c.args.value)) (key_named c.args.key.now) c.in-Some.key named c.in_ok-set.ensures.ok in
     more_noted book c.set.new.self c.self.inside.notes.items c.note.new.notes.items _ _ act c.seat.inside.number
-    c.self.invariant now c.acts_are_legal.ensures refl
+    c.self.invariant now c.facts.ensures refl
     (c.note.ensures.past ∙ ap (λ (l : List ℕ). c.seat.inside.number ∷ reverse l) c.reserve.ensures.notes.0)
     (omega (arith, c.in_ok-reserve.ensures.room.0, c.reserve.ensures.notes.1, c.self.inside.notes.ok, c.outstanding_count-outstanding.ensures.count, c.note.ensures.capacity))
 

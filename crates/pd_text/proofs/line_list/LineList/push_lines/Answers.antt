@@ -2,7 +2,7 @@
 use Rattle.std.proofs.Common.{◌≡◌, ◌∙◌, ◌+◌, ◌-◌, ◌≤◌, ◌++◌, length, take, drop, map, rules, sym, ap, List, ℕ, true, arith}
 use Rattle.pd_text.specs.Text.{AreLines}
 use Rattle.pd_text.specs.Packed.{octets_between, lines_from, are_ends, start_at}
-use Rattle.pd_text.proofs.Placed.{kept_behind, others_behind, moved, some_ends, some_lines, some_are_lines, start_within, start_order, length_between}
+use Rattle.pd_text.proofs.Placed.{kept_after, others_after, moved, some_ends, some_lines, some_are_lines, start_within, start_order, length_between}
 use Rattle.pd_text.proofs.line_list.LineList.push_lines.Goals as goal
 
 abbrev some : ℕ → ℕ → {A : Type 0} → List A → List A
@@ -33,12 +33,12 @@ invariant_of-self-2 c =
     let at : c.in_ok-at.at ≡ length octets = c.in_ok-at.ensures ∙ search rules in
     let places : are_ends s t (some c.args.first c.args.end ends) ≡ true = some_ends ends c.args.first c.args.end _ c.requires.0 (omega (arith, c.requires.1, c.packed-lines.ensures.count)) c.packed-lines.ensures.ends in
     let within : t ≤ length others = (start_within 0 _ ends c.args.end c.packed-lines.ensures.ends).1 in
-    let behind = others_behind octets others s t (some c.args.first c.args.end ends) places within in
+    let after = others_after octets others s t (some c.args.first c.args.end ends) places within in
     let all : c.extend_from_slice.new.self.items ≡ octets ++ octets_between others s t = c.in_ok-extend_from_slice.ensures.items ∙ ap (λ (l : List ℕ). octets ++ l) c.part-octets.ensures in
     let put : c.push_moved.new.ends.items ≡ c.self.inside.ends.items ++ map (λ (end : ℕ). c.in_ok-at.at + (end - c.in_ok-from.from)) (some c.args.first c.args.end ends) = c.push_moved.ensures ∙ ap (λ (l : List ℕ). l ++ map (λ (end : ℕ). c.in_ok-at.at + (end - c.in_ok-from.from)) (some c.args.first c.args.end ends)) c.in_ok-reserve.ensures.items in
     let moves : c.push_moved.new.ends.items ≡ c.self.inside.ends.items ++ map (moved s (length octets)) (some c.args.first c.args.end ends) = rw (from, at) at put in
     let lines : AreLines (lines_from s others (some c.args.first c.args.end ends)) = rw (← some_lines others ends c.args.first c.args.end, c.packed-lines.ensures.lines) (some_are_lines c.args.list.now (c.args.end - c.args.first) c.args.first c.packed-lines.ensures.are_lines) in
-    let kept = kept_behind octets (octets_between others s t) _ c.self.inside.ends.items (map (moved s (length octets)) (some c.args.first c.args.end ends)) _ (lines_from s others (some c.args.first c.args.end ends)) all moves c.self.invariant behind.0 behind.1 lines in
+    let kept = kept_after octets (octets_between others s t) _ c.self.inside.ends.items (map (moved s (length octets)) (some c.args.first c.args.end ends)) _ (lines_from s others (some c.args.first c.args.end ends)) all moves c.self.invariant after.0 after.1 lines in
     (kept.1, kept.2)
 
 pub returns : goal.returns
@@ -52,11 +52,11 @@ returns c =
     let at : c.in_ok-at.at ≡ length octets = c.in_ok-at.ensures ∙ search rules in
     let places : are_ends s t (some c.args.first c.args.end ends) ≡ true = some_ends ends c.args.first c.args.end _ c.requires.0 (omega (arith, c.requires.1, c.packed-lines.ensures.count)) c.packed-lines.ensures.ends in
     let within : t ≤ length others = (start_within 0 _ ends c.args.end c.packed-lines.ensures.ends).1 in
-    let behind = others_behind octets others s t (some c.args.first c.args.end ends) places within in
+    let after = others_after octets others s t (some c.args.first c.args.end ends) places within in
     let all : c.extend_from_slice.new.self.items ≡ octets ++ octets_between others s t = c.in_ok-extend_from_slice.ensures.items ∙ ap (λ (l : List ℕ). octets ++ l) c.part-octets.ensures in
     let put : c.push_moved.new.ends.items ≡ c.self.inside.ends.items ++ map (λ (end : ℕ). c.in_ok-at.at + (end - c.in_ok-from.from)) (some c.args.first c.args.end ends) = c.push_moved.ensures ∙ ap (λ (l : List ℕ). l ++ map (λ (end : ℕ). c.in_ok-at.at + (end - c.in_ok-from.from)) (some c.args.first c.args.end ends)) c.in_ok-reserve.ensures.items in
     let moves : c.push_moved.new.ends.items ≡ c.self.inside.ends.items ++ map (moved s (length octets)) (some c.args.first c.args.end ends) = rw (from, at) at put in
     let lines : AreLines (lines_from s others (some c.args.first c.args.end ends)) = rw (← some_lines others ends c.args.first c.args.end, c.packed-lines.ensures.lines) (some_are_lines c.args.list.now (c.args.end - c.args.first) c.args.first c.packed-lines.ensures.are_lines) in
-    let whole = kept_behind octets (octets_between others s t) _ c.self.inside.ends.items (map (moved s (length octets)) (some c.args.first c.args.end ends)) _ (lines_from s others (some c.args.first c.args.end ends)) all moves c.self.invariant behind.0 behind.1 lines in
+    let whole = kept_after octets (octets_between others s t) _ c.self.inside.ends.items (map (moved s (length octets)) (some c.args.first c.args.end ends)) _ (lines_from s others (some c.args.first c.args.end ends)) all moves c.self.invariant after.0 after.1 lines in
     whole.0 ∙ (ap (λ (ls : List (List ℕ)). ls ++ lines_from s others (some c.args.first c.args.end ends)) c.self.view_is
     ∙ ap (λ (ls : List (List ℕ)). c.args.self.now ++ ls) (sym (some_lines others ends c.args.first c.args.end) ∙ ap (some c.args.first c.args.end) c.packed-lines.ensures.lines))

@@ -1,6 +1,6 @@
 -- What is left from here, and what was done, make the whole run.
 use Rattle.std.proofs.Common.{◌≡◌, ◌+◌, ◌-◌, ◌%◌, ◌++◌}
-use Rattle.pd_reparse.specs.Steps.{events_behind}
+use Rattle.pd_reparse.specs.Steps.{events_after}
 use Rattle.pd_run.specs.Laws.{IsUnderway}
 use Rattle.pd_run.specs.Run.{verdict_from, stepped_from, states_from}
 use Rattle.pd_track.specs.Reuse.{fourths}
@@ -9,8 +9,8 @@ use Rattle.pd_track.proofs.progress.Progress.run.Given as goal
 abbrev pub invariant-loop-i : goal.invariant-loop-i
 invariant-loop-i g l =
     let counted = g.S.Stepper.counted in
-    let rest = events_behind l.i l.events in
-    let all = events_behind l.fn.self.passed l.events in
+    let rest = events_after l.i l.events in
+    let all = events_after l.fn.self.passed l.events in
     record {
       passed : l.self.passed ≡ l.i;
       underway : IsUnderway l.self.passed l.self.state;

@@ -1,0 +1,13 @@
+-- A connection begins by the settings that are consulted alone.
+use Rattle.std.proofs.Common.{◌≡◌, refl}
+use Rattle.pd_settings.specs.declared.fields.Settings.{Settings}
+use Rattle.pd_settings.specs.declared.keys.Key.TheVariants.{InitialSsthresh, InitialWindow, LimitedTransmit}
+use Rattle.pd_settings.proofs.SameValues.{number_of, rule_of, truth_of}
+use Rattle.pd_recover.specs.Cong.{begun}
+use Rattle.pd_recover.specs.Laws.{BeginsByUses}
+
+pub begins_by_uses : BeginsByUses
+begins_by_uses uses a b smss resent agree = alike (rule_of (agree InitialWindow refl)) (number_of (agree InitialSsthresh refl)) (truth_of (agree LimitedTransmit refl))
+  where
+    alike : a.initial_window ≡ b.initial_window → a.initial_ssthresh ≡ b.initial_ssthresh → a.limited_transmit ≡ b.limited_transmit → begun b smss resent ≡ begun a smss resent
+    alike rule ssthresh early = cc

@@ -1,0 +1,121 @@
+-- The congestion window (RFC 5681), and what loss recovery keeps (RFC 6675). All sizes are in octets.
+use Rattle.std.specs.Prelude.{ℕ, ◌+◌, ◌-◌, ◌*◌, ◌/◌, ◌^◌, ◌≤◌, nat_lt, min, max, Bool, true, false, if◌then◌else◌}
+use Rattle.pd_board.specs.Loss.{dup_thresh}
+use Rattle.pd_settings.specs.declared.fields.Settings.{Settings}
+use Rattle.pd_settings.specs.declared.initial_window.InitialWindow.{InitialWindow}
+use Rattle.pd_settings.specs.declared.initial_window.InitialWindow.TheVariants.{Rfc5681, Rfc6928}
+use Rattle.pd_settings.specs.declared.use_set.UseSet.{UseSet}
+
+-- the state of congestion control (RFC 5681, section 3.1) and of loss recovery (RFC 6675, section 2)
+pub record CongView : Type 0 where
+  -- the congestion window and the slow start threshold
+  pub cwnd : ℕ
+  pub ssthresh : ℕ
+  -- DupAcks: how many duplicates came since the last ACK of new octets; no rule tells apart more than DupThresh
+  -- and one
+  pub dup_acks : ℕ
+  -- whether duplicates before DupThresh send new data: limited transmit (RFC 3042)
+  pub sends_early : Bool
+  -- LT: how many octets limited transmit has sent since then
+  pub limited : ℕ
+  -- whether loss recovery goes on
+  pub recovering : Bool
+  -- RecoveryPoint, HighRxt and RescueRxt, each as the number after its octet
+  pub recovery_point : ℕ
+  pub high_rxt : ℕ
+  pub rescue_rxt : ℕ
+  -- whether the timer has expired since the establishment and the last ACK of new octets
+  pub expired : Bool
+
+-- the ranges of the window, the threshold and the counts
+pub record IsRanged (cwnd ssthresh dup_acks limited : ℕ) : Type 0 where
+  pub cwnd_from : 1 ≤ cwnd
+  pub cwnd_to : cwnd ≤ 2 ^ 31
+  pub ssthresh_from : 1 ≤ ssthresh
+  pub ssthresh_to : ssthresh ≤ 2 ^ 30
+  pub dup_acks_to : dup_acks ≤ dup_thresh + 1
+  pub limited_to : limited ≤ 2 ^ 31
+
+-- the facts of every state
+abbrev pub IsCongView : CongView → Type 0
+IsCongView w = IsRanged w.cwnd w.ssthresh w.dup_acks w.limited
+
+-- how many segments the initial window of RFC 5681 holds (section 3.1)
+abbrev pub first_segments : ℕ → ℕ
+first_segments smss =
+    if nat_lt 2190 smss then 2
+    else if nat_lt 1095 smss then 3
+    else 4
+
+-- the initial window by the rule of the settings (RFC 5681, section 3.1; RFC 6928, section 2)
+abbrev pub window_by : InitialWindow → ℕ → ℕ
+window_by Rfc5681 smss = first_segments smss * smss
+window_by Rfc6928 smss = min (10 * smss) (max (2 * smss) 14600)
+
+-- the same, or one segment where the SYN/ACK was sent again (RFC 5681, section 3.1; own under RFC 6928, whose section 2
+-- goes back to one segment only where it was sent again more than once)
+abbrev pub first_window : InitialWindow → ℕ → Bool → ℕ
+first_window rule smss resent = if resent then smss else window_by rule smss
+
+-- the state at establishment, by the settings' rule for the initial window, their first threshold and whether they have
+-- limited transmit; whether the SYN/ACK was sent again counts
+abbrev pub begun : Settings → ℕ → Bool → CongView
+begun settings smss resent = record {
+  cwnd = first_window settings.initial_window smss resent;
+  ssthresh = settings.initial_ssthresh;
+  dup_acks = 0;
+  sends_early = settings.limited_transmit;
+  limited = 0;
+  recovering = false;
+  recovery_point = 0;
+  high_rxt = 0;
+  rescue_rxt = 0;
+  expired = false;
+}
+
+-- the settings that it consults
+abbrev pub begun_uses : UseSet → UseSet
+begun_uses uses = record uses { initial_ssthresh = true; initial_window = true; limited_transmit = true }
+
+-- a window that grows stays at or below 2^30
+abbrev pub widened : ℕ → CongView → CongView
+widened octets w = record w { cwnd = min (w.cwnd + octets) (2 ^ 30) }
+
+-- by how much an ACK of n new octets widens the window: slow start below ssthresh, else congestion avoidance (RFC 5681,
+-- section 3.1, equations 2 and 3)
+abbrev pub growth : ℕ → ℕ → CongView → ℕ
+growth smss n w = if nat_lt w.cwnd w.ssthresh then min n smss else max (smss * smss / w.cwnd) 1
+
+-- the window after an ACK of n new octets (RFC 5681, section 3.1)
+abbrev pub grown : ℕ → ℕ → CongView → CongView
+grown smss n w = widened (growth smss n w) w
+
+-- half of what is outstanding, without what limited transmit has sent, 2 segments at least (RFC 5681, section 3.2,
+-- step 2; equation 4)
+abbrev pub halved : ℕ → ℕ → ℕ → CongView → ℕ
+halved smss una top w = max ((top - una - w.limited) / 2) (2 * smss)
+
+-- ssthresh after an expiry: half of what is outstanding, but it stays where the octets had expired already (RFC 5681,
+-- section 3.1, equation 4)
+abbrev pub ssthresh_after_expiry : ℕ → ℕ → ℕ → CongView → ℕ
+ssthresh_after_expiry smss una top w = if w.expired then w.ssthresh else max ((top - una) / 2) (2 * smss)
+
+-- the timer expires: one segment is the window, and recovery ends (RFC 5681, section 3.1; RFC 6675, section 5.1)
+abbrev pub timed_out : ℕ → ℕ → ℕ → CongView → CongView
+timed_out smss una top w = record w {
+  cwnd = smss;
+  ssthresh = ssthresh_after_expiry smss una top w;
+  dup_acks = 0;
+  limited = 0;
+  recovering = false;
+  recovery_point = top;
+  expired = true;
+}
+
+-- an entry has sent the segment at una again, up to this number (RFC 6675, section 5, step 4.3)
+abbrev pub entered_to : ℕ → CongView → CongView
+entered_to end w = record w { high_rxt = end; rescue_rxt = end }
+
+-- limited transmit has sent this many octets; no connection has more than 2^31
+abbrev pub with_limited : ℕ → CongView → CongView
+with_limited octets w = record w { limited = min (w.limited + octets) (2 ^ 31) }
