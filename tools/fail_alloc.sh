@@ -1,53 +1,107 @@
 #!/bin/sh
-# Refuses each allocation in turn, one a run, the numbers going up until a run meets no refusal, and prints a line for
-# each call that is tried, with the refusals met:
-#   - the built program, with no input, with an edit, with those of examples/ or the ones named on the command line, and
-#     with a settings text that is taken and one that is refused, each without workers, with one and with two. It says so
-#     by status 2 and the fault 19 (beside workers also 12, where they all left), and what it wrote is a prefix of what it
-#     writes with memory; or the refusal made no difference.
-#   - the calls below it, table by table of crates/test_book/memory.txt, and those of a desk and of its workers, and
-#     a run of the program over memory, of crates/test_desk/memory.txt: a call that is refused is made again, and it
+# Refuses each allocation in turn, one a run, the numbers going up until runs meet no refusal. What is run is a row:
+#   - the calls below the programs, table by table of crates/test_book/memory.txt, and those of a desk and of its workers,
+#     and a run of the program over memory, of crates/test_desk/memory.txt: a call that is refused is made again, and it
 #     and all calls after it are to answer as with memory, or as a row says of a worker that left. Where what tells the
 #     rows found no memory, no call did.
-#   - the built pdrecord, with no input, with a script that is recorded, with a trace too, and with one that isn't. It says so
-#     by status 2 and the fault 19 and writes nothing, or the refusal made no difference.
 #   - the program test_book, with its word `memory`, which lets a first want of memory pass and makes the call again.
-# No run may take longer than ten seconds. Outside the gate: needs a C compiler, and test_book and test_desk as
-# `rt run` leaves them in out/. PROGRAM, RECORD, BOOK and DESK name other builds of the four.
+#   - pdregress, with no input, with a script of one line, with an edit, with those of examples/ or the ones named, and with
+#     a settings text that is taken and one that is refused, each without workers, with one and with two. It says so by
+#     status 2 and the fault 19 (beside workers also 12, where they all left), and what it wrote is a prefix of what it
+#     writes with memory; or the refusal made no difference.
+#   - pdrecord, with no input, with a script that is recorded, with a trace too, and with one that isn't. It says so by
+#     status 2 and the fault 19 and writes nothing, or the refusal made no difference.
+# No run may take longer than a minute: some wait seconds for a thread that can't be made. Prints a line for each row, with
+# the refusals met, and `N passed, M failed` last.
+# Needs a C compiler, and test_book and test_desk as `rt run` leaves them in out/. PROGRAM, RECORD, BOOK and DESK name
+# other builds of the four.
 #
-#   tools/fail_alloc.sh [INPUT..]
+#   tools/fail_alloc.sh [INPUT..]    all, in minutes; pdregress and pdrecord are proved and built first, where need be
+#   tools/fail_alloc.sh --part       what the gate takes, in less than a minute: of a row with more than some allocations each
+#                                    second, third .. is refused; the programs are those that are built
 set -eu
 top=$(cd "$(dirname "$0")/.." && pwd)
-program=${PROGRAM:-$top/crates/pdregress/out/pdregress}
-record=${RECORD:-$top/crates/pdrecord/out/pdrecord}
-book=${BOOK:-$top/crates/test_book/out/test_book}
-desk=${DESK:-$top/crates/test_desk/out/test_desk}
+# How many runs a row has about, in a part; 0 for all.
+most=0
+[ "${1:-}" != --part ] || { most=80; shift; }
 work=$(mktemp -d)
 trap 'rm -rf "$work"' EXIT
-cc -O2 -shared -fPIC -o "$work/fail_alloc.so" "$top/tools/fail_alloc.c" -ldl
-[ -n "${PROGRAM:-}" ] || "$top/prove" pdregress
-[ -n "${RECORD:-}" ] || "$top/prove" pdrecord
-for built in "$program" "$record" "$book" "$desk"; do
-    [ -x "$built" ] || { echo "$built: not built"; exit 2; }
-done
-bad=0
+passed=0
+failed=0
 
-complain() {
-    echo "$*"
-    bad=1
+finish() {
+    echo "$passed passed, $failed failed"
+    [ "$failed" -eq 0 ]
+    exit
 }
 
-refusing() { # N COMMAND..: runs it on $input with its Nth allocation refused; whether it made so many
-    n=$1
-    shift
+lack() { # what is missing
+    echo "FAILED memory: $1"
+    failed=1
+    finish
+}
+
+built() { # NAME: its proved program
+    [ "$most" -gt 0 ] || case $1 in
+        pd*) "$top/prove" "$1" ;;
+    esac
+    "$top/tools/built.sh" "$1"
+}
+
+cc -O2 -shared -fPIC -o "$work/fail_alloc.so" "$top/tools/fail_alloc.c" -ldl 2>"$work/error" ||
+    lack "no C compiler: apt-get install --no-install-recommends gcc libc6-dev"
+book=${BOOK:-$(built test_book)} || lack "test_book isn't built"
+desk=${DESK:-$(built test_desk)} || lack "test_desk isn't built"
+program=${PROGRAM:-$(built pdregress)} || lack "pdregress isn't built"
+record=${RECORD:-$(built pdrecord)} || lack "pdrecord isn't built"
+
+begin() { # NAME: what is run on $input is called so
+    name=$1
+    met=0
+    idle=0
+    is_well=true
+}
+
+complain() {
+    is_well=false
+    echo "$name: $*"
+}
+
+end() { # what there is to say of a row
+    if $is_well; then
+        passed=$((passed + 1))
+        echo "ok memory $name: $met refusals met, one a run$*"
+    else
+        failed=$((failed + 1))
+        echo "FAILED memory $name: $met refusals met"
+    fi
+}
+
+# What comes out with memory; and which allocation is the first to be refused, and how far it is to the next.
+run_whole() { # COMMAND..
+    whole=0
+    env LD_PRELOAD="$work/fail_alloc.so" FAIL_AT=0 FAIL_COUNT="$work/count" "$@" \
+        <"$input" >"$work/whole" 2>"$work/error" || whole=$?
+    step=1
+    [ "$most" -eq 0 ] || step=$((1 + $(cat "$work/count") / most))
+    n=$((1 + (passed + failed) % step))
+}
+
+refuse() { # COMMAND..: runs it on $input with its Nth allocation refused; whether it made so many
     status=0
     rm -f "$work/met"
-    timeout 10 env LD_PRELOAD="$work/fail_alloc.so" FAIL_AT="$n" FAIL_MARK="$work/met" "$@" \
+    timeout 60 env LD_PRELOAD="$work/fail_alloc.so" FAIL_AT="$n" FAIL_MARK="$work/met" "$@" \
         <"$input" >"$work/out" 2>"$work/error" || status=$?
     if [ "$status" -ge 124 ]; then
-        complain "$name: allocation $n: hangs, or ended by a signal ($status)"
+        complain "allocation $n: hangs, or ended by a signal ($status)"
     fi
-    [ "$n" -le 100000 ] && [ -e "$work/met" ]
+    if [ "$n" -le 100000 ] && [ -e "$work/met" ]; then
+        met=$((met + 1))
+        idle=0
+    else
+        idle=$((idle + 1))
+    fi
+    [ "$idle" -eq 0 ]
 }
 
 is_prefix() { # FILE OF: the octets of FILE begin OF
@@ -59,68 +113,51 @@ is_told() { # whether the program told want of memory
 }
 
 # Which of a program's allocations is the Nth depends on its threads, so three numbers in a row have to meet no refusal.
-try_program() { # NAME COMMAND..: NAME says what is run
-    name=$1
+try_program() { # NAME COMMAND..
+    begin "$1"
     shift
-    whole=0
-    "$@" <"$input" >"$work/whole" 2>"$work/error" || whole=$?
-    n=1
-    met=0
     told=0
-    idle=0
+    run_whole "$@"
     while [ "$idle" -lt 3 ]; do
-        if refusing "$n" "$@"; then
-            met=$((met + 1))
-            idle=0
-        else
-            idle=$((idle + 1))
-        fi
+        refuse "$@" || true
         if is_told; then
             told=$((told + 1))
-            is_prefix "$work/out" "$work/whole" || complain "$name: allocation $n: no prefix was written"
+            is_prefix "$work/out" "$work/whole" || complain "allocation $n: no prefix was written"
         elif [ "$status" -ne "$whole" ] || ! cmp -s "$work/out" "$work/whole"; then
-            complain "$name: allocation $n: other output, status $status: $(cat "$work/error")"
+            complain "allocation $n: other output, status $status: $(cat "$work/error")"
         fi
-        n=$((n + 1))
+        n=$((n + step))
     done
-    echo "$name: $met refusals met, one a run; $told times told"
+    end "; $told times told"
 }
 
 try_test() { # NAME COMMAND..: a test that makes again what is refused
-    name=$1
+    begin "$1"
     shift
-    n=1
-    while refusing "$n" "$@"; do
-        [ "$status" -eq 0 ] || complain "$name: allocation $n: status $status: $(tail -n 3 "$work/out" "$work/error")"
-        n=$((n + 1))
+    run_whole "$@"
+    while refuse "$@"; do
+        [ "$status" -eq 0 ] || complain "allocation $n: status $status: $(tail -n 3 "$work/out" "$work/error")"
+        n=$((n + step))
     done
-    [ "$status" -eq 0 ] || complain "$name: fails with memory"
-    echo "$name: $((n - 1)) refusals met, one a run"
+    [ "$status" -eq 0 ] || complain "fails with memory"
+    end
 }
 
 try_rows() { # NAME PROGRAM: the rows of $input
-    name=$1
-    n=1
-    met=0
+    begin "$1"
     again=0
-    idle=0
+    run_whole "$2" stories
     while [ "$idle" -lt 3 ]; do
-        if refusing "$n" "$2" stories; then
-            met=$((met + 1))
-            idle=0
-        else
-            idle=$((idle + 1))
-            ! grep -q 'another of its answers' "$work/out" || complain "$name: another answer with memory"
-        fi
+        refuse "$2" stories || ! grep -q 'another of its answers' "$work/out" || complain "another answer with memory"
         case $status in
             0) ! grep -q 'was made again\|another of its answers' "$work/out" || again=$((again + 1)) ;;
-            2) ! grep -q 'SAID\|differ$' "$work/out" || complain "$name: allocation $n: ended late" ;;
-            *) complain "$name: allocation $n: status $status: $(grep -B1 SAID "$work/out")" ;;
+            2) ! grep -q 'SAID\|differ$' "$work/out" || complain "allocation $n: ended late" ;;
+            *) complain "allocation $n: status $status: $(grep -B1 SAID "$work/out")" ;;
         esac
-        n=$((n + 1))
+        n=$((n + step))
     done
-    [ "$status" -eq 0 ] || complain "$name: fails with memory"
-    echo "$name: $met refusals met, one a run; $again of them by a call or a worker"
+    [ "$status" -eq 0 ] || complain "fails with memory"
+    end "; $again of them by a call or a worker"
 }
 
 try_tables() { # FILE PROGRAM: each table of rows of the file
@@ -139,6 +176,7 @@ try_test "test_book memory" "$book" memory
 
 cd "$top"
 [ $# -gt 0 ] || set -- examples/*.txt
+printf 'add a 1\n0 socket(..., SOCK_STREAM, IPPROTO_TCP) = 3\n' >"$work/line"
 {
     cat examples/send.txt
     echo 'edit send 9 1 1'
@@ -146,12 +184,12 @@ cd "$top"
     echo 'settle'
 } >"$work/edit"
 for workers in 0 1 2; do
-    for input in /dev/null "$work/edit" "$@"; do
-        try_program "the program, $(basename "$input"), --workers $workers" "$program" --workers "$workers"
+    for input in /dev/null "$work/line" "$work/edit" "$@"; do
+        try_program "pdregress, $(basename "$input"), --workers $workers" "$program" --workers "$workers"
     done
     input=/dev/null
     for settings in 'min_rto_us = 200000' 'mss = 10'; do
-        try_program "the program, $settings, --workers $workers" "$program" --workers "$workers" --settings "$settings"
+        try_program "pdregress, $settings, --workers $workers" "$program" --workers "$workers" --settings "$settings"
     done
 done
 
@@ -175,4 +213,4 @@ for input in /dev/null "$work/script" "$work/refused"; do
     try_program "pdrecord, $(basename "$input")" "$record"
     try_program "pdrecord --trace, $(basename "$input")" "$record" --trace
 done
-exit $bad
+finish

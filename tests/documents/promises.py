@@ -1,0 +1,36 @@
+"""Whether what docs/PROMISES.md names is there: the public functions, and the edits that the proofs refuse."""
+
+import re
+import sys
+from collections.abc import Iterator
+from pathlib import Path
+
+from documents.pages import Page
+
+sys.path.insert(0, str(Path(__file__).resolve().parents[2] / "tools"))
+
+from edit_files import read_crates  # noqa: E402
+from reading_list import read_index  # noqa: E402
+
+FUNCTION = re.compile(r"`(\w+::\w+)`")
+EDITS = re.compile(r"\bEdits? (?:in )?(.*)$", re.MULTILINE)
+NAME = re.compile(r"`([\w-]+)`")
+
+
+def unknown_functions(page: Page) -> Iterator[str]:
+    """A line for each function that the page names and no crate has."""
+    known = {name for _, name in read_index()}
+    for name in sorted(set(FUNCTION.findall(page.text)) - known):
+        yield f"{page.name}: {name}: there is no such public function"
+
+
+def wrong_edits(page: Page, files: list[Path]) -> Iterator[str]:
+    """A line for each edit that the page names and that isn't there, and for each of the gate that it doesn't name."""
+    crates = {path.parts[1] for path in files if path.parts[0] == "crates"}
+    named = {name for line in EDITS.findall(page.text) for name in NAME.findall(line)} - crates
+    tried = {path.stem for path in files if path.suffix == ".edit"}
+    more = {edit.name for edits in read_crates(page.top, "more").values() for edit in edits}
+    for name in sorted(named - tried - more):
+        yield f"{page.name}: {name}: there is no such edit"
+    for name in sorted(tried - named):
+        yield f"{page.name} doesn't name the edit {name}, which the gate tries"

@@ -1,0 +1,52 @@
+# Tests the built programs where what they need is refused from outside, words that aren't UTF-8 and room for threads; and how
+# many threads they start.
+
+# Each program says the same line of words that can't be read.
+test_words() {
+    for program in pdregress pdrecord; do
+        expect "$program-words-that-are-no-text" "$(printf "! pdregress: the arguments can't be read as text\nstatus 2")" "$("$top/tools/built.sh" "$program")" "$(printf '\377')"
+    done
+}
+
+# Settles a script beside workers where a thread takes a stack of 256 MB.
+settle_within() ( # KILOBYTES WORKERS
+    ulimit -s 262144
+    ulimit -v "$1"
+    printf 'add a 1\n0 socket(..., SOCK_STREAM, IPPROTO_TCP) = 3\n' |
+        timeout 10 "$("$top/tools/built.sh" pdregress)" --workers "$2"
+)
+
+# Settles a script beside workers, and prints how many of these there are then: all threads but the one that serves and the one
+# that starts workers.
+count_workers() ( # WORKERS
+    mkfifo "$work/commands"
+    # shellcheck disable=SC2016
+    timeout 20 sh -c 'echo $$ >"$0" && exec "$@"' "$work/number" "$("$top/tools/built.sh" pdregress)" --workers "$1" \
+        <"$work/commands" >"$work/settled" &
+    exec 3<>"$work/commands"
+    printf 'add a 1\n0 socket(..., SOCK_STREAM, IPPROTO_TCP) = 3\nsettle\n' >&3
+    wanted=$(($1 + 2))
+    for _ in $(seq 100); do
+        sleep 0.1
+        set -- "/proc/$(cat "$work/number" 2>/dev/null)/task"/*
+        [ $# -lt "$wanted" ] || break
+    done
+    # Any more of them would have come by then.
+    sleep 0.5
+    set -- "/proc/$(cat "$work/number")/task"/*
+    echo "$(($# - 2)) workers"
+    exec 3>&-
+    wait
+)
+
+# There is room for no thread, for the one that starts the workers, or for that and one of two workers.
+test_threads() {
+    expect no-thread "$(printf '! pdregress: 19 OutOfMemory\nstatus 2')" settle_within 100000 1
+    expect no-thread-for-a-worker "$(printf '! pdregress: 12 NoWorkers\nstatus 2')" settle_within 400000 1
+    expect no-thread-for-two-workers "$(printf '! pdregress: 12 NoWorkers\nstatus 2')" settle_within 400000 2
+    expect a-thread-for-one-of-two-workers "$(printf 'a pass 1\ntotal 1 pass 1 fail 0 syntax 0 unsupported 0 limit 0 pending 0\nstatus 0')" settle_within 700000 2
+    expect as-many-workers-as-are-asked-for "$(printf '3 workers\nstatus 0')" count_workers 3
+}
+
+test_words
+test_threads

@@ -1,0 +1,181 @@
+# Tests of ./prove, on crates of which an `rt` says that they are proved.
+. "$top/tests/edges/crates.sh"
+
+begun() { # what is said to be begun, in the order of the names
+    prove "$@" 2>&1 | sed 's/;.*//' | LC_ALL=C sort
+}
+
+two_calls() { # what two say, of which one begins while the other proves: it has nothing to do
+    (TAKES=1 prove pdregress 2>&1 | sed 's/;.*//' >"$work/first") &
+    while [ ! -e "$NOTES/trees" ]; do sleep 0.1; done
+    prove pdregress >"$work/second" 2>&1
+    wait
+    LC_ALL=C sort "$work/first" "$work/second"
+}
+
+trees_of() { # PROGRAM..: each that is up to date, and in how many trees they were proved
+    for program in "$@"; do
+        "$build/tools/built.sh" "$program" >"$work/built" || return
+        echo "$program $(tail -n "$#" "$NOTES/trees" | sort -u | wc -l)"
+    done
+}
+
+hung_up() { # the status of one whose terminal is closed, as `nohup` begins it
+    (
+        trap '' HUP
+        TAKES=1 exec env PATH="$top/tests/edges/stand_in:$PATH" "$build/prove" pdregress
+    ) 2>/dev/null &
+    while [ ! -e "$NOTES/trees" ]; do sleep 0.1; done
+    kill -HUP $!
+    wait $! && echo 0
+}
+
+proved() { # what is kept of the crates, in the first tree, and how many trees there were
+    (cd "$build/crates" && LC_ALL=C ls -d */out/*)
+    sort -u "$NOTES/trees" | wc -l
+}
+
+kept() { # of these crates
+    printf '%s\n' "$@" | sed 's,.*,&/out/build.log\n&/out/definitions.json\n&/out/incremental\n&/out/rlib,'
+}
+
+refused_words() { # the first line of what is said, and the status
+    code=0
+    prove "$@" 2>"$work/usage" || code=$?
+    tail -n 1 "$work/usage"
+    return "$code"
+}
+
+# What a log says, and the lines of it that are errors.
+log_with_errors() {
+    cat <<'LOG'
+rt: chose --jobs 2 for right
+// goal
+./proofs/Lib.antt:6:14: error: in `a`: expected type `b`
+  compared part by part, the two types first differ where one has `2` and the other has `3`
+./proofs/Lib.antt:5:5: note: where a refusal may wait, antt runs it again
+note: src/lib.rt:5:1: it is not proved that what the function ensures holds when it returns (`returns`)
+note: to see how far a `search` got, write `search rules`
+fn right::f: no proof: expected answers in ./proofs/f/Answers.antt; `search` did not prove `returns`
+fn right::g: no proof: it calls `right::f`, which is not proved
+help: write ./proofs/f/Answers.antt with these lines
+    use Rattle.std.proofs.Common.{rules}
+src/lib.rt:9:5: error[mismatched-types]: expected `u32`, found `u64`
+statements core: modules loaded=222 checked=0
+logic=not-proved
+LOG
+}
+
+test_lanes() {
+    make_crates
+    expect one-lane "$(printf '! prove: proving %s crate%s and less than a minute are left\n' 'low; 5' s 'left; 4' s 'right; 3' s 'high; 2' s 'pdregress; 1' ''; printf '! prove: proved and built: pdregress\nstatus 0')" quick prove --lanes 1 pdregress
+    anew
+    expect two-lanes "$(printf 'prove: %s\n' 'proved and built: pdregress'; printf 'prove: proving %s\n' high left low pdregress right; echo status 0)" begun --lanes 2 pdregress
+    expect both-lanes-are-used "$(kept high left low; printf 'pdregress/out/%s\n' build.log definitions.json incremental pdregress pdregress.sums rlib; kept right; printf '2\nstatus 0')" proved
+    expect nothing-is-left "$(printf '! prove: proved and built: pdregress\nstatus 0')" prove pdregress
+    expect all-programs "$(printf 'prove: %s\n' 'proved and built: pdregress, pdrecord'; printf 'prove: proving %s\n' high left low pdrecord right; echo status 0)" begun
+    expect no-such-program "$(printf 'prove: error: there is no program low\nstatus 2')" refused_words low
+    expect no-such-word "$(printf 'prove: error: unrecognized arguments: --quick\nstatus 2')" refused_words --quick
+    anew
+    expect programs-in-two-lanes "$(printf 'prove: %s\n' 'proved and built: pdregress, pdrecord'; printf 'prove: proving %s\n' high left low pdrecord pdregress right; echo status 0)" begun --lanes 2
+    expect programs-in-two-lanes-are-built "$(printf 'pdregress 2\npdrecord 2\nstatus 0')" trees_of $programs
+    anew
+    expect two-calls "$(printf 'prove: %s\n' 'proved and built: pdregress' 'proved and built: pdregress'; printf 'prove: proving %s\n' high left low pdregress right; echo 'prove: waiting for another call that proves here'; echo status 0)" two_calls
+}
+
+quick() { # COMMAND.. on a machine that took next to no time for each crate
+    mkdir -p "$XDG_CACHE_HOME/pdregress"
+    printf '{"low": 1, "left": 1, "right": 1, "high": 1, "pdregress": 1}' >"$XDG_CACHE_HOME/pdregress/prove.json"
+    "$@"
+}
+
+three() { # NUMBER: a definition of low, which a law of right names
+    mkdir -p "$build/crates/low/specs" "$build/crates/right/specs"
+    printf -- '-- A rule.\n\n-- so many\nabbrev pub three : N\nthree = %s\n' "$1" >"$build/crates/low/specs/Rule.antt"
+    printf 'use Rattle.low.specs.Rule.{three}\n\nabbrev pub IsOdd : Type 0\nIsOdd = odd three\n' >"$build/crates/right/specs/Laws.antt"
+}
+
+test_changes() {
+    anew
+    three 3
+    expect proved-by-a-definition "$(printf '! prove: proved and built: pdregress\nstatus 0')" in_folder "$build" without_progress --lanes 1 pdregress
+    three 2
+    echo 'a goal' >"$build/crates/right/src/lib.rt"
+    expect what-changed-since "$(printf '! %s\n' "prove: right isn't proved, or wasn't built:" 'a goal' \
+        "crates/low/specs/Rule.antt:4: \`three\` isn't as it was when this was proved last" \
+        '  laws that name it: IsOdd (crates/right/specs/Laws.antt:3)' \
+        "prove: the whole log: $build/crates/right/out/build.log"; echo status 2)" without_progress --lanes 1 pdregress
+    echo 'fn f() {}' >"$build/crates/right/src/lib.rt"
+    rm -r "$build/crates/low/specs" "$build/crates/right/specs"
+}
+
+test_stops() {
+    anew
+    log_with_errors >"$build/crates/right/src/lib.rt"
+    log=$build/crates/right/out/build.log
+    expect not-proved "$(printf '! prove: %s\n' "right isn't proved, or wasn't built:"
+        echo '! crates/right/proofs/Lib.antt:6:14: error: in `a`: expected type `b`'
+        echo '!   compared part by part, the two types first differ where one has `2` and the other has `3`'
+        echo '! crates/right/src/lib.rt:5:1: it is not proved that what the function ensures holds when it returns (`returns`)'
+        echo '! fn right::f: no proof: expected answers in ./proofs/f/Answers.antt; `search` did not prove `returns`'
+        echo '! crates/right/src/lib.rt:9:5: error[mismatched-types]: expected `u32`, found `u64`'
+        printf '! prove: the whole log: %s\nstatus 2' "$log")" without_progress --lanes 1 pdregress
+    echo 'a goal' >"$build/crates/right/src/lib.rt"
+    expect not-proved-without-a-place "$(printf '! %s\n' "prove: right isn't proved, or wasn't built:" 'a goal' "prove: the whole log: $log"; echo status 2)" without_progress --lanes 1 pdregress
+    echo 'fn f() {}' >"$build/crates/right/src/lib.rt"
+    echo 'another goal' >"$build/crates/pdrecord/src/lib.rt"
+    expect not-a-program "$(printf '! %s\n' "prove: pdrecord isn't proved, or wasn't built:" 'another goal' "prove: the whole log: $build/crates/pdrecord/out/build.log"; echo status 2)" without_progress --lanes 2
+    echo 'fn f() {}' >"$build/crates/pdrecord/src/lib.rt"
+    anew
+    expect interrupted "$(printf '! prove: proving low; 5 crates and about a minute are left\n! prove: interrupted at low; what was proved is kept: run it again to go on\nstatus 124')" with_rt timeout -k 5 4 env TAKES=30 "$build/prove" --lanes 2 pdregress
+    anew
+    expect hung-up-under-nohup "$(printf '0\nstatus 0')" hung_up
+    anew
+    : >"$build/crates/low/out"
+    expect no-folder "$(printf '! prove: proving low; 5 crates and about a minute are left\n! prove: can'"'"'t go on: [Errno 17] File exists: '"'%s'"'\nstatus 2' "$build/crates/low/out")" prove --lanes 1 pdregress
+    expect no-lane-is-left "$(printf '0\nstatus 0')" sh -c "ls -d '$build'/crates/pdregress/out/lane-* 2>/dev/null | wc -l"
+    rm "$build/crates/low/out"
+}
+
+without_progress() { # WORD..
+    code=0
+    (cd "$build" && prove "$@" 2>"$work/progress") || code=$?
+    grep -v ' proving ' "$work/progress" >&2
+    return "$code"
+}
+
+kept_times() { # of what, once all was proved that way: those that are as long, or longer on a busy machine
+    TAKES=0.3 prove --lanes 2 pdregress 2>/dev/null
+    sed -n "s/^\"\([a-z]*${1:-}\)\": \(0\.[3-9]\|[1-9]\.[0-9]\),*$/\1/p" "$XDG_CACHE_HOME/pdregress/prove.json" | LC_ALL=C sort
+}
+
+in_an_hour() { # the last that is said where each crate took an hour last
+    for crate in low left right high pdregress; do printf '"%s": 3600, ' "$crate" "$crate again"; done |
+        sed 's/^/{/; s/, $/}/' >"$XDG_CACHE_HOME/pdregress/prove.json"
+    prove "$@" 2>&1 | grep proving
+}
+
+no_cache() { # the same where no times can be kept
+    XDG_CACHE_HOME=/dev/null prove "$@" 2>&1 | tail -n 1
+}
+
+test_times() {
+    anew
+    expect times-are-kept "$(printf '%s\n' high left low pdregress right; echo status 0)" kept_times
+    echo '-- an edit' >>"$build/crates/right/proofs/Lib.antt"
+    expect times-over-what-is-kept "$(printf '%s again\n' high left low pdregress right; echo status 0)" kept_times ' again'
+    echo '// an edit' >>"$build/crates/high/src/lib.rt"
+    expect times-are-told "$(printf 'prove: proving %s\n' 'low; 5 crates and about 120 minutes are left' 'left; 4 crates and about 120 minutes are left' 'right; 3 crates and about 120 minutes are left' 'high; 2 crates and about 120 minutes are left' 'pdregress; 1 crate and about 60 minutes are left'; echo status 0)" in_an_hour --lanes 1 pdregress
+    anew
+    expect no-times-can-be-kept "$(printf 'prove: proved and built: pdregress\nstatus 0')" no_cache pdregress
+}
+
+test_words() {
+    expect words-of-times-and-errors "status 0" in_folder "$top/tools" python3 -B -m doctest changed_rules.py crate_graph.py prove_times.py prove_errors.py refusing.py
+}
+
+test_lanes
+test_changes
+test_stops
+test_words
+test_times

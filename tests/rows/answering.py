@@ -1,0 +1,148 @@
+"""Who answers what tests ask: programs that are built, or their sources as they stand, without proofs."""
+
+import contextlib
+import os
+import subprocess
+import sys
+import tempfile
+import time
+from collections.abc import Mapping, Sequence
+from dataclasses import dataclass
+from pathlib import Path
+
+from rows.asking import NO_STATUS, Call, Said, Sayings
+from rows.tables import TOP
+
+# What a call may take, in seconds; without proofs it is some ten times as slow.
+SECONDS = 60
+UNPROVED_SECONDS = 240
+# A build takes as many processors.
+JOBS = 2
+
+
+Commands = Mapping[str, Sequence[str | Path]]
+
+
+def answers(commands: Commands, calls: Sequence[Call]) -> Sayings:
+    """Lets the programs that these commands start answer, each call for itself, and the sources of the others."""
+    said: Sayings = [told(commands[it.program], it) if it.program in commands else None for it in calls]
+    others = [place for place, call in enumerate(calls) if call.program not in commands]
+    if others:
+        for place, answer in zip(others, ask_unproved([calls[place] for place in others])):
+            said[place] = answer
+    return said
+
+
+def told(command: Sequence[str | Path], call: Call) -> Said:
+    """What a program says that is told this; one that takes too long is ended, and has said nothing."""
+    words = [*map(os.fsencode, command), *call.words]
+    try:
+        if call.asks_what_was_read:
+            return told_by_file(words, call.given)
+        done = subprocess.run(words, input=call.given, capture_output=True, timeout=SECONDS)
+    except subprocess.TimeoutExpired:
+        return Said(b"", b"came to no end", NO_STATUS)
+    return Said(done.stdout, done.stderr, done.returncode)
+
+
+def told_by_file(words: Sequence[bytes], given: bytes) -> Said:
+    """The same, and how far a file is read that is the input."""
+    with tempfile.TemporaryFile() as file:
+        file.write(given)
+        file.seek(0)
+        done = subprocess.run(words, stdin=file, capture_output=True, timeout=SECONDS)
+        return Said(done.stdout, done.stderr, done.returncode, os.lseek(file.fileno(), 0, os.SEEK_CUR))
+
+
+def is_tellable(call: Call) -> bool:
+    """Whether a case of `rt try` can have these words."""
+    try:
+        words = [word.decode() for word in call.words]
+    except UnicodeDecodeError:
+        return False
+    return not any("\n" in word or word.endswith("\r") or word == "{}" for word in words)
+
+
+@dataclass
+class Batch:
+    """The calls of one program by their places among all, in a folder, and the process that has them answered."""
+
+    program: str
+    calls: dict[int, Call]
+    folder: Path
+    process: "subprocess.Popen[bytes] | None" = None
+    begun: float = 0.0
+
+    def start(self) -> None:
+        cases, answers = self.folder / "cases", self.folder / "answers"
+        cases.mkdir(parents=True)
+        answers.mkdir()
+        for place, call in self.calls.items():
+            (cases / f"{place}").write_bytes(call.given)
+            (cases / f"{place}.args").write_bytes(b"".join(word + b"\n" for word in call.words))
+        tool: list[str | Path] = [sys.executable, "-B", TOP / "tools" / "try_cases.py"]
+        words: list[str | Path] = ["--seconds", str(UNPROVED_SECONDS), self.program, cases, answers]
+        with (self.folder / "said").open("wb") as said:
+            self.process = subprocess.Popen([*tool, *words], stdin=subprocess.DEVNULL, stderr=said)
+        self.begun = time.monotonic()
+
+    def has_ended(self) -> bool:
+        """Whether all were answered, which is told."""
+        if self.process is None or self.process.poll() is None:
+            return False
+        seconds = time.monotonic() - self.begun
+        print(f"{self.program}, without proofs: {len(self.calls)} calls in {seconds:.0f} s", flush=True)
+        if self.process.returncode:
+            print(f"FAILED {self.said()}", flush=True)
+        return True
+
+    def end(self) -> None:
+        if self.process is not None and self.process.poll() is None:
+            self.process.terminate()
+            self.process.wait()
+
+    def said(self) -> str:
+        return (self.folder / "said").read_text(errors="replace")
+
+    def answer(self, place: int) -> Said:
+        """What was said of a call."""
+        file = self.folder / "answers" / f"{place}"
+        with contextlib.suppress(FileNotFoundError):
+            status = file.with_suffix(".status").read_text()
+            errors = file.with_suffix(".errors").read_bytes()
+            if not status.isdigit():
+                return Said(b"", errors + status.encode(), NO_STATUS)
+            return Said(file.with_suffix(".output").read_bytes(), errors, int(status))
+        return Said(b"", self.said().partition("\n")[0].encode(), NO_STATUS)
+
+
+def ask_unproved(calls: Sequence[Call]) -> Sayings:
+    """Lets the sources answer: all calls of a program after one build, two programs side by side if there is room."""
+    with tempfile.TemporaryDirectory() as room:
+        batches: dict[str, Batch] = {}
+        for place, call in enumerate(calls):
+            if is_tellable(call):
+                batch = batches.setdefault(call.program, Batch(call.program, {}, Path(room, call.program)))
+                batch.calls[place] = call
+        # What takes longest begins first.
+        run_batches(sorted(batches.values(), key=lambda it: -len(it.calls)))
+        said: Sayings = [None] * len(calls)
+        for batch in batches.values():
+            for place in batch.calls:
+                said[place] = batch.answer(place)
+        return said
+
+
+def run_batches(batches: Sequence[Batch]) -> None:
+    waiting, running = list(batches), list[Batch]()
+    most = max(1, min(2, len(os.sched_getaffinity(0)) // JOBS))
+    try:
+        while waiting or running:
+            while waiting and len(running) < most:
+                running.append(waiting[0])
+                waiting.pop(0).start()
+            running = [it for it in running if not it.has_ended()]
+            time.sleep(0.1)
+    finally:
+        for batch in running:
+            batch.end()

@@ -1,0 +1,63 @@
+"""The kinds of tables, and what is read of a file of rows."""
+
+from collections.abc import Iterator
+from dataclasses import dataclass
+from pathlib import Path
+from typing import Any
+
+from rows.comparing import Case, Kind
+from rows.explained import BEGINNINGS, EXPLAINED
+from rows.recordings import RECORDINGS
+from rows.runs import BAD_COMMANDS, BAD_WORDS, ENDS, SETTINGS
+from rows.scripts import CUTS, PLACES, SCRIPTS
+from rows.stories import STORIES, TITLED_STORIES
+from rows.tables import Row, Table, Unread, place_in_tree, read_tables
+
+KINDS: dict[str, Kind[Any]] = {
+    "scripts": SCRIPTS,
+    "cuts": CUTS,
+    "octets": PLACES,
+    "settings": SETTINGS,
+    "bad words": BAD_WORDS,
+    "bad commands": BAD_COMMANDS,
+    "stories": STORIES,
+    "titled stories": TITLED_STORIES,
+    "ends": ENDS,
+    "explained": EXPLAINED,
+    "beginnings": BEGINNINGS,
+    "recordings": RECORDINGS,
+}
+
+
+@dataclass(frozen=True)
+class Group:
+    """The cases of a table, which are told together, and the programs that are told them."""
+
+    name: str
+    kind: Kind[Any]
+    programs: tuple[str, ...]
+    cases: list[Case[Any]]
+
+
+def unread_group(name: str, row: Row, why: str) -> Group:
+    """A group with a case for what can't be read."""
+    return Group(name, STORIES, (), [Case("unread", row, unread=why)])
+
+
+def group_of(table: Table) -> Group:
+    """What is read of a table."""
+    if table.kind not in KINDS:
+        return unread_group(table.name, table.heading, f"{table.heading}: there is no such kind")
+    kind = KINDS[table.kind]
+    try:
+        return Group(table.name, kind, kind.programs or (table.program,), list(kind.read(table)))
+    except Unread as why:
+        return unread_group(table.name, table.heading, str(why))
+
+
+def groups_of(file: Path) -> Iterator[Group]:
+    """What is read of a file."""
+    try:
+        yield from (group_of(table) for table in read_tables(file))
+    except Unread as why:
+        yield unread_group("file", Row(place_in_tree(file), 1, ""), str(why))

@@ -1,0 +1,68 @@
+#!/usr/bin/env -S python3 -B
+"""Tells rows to the programs without pytest: prints what fails, and `N passed, M failed` last. Other tests fail."""
+
+import argparse
+import sys
+from collections.abc import Iterator, Sequence
+from pathlib import Path
+
+sys.path.insert(0, str(Path(__file__).resolve().parents[1]))
+
+from rows.comparing import Finding  # noqa: E402
+from rows.kinds import Group, groups_of, unread_group  # noqa: E402
+from rows.tables import Row, place_in_tree  # noqa: E402
+from rows.telling import Programs, Told, heed_signals, programs_in, proved_programs, tell, tell_in_step  # noqa: E402
+
+
+def groups_in(path: Path) -> Iterator[Group]:
+    """The tables of a path, which is a folder, a file of rows, or one of tests that pytest alone makes."""
+    for file in sorted(path.rglob("*.cases")) if path.is_dir() else [path]:
+        if file.suffix == ".cases":
+            yield from groups_of(file)
+        else:
+            yield unread_group(file.name, Row(place_in_tree(file.absolute()), 1, ""), "python3-pytest is missing")
+
+
+def chosen_programs(chosen: argparse.Namespace) -> Programs:
+    if chosen.programs:
+        return programs_in(chosen.programs.absolute())
+    return Programs() if chosen.unproved else proved_programs()
+
+
+def findings(told: Sequence[Told], programs: Programs) -> Iterator[list[Finding]]:
+    """What is found of each group."""
+    if programs.are_built([group for group, _ in told]):
+        return (tell(it, programs) for it in told)
+    return tell_in_step(told, programs)
+
+
+def main(words: Sequence[str]) -> int:
+    parser = argparse.ArgumentParser(description=__doc__)
+    parser.add_argument("--proved", action="store_true", help="the proved programs alone")
+    parser.add_argument("--unproved", action="store_true", help="the sources as they stand")
+    parser.add_argument("--programs", metavar="FOLDER", type=Path, help="those of a folder, and the sources of others")
+    parser.add_argument("paths", metavar="PATH", nargs="+", type=Path)
+    chosen = parser.parse_args(words)
+    heed_signals()
+    programs = chosen_programs(chosen)
+    if programs.unbuilt and chosen.proved:
+        print(*(f"FAILED {it}" for it in programs.unbuilt), f"0 passed, {len(programs.unbuilt)} failed", sep="\n")
+        return 1
+    told = [(group, group.cases) for path in chosen.paths for group in groups_in(path)]
+    passed = failed = untold = 0
+    for (group, cases), found in zip(told, findings(told, programs)):
+        for case, it in zip(cases, found):
+            passed, failed = passed + (it == Finding()), failed + bool(it.fault)
+            if it.fault:
+                print(f"FAILED {case.row.file}::{group.name}::{case.name}\n{it.fault}", flush=True)
+            elif it.is_untold:
+                untold += 1
+                print(f"not told, needs a built program: {case.row.file}::{group.name}::{case.name}")
+    if untold:
+        print(f"{untold} rows need a built program")
+    print(f"{passed} passed, {failed} failed")
+    return 1 if failed else 0
+
+
+if __name__ == "__main__":
+    sys.exit(main(sys.argv[1:]))

@@ -1,0 +1,212 @@
+"""Tables of recordings: scripts are recorded, and what holds of every recording is tested.
+
+It passes, it has each comment and each blank line of its script once, and recording it again gives the same octets.
+"""
+
+import re
+from collections import Counter
+from collections.abc import Iterator, Sequence
+from dataclasses import dataclass, replace
+
+from rows.asking import Asking, Call, Said, Sayings
+from rows.comparing import Case, Finding, Kind, batches, input_of, verdicts_said
+from rows.comparing import Script as Told
+from rows.random_scripts import Script, random_scripts
+from rows.scripts import script_of, terms_of
+from rows.tables import PROGRAM, Row, Table, Unread, case_files, read_tables
+
+TRACE = re.compile(rb"//= at (\d+\.\d{6}) [A-Z]")
+RECORDS = "pdrecord"
+REGULAR = (0, 1)
+# A row: each so manyth of the scripts of the tables and of so many random ones.
+CHOICE = re.compile(r"each ([1-9]\d*) of the tables and (\d+) random scripts")
+
+# A comment, or what may hold what looks like one: a string, a command, code or an option.
+PIECE = re.compile(
+    rb'"(?:\\.|[^"\\])*"|`[^`]*`|%\{.*?\}%|--\w+(?:=[^ \t\r\n]*)?|(?P<comment>//[^\n]*|/\*.*?\*/)', re.DOTALL
+)
+
+
+@dataclass(frozen=True)
+class Refused:
+    """A script that isn't recorded, with the status and what is said."""
+
+    script: Script
+    status: int
+    said: bytes
+
+
+@dataclass(frozen=True)
+class Recorded:
+    """A script and its recording, with a trace and without."""
+
+    script: Script
+    text: bytes
+    trace: bytes
+
+    @property
+    def events(self) -> int:
+        """How many events the recording has: one line of a trace each."""
+        return sum(1 for line in self.trace.split(b"\n") if TRACE.match(line))
+
+
+def settings_text(settings: list[str]) -> str:
+    """The text of settings `KEY VALUE`; of a key that is set twice the last value counts."""
+    texts: dict[str, str] = {}
+    for key, value in (it.split(" ", 1) for it in settings):
+        texts[key] = value if re.fullmatch(r"\d+|true|false", value) else f'"{value}"'
+    return "\n".join(f"{key} = {value}" for key, value in texts.items())
+
+
+def table_scripts() -> Iterator[Script]:
+    """The scripts of all tables of scripts, each option of a header in a line of its own."""
+    for table in (it for file in case_files() for it in read_tables(file) if it.kind == "scripts"):
+        for row in table.rows:
+            _, terms, text = script_of(table, row)
+            settings, options = terms_of(terms)
+            head = "".join(f"{option}\n" for option in options).encode()
+            yield Script(f"{row.file}:{row.line}", settings_text(settings), head + text)
+
+
+def chosen_scripts(row: Row) -> list[Script]:
+    """The scripts that a row takes."""
+    found = CHOICE.fullmatch(row.text)
+    if not found:
+        raise Unread("a row is `each N of the tables and COUNT random scripts`")
+    return [*table_scripts(), *random_scripts(int(found[2]))][:: int(found[1])]
+
+
+def recordings(table: Table) -> Iterator[Case[Script]]:
+    """A case for each script that a row takes."""
+    for row in table.rows:
+        for script in chosen_scripts(row):
+            name = re.sub(r".*/|\.cases", "", script.name).replace(":", "-")
+            yield Case(name, replace(row, text=script.name), (script,))
+
+
+def recording(script: Script, *words: bytes) -> Call:
+    """The call that records a script."""
+    return Call(RECORDS, (b"--settings", script.settings.encode(), *words), script.text)
+
+
+def as_told(script: Script, text: bytes) -> Told:
+    """What runs a text under the settings of a script."""
+    settings = (line.replace(" = ", " ").replace('"', "") for line in script.settings.splitlines())
+    commands = "".join(f"set {it}\n" for it in settings)
+    return Told(Row(script.name, 0, ""), commands, text.removesuffix(b"\n"), "")
+
+
+def verdicts(tried: Sequence[Told], told: Sequence[list[int]], said: Sayings) -> Asking[dict[int, str]]:
+    """The verdicts of scripts that were told together, or alone where a run stopped at a fault."""
+    rows: dict[int, str] = {}
+    stopped: list[int] = []
+    for places, answer in zip(told, said, strict=True):
+        rows.update(zip(places, verdicts_said(answer, len(places))))
+        if answer is not None and answer.status not in REGULAR:
+            stopped += places
+    if stopped:
+        alone = yield [Call(PROGRAM, (), input_of([tried[place]])) for place in stopped]
+        rows.update((place, verdicts_said(answer, 1)[0]) for place, answer in zip(stopped, alone, strict=True))
+    return rows
+
+
+def without_trace(text: bytes) -> bytes:
+    """A trace without its lines."""
+    return b"".join(line for line in text.splitlines(keepends=True) if not TRACE.match(line))
+
+
+def comments_and_blanks(text: bytes) -> Counter[bytes]:
+    """The comments of a text, and its blank lines, each with how often it stands there."""
+    comments = Counter(found["comment"] for found in PIECE.finditer(text) if found["comment"])
+    lines = text.removesuffix(b"\n").split(b"\n") if text else []
+    blanks = Counter(b"" for line in lines if not line.strip(b" \t\r"))
+    return comments + blanks
+
+
+def kept_faults(done: Recorded) -> Iterator[str]:
+    """What is wrong about the comments and blank lines of a recording: each stays, once."""
+    script = comments_and_blanks(without_trace(done.script.text))
+    kept = comments_and_blanks(done.text)
+    if script != kept:
+        yield f"without {dict(script - kept)}, and with {dict(kept - script)} besides"
+
+
+def grown_too_large(row: str) -> str:
+    """What may be said in place of a row: of a run that stops at a full outbox the recording may be over the limits."""
+    return "2 TooLarge" if row.startswith("limit") else row
+
+
+def refusal_faults(refused: Refused, row: str) -> Iterator[str]:
+    """What is wrong about a refusal.
+
+    It has to be the row, unless that is about what the script expects, or the recording is too large, whose packets
+    leave before they fill the outbox.
+    """
+    line, _, below = refused.said.decode(errors="backslashreplace").partition("\n")
+    words = line.removeprefix("pdrecord: ")
+    if refused.status != 1:
+        yield f"status {refused.status}: {refused.said!r}"
+    elif bool(below) == words.startswith("2") or not re.fullmatch(r"(  [ -~]*\n)*", below):
+        yield f"refused by {words!r}, with {below!r} below it"
+    elif row and not row.startswith(("pass", "fail")) and words not in (row, grown_too_large(row)):
+        yield f"refused by {words!r}, where the row is {row!r}"
+
+
+def row_faults(done: Recorded, row: str) -> Iterator[str]:
+    """What is wrong about the row of a recording: it has to pass, with all of its events."""
+    if row != f"pass {done.events}":
+        yield f"{row}, with {done.events} events"
+
+
+def again_faults(done: Recorded, again: Said | None, traced: Said | None) -> Iterator[str]:
+    """What is wrong about recording a recording."""
+    if again != Said(done.text, b"", 0):
+        yield "another recording of the recording"
+    if traced != Said(done.trace, b"", 0):
+        yield "another trace of the trace"
+    if without_trace(done.trace) != done.text:
+        yield "a trace that isn't the recording"
+
+
+def recorded(scripts: Sequence[Script]) -> Asking[list[Recorded | Refused | None]]:
+    """What recording scripts comes to; none where only a built program can be told that."""
+    said = yield [recording(it, *words) for it in scripts for words in ((), (b"--trace",))]
+    each: list[Recorded | Refused | None] = []
+    for script, plain, traced in zip(scripts, said[::2], said[1::2], strict=True):
+        if plain is None or traced is None:
+            each.append(None)
+        elif plain.status != 0:
+            each.append(Refused(script, plain.status, plain.errors))
+        else:
+            each.append(Recorded(script, plain.output, traced.output))
+    return each
+
+
+def calls_again(done: Recorded) -> tuple[Call, Call]:
+    """The calls that record a recording, with its trace too."""
+    again = replace(done.script, text=done.text)
+    return recording(again), recording(replace(again, text=done.trace), b"--trace")
+
+
+def tell_recordings(scripts: Sequence[Script]) -> Asking[list[Finding]]:
+    """Records scripts and their recordings, and runs what was recorded, or the script where that is refused."""
+    each = yield from recorded(scripts)
+    kept = [it for it in each if isinstance(it, Recorded)]
+    refused = [it for it in each if isinstance(it, Refused)]
+    calls = [call for it in kept for call in calls_again(it)]
+    tried = [*(as_told(it.script, it.text) for it in kept), *(as_told(it.script, it.script.text) for it in refused)]
+    told = batches(tried)
+    runs = [Call(PROGRAM, (), input_of([tried[place] for place in places])) for places in told]
+    said = yield [*calls, *runs]
+    rows = yield from verdicts(tried, told, said[len(calls) :])
+    faults: dict[str, list[str]] = {}
+    for at, it in enumerate(kept):
+        again, traced = said[2 * at : 2 * at + 2]
+        faults[it.script.name] = [*again_faults(it, again, traced), *kept_faults(it), *row_faults(it, rows[at])]
+    for at, other in enumerate(refused, len(kept)):
+        faults[other.script.name] = list(refusal_faults(other, rows[at]))
+    lines = ["\n".join(f"{it.name}: {fault}" for fault in faults.get(it.name, [])) for it in scripts]
+    return [Finding(it, is_untold=done is None) for it, done in zip(lines, each, strict=True)]
+
+
+RECORDINGS = Kind(recordings, tell_recordings, (RECORDS, PROGRAM))

@@ -1,0 +1,158 @@
+"""Tables of stories, which are runs of a program line by line, and stories that stand beside a program that tests."""
+
+import os
+import re
+import subprocess
+from collections import Counter
+from collections.abc import Iterator
+from dataclasses import dataclass, field
+from pathlib import Path
+
+from rows.asking import Said
+from rows.comparing import Case, Kind, Run, add_command, tell_runs
+from rows.tables import TOP, Opening, Row, Table, Unread, lines_of, octets, parted, place_in_tree, reading
+
+
+def slug(title: str) -> str:
+    """A title as the name of a test."""
+    return re.sub(r"[^A-Za-z0-9]+", "-", title).strip("-")
+
+
+@dataclass
+class Story:
+    """A story as far as it was read: its title, its first line, and what the program is told and is to say."""
+
+    table: Table
+    title: str = ""
+    first: Row | None = None
+    words: list[bytes] = field(default_factory=list)
+    given: bytes = b""
+    output: bytes = b""
+    errors: bytes = b""
+    status: int = 0
+    workers: list[str] = field(default_factory=list)
+    is_short: bool = False
+    is_whole: bool = False
+
+    def take(self, row: Row) -> None:
+        """Takes a line."""
+        mark, _, rest = row.text.partition(" ")
+        match mark:
+            case "$":
+                self.words.append(octets(rest))
+            case "*":
+                self.workers = rest.split()
+            case "after":
+                self.put(self.opening(rest))
+            case "<" | "<#" | "<<" | "~" | "+":
+                self.given += self.given_of(mark, rest)
+            case ">" | ">#":
+                self.output += lines_of(rest, mark == ">#")
+            case ">>":
+                self.output += lines_in(rest)
+            case "!" | "!~":
+                self.errors += (b"~ " if mark == "!~" else b"") + lines_of(rest, False)
+                self.is_short = self.is_short or mark == "!~"
+            case "=" if rest in ("0", "1", "2"):
+                self.status, self.is_whole = int(rest), True
+            case "=":
+                raise Unread("a status is 0, 1 or 2")
+            case _:
+                raise Unread("a line of a story begins with $ < <# << ~ + > ># >> ! !~ * after or =")
+
+    def opening(self, name: str) -> Opening:
+        if name not in self.table.openings:
+            raise Unread("there is no such opening")
+        return self.table.openings[name]
+
+    def put(self, opening: Opening) -> None:
+        self.given += opening.given
+        self.output += opening.output
+
+    def given_of(self, mark: str, rest: str) -> bytes:
+        """The octets of an input that a line stands for."""
+        if mark == "~":
+            return octets(rest)
+        if mark == "<<":
+            return lines_in(rest)
+        if mark == "+":
+            head, text = parted(rest, ": ", "a script has a name and a colon before it")
+            name, _, opening = head.partition(" after ")
+            return add_command(name, self.opening(opening).given + octets(text))
+        return lines_of(rest, mark == "<#")
+
+    def runs(self, row: Row) -> Iterator[tuple[str, Run]]:
+        """The run, and those beside workers, each with its name."""
+        wanted = Said(self.output, self.errors, self.status)
+        for name, more in [("", ()), *((f"-{it}", ("--workers", it)) for it in self.workers)]:
+            words = (*self.words, *(word.encode() for word in more))
+            run = Run(row, self.table.program, words, self.given, wanted, self.is_short)
+            yield slug(self.title) + name, run
+
+
+def lines_in(path: str) -> bytes:
+    """The lines of a file of the tree, or of the commands that add the scripts of a folder."""
+    whole = TOP / path
+    if not whole.exists():
+        raise Unread(f"there is no {path}")
+    if path.endswith("/"):
+        files = sorted(whole.glob("*.pkt"), key=os.fsencode)
+        return subprocess.run([TOP / "tools" / "add_scripts.sh", *files], capture_output=True, check=True).stdout
+    return whole.read_bytes().removesuffix(b"\n") + b"\n"
+
+
+def stories_in(table: Table) -> Iterator[Story]:
+    """The stories of a table; a comment before the first line of one is its title."""
+    story = Story(table)
+    for row in table.lines:
+        if row.text.startswith("#"):
+            if story.first is None:
+                story.title = row.text.removeprefix("#").strip()
+            continue
+        story.first = story.first or row
+        with reading(row):
+            story.take(row)
+        if story.is_whole:
+            yield story
+            story = Story(table)
+    if story.first is not None:
+        raise Unread(f"{story.first}: the last story has no status")
+
+
+def stories(table: Table) -> Iterator[Case[Run]]:
+    """Runs of the program, written line by line."""
+    names: Counter[str] = Counter()
+    for story in stories_in(table):
+        assert story.first is not None
+        row = Row(story.first.file, story.first.line, story.title)
+        for name, run in story.runs(row):
+            names[name] += 1
+            more = f"-{names[name]}" if names[name] > 1 else ""
+            yield Case(f"{name}{more}", row, (run,))
+
+
+def titled_stories(table: Table) -> Iterator[Case[Run]]:
+    """Each story of the files that are rows as a run, so that one that hangs has its name."""
+    for row in table.rows:
+        yield from stories_of(TOP / row.text, table.program)
+
+
+def stories_of(file: Path, program: str) -> Iterator[Case[Run]]:
+    """The stories of a file, each with the texts up to its end, and its rows, none of which is to differ."""
+    texts: list[bytes] = []
+    line = 1
+    for number, story in enumerate(re.split(rb"^# ", file.read_bytes(), flags=re.MULTILINE)):
+        title, *lines = story.split(b"\n")
+        told = [it for it in lines if it.strip()]
+        texts += [it for it in told if it.startswith(b"text ")]
+        rows = [it for it in told if not it.startswith(b"text ")]
+        if number and rows:
+            given = b"".join(it + b"\n" for it in (*texts, *rows))
+            wanted = Said(b"%d rows, 0 differ\n" % len((*texts, *rows)), b"", 0)
+            row = Row(place_in_tree(file), line, title.decode())
+            yield Case(slug(row.text), row, (Run(row, program, (b"stories",), given, wanted),))
+        line += story.count(b"\n")
+
+
+STORIES = Kind(stories, tell_runs)
+TITLED_STORIES = Kind(titled_stories, tell_runs)

@@ -1,0 +1,191 @@
+"""Files of rows: their tables, rows and openings, as tests/README.md says how they are written."""
+
+import re
+from collections.abc import Iterator, Mapping
+from contextlib import contextmanager
+from dataclasses import dataclass, field, replace
+from functools import cache
+from pathlib import Path
+
+TOP = Path(__file__).resolve().parents[2]
+CASES = TOP / "tests" / "cases"
+# The openings of this file may be named in all others.
+OPENINGS = CASES / "openings.cases"
+PROGRAM = "pdregress"
+HEADING = re.compile(r"\[([^]]+)\] ([a-z ]+?)(?: of (\w+))?(?: after (\w+))?")
+BEHIND = ("opening", "scripts", "explained")
+SHORT = {b"n": b"\n", b"r": b"\r", b"t": b"\t", b"\\": b"\\"}
+
+
+class Unread(Exception):
+    """Why a row isn't written as its table wants it."""
+
+
+@contextmanager
+def reading(row: "Row") -> Iterator[None]:
+    """Where a row can't be read, says which one it is."""
+    try:
+        yield
+    except Unread as why:
+        raise Unread(f"{row}: {why}") from None
+
+
+@dataclass(frozen=True)
+class Row:
+    """A line of a file of rows, and of what it stands for the part that is meant: a length or an octet."""
+
+    file: str
+    line: int
+    text: str
+    part: str = ""
+
+    def __str__(self) -> str:
+        return f"{self.file}:{self.line}: {self.text}{self.part}"
+
+
+@dataclass(frozen=True)
+class Opening:
+    """What stands before a script or an input, and what is then written before the rest of an output."""
+
+    given: bytes = b""
+    output: bytes = b""
+
+
+@dataclass(frozen=True)
+class Table:
+    """A table: its heading, its name and kind, the program that is told, and its lines, comments among them."""
+
+    heading: Row
+    name: str
+    kind: str
+    program: str = PROGRAM
+    opening: str = ""
+    before: Opening = Opening()
+    openings: Mapping[str, Opening] = field(default_factory=dict)
+    lines: list[Row] = field(default_factory=list)
+
+    @property
+    def rows(self) -> list[Row]:
+        """The lines that are no comments."""
+        return [row for row in self.lines if not row.text.startswith("#")]
+
+
+def place_in_tree(file: Path) -> str:
+    """The path of a file below the top of the tree, where it is below that."""
+    return str(file.relative_to(TOP) if file.is_relative_to(TOP) else file)
+
+
+def octets(text: str) -> bytes:
+    """The octets that a row writes."""
+
+    def octet(found: re.Match[bytes]) -> bytes:
+        word = found[1]
+        if not word:
+            raise Unread("there is no such escape")
+        return SHORT[word] if word in SHORT else bytes([int(word[1:], 16)])
+
+    whole = re.sub(r"\\<(\d+) (.*?)\\>", lambda found: found[2] * int(found[1]), text)
+    return re.sub(rb"\\(x[0-9a-f]{2}|[nrt\\]|)", octet, whole.encode())
+
+
+def lines_of(rest: str, is_many: bool) -> bytes:
+    """A line of a text, or the lines of `FIRST LAST TEXT`, one for each of these numbers, which stands for each `#`."""
+    if not is_many:
+        return octets(rest) + b"\n"
+    found = re.fullmatch(r"(\d+) (\d+) (.*)", rest)
+    if not found:
+        raise Unread("such a line has two numbers and a text")
+    numbers = range(int(found[1]), int(found[2]) + 1)
+    return b"".join(octets(found[3].replace("#", str(number))) + b"\n" for number in numbers)
+
+
+def parted(text: str, mark: str, why: str) -> tuple[str, str]:
+    """What stands before the first mark and after it."""
+    front, found, back = text.partition(mark)
+    if not found:
+        raise Unread(why)
+    return front, back
+
+
+def heading_of(row: Row) -> Table:
+    """The table of a heading `[NAME] KIND`, perhaps with `of PROGRAM` and `after OPENING`, without its lines."""
+    found = HEADING.fullmatch(row.text)
+    if not found:
+        raise Unread("a heading is [NAME] KIND")
+    if found[3] and not found[2].endswith("stories"):
+        raise Unread("only stories are of a program")
+    if found[4] and found[2] not in BEHIND:
+        raise Unread("only scripts and openings stand after one")
+    return Table(row, found[1], found[2], found[3] or PROGRAM, found[4] or "")
+
+
+def tables_of(file: Path) -> list[Table]:
+    """The tables of a file, as they are written."""
+    tables: list[Table] = []
+    for number, line in enumerate(file.read_bytes().decode().split("\n"), 1):
+        row = Row(place_in_tree(file), number, line)
+        with reading(row):
+            if line.startswith("["):
+                tables.append(heading_of(row))
+            elif line and tables:
+                tables[-1].lines.append(row)
+            elif line and not line.startswith("#"):
+                raise Unread("a row stands in a table")
+    if not tables:
+        raise Unread("a file has a table at least")
+    return tables
+
+
+def opening_of(table: Table) -> Opening:
+    """What an opening has: the lines after `<` and `>`, and octets without a newline after `~`."""
+    given, output = table.before.given, table.before.output
+    for row in table.rows:
+        mark, _, rest = row.text.partition(" ")
+        with reading(row):
+            if mark == ">":
+                output += lines_of(rest, False)
+            elif mark in ("<", "~"):
+                given += octets(rest) + (b"\n" if mark == "<" else b"")
+            else:
+                raise Unread("a line of an opening begins with <, ~ or >")
+    return Opening(given, output)
+
+
+def opened(table: Table, openings: Mapping[str, Opening]) -> Table:
+    """A table with the openings before it, and with the one that it names."""
+    if table.opening not in openings:
+        raise Unread("there is no such opening")
+    if not table.rows:
+        raise Unread("a table has a row at least")
+    if table.kind == "opening" and table.name in openings:
+        raise Unread("an opening has this name")
+    return replace(table, before=openings[table.opening], openings=openings)
+
+
+def opened_tables(file: Path, known: Mapping[str, Opening]) -> Iterator[Table]:
+    """The tables of a file, each with the openings that are known there."""
+    openings = dict(known)
+    for table in tables_of(file):
+        with reading(table.heading):
+            whole = opened(table, openings)
+        yield whole
+        if table.kind == "opening":
+            openings = {**openings, table.name: opening_of(whole)}
+
+
+@cache
+def shared_openings() -> Mapping[str, Opening]:
+    """The openings that each file may name."""
+    none = {"": Opening()}
+    return {**none, **{it.name: opening_of(it) for it in opened_tables(OPENINGS, none)}}
+
+
+def read_tables(file: Path) -> Iterator[Table]:
+    """The tables of a file but openings."""
+    known = {"": Opening()} if file == OPENINGS else shared_openings()
+    return (table for table in opened_tables(file, known) if table.kind != "opening")
+
+
+def case_files() -> list[Path]:
+    """The files of rows, in the order of their names."""
+    return sorted(CASES.rglob("*.cases"))

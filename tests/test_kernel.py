@@ -1,0 +1,180 @@
+"""Tests of tools/kernel.py: reading, comparing and reporting everywhere, and real runs where a tun device is to be had.
+
+Run them by `tests/run tests/test_kernel.py`.
+"""
+
+from __future__ import annotations
+
+import contextlib
+import doctest
+import importlib
+import io
+import tempfile
+import unittest
+from pathlib import Path
+
+from kernel.compare import Difference, Span, differing, is_told
+from kernel.device import NoDevice
+from kernel.main import Job, choice_of, run_once, runners, sorted_files
+from kernel.report import places_of, row_of
+from kernel.run import Outcome
+from kernel.script import Refused, read_script
+from kernel.settings import Settings, Tuning, settings_of, tuning_of
+from kernel.wire import PEER_ISN, Seen, decode, encode
+from pdsuite.packetdrill.items import Call, Packet, TcpOption, Time
+
+OPENING = """0 socket(..., SOCK_STREAM, IPPROTO_TCP) = 3
++0 bind(3, {sa_family = AF_INET, port = htons(8080)}, [16]) = 0
++0 listen(3, 1) = 0
++0.05 < S 0:0(0) win 32792 <mss 1000,sackOK,nop,nop,nop,wscale 7>
++0 > S. 0:0(0) ack 1 <...>
++0.05 < . 1:1(0) ack 1 win 257
++0 accept(3, ..., ...) = 4
+"""
+
+
+class Examples(unittest.TestCase):
+    def test_those_that_stand_in_modules(self) -> None:
+        for name in ("calls", "compare", "script", "settings", "wire"):
+            with self.subTest(name):
+                self.assertEqual(doctest.testmod(importlib.import_module(f"kernel.{name}")).failed, 0)
+
+
+class Reading(unittest.TestCase):
+    def test_a_packet_with_all_its_parts(self) -> None:
+        (event,) = read_script("\n+.5~+1 > P. 1:11(10) ack 2 win 3 <nop,sack 1:2 3:4> // why\n")
+        options = (TcpOption("nop"), TcpOption("sack", (1, 2, 3, 4)))
+        self.assertEqual(event.line, 2)
+        self.assertEqual(event.time, Time(500_000, 1_000_000))
+        self.assertEqual(event.action, Packet(False, "P.", 1, 11, 2, 3, options, "<nop,sack 1:2 3:4>"))
+
+    def test_dots_stand_for_any_options_and_a_star_for_any_time(self) -> None:
+        (event,) = read_script("* > S. 0:0(0) ack 1 <...>")
+        self.assertIsNone(event.time.first)
+        assert isinstance(event.action, Packet)
+        self.assertTrue(event.action.takes_any_options)
+
+    def test_a_call_with_brackets_an_error_and_a_note(self) -> None:
+        (event,) = read_script("1 connect(3, {a, (b)}, [1]) = -1 EBADF (Bad descriptor)")
+        self.assertEqual(event.action, Call("connect", ("3", "{a, (b)}", "[1]"), -1, "EBADF"))
+
+    def test_what_is_not_run_is_refused_at_its_line(self) -> None:
+        for text in (
+            "\n`ls`\n--ip_version=ipv6",
+            "0 socket(1) = 3\n0...1 accept(3) = 4",
+            "\n* < . 1:1(0) win 1",
+            "\n0 > . 1:9(9)",
+        ):
+            with self.assertRaises(Refused) as caught:
+                read_script(text)
+            self.assertEqual(caught.exception.line, 2)
+
+
+class Wire(unittest.TestCase):
+    def test_numbers_count_from_both_first_numbers(self) -> None:
+        packet = Packet(True, "P.", 5, 8, 7, 100, (TcpOption("sack", (7, 9)), TcpOption("nop"), TcpOption("nop")))
+        octets = encode(packet, isn=2**32 - 1)
+        self.assertEqual(octets[24:32], (PEER_ISN + 5).to_bytes(4, "big") + (6).to_bytes(4, "big"))
+        self.assertEqual(octets[40:50], bytes([5, 10, 0, 0, 0, 6, 0, 0, 0, 8]))
+
+    def test_a_packet_of_the_kernel_is_read_back(self) -> None:
+        there = encode(Packet(True, "S.", 9, 9, 0, 500, (TcpOption("mss", (1460,)),)), isn=77)
+        back = there[:20] + there[22:24] + there[20:22] + there[24:]
+        found = decode(back, 1.5, None)
+        assert found is not None
+        seen, first = found
+        self.assertEqual(first, PEER_ISN + 9)
+        self.assertEqual((seen.start, seen.window, seen.options), (0, 500, (TcpOption("mss", (1460,)),)))
+
+    def test_another_port_is_none_of_the_run(self) -> None:
+        self.assertIsNone(decode(encode(Packet(True, ".", 1, 1, 1, 1), 0), 0.0, 0))
+
+
+class Comparing(unittest.TestCase):
+    seen = Seen(1.2, frozenset("."), 1, 1000, 1, 502, ())
+
+    def test_each_field_is_named(self) -> None:
+        expected = Packet(False, "P", 1, 501, 2, 257, (TcpOption("nop"),))
+        fields = differing(expected, self.seen, Span(0.0, 1.0), frozenset())
+        self.assertEqual(fields, ["time", "flags", "push", "seq", "ack", "win", "options"])
+        self.assertFalse(is_told(expected, self.seen))
+
+    def test_what_is_ignored_or_not_written_does_not_differ(self) -> None:
+        expected = Packet(False, "P.", 1, 1001)
+        self.assertEqual(differing(expected, self.seen, None, {"push"}), [])
+
+
+class Setup(unittest.TestCase):
+    def test_the_nearest_table_wins_and_words_before_all(self) -> None:
+        with tempfile.TemporaryDirectory() as name:
+            top = Path(name)
+            (top / "pdsuite.toml").write_text("root = true\nmss = 500\nwscale = 3\nsack = false")
+            (top / "in").mkdir()
+            (top / "in" / "pdsuite.toml").write_text('mss = 600\n["a.pkt"]\nmss = 700')
+            got = settings_of(top / "in" / "a.pkt", "// set sack false\n", "sack = true")
+            other = settings_of(top / "in" / "b.pkt", "// set wscale 5\n")
+        self.assertEqual((got.mss, got.wscale, got.sack), (700, 3, True))
+        self.assertEqual((other.mss, other.wscale, other.sack), (600, 5, False))
+
+    def test_settings_become_switches_and_a_route(self) -> None:
+        tuning = tuning_of(read_script(OPENING), Settings(min_rto_us=300_000), {"net.ipv4.tcp_frto": "0"})
+        self.assertEqual(tuning.route[:4], ("initcwnd", "4", "rto_min", "300ms"))
+        self.assertIn(("net.ipv4.tcp_frto", "0"), tuning.sysctls)
+        self.assertIn(("net.ipv4.tcp_rmem", "4096 131070 4194304"), tuning.sysctls)
+
+    def test_a_folder_stands_for_its_scripts(self) -> None:
+        with tempfile.TemporaryDirectory() as name:
+            for file in ("b.pkt", "a.pkt", "a.txt"):
+                Path(name, file).touch()
+            self.assertEqual([it.name for it in sorted_files([Path(name)])], ["a.pkt", "b.pkt"])
+
+    def test_a_field_that_is_none_is_refused(self) -> None:
+        with self.assertRaises(SystemExit), contextlib.redirect_stderr(io.StringIO()):
+            choice_of(["--ignore", "winter", "a.pkt"])
+
+
+class Reporting(unittest.TestCase):
+    def test_places_are_counted_over_runs(self) -> None:
+        bad = Outcome((Difference(9, "win", "a"), Difference(7, "time", "b")))
+        runs = [bad, Outcome(), Outcome((Difference(9, "win", "c"),))]
+        self.assertEqual([(it.line, it.field, it.runs) for it in places_of(runs)], [(7, "time", 1), (9, "win", 2)])
+        rows = ["x: 1 of 3 pass", "  line 7 time: 1 of 3, b", "  line 9 win: 2 of 3, a"]
+        self.assertEqual(list(row_of("x", runs)), rows)
+
+
+class Running(unittest.TestCase):
+    """Runs against the kernel; said to be skipped where there is no tun device."""
+
+    def run_text(self, text: str, *ignored: str) -> Outcome:
+        events = read_script(OPENING + text)
+        job = Job(Path("a.pkt"), events, tuning_of(events, Settings(), {}), frozenset(ignored))
+        with runners(1) as pool:
+            found = pool.apply(run_once, (job,))
+        if isinstance(found, NoDevice):
+            self.skipTest(f"no tun device here: {found}")
+        assert isinstance(found, Outcome)
+        return found
+
+    def test_a_segment_is_sent(self) -> None:
+        self.assertEqual(self.run_text("+0 write(4, ..., 10) = 10\n+0 > P. 1:11(10) ack 1", "time").differences, ())
+
+    def test_a_run_goes_on_after_other_fields_and_names_each(self) -> None:
+        text = "+0 write(4, ..., 10) = 10\n+0 > . 1:11(10) ack 1 win 5\n+0.05 < . 1:1(0) ack 11 win 257\n"
+        got = self.run_text(text + "+0 write(4, ..., 5) = 5\n+0 > P. 11:16(5) ack 2", "time").differences
+        self.assertEqual([(it.line, it.field) for it in got], [(9, "push"), (9, "win"), (12, "ack")])
+
+    def test_a_packet_that_does_not_come_and_another_answer_end_it(self) -> None:
+        got = self.run_text("+0 > . 1:1(0) ack 1\n+0 > . 2:2(0) ack 1").differences
+        self.assertEqual([(it.line, it.field, it.words) for it in got], [(8, "missing", "nothing came")])
+        got = self.run_text("+0 write(4, ..., 10) = 9\n+0 > . 9:9(0) ack 1").differences
+        self.assertEqual([(it.line, it.field, it.words) for it in got], [(8, "result", "10")])
+
+    def test_a_switch_that_the_kernel_lacks_is_told(self) -> None:
+        events = read_script(OPENING)
+        tuning = Tuning((("net.ipv4.no_such_switch", "1"),), (), 1500, False)
+        with runners(1) as pool:
+            self.assertIsInstance(pool.apply(run_once, (Job(Path("a"), events, tuning, frozenset()),)), NoDevice)
+
+
+if __name__ == "__main__":
+    unittest.main()

@@ -1,0 +1,196 @@
+"""Tests of what tells rows: what of each kind is told to a program that stands in, and that a wrong answer is seen."""
+
+import re
+from collections.abc import Callable, Iterator
+from dataclasses import dataclass, field
+from pathlib import Path
+from typing import Optional
+
+import pytest
+
+from rows.asking import Call, Said, run
+from rows.comparing import Finding, report_of
+from rows.kinds import groups_of
+from rows.random_scripts import Script
+from rows.recordings import tell_recordings
+
+Program = Callable[[Call], Optional[Said]]
+EMPTY = report_of({})
+
+
+@dataclass
+class Teller:
+    """Writes a file of rows, has a program told it, and keeps the calls."""
+
+    file: Path
+    calls: list[Call] = field(default_factory=list)
+
+    def faults(self, text: str, program: Program) -> dict[str, str]:
+        """What is found of each case, by its name, of which some is found."""
+        return {name: it.fault or "untold" for name, it in self.findings(text, program) if it != Finding()}
+
+    def findings(self, text: str, program: Program) -> Iterator[tuple[str, Finding]]:
+        self.file.write_text(text)
+        for group in groups_of(self.file):
+            found = run(group.kind.told(group.cases), lambda calls: [self.answer(program, it) for it in calls])
+            yield from zip((case.name for case in group.cases), found)
+
+    def answer(self, program: Program, call: Call) -> Optional[Said]:
+        self.calls.append(call)
+        return program(call)
+
+
+@pytest.fixture
+def teller(tmp_path: Path) -> Teller:
+    return Teller(tmp_path / "a.cases")
+
+
+def scripts_of(call: Call) -> dict[str, bytes]:
+    """The scripts that an input adds."""
+    lines, scripts = iter(call.given.split(b"\n")), {}
+    for line in lines:
+        if found := re.fullmatch(rb"add (\w+) (\d+)", line):
+            scripts[found[1].decode()] = b"\n".join(next(lines) for _ in range(int(found[2])))
+    return scripts
+
+
+def judge(call: Call) -> Said:
+    """Stands in for pdregress: a script passes unless it has an x."""
+    return report_of({name: "fail 1 result" if b"x" in text else "pass 1" for name, text in scripts_of(call).items()})
+
+
+def says(output: str = "", errors: str = "", status: int = 0) -> Program:
+    return lambda _: Said(output.encode(), errors.encode(), status)
+
+
+SCRIPTS = "[a] scripts\npass 1: 0\nfail 1 result: x\npass 1 under mss 500, --a: x\n"
+
+
+def test_scripts_are_told_together_and_where_that_differs_alone(teller: Teller) -> None:
+    (name, fault), *others = teller.faults(SCRIPTS, judge).items()
+    assert (name, others) == ("line-4", [])
+    assert "\n-> a1 pass 1\n" in fault and "\n+> a1 fail 1 result\n" in fault
+    together, under, alone = (it.given for it in teller.calls)
+    assert together == b"add a1 1\n0\nadd a2 1\nx\n"
+    assert under == alone == b"set mss 500\nadd a1 1\n--a x\n"
+
+
+def test_what_differs_together_alone_is_a_fault_of_the_first(teller: Teller) -> None:
+    faults = teller.faults(SCRIPTS, lambda call: judge(call) if len(scripts_of(call)) == 1 else EMPTY)
+    assert faults["line-2"].startswith("told with those after it:\n")
+
+
+STORY = """[before] opening
+< 0
+> 1
+
+[a] stories of pdrecord
+# a comment
+# the title
+$ -v
+* 2
+after before
+<# 1 2 b#
++ c after before: d\\ne
+~ f
+> g
+! h
+= 1
+"""
+
+
+def test_a_story_is_told_beside_workers_too(teller: Teller) -> None:
+    assert teller.faults(STORY, says("1\ng\n", "h\n", 1)) == {}
+    alone, beside = teller.calls
+    assert alone == Call("pdrecord", (b"-v",), b"0\nb1\nb2\nadd c 3\n0\nd\ne\nf")
+    assert beside == Call("pdrecord", (b"-v", b"--workers", b"2"), alone.given)
+
+
+@pytest.mark.parametrize(
+    "answer", [says("1\ng\n", "h\n", 2), says("1\n", "g\nh\n", 1), says("1\ng\nh\n", "", 1), says("1\ng", "h\n", 1)]
+)
+def test_another_answer_to_a_story_is_seen(answer: Program, teller: Teller) -> None:
+    assert list(teller.faults(STORY, answer)) == ["the-title", "the-title-2"]
+
+
+def test_blocks_are_compared_by_their_first_lines(teller: Teller) -> None:
+    text = "[a] stories\n# b\n!~ a:1:\n!~ {}\n! c\n= 0\n"
+    assert teller.faults(text, says("", 'a:1: fail\n  more\n{"b": 1}\nc\n')) == {}
+    assert list(teller.faults(text, says("", "a:2: fail\n{}\nc\n"))) == ["b"]
+
+
+def test_words_are_refused_before_anything_is_read(teller: Teller) -> None:
+    refused = Said(b"", b"no such word\n", 2, read=0)
+    wrong = {b"-b": Said(b"", b"", 2, 0), b"-c": Said(b"", b"no\n", 2, 8), b"-d": None}
+    assert teller.faults("[a] bad words\n-a\n", lambda _: refused) == {}
+    faults = teller.faults("[a] bad words\n-b\n-c\n-d\n", lambda call: wrong[call.words[0]])
+    assert list(faults) == ["line-2", "line-3", "line-4"] and faults["line-4"] == "untold"
+
+
+def test_settings_lines_and_ends(teller: Teller) -> None:
+    text = "[a] settings\nok: mss 500\n[b] bad commands\nbye\n[c] ends\npass 1 | add a 1\\n\n16 Truncated | 0\n"
+    assert list(teller.faults(text, says("", "pdregress: 16 Truncated\n", 2))) == ["line-2", "line-4", "line-6"]
+    assert teller.calls[:2] == [
+        Call("pdregress", (), b"set mss 500\n"),
+        Call("pdregress", (b"--settings", b"mss = 500")),
+    ]
+
+
+def test_explanations_and_beginnings(teller: Teller) -> None:
+    block = b'{"name": "a1", "verdict": "syntax", "line": 1, "column": 0, "text": "0", "expected": ["b", "c"]}\n'
+    said = Said(b"a1 syntax 1\ntotal 1\n", block, 1)
+    assert teller.faults("[a] explained\n> syntax 1 column 0: b | c\n< 0\n", lambda _: said) == {}
+    assert list(teller.faults("[a] explained\n> syntax 1 end: b\n< 0\n< 1\n", lambda _: said)) == ["line-3", "line-4"]
+    assert list(teller.faults("[a] beginnings\n0\n", lambda _: said)) == ["line-2"]
+
+
+def test_octets_and_cuts(teller: Teller) -> None:
+    text = "[a] octets\n= pass 1: 0@\n- fail 1 result: x\n[b] cuts\nfail 1 result | $x^y\npass 1 | x\n"
+    faults = teller.faults(text, judge)
+    assert list(faults) == ["line-5", "line-6"] and "syntax 1" in faults["line-5"]
+    assert len(scripts_of(teller.calls[0])) == 255
+
+
+@pytest.mark.parametrize(
+    "change, fault",
+    [
+        (lambda text: text + b"c\n", "another recording of the recording"),
+        (lambda text: text.replace(b"/**/", b""), "without {b'/**/': 1}, and with {} besides"),
+    ],
+)
+def test_what_holds_of_each_recording(change: Callable[[bytes], bytes], fault: str) -> None:
+    def record(call: Call) -> Said:
+        """Writes the events, and their moments where these are asked for."""
+        if call.program == "pdregress":
+            return report_of({name: "pass 1" for name in scripts_of(call)})
+        plain = b"\n".join(it for it in call.given.split(b"\n") if not it.startswith(b"//="))
+        trace = b"//= at 0.000000 CLOSED\n" if b"--trace" in call.words else b""
+        return Said(plain + trace, b"", 0)
+
+    def record_wrongly(call: Call) -> Said:
+        said = record(call)
+        return said if call.program == "pdregress" else Said(change(said.output), b"", 0)
+
+    scripts = [Script("a", "", b"0 b /**/\n")]
+    for program, wanted in ((record, ""), (record_wrongly, f"a: {fault}")):
+        (found,) = run(tell_recordings(scripts), lambda calls: [program(it) for it in calls])
+        assert found.fault.split("\n")[0] == wanted
+
+
+@pytest.mark.parametrize(
+    "text, why",
+    [
+        ("[a] nothing\nb\n", "1: [a] nothing: there is no such kind"),
+        ("[a] scripts\nno\n", "2: no: a row has a colon after its verdict"),
+        ("[a] scripts\npass 1: \\q\n", "2: pass 1: \\q: there is no such escape"),
+        ("[a] scripts after b\npass 0:\n", "1: [a] scripts after b: there is no such opening"),
+        ("[a] scripts\n# b\n", "1: [a] scripts: a table has a row at least"),
+        ("[a] stories\n# b\n> c\n", "3: > c: the last story has no status"),
+        ("[a] stories\n= 3\n", "2: = 3: a status is 0, 1 or 2"),
+        ("pass 0:\n", "1: pass 0:: a row stands in a table"),
+        ("", "a file has a table at least"),
+    ],
+)
+def test_what_is_not_written_as_its_kind_wants_it_fails(text: str, why: str, teller: Teller) -> None:
+    (fault,) = teller.faults(text, judge).values()
+    assert fault.endswith(why) and not teller.calls
