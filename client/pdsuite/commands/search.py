@@ -1,0 +1,107 @@
+"""`pdsuite search`, and `pdsuite compare --search`: inputs that reach a state, or tell two senders apart."""
+
+import random
+from collections.abc import Callable, Sequence
+from dataclasses import dataclass
+from pathlib import Path
+from tempfile import TemporaryDirectory
+
+from pdsuite.compare.senders import Sender, sender_of, standing
+from pdsuite.faults import Fault
+from pdsuite.reports.search import found, totals
+from pdsuite.search.asking import SenderAsker, asker_of, sizes_for
+from pdsuite.search.finds import Differs, Fails, Find, Reaches, script_of
+from pdsuite.search.hunt import Hunt
+from pdsuite.search.reached import pattern_of
+from pdsuite.search.saving import check_place, save
+from pdsuite.show.octets import shown_text
+from pdsuite.show.screen import Screen
+from pdsuite.signals import Stop, Stopped
+
+_SEEDS = 1_000_000
+
+
+@dataclass(frozen=True)
+class SearchOptions:
+    """How long a search takes in seconds, by which seed, and where its find goes."""
+
+    seconds: int
+    seed: int | None
+    save: Path | None
+
+
+def search_state(text: str, word: str | None, options: SearchOptions, screen: Screen) -> int:
+    """Searches for a state, and answers the exit status: 1 where no input reaches it."""
+    pattern = pattern_of(text)
+    if pattern is None:
+        raise Fault(f"--for: {shown_text(text)}: no facts as NAME:VALUE with blanks between them")
+    if options.save is not None:
+        check_place(options.save)
+    try:
+        with Stop() as stop, TemporaryDirectory(prefix="pdsuite-") as room:
+            sender = standing() if word is None else sender_of(word, "--with", Path(room) / "sender")
+            _need_recorder([sender])
+            asker = asker_of(sender, stop)
+            seed = _seed(options)
+            hunted = Hunt(asker, Reaches(pattern), None, sizes_for([sender]), seed, options.seconds).run(
+                _progress(screen)
+            )
+            if hunted.find is not None:
+                screen.show(found(hunted.find, f"an input reaches {shown_text(text)}", None, ()))
+                _save(options, hunted.find, [f"Reaches {shown_text(text)}.", f"Recorded by {sender}."])
+            screen.show(totals(hunted, seed, not sender.is_proved))
+            return 1 if hunted.find is None else 0
+    except Stopped as stopped:
+        return stopped.status
+
+
+def search_difference(senders: tuple[Sender, Sender], options: SearchOptions, stop: Stop, screen: Screen) -> int:
+    """Searches for what tells two senders apart, and answers the exit status: 1 where something does."""
+    if options.save is not None:
+        check_place(options.save)
+    _need_recorder(senders)
+    before, after = (asker_of(it, stop) for it in senders)
+    seed = _seed(options)
+    hidden = Differs(after) if senders[1].is_proved else None
+    hunted = Hunt(before, Fails(after), hidden, sizes_for(senders), seed, options.seconds).run(_progress(screen))
+    find = hunted.find or hunted.unshown
+    if find is not None:
+        _show_difference(find, after, screen)
+        _save(options, find, _head(find, senders))
+    screen.show(totals(hunted, seed, not all(it.is_proved for it in senders)))
+    return 0 if find is None else 1
+
+
+def _show_difference(find: Find, after: SenderAsker, screen: Screen) -> None:
+    (other,) = after.recordings([find.inputs])
+    if find.row is None:
+        what = "recordings differ, and no script that was tried shows it: the senders' packets differ at the end alone"
+        screen.show(found(find, what, other.text, ()))
+    else:
+        screen.show(found(find, "a script fails under the sender after", other.text, after.told(script_of(find))))
+
+
+def _head(find: Find, senders: Sequence[Sender]) -> list[str]:
+    """The comment of a saved script."""
+    before, after = senders
+    fails = "It passes under" if find.row is None else f"It fails ({find.row.whole}) under"
+    return [f"Recorded by {before}.", f"{fails} {after}."]
+
+
+def _save(options: SearchOptions, find: Find, head: Sequence[str]) -> None:
+    if options.save is not None:
+        save(options.save, find, head)
+
+
+def _need_recorder(senders: Sequence[Sender]) -> None:
+    for it in senders:
+        if not it.records:
+            raise Fault(f"{it} has no pdrecord, and a search records")
+
+
+def _seed(options: SearchOptions) -> int:
+    return random.randrange(_SEEDS) if options.seed is None else options.seed
+
+
+def _progress(screen: Screen) -> Callable[[int], None]:
+    return lambda inputs: screen.bottom(f"{inputs:,} inputs")

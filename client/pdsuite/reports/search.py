@@ -1,0 +1,77 @@
+"""What a search came to: what it found, and what its inputs reached."""
+
+from collections.abc import Iterator, Mapping, Sequence
+from itertools import zip_longest
+
+from pdsuite.compare.parting import PlayedEvent, played_events
+from pdsuite.run.outcomes import UNPROVED
+from pdsuite.scripts.settings import settings_text
+from pdsuite.search.finds import Find
+from pdsuite.search.hunt import Hunted
+from pdsuite.search.reached import Reached
+from pdsuite.show.octets import shown_text
+from pdsuite.show.styled_text import StyledText
+
+_ENDS = "nothing more"
+
+
+def found(find: Find, what: str, other: str | None, told: Sequence[str]) -> StyledText:
+    """A find: its settings, its recording beside the other sender's, if there is one, and why its script fails."""
+    text = StyledText().append(f"{what}\n", "bold red")
+    text.append("".join(f"  {line}\n" for line in _settings(find)))
+    pairs = _alone(find.recording) if other is None else _beside(find.recording, other)
+    text.append("".join(f"  {shown_text(line)}\n" for line in pairs))
+    if find.row is not None:
+        line = "" if find.row.line is None else f"line {find.row.line}: "
+        meaning, *below = told or [str(find.row)]
+        text.append(f"  after: {line}{meaning}\n", "bold")
+        text.append("".join(f"    {it}\n" for it in below))
+    return text
+
+
+def _settings(find: Find) -> list[str]:
+    return settings_text(find.inputs.settings).splitlines() or ["no settings"]
+
+
+def _alone(recording: str) -> Iterator[str]:
+    for it in played_events(recording):
+        yield str(it)
+        yield f"    {it.state}"
+
+
+def _beside(before: str, after: str) -> Iterator[str]:
+    """Both recordings event by event: one line where they agree, else one for each."""
+    for one, other in zip_longest(played_events(before), played_events(after)):
+        if one is not None and other is not None and str(one) == str(other):
+            yield str(one)
+            yield f"    {one.state}"
+            if one.state != other.state:
+                yield f"    after: {other.state}"
+        else:
+            yield from _side("before: ", one)
+            yield from _side("after:  ", other)
+
+
+def _side(name: str, it: PlayedEvent | None) -> Iterator[str]:
+    yield f"{name}{_ENDS if it is None else it}"
+    if it is not None:
+        yield f"    {it.state}"
+
+
+def totals(hunted: Hunted, seed: int, is_unproved: bool) -> StyledText:
+    """The last lines: which shares of the inputs reach what, and how many there were."""
+    reached = hunted.reached
+    text = StyledText()
+    if hunted.find is None:
+        for name, counts in _named(reached):
+            text.append(f"{name}: {' '.join(f'{it} {count}' for it, count in sorted(counts.items())) or 'none'}\n")
+    shares = ", ".join(f"{name} {share:.0%}".replace("%", " %") for name, share in reached.shares.items())
+    mark = f" {UNPROVED}" if is_unproved else ""
+    text.append(f"reached: {shares}\n")
+    return text.append(f"total {reached.inputs} inputs in {hunted.seconds:.2f} s, seed {seed}{mark}\n")
+
+
+def _named(reached: Reached) -> Iterator[tuple[str, Mapping[str, int]]]:
+    yield "states", reached.states
+    yield "options", reached.options
+    yield "settings", reached.settings

@@ -1,0 +1,84 @@
+"""What a search finds: recorded inputs under which another sender differs, or a state is reached."""
+
+from collections.abc import Sequence
+from dataclasses import dataclass
+from typing import Protocol
+
+from pdsuite.compare.parting import parting_of
+from pdsuite.programs.recorder import Recording
+from pdsuite.programs.rows import Row, Verdict
+from pdsuite.search.asking import Asked, SenderAsker
+from pdsuite.search.inputs import Inputs
+from pdsuite.search.reached import Pattern
+
+_TRACE = "//= "
+
+
+@dataclass(frozen=True)
+class Find:
+    """Inputs, their recording under the sender before, and the row that it has under the one after, if it fails."""
+
+    inputs: Inputs
+    recording: str
+    row: Row | None = None
+
+
+class Test(Protocol):
+    """Tells which inputs are finds."""
+
+    def finds(self, inputs: Sequence[Inputs], recordings: Sequence[Recording]) -> list[Find | None]:
+        """The finds among inputs, by their recordings."""
+
+
+def without_trace(recording: str) -> bytes:
+    """A recording as a script, without the sender's states."""
+    lines = (it for it in recording.split("\n") if not it.startswith(_TRACE))
+    return "\n".join(lines).encode("utf-8", "surrogateescape")
+
+
+def script_of(find: Find) -> Asked:
+    """The script that a find is saved as."""
+    return Asked(find.inputs.settings, without_trace(find.recording))
+
+
+@dataclass(frozen=True)
+class Fails:
+    """Finds inputs whose recording fails under another sender."""
+
+    other: SenderAsker
+
+    def finds(self, inputs: Sequence[Inputs], recordings: Sequence[Recording]) -> list[Find | None]:
+        made = [Find(it, recording.text) if recording.text else None for it, recording in zip(inputs, recordings)]
+        rows = iter(self.other.rows([script_of(it) for it in made if it is not None]))
+        asked = [None if it is None else Find(it.inputs, it.recording, next(rows)) for it in made]
+        return [
+            it if it is not None and it.row is not None and it.row.verdict is not Verdict.PASS else None for it in asked
+        ]
+
+
+@dataclass(frozen=True)
+class Differs:
+    """Finds inputs that another sender is recorded otherwise on, whether or not a script fails by it."""
+
+    other: SenderAsker
+
+    def finds(self, inputs: Sequence[Inputs], recordings: Sequence[Recording]) -> list[Find | None]:
+        others = self.other.recordings(inputs)
+        return [
+            Find(it, one.text) if one.text and _differ(one, other) else None
+            for it, one, other in zip(inputs, recordings, others)
+        ]
+
+
+@dataclass(frozen=True)
+class Reaches:
+    """Finds inputs whose recording reaches a state."""
+
+    pattern: Pattern
+
+    def finds(self, inputs: Sequence[Inputs], recordings: Sequence[Recording]) -> list[Find | None]:
+        return [Find(it, one.text) if self.pattern.is_in(one.text) else None for it, one in zip(inputs, recordings)]
+
+
+def _differ(one: Recording, other: Recording) -> bool:
+    return not other.text or parting_of(one.text, other.text) is not None

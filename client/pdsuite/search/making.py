@@ -1,0 +1,211 @@
+"""Makes plans by python3-hypothesis: the same ones for the same seed."""
+
+from collections.abc import Callable, Iterable, Iterator, Sequence
+from functools import cache
+from typing import TypeVar
+
+from hypothesis import HealthCheck, Phase, given, seed, settings
+from hypothesis import strategies as st
+
+from pdsuite.packetdrill.items import SECOND, TcpOption
+from pdsuite.scripts.settings import Settings, Value, settings_of
+from pdsuite.search.inputs import call
+from pdsuite.search.plans import Act, Ending, Handshake, Network, Odd, Oddity, Plan, Receiver
+
+T = TypeVar("T")
+
+# Seeds of different searches are so far apart.
+_APART = 1_000_003
+_MILLISECOND = 1_000
+_SEGMENTS = (64, 536, 1_000, 1_095, 1_096, 1_460, 2_190, 2_191, 3_000, 8_960)
+_ROUND_TRIPS = tuple(it * _MILLISECOND for it in (100, 100, 100, 10, 50, 200, 300, 400, 1_500, 30_000))
+_WIDE = (65_535, 65_535, 32_896, 32_896, 1_000_000)
+_NARROW = (20_000, 10_000, 5_000, 4_000, 3_000, 2_500, 2_000, 1_500, 1_000, 500, 100, 1, 0)
+_LONG = (20_000, 20_000, 12_000, 10_000, 8_000, 30_000)
+_SHORT = (1_000, 2_000, 3_000, 4_000, 5_000, 1, 100, 500, 1_500, 2_500, 0)
+_OUTAGES = (500_000, 2 * SECOND, 10 * SECOND, 70 * SECOND, 200 * SECOND)
+_LONG_HANDSHAKES = (1_200_000, 3_500_000, 8 * SECOND)
+_KEYS: dict[str, tuple[Value, ...]] = {
+    "granularity_us": (1, 100_000, 1_000_000),
+    "initial_ssthresh": (128, 2_000, 3_000, 4_000, 5_000, 8_000),
+    "initial_window": ("rfc6928",),
+    "min_rto_us": (1_000, 200_000, 3_000_000),
+    "mss": _SEGMENTS,
+    "nagle": (False,),
+    "rcv_wnd": (1, 1_000, 100_000, 1_000_000),
+    "sack": (False,),
+    "sndbuf": (1_024, 2_000, 4_000, 8_000),
+    "wscale": (0, 1, 3, 14),
+}
+_IN_HANDSHAKES = (
+    Oddity.OLD_ACK, Oddity.EARLY_ACK, Oddity.BARE, Oddity.RESET_NEAR, Oddity.BELOW, Oddity.OUTSIDE, Oddity.RESET
+)  # fmt: skip
+_LATER = tuple(it for it in Oddity if it not in (Oddity.FIN, Oddity.RESET))
+_NUMBERS = (0, 1, 2, 3, 100, 1_000, 2_500)
+
+
+def plans(first_seed: int, sizes: Iterable[int]) -> Iterator[list[Plan]]:
+    """Lists of so many plans each, one after the other."""
+    for number, size in enumerate(sizes):
+        yield _drawn(first_seed * _APART + number, size)
+
+
+def _drawn(number: int, size: int) -> list[Plan]:
+    """So many plans, by one seed."""
+    made: list[Plan] = []
+
+    def keep(plan: Plan) -> None:
+        made.append(plan)
+
+    how = settings(
+        max_examples=size,
+        database=None,
+        deadline=None,
+        phases=[Phase.generate],
+        suppress_health_check=list(HealthCheck),
+    )
+    seed(number)(how(given(_plans())(keep)))()
+    return made
+
+
+@st.composite
+def _plans(draw: st.DrawFn) -> Plan:
+    return _Maker(draw).plan()
+
+
+@cache
+def _below(number: int) -> st.SearchStrategy[int]:
+    return st.integers(0, number - 1)
+
+
+class _Maker:
+    """Makes a plan of what Hypothesis draws."""
+
+    def __init__(self, draw: Callable[[st.SearchStrategy[int]], int]) -> None:
+        self._draw = draw
+
+    def plan(self) -> Plan:
+        chosen = self._settings()
+        network = self._network()
+        closed = self._after(network.round_trip) if self._one_in(2) else None
+        return Plan(
+            chosen,
+            self._handshake(network.round_trip),
+            network,
+            self._receiver(),
+            self._acts(network.round_trip, chosen, closed),
+            self._oddities(network.round_trip, closed),
+            self._pick((Ending.WAIT, Ending.WRITE, Ending.WRITE, Ending.NONE)),
+            self._from(4, 14),
+        )
+
+    def _number(self, below: int) -> int:
+        return self._draw(_below(below))
+
+    def _from(self, first: int, last: int) -> int:
+        return first + self._number(last - first + 1)
+
+    def _one_in(self, number: int) -> bool:
+        return self._number(number) == number - 1
+
+    def _pick(self, values: Sequence[T]) -> T:
+        return values[self._number(len(values))]
+
+    def _some(self, most: int, below: int) -> frozenset[int]:
+        """Some different numbers, so many at most."""
+        return frozenset(self._number(below) for _ in range(self._from(1, most)))
+
+    def _settings(self) -> Settings:
+        if self._one_in(2):
+            return ()
+        keys = {self._pick(tuple(_KEYS)) for _ in range(self._pick((1, 1, 2, 3)))}
+        return settings_of({key: self._pick(_KEYS[key]) for key in sorted(keys)})
+
+    def _handshake(self, round_trip: int) -> Handshake:
+        takes = self._pick(_LONG_HANDSHAKES) if self._one_in(8) else round_trip
+        odd = (Odd(takes // 2, self._pick(_IN_HANDSHAKES), self._number(200)),) if self._one_in(8) else ()
+        window = self._pick((32_792, 32_792, 1_000, 2_000, 65_535, 0))
+        return Handshake(self._options(), window, takes, odd, self._one_in(16), self._one_in(16))
+
+    def _options(self) -> tuple[TcpOption, ...]:
+        options = []
+        if not self._one_in(8):
+            options.append(TcpOption("mss", (1_000 if self._one_in(2) else self._pick(_SEGMENTS),)))
+        if self._one_in(16):
+            options.append(TcpOption("eol"))
+        if not self._one_in(3):
+            options.append(TcpOption("sackOK"))
+        if not self._one_in(4):
+            options.append(TcpOption("wscale", (self._pick((7, 7, 7, 0, 1, 2, 10, 14, 15, 16)),)))
+        return tuple(options)
+
+    def _network(self) -> Network:
+        round_trip = self._pick(_ROUND_TRIPS)
+        more = tuple(self._pick((0, 0, 1, 2, 4)) * round_trip // 4 for _ in range(self._from(1, 3)))
+        late: dict[int, int] = {}
+        if self._one_in(3):
+            step = max(round_trip // 20, 1)
+            late = {self._number(12): self._from(1, 60) * step for _ in range(self._from(1, 3))}
+        lost_acks = self._some(3, 10) if self._one_in(4) else frozenset()
+        outage = (0, 0)
+        if self._one_in(6):
+            begin = self._number(7) * round_trip
+            outage = (begin, begin + self._pick(_OUTAGES))
+        return Network(round_trip, more, self._losses(), late, lost_acks, outage)
+
+    def _losses(self) -> frozenset[int]:
+        kind = self._number(6)
+        if kind == 0:
+            return frozenset()
+        first = self._number(8)
+        if kind < 3:
+            return frozenset((first,))
+        if kind == 3:
+            return frozenset(range(first, first + self._from(2, 4)))
+        return self._some(5, 16)
+
+    def _receiver(self) -> Receiver:
+        windows = {0: self._window()}
+        if self._one_in(3):
+            windows |= {self._from(1, 8): self._window() for _ in range(self._from(1, 2))}
+        each = self._pick((1, 1, 1, 2, 3, 8))
+        delay = self._pick((40, 200)) * _MILLISECOND
+        return Receiver(each, delay, not self._one_in(16), not self._one_in(5), tuple(sorted(windows.items())))
+
+    def _window(self) -> int:
+        return self._pick(_NARROW) if self._one_in(4) else self._pick(_WIDE)
+
+    def _acts(self, round_trip: int, chosen: Settings, closed: int | None) -> tuple[Act, ...]:
+        sizes = [*_SHORT, *_LONG, *(int(str(value)) - 1 for key, value in chosen if key == "sndbuf")]
+        first = self._pick(sizes) if self._one_in(3) else self._pick(_LONG)
+        acts = [Act(0, call("write", 4, "...", first))]
+        for _ in range(self._number(5)):
+            acts.append(Act(self._after(round_trip), call("write", 4, "...", self._pick(sizes))))
+        if self._one_in(6):
+            option = (4, "SOL_TCP", "TCP_NODELAY", f"[{self._number(2)}]", 4)
+            acts.append(Act(0 if self._one_in(2) else self._after(round_trip), call("setsockopt", *option)))
+        if closed is not None:
+            acts.append(Act(closed, call("close", 4)))
+            if self._one_in(8):
+                acts.append(Act(closed, call("write", 4, "...", 100)))
+        return tuple(sorted(acts, key=_moment))
+
+    def _oddities(self, round_trip: int, closed: int | None) -> tuple[Odd, ...]:
+        odd = []
+        if self._one_in(3):
+            is_near = closed is not None and not self._one_in(3)
+            odd.append(Odd((closed or 0) + round_trip // 4 if is_near else self._after(round_trip), Oddity.FIN))
+        if self._one_in(10):
+            odd.append(Odd(self._after(round_trip), Oddity.RESET, self._number(2)))
+        if self._one_in(3):
+            for _ in range(self._from(1, 4)):
+                odd.append(Odd(self._after(round_trip), self._pick(_LATER), self._pick(_NUMBERS)))
+        return tuple(sorted(odd, key=_moment))
+
+    def _after(self, round_trip: int) -> int:
+        """A moment after the handshake: some round trips, in quarters and a little more."""
+        return self._number(25) * round_trip // 4 + self._pick((0, 1, 1_000))
+
+
+def _moment(it: Act | Odd) -> int:
+    return it.after

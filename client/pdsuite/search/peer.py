@@ -1,0 +1,138 @@
+"""A peer that takes what a sender sends, and acknowledges it."""
+
+from collections.abc import Iterator
+
+from pdsuite.packetdrill.items import Packet, TcpOption
+from pdsuite.search.inputs import packet
+from pdsuite.search.plans import Odd, Oddity, Plan
+
+_MOST_BLOCKS = 3
+_MOST_NUMBER = 2_147_483_647
+_MOST_SHIFT = 14
+_MOST_WINDOW = 65_535
+
+Span = tuple[int, int]
+
+
+class Peer:
+    """The peer of one connection: what it has taken, and what it has sent. Numbers are those of the sender's octets."""
+
+    def __init__(self, plan: Plan) -> None:
+        self._receiver = plan.receiver
+        self._edge = int(str(dict(plan.settings).get("rcv_wnd", 65_535)))
+        self._shift = min([it.numbers[0] for it in plan.handshake.options if it.name == "wscale"][:1] or [0])
+        self.next = 1
+        self.top = 1
+        self.waiting = 0
+        self._number = 1
+        self._acked = 1
+        self._acks = 0
+        self._spans: list[Span] = []
+        self._newest: Span | None = None
+
+    def take(self, span: Span) -> bool:
+        """Takes a segment from the network; whether it is acknowledged at once."""
+        start, end = span
+        self.top = max(self.top, end)
+        before = self.next
+        self._newest = span if end > self.next else None
+        self._add(span)
+        self.waiting += 1
+        is_in_order = start == before and not self._spans
+        return not is_in_order or self.waiting >= self._receiver.each
+
+    def acknowledge(self) -> Packet:
+        """The ACK of all that was taken."""
+        self.waiting = 0
+        self._acked = max(self._acked, self.next)
+        ack = packet(".", self._number, self.next, self.window, self._blocks())
+        self._acks += 1
+        return ack
+
+    @property
+    def acks(self) -> int:
+        """How many ACKs were sent."""
+        return self._acks
+
+    @property
+    def window(self) -> int:
+        """The field of its window, shifted as it offered."""
+        octets = next(octets for first, octets in reversed(self._receiver.windows) if first <= self._acks)
+        return min(-(-octets >> min(self._shift, _MOST_SHIFT)), _MOST_WINDOW)
+
+    def odd(self, it: Odd) -> Packet:
+        """An odd packet."""
+        made = self._odd(it)
+        if it.kind in (Oddity.FIN, Oddity.OLD_FIN):
+            self._number = 2
+        return made
+
+    def _odd(self, it: Odd) -> Packet:
+        number, ack, own = it.number, self._acked, self._number
+        match it.kind:
+            case Oddity.OLD_ACK:
+                return packet(".", own, max(ack - 1 - number, 0), self.window)
+            case Oddity.EARLY_ACK:
+                return packet(".", own, min(self.top + 1 + number, _MOST_NUMBER), self.window)
+            case Oddity.SAME_ACK:
+                return packet(".", own, ack, self.window, self._blocks())
+            case Oddity.UPDATE:
+                return packet(".", own, ack, number % 65_536, self._blocks())
+            case Oddity.NEWER:
+                return packet(".", own + 1 + number % 1_000, ack, self.window)
+            case Oddity.BARE:
+                return packet("-", own, None, self.window)
+            case Oddity.OUTSIDE | Oddity.RESET_FAR:
+                flags = "." if it.kind is Oddity.OUTSIDE else "R"
+                return packet(flags, own + self._edge + number % 3 - 1, ack if flags == "." else None, self.window)
+            case Oddity.BELOW:
+                return packet(".", own - 1, ack, self.window)
+            case Oddity.RESET:
+                return packet("R" if number % 2 else "R.", own, None if number % 2 else ack, self.window)
+            case Oddity.RESET_NEAR:
+                return packet("R", own + 1 + number % max(self._edge, 2), None, self.window)
+            case Oddity.FIN:
+                return packet("F.", own, self.next, self.window)
+            case Oddity.OLD_FIN:
+                return packet("F.", own, max(ack - 1 - number, 0), self.window)
+        return packet(".", own, ack, self.window, tuple(self._odd_options(it)))
+
+    def _odd_options(self, it: Odd) -> Iterator[TcpOption]:
+        """Blocks that tell of other octets than those that were taken."""
+        number, ack = it.number, self._acked
+        if it.kind is Oddity.BLOCK_AFTER_END:
+            yield TcpOption("eol")
+        if it.kind is Oddity.BLOCK_BELOW:
+            yield TcpOption("sack", (max(ack - 1 - number, 0), ack))
+        elif it.kind is Oddity.BLOCK_ABOVE:
+            yield TcpOption("sack", (max(self.top - number, ack), self.top + 1 + number))
+        else:
+            left = ack + number % max(self.top - ack, 1)
+            yield TcpOption("sack", (left, min(left + 1_000, max(self.top, left + 1))))
+
+    def _blocks(self) -> tuple[TcpOption, ...]:
+        """The SACK option: the block that was taken last comes first."""
+        if not self._receiver.has_blocks or not self._spans:
+            return ()
+        spans = list(self._spans)
+        if self._newest is not None:
+            within = next((it for it in spans if it[0] <= self._newest[0] and self._newest[1] <= it[1]), None)
+            first = within if self._receiver.joins_blocks or within is None else self._newest
+            spans = [it for it in [first, *reversed(spans)] if it is not None]
+            spans = list(dict.fromkeys(spans)) if self._receiver.joins_blocks else spans[:1]
+        numbers = tuple(number for span in spans[:_MOST_BLOCKS] for number in span)
+        return (TcpOption("sack", numbers),)
+
+    def _add(self, span: Span) -> None:
+        """Notes octets as taken, and moves on over those without a gap."""
+        start, end = max(span[0], self.next), span[1]
+        if start >= end:
+            return
+        apart = [it for it in self._spans if it[1] < start or end < it[0]]
+        joined = [it for it in self._spans if not (it[1] < start or end < it[0])]
+        start = min([start, *(it[0] for it in joined)])
+        end = max([end, *(it[1] for it in joined)])
+        self._spans = sorted([*apart, (start, end)])
+        if start <= self.next:
+            self.next = end
+            self._spans = apart

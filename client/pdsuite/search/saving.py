@@ -1,0 +1,37 @@
+"""Saves a find as a script, with its settings in the pdsuite.toml beside it."""
+
+import os
+from collections.abc import Iterable
+from pathlib import Path
+
+from pdsuite.faults import Fault
+from pdsuite.files import append, write
+from pdsuite.imports.tables import is_key, table
+from pdsuite.scripts.search import SUFFIX, ScriptFile
+from pdsuite.scripts.suite import FILE, Suite, option_of, read_layer
+from pdsuite.search.finds import Find, script_of
+from pdsuite.show.octets import shown_path
+
+_OPTION = "--save"
+
+
+def check_place(path: Path) -> None:
+    """Refuses a file that a script can't be saved as: it would run under settings that nobody searched under."""
+    name, folder = path.name, Path(os.path.realpath(path.parent))
+    if not folder.is_dir():
+        raise Fault(f"{_OPTION}: {shown_path(path)}: the folder above it isn't there")
+    if path.suffix != SUFFIX or not is_key(name):
+        raise Fault(f"{_OPTION}: {shown_path(path)}: no name of a script: it has to end with {SUFFIX}, as UTF-8")
+    layer = read_layer(folder / FILE)
+    has_table = layer is not None and any(name in it for it in (layer.tables, layer.strict, layer.expected))
+    settings = Suite(option_of("")).settings(ScriptFile(os.fspath(path), os.fspath(folder), name))
+    if settings or has_table:
+        raise Fault(f"{_OPTION}: {shown_path(path)}: a {FILE} has settings for it; choose another name or folder")
+
+
+def save(path: Path, find: Find, head: Iterable[str]) -> None:
+    """Writes the script of a find, below lines of comment; its settings come to the end of the file beside it."""
+    comment = "".join(f"// {line}\n" for line in head).encode("utf-8", "surrogateescape")
+    write(path, comment + script_of(find).octets)
+    if find.inputs.settings:
+        append(path.with_name(FILE), table(path.name, find.inputs.settings).encode())

@@ -1,0 +1,261 @@
+"""The search for inputs: what a peer answers, what is found and shrunk, and `pdsuite search` and `compare --search`."""
+
+import shutil
+from collections.abc import Sequence
+from itertools import repeat
+from pathlib import Path
+
+import pytest
+
+from pdsuite.compare.parting import played_events
+from pdsuite.compare.senders import Sender
+from pdsuite.packetdrill.items import Packet, TcpOption
+from pdsuite.programs.recorder import Recording
+from pdsuite.programs.rows import Row, Verdict
+from pdsuite.search.asking import Asked, asker_of
+from pdsuite.search.finds import Differs, Fails, Reaches, without_trace
+from pdsuite.search.hunt import Hunt, Hunted, play_all
+from pdsuite.search.inputs import Input, Inputs, call, packet
+from pdsuite.search.making import plans
+from pdsuite.search.peer import Peer
+from pdsuite.search.plans import Act, Ending, Handshake, Network, Odd, Oddity, Plan, Receiver
+from pdsuite.search.reached import SHARES, Reached, pattern_of
+from pdsuite.signals import Stop
+from tests.helpers import Called
+from tests.stand_in_sender import lines_of, row_of
+from tests.trees import Tree
+
+SENDER = Path(__file__).with_name("stand_in_sender.py")
+
+
+class Toy:
+    """Asks the stand-in, in this process."""
+
+    def __init__(self, change: str = "") -> None:
+        self.change = change
+        self.asked = 0
+
+    def recordings(self, inputs: Sequence[Inputs]) -> list[Recording]:
+        self.asked += len(inputs)
+        return [self._recording(it) for it in inputs]
+
+    def _recording(self, it: Inputs) -> Recording:
+        lines, fault = lines_of(it.script(), self.change, "mss" in dict(it.settings))
+        return Recording("".join(f"{line}\n" for line in lines), f"pdrecord: {fault}" if fault else "")
+
+    def rows(self, scripts: Sequence[Asked]) -> list[Row]:
+        return [self._row(row_of(it.octets, self.change, "mss" in dict(it.settings)).split()) for it in scripts]
+
+    def _row(self, words: list[str]) -> Row:
+        if words[0] == "pass":
+            return Row(Verdict.PASS, int(words[1]))
+        return Row(Verdict(words[0]), int(words[1]), *words[2:])
+
+    def told(self, script: Asked) -> list[str]:
+        return ["so it is"]
+
+
+def hunt(change: str, lists: int = 1, seed: int = 1) -> Hunted:
+    """Searches so many lists of inputs for what tells the changed stand-in from the one as it is, however long it takes."""
+    after = Toy(change)
+    return Hunt(Toy(), Fails(after), Differs(after), repeat(48, lists), seed, 300).run(lambda inputs: None)
+
+
+def test_a_sender_that_is_the_same_gives_no_find() -> None:
+    hunted = hunt("")
+    assert (hunted.find, hunted.unshown, hunted.reached.inputs >= 40) == (None, None, True)
+
+
+def test_a_find_is_shrunk_to_the_inputs_that_it_needs() -> None:
+    find = hunt("late").find
+    assert find is not None and find.row is not None and find.row.verdict is Verdict.FAIL
+    calls = [str(it) for it in find.inputs.events]
+    assert calls[0].startswith("listen(3") and calls[1].startswith("< S 0:0(0)") and calls[2].startswith("write(4")
+    assert len(calls) == 4 and not find.inputs.settings and not find.inputs.is_exact
+    assert [it.line for it in played_events(find.recording)][-2:][0].startswith("+4 > . 1:")
+
+
+def test_a_find_that_needs_a_setting_keeps_it() -> None:
+    find = hunt("greedy", lists=100).find
+    assert find is not None and [key for key, _ in find.inputs.settings] == ["mss"]
+
+
+def test_where_only_a_packet_at_the_end_differs_it_is_said_that_no_script_shows_it() -> None:
+    hunted = hunt("extra", lists=5)
+    assert hunted.find is None and hunted.unshown is not None  # after an RST nothing more leaves
+    flags = [it.what.flags for it in hunted.unshown.inputs.events if isinstance(it.what, Packet)]
+    assert flags[0] == "S" and "R" in flags[-1] and len(hunted.unshown.inputs.events) == 3
+
+
+def test_moments_of_inputs_never_go_back() -> None:
+    for seed in range(4):
+        for played in play_all(next(plans(seed, [48])), Toy()):
+            moments = [it.at for it in played.inputs.events]
+            assert moments == sorted(moments)
+
+
+def test_the_same_seed_makes_the_same_inputs() -> None:
+    made = [[it.inputs for it in play_all(next(plans(seed, [24])), Toy())] for seed in (3, 3, 4)]
+    assert made[0] == made[1] != made[2]
+
+
+def test_what_is_recorded_is_saved_without_states() -> None:
+    (recording,) = Toy().recordings([Inputs((), (Input(0, call("listen", 3, 1)),))])
+    assert without_trace(recording.text) == b"--tolerance_usecs=0\n+0 listen(3, 1) = 0\n"
+
+
+def test_times_count_from_the_input_before() -> None:
+    events = (Input(100_000, packet("S", 0, None, 9, (TcpOption("sackOK"),))), Input(350_001, call("close", 4)))
+    script = Inputs((("mss", 536),), events, is_exact=False).script()
+    assert script == b"+0.1 < S 0:0(0) win 9 <sackOK>\n+0.250001 close(4) = 0\n"
+
+
+def peer_of(receiver: Receiver, *options: TcpOption) -> Peer:
+    """The peer of a plan that has this receiver and these options of its SYN."""
+    handshake = Handshake(options, 1_000, 100_000)
+    return Peer(Plan((), handshake, Network(100_000), receiver, (), (), Ending.NONE, 4))
+
+
+def test_the_peer_acknowledges_in_order_and_tells_holes_by_blocks_the_newest_first() -> None:
+    peer = peer_of(Receiver(each=2, windows=((0, 32_768), (2, 0))), TcpOption("wscale", (7,)))
+    assert [peer.take((1, 1_001)), peer.take((1_001, 2_001))] == [False, True]
+    assert str(peer.acknowledge()) == "< . 1:1(0) ack 2001 win 256"
+    assert peer.take((3_001, 4_001)) and peer.take((5_001, 6_001))
+    assert str(peer.acknowledge()) == "< . 1:1(0) ack 2001 win 256 <sack 5001:6001 3001:4001>"
+    assert peer.take((2_001, 3_001))
+    assert str(peer.acknowledge()) == "< . 1:1(0) ack 4001 win 0 <sack 5001:6001>"
+    assert str(peer.odd(Odd(0, Oddity.FIN))) == "< F. 1:1(0) ack 4001 win 0"
+    assert str(peer.odd(Odd(0, Oddity.EARLY_ACK))) == "< . 2:2(0) ack 6002 win 0"
+
+
+def test_a_peer_may_tell_each_segment_as_a_block_of_its_own() -> None:
+    peer = peer_of(Receiver(joins_blocks=False))
+    assert peer.take((2_001, 3_001)) and peer.take((3_001, 4_001))
+    assert str(peer.acknowledge()) == "< . 1:1(0) ack 1 win 65535 <sack 3001:4001>"
+
+
+def test_packets_that_are_lost_come_to_no_peer_and_late_ones_later() -> None:
+    network = Network(100_000, lost=frozenset((0,)), late={1: 30_000})
+    write = (Act(0, call("write", 4, "...", 2_000)),)
+    acts = Plan((), Handshake((), 1_000, 100_000), network, Receiver(), write, (), Ending.NONE, 6)
+    (played,) = play_all([acts], Toy())
+    acks = [(it.at, it.what.ack) for it in played.inputs.events if isinstance(it.what, Packet)][2:]
+    assert acks == [(330_000, 1), (1_300_000, 2_001)]
+
+
+STATE = (
+    "+0 close(4) = 0\n//= at 0.100000 CLOSING una:1 DupAcks:2 recovery:RFC6675 pipe:0 FlightSize:10 expiry:0.300000\n"
+)
+
+
+@pytest.mark.parametrize(
+    ("pattern", "is_in"),
+    [
+        ("state:CLOSING DupAcks:2", True),
+        ("DupAcks:2 pipe:?", True),
+        ("recovery:RFC*", True),
+        ("state:CLOSING DupAcks:3", False),
+        ("cwnd:1", False),
+    ],
+)
+def test_a_pattern_is_facts_of_one_state(pattern: str, is_in: bool) -> None:
+    found = pattern_of(pattern)
+    assert found is not None and found.is_in(STATE) is is_in
+    test = Reaches(found).finds([Inputs((), ())], [Recording(STATE)])
+    assert (test[0] is not None) is is_in
+
+
+@pytest.mark.parametrize("text", ["", "CLOSING", "state:", ":1", "una:1 x"])
+def test_what_says_no_facts_is_no_pattern(text: str) -> None:
+    assert pattern_of(text) is None
+
+
+def test_what_is_reached_is_counted_by_states() -> None:
+    reached = Reached()
+    reached.note(STATE + "+0.2 > . 1:2(1)\n//= at 0.300000 TIME-WAIT una:1 expiry:none\n", ["mss"], ["sack"])
+    reached.note("", [], [])
+    assert {name: share for name, share in reached.shares.items() if share} == {
+        "data in flight": 0.5,
+        "a recovery": 0.5,
+        "an expiry": 0.5,
+        "closed by both at once": 0.5,
+    }
+    assert list(reached.shares) == list(SHARES) and reached.options == {"mss": 1} and reached.settings == {"sack": 1}
+
+
+@pytest.fixture
+def tree(tmp_path: Path) -> Tree:
+    """A tree in which nothing is proved, with the stand-in for its programs, and a folder `new` with a changed one."""
+    tree = Tree(tmp_path)
+    new = tmp_path / "new"
+    new.mkdir()
+    for folder in (tree.bin, new):
+        for name in ("pdrecord", "pdregress"):
+            shutil.copy(SENDER, folder / name)
+    (new / "change").write_text("late")
+    return tree
+
+
+def search(tree: Tree, *words: str | Path, seconds: str = "60") -> Called:
+    """Searches for what tells the stand-in from the changed one."""
+    return tree.call("compare", "--base", tree.bin, "--search", seconds, "--seed", "1", *words)
+
+
+def test_a_saved_script_passes_before_and_fails_after(tree: Tree) -> None:
+    called = search(tree, "--with", "new", "--save", "suite/found.pkt")
+    lines = called.out.splitlines()
+    assert called.status == 1 and lines[0] == "a script fails under the sender after" and lines[1] == "  no settings"
+    assert any(line.startswith("  after: line ") and ": fail seq: " in line for line in lines)
+    assert lines[-2].startswith("reached: data in flight ") and lines[-1].endswith(" s, seed 1")
+    saved = (tree.suite / "found.pkt").read_text().splitlines()
+    assert saved[0] == f"// Recorded by {tree.bin}." and saved[1].startswith("// It fails (fail ")
+    runs = [tree.call("run", "suite", PDSUITE_PROGRAMS=str(it)) for it in (tree.bin, tree.suite.parent / "new")]
+    assert [it.status for it in runs] == [0, 1]
+
+
+def test_a_tree_that_is_not_proved_is_asked_in_batches(tree: Tree, monkeypatch: pytest.MonkeyPatch) -> None:
+    for name in ("PATH", "NOTES"):
+        monkeypatch.setenv(name, tree.environment[name])
+    inputs = [Inputs((("mss", size),), (Input(0, call("listen", 3, 1)),)) for size in (536, 536, 1_000)]
+    refused = Inputs((), (Input(0, packet("S", 0, None, 9)),))
+    with Stop(()) as stop:
+        asker = asker_of(Sender("the tree", None, tree.top), stop)
+        recordings = asker.recordings([*inputs, refused])
+        scripts = [Asked(it.settings, without_trace(one.text)) for it, one in zip(inputs, recordings)]
+        wrong = Asked((), b"+0 listen(3, 1) = 7\n")
+        rows = asker.rows([*scripts, wrong])
+        told = asker.told(wrong)
+    assert [bool(it.text) for it in recordings] == [True, True, True, False]
+    assert [str(it) for it in rows] == ["pass 1", "pass 1", "pass 1", "fail seq"] and told == ["fail seq: so it is"]
+    assert tree.builds() == 3
+
+
+def test_a_state_is_searched_for_with_one_sender(tree: Tree) -> None:
+    called = tree.call("search", "--for", "state:ESTABLISHED una:1001", "--with", tree.bin, "--seed", "1")
+    assert called.status == 0 and called.out.startswith("an input reaches state:ESTABLISHED una:1001\n")
+    missed = tree.call("search", "--for", "cwnd:1", "--with", tree.bin, "--seed", "1", "--seconds", "1")
+    assert missed.status == 1 and missed.out.startswith("states: ")
+
+
+@pytest.mark.parametrize(
+    ("words", "said"),
+    [
+        (("compare",), "Missing argument 'PATHS...', or --search"),
+        (("compare", "--search", "1", "suite"), "--search makes scripts, and takes no PATH"),
+        (("compare", "--search", "1", "--json"), "without --html and --json"),
+        (("compare", "--seed", "1", "suite"), "--seed and --save are of --search"),
+        (("search", "--for", "CLOSING"), "--for: CLOSING: no facts as NAME:VALUE"),
+        (("search", "--for", "una:1", "--save", "x"), "--save: x: no name of a script"),
+        (("search", "--for", "una:1", "--save", "none/x.pkt"), "none/x.pkt: the folder above it isn't there"),
+    ],
+)
+def test_words_that_do_not_go_together_are_refused(tree: Tree, words: tuple[str, ...], said: str) -> None:
+    called = tree.call(*words)
+    assert called.status == 2 and said in called.err
+
+
+def test_a_script_is_not_saved_where_it_would_run_under_other_settings(tree: Tree) -> None:
+    for text, status in (("mss = 1000\n", 2), ('["found.pkt"]\nstrict = true\n', 2), ('["x.pkt"]\nmss = 64\n', 1)):
+        (tree.suite / "pdsuite.toml").write_text(text)
+        called = search(tree, "--with", "new", "--save", "suite/found.pkt", seconds="1")
+        assert called.status == status and ("a pdsuite.toml has settings for it" in called.err) is (status == 2)
