@@ -96,10 +96,11 @@ def run_cases(
     seconds: int = SECONDS,
     words: Sequence[bytes] = (),
     top: Path = TOP,
+    steps: int | None = None,
 ) -> list[Tried]:
     """What a program answers to each case, in whose own words is no newline; those of all cases may have some.
 
-    Outputs get a newline at their end if need be.
+    Outputs get a newline at their end if need be. So many steps are interpreted first, if the number is given.
     """
     if not cases:
         return []
@@ -110,8 +111,9 @@ def run_cases(
     folder.mkdir()
     for name, case in zip(names, cases):
         write_case(folder / name.decode(), case)
-    asked = [b"--seconds", b"%d" % seconds, b"--cases", os.fsencode(folder), *([b"--", *words] if words else [])]
-    called = call(program, asked, Path(os.devnull), room, top)
+    asked = [b"--seconds", b"%d" % seconds, b"--cases", os.fsencode(folder)]
+    asked += [] if steps is None else [b"--steps", b"%d" % steps]
+    called = call(program, asked + ([b"--", *words] if words else []), Path(os.devnull), room, top)
     shutil.rmtree(folder)
     outputs = dict(parted(rb"^== (%b-\d+)\n" % token.encode(), called.output))
     return [

@@ -5,14 +5,14 @@ import io
 import os
 import sys
 from pathlib import Path
-from typing import Any
+from typing import TYPE_CHECKING, Any
 
 import click
 
 from pdsuite.commands.list import list_scripts
-from pdsuite.commands.options import PlaceWord, ReasonWord
-from pdsuite.commands.options import choice_options, html_option, part_options, plot_options
-from pdsuite.commands.options import strict_option, workers_option
+from pdsuite.commands.options import MOST_SECONDS, PlaceWord, ReasonWord
+from pdsuite.commands.options import choice_options, free_choice_options, html_option, no_color_option, part_options
+from pdsuite.commands.options import plot_options, search_options, strict_option, workers_option
 from pdsuite.commands.run import RunOptions, run
 from pdsuite.commands.version import version
 from pdsuite.faults import Fault, why
@@ -22,6 +22,10 @@ from pdsuite.show.octets import shown, shown_text
 from pdsuite.show.screen import Screen, Unwritten, say, wants_color
 from pdsuite.show.styled_text import unstyled
 from pdsuite.signals import Stopped
+
+if TYPE_CHECKING:
+    from pdsuite.commands.compare import CompareOptions
+    from pdsuite.commands.search import SearchOptions
 
 FAULT = 2
 
@@ -159,21 +163,75 @@ def diff_command(old: Path, new: tuple[Path, ...], no_color: bool) -> int:
 
 
 @pdsuite.command(name="compare")
-@choice_options
-@click.option("--base", metavar="SENDER", help="The sender before: a folder of programs or a commit.")
+@free_choice_options
+@click.option("--base", metavar="SENDER", help="The sender before: a folder of programs, a tree or a commit.")
 @click.option("--with", "other", metavar="SENDER", help="The sender after, if not the tree as it stands.")
 @html_option
 @click.option("--json", "is_json", is_flag=True, help="Print JSON.")
-def compare_command(no_color: bool, **words: Any) -> int:
+@click.option(
+    "--search", metavar="SECONDS", type=click.IntRange(1, MOST_SECONDS), help="Search for a script that turns."
+)
+@search_options
+def compare_command(no_color: bool, search: int | None, seed: int | None, save: Path | None, **words: Any) -> int:
     """Shows what a change of the sender does to scripts: which turn, and which are played otherwise.
 
-    Without --base the sender before is the one that ./prove has proved last in this tree.
+    Without --base the sender before is the one that ./prove has proved last in this tree. With --search it makes inputs
+    of its own, in place of scripts, until a recording of the sender before fails under the one after.
     """
     # Only who compares senders pays for what runs two.
     from pdsuite.commands.compare import CompareOptions, compare_senders
 
+    options = CompareOptions(**words, search=_searching(search, seed, save))
+    _refuse_search(options)
     with Screen(wants_color() and not no_color, progress=False) as screen:
-        return compare_senders(CompareOptions(**words), screen)
+        return compare_senders(options, screen)
+
+
+def _searching(seconds: int | None, seed: int | None, save: Path | None) -> "SearchOptions | None":
+    """What a search is asked for, if one is."""
+    if seconds is None:
+        if seed is not None or save is not None:
+            raise click.UsageError("--seed and --save are of --search")
+        return None
+    need("hypothesis")
+    from pdsuite.commands.search import SearchOptions
+
+    gc.enable()  # what makes inputs makes cycles
+    return SearchOptions(seconds, seed, save)
+
+
+def _refuse_search(options: "CompareOptions") -> None:
+    """Refuses words that go with scripts where none are meant, and the other way round."""
+    if options.search is None and not options.paths:
+        raise click.UsageError("Missing argument 'PATHS...', or --search")
+    if options.search is not None and (options.paths or options.only or options.settings):
+        raise click.UsageError("--search makes scripts, and takes no PATH, --only or --settings")
+    if options.search is not None and (options.html is not None or options.is_json):
+        raise click.UsageError("--search shows what it finds as text, without --html and --json")
+
+
+@pdsuite.command(name="search")
+@click.option("--for", "pattern", metavar="PATTERN", required=True, help="Facts of a state, NAME:VALUE each.")
+@click.option(
+    "--seconds", metavar="N", type=click.IntRange(1, MOST_SECONDS), default=60, help="Search so long at most, not 60."
+)
+@click.option("--with", "sender", metavar="SENDER", help="A folder of programs or a commit, if not the tree.")
+@search_options
+@no_color_option
+def search_command(
+    pattern: str, seconds: int, sender: str | None, seed: int | None, save: Path | None, no_color: bool
+) -> int:
+    """Searches for the least input that brings the sender into a state, and records it: a first script for a rule.
+
+    A fact is NAME:VALUE as a trace has it, and state:NAME the state's name; VALUE may have * and ?.
+    """
+    need("hypothesis")
+    # Only who searches pays for what makes inputs.
+    from pdsuite.commands.search import SearchOptions, search_state
+
+    gc.enable()  # what makes inputs makes cycles
+    with Screen(wants_color() and not no_color, progress=False) as screen:
+        return search_state(pattern, sender, SearchOptions(seconds, seed, save), screen)
 
 
 @pdsuite.command(name="lsp")

@@ -16,7 +16,7 @@ HEAD = """0 socket(..., SOCK_STREAM, IPPROTO_TCP) = 3
 WRITES = HEAD + "+0 write(4, ..., 1000) = 1000\n"
 PASSES = WRITES + "+0 > P. 1:1001(1000) ack 1\n"
 ROOT = b"root = true\n"
-CASES = TOP / "crates/pd_cases/data"
+CASES = TOP / "tests/cases"
 # So many of their rows are as many as one that is tried.
 EVERY = 40
 _CASE = re.compile(r"(?:fail|syntax|unsupported|limit) \d+(?: [a-z]+)?: ((?:[^\\]|\\[nrt])*)")

@@ -1,14 +1,15 @@
 #!/usr/bin/python3 -IS
-"""Stands in for the kit's `rt try --cases` in a tree: its programs are stand-ins that do what the texts of scripts say.
+"""Stands in for the kit's `rt try --cases` of tools/both.rattle: it starts stand-ins that do what the texts of scripts say.
 
-NOTES names a folder, which gets a line for each build. A crate whose src/main.rt is there isn't compiled. The tree's
-file crates/change says, for `sed`, what its sender does otherwise.
+NOTES names a folder, which gets a line for each build. A tree whose pdregress has a src/main.rt isn't compiled. The
+tree's file crates/pdregress/src/change says, for `sed`, what its sender does otherwise.
 """
 
 import os
 import subprocess
 import sys
 import time
+from collections.abc import Iterator
 from pathlib import Path
 
 HERE = Path(__file__).resolve().parent
@@ -22,7 +23,7 @@ def said_by(program: str, words: list[str], given: bytes) -> "subprocess.Complet
 
 def changed(given: bytes) -> bytes:
     """An input as the tree's sender reads it."""
-    change = Path("../change")
+    change = Path("../pdregress/src/change")
     return subprocess.check_output(["sed", "-f", change], input=given) if change.exists() else given
 
 
@@ -49,33 +50,51 @@ def recorded(words: list[str], given: bytes) -> tuple[bytes, bytes, int]:
     return done.stdout, done.stderr, done.returncode
 
 
-def answer(crate: str, name: str, words: list[str], given: bytes) -> None:
+def parts(octets: bytes) -> Iterator[bytes]:
+    """The parts of an input, each after a line with its length."""
+    while octets:
+        length, _, octets = octets.partition(b"\n")
+        yield octets[: int(length)]
+        octets = octets[int(length) :]
+
+
+def started(given: bytes) -> tuple[bytes, bool]:
+    """What comes of all starts of an input; false where one ends by a fault."""
+    output = b""
+    found = parts(given)
+    for joined, one in zip(found, found):
+        program, *words = joined.decode().split("\0")
+        *said, status = (recorded if program == "pdrecord" else explained)(words, changed(one))
+        if status not in (0, 1, 2):
+            return b"", False
+        output += b"".join(b"%d\n%b" % (len(it), it) for it in (*said, b"%d\n" % status))
+    return output, True
+
+
+def answer(name: str, given: bytes) -> None:
     """Runs a case, and says what came of it as `rt` does."""
-    output, errors, status = (recorded if crate == "pdrecord" else explained)(words, given)
-    sys.stderr.buffer.write(errors if status in (0, 1, 2) else b"checked: fault a failed unwrap\n")
-    sys.stderr.buffer.flush()
-    if status in (0, 1, 2):
-        print(f"== {name}\n{output.decode()}", end="", flush=True)
-        print(f"case={name} run=ended status={status} runners=1 proved=no", file=sys.stderr, flush=True)
+    output, has_ended = started(given)
+    if has_ended:
+        sys.stdout.buffer.write(b"== %b\n%b" % (name.encode(), output))
+        sys.stdout.buffer.flush()
+        print(f"case={name} run=ended status=0 runners=1 proved=no", file=sys.stderr, flush=True)
     else:
-        print(f"case={name} run=fault proved=no", file=sys.stderr, flush=True)
+        print(f"checked: fault a failed unwrap\ncase={name} run=fault proved=no", file=sys.stderr, flush=True)
 
 
 def main() -> int:
-    """Does `rt try --seconds N --cases FOLDER [-- WORD..]`."""
-    crate = Path.cwd().name
+    """Does `rt try --seconds N --cases FOLDER`."""
     with (NOTES / "builds").open("a") as builds:
         print(Path.cwd(), file=builds)
-    if Path("src/main.rt").exists():
-        print("src/main.rt:1:2: error[mismatched-types]: wrong\nrun=none proved=no", file=sys.stderr)
+    wrong = Path.cwd().parent / "pdregress/src/main.rt"
+    if wrong.exists():
+        print(f"{wrong}:1:2: error[mismatched-types]: wrong\nrun=none proved=no", file=sys.stderr)
         return 1
     if (NOTES / "stall").exists():
         (NOTES / "mark").write_text(str(os.getpid()))
         time.sleep(60)
-    folder, common = Path(sys.argv[5]), sys.argv[7:]
-    for file in sorted(it for it in folder.iterdir() if it.suffix != ".args"):
-        words = file.with_name(f"{file.name}.args").read_text().splitlines()
-        answer(crate, file.name, [*common, *words], changed(file.read_bytes()))
+    for file in sorted(it for it in Path(sys.argv[5]).iterdir() if it.suffix != ".args"):
+        answer(file.name, file.read_bytes())
     print("cases=1 ended=1 fault=0 differs=0 no-answer=0 proved=no", file=sys.stderr)
     return 0
 

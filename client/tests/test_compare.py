@@ -8,7 +8,7 @@ from pathlib import Path
 
 import pytest
 
-from tests.helpers import Called, ends, is_alive, wait_for, write
+from tests.helpers import TOP, Called, ends, is_alive, wait_for, write
 from tests.trees import Tree
 
 STATE = "//= at 0.100000 ESTABLISHED cwnd:4000 DupAcks:{}\n"
@@ -22,7 +22,6 @@ CHANGES = {
     "s/^+0 > [.] 2001:3001/+0 > . 1:1001/": ["as before", "played otherwise", "not compared"],
     "s/^row pass [78]/row fail 1 missing/": ["as before", "turned", "turned"],
 }
-BUILDS = ["pdrecord", "pdregress"]
 
 
 @pytest.fixture
@@ -53,7 +52,7 @@ def test_where_nothing_differs_the_status_is_0(tree: Tree) -> None:
         "suite: 1 turned 0 played otherwise 0 as before 1\n"
         "total 3 turned 0 played otherwise 0 as before 2 not compared 1",
     )
-    assert called.out.endswith(" s UNPROVED\n") and sorted(tree.builds()) == BUILDS
+    assert called.out.endswith(" s UNPROVED\n") and tree.builds() == 1
     assert called.err == (
         f"pdsuite: before: {tree.bin}; after: the tree as it stands, unknown, unproved; "
         "building takes a minute or two\n"
@@ -124,8 +123,46 @@ def test_two_folders_of_programs_are_compared_without_a_build(tree: Tree) -> Non
         (other / name).write_text(script.format(name))
     called = compare(tree, "--with", other)
     assert called.status == 1 and called.out.startswith("suite/quick.pkt: turned\n  before: pass 9\n  after: line 2: ")
-    assert tree.builds() == [] and "UNPROVED" not in called.out
+    assert tree.builds() == 0 and "UNPROVED" not in called.out
     assert called.err == f"pdsuite: before: {tree.bin}; after: {other}\n"
+
+
+def test_scripts_beside_one_that_the_changed_sender_ends_on_are_started_again_one_by_one(tree: Tree) -> None:
+    tree.change("s/^row pass 9/crash/\n")
+    called = compare(tree, "--json")
+    assert called.status == 2 and tree.builds() == 2
+    assert called.err.splitlines()[1:] == [
+        "pdsuite: pdregress: Faulted: a failed unwrap; 3 scripts are run again, each by itself",
+        "pdsuite: pdrecord: Faulted: a failed unwrap; 3 scripts are recorded again, each by itself",
+    ]
+    told = json.loads(called.out)
+    (script,) = told["scripts"]
+    assert (script["path"], script["after"]["row"]) == ("suite/quick.pkt", "error: pdregress: Faulted: a failed unwrap")
+    assert (told["total"]["turned"], told["total"]["as before"], told["total"]["not compared"]) == (1, 1, 1)
+
+
+def test_a_folder_of_launchers_is_the_tree_that_they_are_of(tree: Tree) -> None:
+    links = tree.suite.parent / "links"
+    links.mkdir()
+    for name in ("pdregress", "pdrecord"):
+        shutil.copy(TOP / name, tree.top)
+        (links / name).symlink_to(tree.top / name)
+    called = tree.call("compare", "--base", links, "--with", tree.bin, "suite")
+    said = f"pdsuite: before: {links}, unproved; after: {tree.bin}; building takes a minute or two\n"
+    assert (called.status, called.err, tree.builds()) == (0, said, 1)
+    assert called.out.endswith(" s UNPROVED\n")
+    called = tree.call("compare", "--base", tree.bin, "suite", PDSUITE_PROGRAMS=str(links))
+    assert called.err.startswith(f"pdsuite: before: {tree.bin}; after: {links}, unproved; ")
+
+
+def test_a_tree_whose_programs_are_proved_is_not_built(tree: Tree) -> None:
+    for name in ("pdregress", "pdrecord"):
+        shutil.copy(TOP / name, tree.top)
+        (tree.top / "crates" / name / "out").mkdir()
+        shutil.copy(tree.bin / name, tree.top / "crates" / name / "out")
+    called = tree.call("compare", "--base", tree.top, "--with", tree.bin, "suite")
+    assert (called.status, called.err) == (0, f"pdsuite: before: {tree.top}; after: {tree.bin}\n")
+    assert tree.builds() == 0 and "UNPROVED" not in called.out
 
 
 def git(folder: Path, *words: str) -> None:
@@ -143,7 +180,7 @@ def test_a_commit_is_checked_out_and_built_beside(tree: Tree) -> None:
     tree.change("s/^row pass 9/row fail 2 seq/\n")
     called = tree.call("compare", "--base", "HEAD", "suite")
     assert called.status == 1 and called.out.startswith("suite/quick.pkt: turned\n")
-    assert "pdsuite: before: commit " in called.err and sorted(tree.builds()) == [*BUILDS[:1] * 2, *BUILDS[1:] * 2]
+    assert "pdsuite: before: commit " in called.err and tree.builds() == 2
 
 
 def test_the_programs_that_were_proved_last_are_the_base_if_nothing_is_said(tree: Tree) -> None:

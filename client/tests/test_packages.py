@@ -11,8 +11,8 @@ from tests.helpers import TOP
 CLIENT = TOP / "client/pdsuite"
 # The lowest first. What stands beside the packages knows none but the first, and main.py all.
 ORDER = (
-    *("show", "scripts", "packetdrill", "programs", "imports", "run", "compare", "diagram", "reports", "page"),
-    *("watch", "lsp", "commands"),
+    *("show", "scripts", "packetdrill", "programs", "imports", "run", "compare", "search", "diagram", "reports"),
+    *("page", "watch", "lsp", "commands"),
 )
 
 

@@ -4,15 +4,11 @@ from pathlib import Path
 
 from pdsuite.compare.comparison import ComparedScript, Kind, Results, compare, counts_of
 from pdsuite.compare.parting import PlayedEvent, parting_of, played_events
-from pdsuite.compare.senders import Sender
-from pdsuite.compare.two_senders import recording_builds, recording_of
-from pdsuite.programs.recorder import Recording
+from pdsuite.programs.recorder import Recording, recording, recording_of
 from pdsuite.programs.rows import Row, Verdict
-from pdsuite.programs.tree import Answer, Case
+from pdsuite.programs.starts import Answer
 from pdsuite.reports.comparison import lines_of
 from pdsuite.run.outcomes import Outcome
-from pdsuite.run.runs import Script
-from pdsuite.scripts.text import text_of
 
 HEAD = "// what it shows\n+0 write(4, ..., 3000) = 3000\n//= at 0.200000 ESTABLISHED cwnd:4000 DupAcks:2\n"
 FIRST = "+0 > . 1:1001(1000) ack 1\n//= at 0.200000 ESTABLISHED cwnd:4000 DupAcks:2\n"
@@ -114,18 +110,14 @@ def test_each_folder_is_counted_and_all_last() -> None:
     ]
 
 
-def test_scripts_with_several_settings_are_recorded_by_builds_of_their_own() -> None:
-    sender = Sender("x", None, Path("/tree"))
+def test_each_script_is_recorded_under_its_settings_by_one_build() -> None:
     two = (("min_rto_us", 1000), ("sack", False))
-    scripts = [
-        (Script(index, f"{index}.pkt", settings), text_of(b"x\n"))
-        for index, settings in enumerate([(), two, (("mss", 1000),), two])
+    build = recording(Path("/tree"), [((), b"x\n"), (two, b"y\n")])
+    assert (build.tree, build.program, build.words) == (Path("/tree"), "pdrecord", ("--trace",))
+    assert [(it.words, it.given) for it in build.cases] == [
+        ((), b"x\n"),
+        (("--settings", "min_rto_us = 1000\nsack = false"), b"y\n"),
     ]
-    common, own = recording_builds(sender, scripts)
-    assert (common.places, common.build.words) == ((0, 2), ("--trace",))
-    assert common.build.cases == (Case((), b"x\n"), Case(("--settings", "mss = 1000"), b"x\n"))
-    assert (own.places, own.build.words) == ((1, 3), ("--trace", "--settings", "min_rto_us = 1000\nsack = false"))
-    assert own.build.cases == (Case((), b"x\n"), Case((), b"x\n"))
 
 
 def test_a_start_of_pdrecord_is_a_recording_or_says_why_not() -> None:

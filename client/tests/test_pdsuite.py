@@ -292,6 +292,7 @@ def test_the_gate_installs_what_is_missing_or_names_the_line(
     words: list[str], user: int, calls: list[str], tmp_path: Path
 ) -> None:
     copied(tmp_path)
+    shutil.copytree(TOP / "tests", tmp_path / "tests", ignore=shutil.ignore_patterns("cases"))
     (tmp_path / "client/packages-test.txt").write_text("black\npython3-nowhere\n")
     tools = {
         "dpkg-query": "case $* in *nowhere) exit 1 ;; esac\necho installed",
@@ -303,7 +304,7 @@ def test_the_gate_installs_what_is_missing_or_names_the_line(
         (tmp_path / "bin" / name).write_text(f"#!/bin/sh\n{text}\n")
         (tmp_path / "bin" / name).chmod(0o755)
     environment = {**os.environ, "PATH": f"{tmp_path}/bin:{os.environ['PATH']}"}
-    command: list[str | Path] = [tmp_path / "tools/tests/client.sh", *words]
+    command: list[str | Path] = [tmp_path / "tests/client.sh", *words]
     done = subprocess.run(command, env=environment, capture_output=True, text=True)
     line = "FAILED client packages: apt-get install --no-install-recommends python3-nowhere"
     assert done.stdout.splitlines() == ["missing packages: python3-nowhere", line, "0 passed, 1 failed"]

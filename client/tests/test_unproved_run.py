@@ -12,12 +12,12 @@ from pdsuite.programs.program import Ended
 from pdsuite.programs.protocol import Unexpected
 from pdsuite.programs.refusals import questions, refusals_at_once
 from pdsuite.programs.rows import Row, Verdict
-from pdsuite.programs.tree import Answer, answer_of
+from pdsuite.programs.starts import Answer, Case, answer_of, answers_in, input_of, parted
 from pdsuite.run.runs import Script
 from pdsuite.run.unproved_run import Batch, batches_of, causes_of, outcomes_of, read_answers
 from pdsuite.scripts.suite import Claim
 from pdsuite.scripts.text import Text, text_of
-from tests.helpers import ends, is_alive, wait_for, write
+from tests.helpers import TOP, ends, is_alive, wait_for, write
 from tests.trees import Tree
 
 FIRST = "unproved: running without proofs, which takes about a minute; {} proves the programs\n"
@@ -110,6 +110,34 @@ def test_a_start_that_ends_by_a_fault_has_no_answer() -> None:
     assert answer_of(b"rows", b"told", "TooSlow: it took long") == Answer(b"", b"", "TooSlow: it took long")
 
 
+def test_starts_share_a_run_as_far_as_its_room_goes_but_for_those_that_are_to_be_alone() -> None:
+    small, large, alone = Case(("a",), b"x"), Case(("b",), b"y", 500_000), Case(("c",), b"z", is_alone=True)
+    cases = [small, small, large, alone, small, large, large]
+    assert list(parted(cases)) == [[small, small, large], [alone], [small, large], [large]]
+    assert list(parted([])) == []
+
+
+def test_a_run_gets_the_words_and_inputs_of_its_starts_and_answers_each() -> None:
+    cases = [Case(("pdrecord", "--settings", "a = 1\nb = 2"), b"one\n"), Case(("pdregress",), b"")]
+    assert input_of(cases) == b"31\npdrecord\0--settings\0a = 1\nb = 24\none\n9\npdregress0\n"
+    output = b"2\n+0" b"0\n" b"2\n0\n" b"0\n" b"9\na: 19 Out" b"2\n2\n"
+    assert answers_in(output, b"", "0", 2) == [Answer(b"+0", b""), Answer(b"", b"", "a: 19 Out")]
+
+
+@pytest.mark.parametrize(
+    ("output", "status", "why"),
+    [(b"", "Faulted: a failed unwrap", "Faulted: a failed unwrap"), (b"2\n+0", "0", "ended with status 0")],
+)
+def test_a_run_without_an_answer_has_none_for_its_starts(output: bytes, status: str, why: str) -> None:
+    assert answers_in(output, b"", status, 1) == [Answer(b"", b"", why)]
+    assert answers_in(output, b"", status, 2) == [Answer(b"", b"", why, True)] * 2
+
+
+def test_what_is_built_stands_on_the_libraries_of_both_programs() -> None:
+    words = ["/usr/bin/python3", "-B", "-m", "doctest", "try_both.py"]
+    assert subprocess.run(words, cwd=TOP / "tools", capture_output=True).stdout == b""
+
+
 def test_a_suite_runs_in_one_build_with_its_explanations_and_says_that_nothing_is_proved(tree: Tree) -> None:
     write(tree.suite, a=b"row pass 9\n", b=b"row fail 1 seq\ntold\n")
     write(tree.suite / "c", c=b"told mss\n")
@@ -119,7 +147,7 @@ def test_a_suite_runs_in_one_build_with_its_explanations_and_says_that_nothing_i
     assert called.out.splitlines()[:2] == ["suite/b.pkt:1: fail seq: so it is", "  told"]
     assert called.totals == {"pass": 2, "fail": 1}
     assert called.out.endswith(" s UNPROVED\n")
-    assert tree.builds() == ["pdregress"]
+    assert tree.builds() == 1
     assert tree.call("run", "-v", "suite").rows[-1] == "suite/c/c.pkt: pass 1000"
 
 
@@ -155,7 +183,7 @@ def test_what_needs_proved_programs_names_what_proves_them(tree: Tree, words: tu
     called = tree.call(*words, "suite")
     assert (called.status, called.out) == (2, "")
     assert called.err.endswith("pdregress isn't proved and built, or has changed since: run ./prove pdregress\n")
-    assert tree.builds() == []
+    assert tree.builds() == 0
 
 
 def test_settings_that_the_program_refuses_are_told_after_one_build(tree: Tree) -> None:
@@ -163,7 +191,7 @@ def test_settings_that_the_program_refuses_are_told_after_one_build(tree: Tree) 
     (tree.suite / "pdsuite.toml").write_text('["b.pkt"]\nmss = 1000\n')
     called = tree.call("run", "suite")
     assert (called.status, called.out) == (2, "")
-    assert called.err.startswith('suite/pdsuite.toml: ["b.pkt"]: no script') and tree.builds() == []
+    assert called.err.startswith('suite/pdsuite.toml: ["b.pkt"]: no script') and tree.builds() == 0
 
 
 def test_a_sender_that_does_not_compile_is_told_with_the_places_of_its_errors(tree: Tree) -> None:
@@ -188,7 +216,7 @@ def test_without_the_kit_there_is_a_line_that_says_so(tree: Tree) -> None:
 def test_scripts_of_a_start_that_ends_early_are_run_once_more_one_by_one(tree: Tree) -> None:
     write(tree.suite, a=b"row pass 9\n", b=b"crash\n", c=b"row fail 1 seq\n")
     called = tree.call("run", "-v", "suite")
-    assert called.status == 2 and tree.builds() == ["pdregress", "pdregress"]
+    assert called.status == 2 and tree.builds() == 2
     again = "pdsuite: pdregress: Faulted: a failed unwrap; 3 scripts are run again, each by itself"
     assert called.err.splitlines()[1:] == [again]
     assert called.rows == [

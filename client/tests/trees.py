@@ -9,7 +9,16 @@ from tests.helpers import HANGS, TOP, Called
 
 HERE = Path(__file__).parent
 PROGRAMS = ("pdregress", "pdrecord")
-_TOOLS = ("built.sh", "crates_below.sh", "kept_programs.py", "stopping.py", "try_cases.py", "trying.py")
+_TOOLS = (
+    "both.rattle",
+    "built.sh",
+    "crates_below.sh",
+    "kept_programs.py",
+    "stopping.py",
+    "try_both.py",
+    "try_cases.py",
+    "trying.py",
+)
 _STAND_INS = {
     "rt": "stand_in_rt.py",
     "pdregress": "stand_in.py",
@@ -51,12 +60,12 @@ class Tree:
 
     def change(self, commands: str) -> None:
         """Changes its sender, by commands of `sed`."""
-        (self.top / "crates/change").write_text(commands)
+        (self.top / "crates/pdregress/src/change").write_text(commands)
 
-    def builds(self) -> list[str]:
-        """The programs that were built, in this order."""
+    def builds(self) -> int:
+        """How often something was built."""
         file = self.notes / "builds"
-        return [Path(it).name for it in file.read_text().splitlines()] if file.exists() else []
+        return len(file.read_text().splitlines()) if file.exists() else 0
 
     def call(self, *words: str | Path, **more: str) -> Called:
         """Calls its ./pdsuite beside the folder of scripts."""

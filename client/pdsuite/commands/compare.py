@@ -21,6 +21,7 @@ from pdsuite.show.screen import Screen, say
 from pdsuite.signals import Stop, Stopped
 
 if TYPE_CHECKING:
+    from pdsuite.commands.search import SearchOptions
     from pdsuite.page.comparison import Page
 
 _FAULT = 2
@@ -37,6 +38,7 @@ class CompareOptions:
     other: str | None
     is_json: bool
     html: Path | None
+    search: "SearchOptions | None" = None
 
 
 def compare_senders(options: CompareOptions, screen: Screen) -> int:
@@ -45,6 +47,8 @@ def compare_senders(options: CompareOptions, screen: Screen) -> int:
     suite = Suite(option_of(options.settings))
     try:
         with Stop() as stop, TemporaryDirectory(prefix="pdsuite-") as room:
+            if options.search is not None:
+                return _search(options, options.search, Path(room), stop, screen)
             scripts = scripts_of(found_of(options.paths, options.only, suite, stop), suite)
             if lines := unused_in(suite):
                 return _refuse(lines)
@@ -59,6 +63,16 @@ def compare_senders(options: CompareOptions, screen: Screen) -> int:
         return _refuse(refused.lines)
     except Stopped as stopped:
         return stopped.status
+
+
+def _search(options: CompareOptions, search: "SearchOptions", room: Path, stop: Stop, screen: Screen) -> int:
+    """Searches for inputs that tell the senders apart."""
+    # Only who searches pays for what makes inputs.
+    from pdsuite.commands.search import search_difference
+
+    senders = _senders(options, room)
+    _say_senders(senders, screen)
+    return search_difference(senders, search, stop, screen)
 
 
 def _refuse(lines: Sequence[str]) -> int:

@@ -12,6 +12,7 @@ from pdsuite.scripts.shards import Shard, shard_of
 from pdsuite.show.octets import shown_text
 
 MOST_WORKERS = 64
+MOST_SECONDS = 86_400
 
 Command = TypeVar("Command", bound=Callable[..., int])
 
@@ -50,15 +51,39 @@ class ReasonWord(click.ParamType):
         return value
 
 
+no_color_option = click.option("--no-color", is_flag=True, help="No colours on a terminal.")
+
+
 def choice_options(command: Command) -> Command:
     """The words that say which scripts are meant, and with which settings."""
+    return _choice(command, is_required=True)
+
+
+def free_choice_options(command: Command) -> Command:
+    """The same words, where no script may be meant."""
+    return _choice(command, is_required=False)
+
+
+def _choice(command: Command, is_required: bool) -> Command:
     for option in (
-        click.option("--no-color", is_flag=True, help="No colours on a terminal."),
+        no_color_option,
         click.option("--settings", default="", metavar="TEXT", help="Settings before all others."),
         click.option(
             "--only", metavar="PATTERN", multiple=True, help="Only scripts whose path or name fits; again for more."
         ),
-        click.argument("paths", nargs=-1, required=True, type=PlaceWord()),
+        click.argument("paths", nargs=-1, required=is_required, type=PlaceWord()),
+    ):
+        command = option(command)
+    return command
+
+
+def search_options(command: Command) -> Command:
+    """The words that say how a search goes, and where its find is saved."""
+    for option in (
+        click.option("--save", metavar="FILE", type=PlaceWord(), help="Save what is found as this script."),
+        click.option(
+            "--seed", metavar="N", type=click.IntRange(0), help="Make the inputs of this number, not of chance."
+        ),
     ):
         command = option(command)
     return command

@@ -8,7 +8,8 @@ from dataclasses import dataclass
 from pathlib import Path
 
 from pdsuite.faults import Fault, why
-from pdsuite.programs.places import PACKED, RECORD, REGRESS, TOOL, TOP, Unproved, commit, locate
+from pdsuite.programs.places import FOLDER, PACKED, RECORD, REGRESS, TOOL, TOP
+from pdsuite.programs.places import Unproved, built, commit, launched_from, locate
 from pdsuite.show.octets import shown, shown_path, shown_text
 
 _KEPT = TOP / "tools/kept_programs.py"
@@ -40,8 +41,10 @@ class Sender:
 
 
 def sender_of(word: str, option: str, place: Path) -> Sender:
-    """The sender that a word names: a folder of programs, or a commit, whose tree is put into a new folder."""
+    """The sender that a word names: a folder of programs, a tree, or a commit, whose tree is put into a new folder."""
     folder = Path(word)
+    if tree := launched_from(folder):
+        return _of_tree(tree, shown_path(folder))
     if (folder / REGRESS).is_file():
         return Sender(shown_path(folder), _programs_in(folder, option))
     if folder.is_dir():
@@ -54,6 +57,8 @@ def sender_of(word: str, option: str, place: Path) -> Sender:
 
 def standing() -> Sender:
     """The tree as it stands, or the programs of a package or of PDSUITE_PROGRAMS."""
+    if (folder := os.environ.get(FOLDER)) and (tree := launched_from(Path(folder))):
+        return _of_tree(tree, shown_path(Path(folder)))
     try:
         programs = {name: locate(name) for name in (REGRESS, RECORD)}
     except Unproved:
@@ -61,6 +66,14 @@ def standing() -> Sender:
             raise
         return Sender(f"the tree as it stands, {commit()}", None)
     return Sender(f"the proved programs, {commit()}", programs)
+
+
+def _of_tree(tree: Path, name: str) -> Sender:
+    """A tree's sender: its programs if both are proved."""
+    try:
+        return Sender(name, {it: built(it, tree) for it in (REGRESS, RECORD)})
+    except Unproved:
+        return Sender(name, None, tree)
 
 
 def last_proved() -> Sender:

@@ -19,7 +19,7 @@ def tables_of(scripts: Mapping[str, Settings]) -> Iterator[tuple[str, bytes]]:
         if settings:
             folders.setdefault(folder, []).append((name, settings))
     for folder, tables in folders.items():
-        text = _HEAD + ("" if folder else _ROOT) + "".join(_table(*it) for it in tables)
+        text = _HEAD + ("" if folder else _ROOT) + "".join(table(*it) for it in tables)
         yield os.path.join(folder, FILE), text.encode()
 
 
@@ -32,7 +32,8 @@ def is_key(name: str) -> bool:
     return True
 
 
-def _table(name: str, settings: Settings) -> str:
+def table(name: str, settings: Settings) -> str:
+    """The table of a script with these settings."""
     # What JSON escapes TOML escapes alike, but for one octet.
     key = json.dumps(name, ensure_ascii=False).replace("\x7f", "\\u007f")
     return f"\n[{key}]\n{settings_text(settings)}\n"

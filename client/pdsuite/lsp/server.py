@@ -114,12 +114,12 @@ class Server:
         """Whether a text has changed since its results were worked out."""
         return self.running is not None and self.running.workspace.is_behind
 
-    def settle(self, events: list[Event], now: float) -> None:
+    def settle(self, events: list[Event], now: float, is_at_rest: bool) -> None:
         """Has run again what changed, and tells the client what came of it."""
         if self.running is None or self._publisher is None:
             return
         reported, self.events = [*events, *self.events], []
-        changed = self.running.workspace.settle(reported, now)
+        changed = self.running.workspace.settle(reported, now, is_at_rest)
         if changed and self.streams.is_waiting:
             self.streams.take()
         self._publisher.publish(self.running, changed)

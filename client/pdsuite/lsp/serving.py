@@ -23,9 +23,13 @@ from pdsuite.watch.fleet import Fleet
 from pdsuite.watch.folders import Choice, Folders
 from pdsuite.watch.watcher import Watcher
 
-# Where nothing is said for so long, what can wait is done; and so often programs are looked for that aren't there.
+# Where nothing is said for so long, what can wait is done. What is due waits no longer than that. And so often programs
+# are looked for that aren't there.
 _QUIET = 0.5
+_PATIENCE = 2.0
 _AGAIN = 10.0
+# Garbage is looked for at rest, where so many objects came since, as a look takes longer than an answer may.
+_MANY = 10_000
 
 
 class Serving:
@@ -64,7 +68,8 @@ class Serving:
         if server.running is None and server.is_ready and time.monotonic() >= self._looked_at + _AGAIN:
             self._looked_at = time.monotonic()
             server.begin()
-        server.settle([] if self._watcher is None else self._watcher.read(), time.monotonic())
+        now = time.monotonic()
+        server.settle([] if self._watcher is None else self._watcher.read(), now, now >= self._due())
         server.look_at_drawn()
         while not (server.streams.is_waiting or server.is_behind) and server.answer():
             pass
@@ -72,11 +77,20 @@ class Serving:
     def _wait(self, streams: Streams) -> None:
         """Waits until there is something to do; at rest, does what can wait."""
         running = self._server.running
-        until = self._looked_at + _AGAIN if running is None else running.workspace.due()
-        if self._poll(streams, min(until, time.monotonic() + _QUIET)) or running is None:
+        if self._poll(streams, min(self._due(), time.monotonic() + _QUIET)) or running is None:
             return
         running.workspace.rest()
+        if gc.get_count()[0] > _MANY:
+            gc.collect()
         self._poll(streams, running.workspace.due())
+
+    def _due(self) -> float:
+        """When folders are looked at, or programs: a look takes longer than an answer may, so it waits for a pause."""
+        running = self._server.running
+        if running is None:
+            return self._looked_at + _AGAIN
+        due = running.workspace.due()
+        return max(due, min(self._server.streams.heard_at + _QUIET, due + _PATIENCE))
 
     def _poll(self, streams: Streams, until: float) -> bool:
         poll = select.poll()
@@ -113,7 +127,7 @@ class _Unwatched(Watcher):
 
 def serve(settings: str) -> int:
     """Serves a client, and answers the exit status."""
-    gc.enable()  # this may go on for days
+    gc.disable()
     with Stop() as stop, _streams() as (source, target):
         try:
             return Serving(settings, stop).serve(source, target)

@@ -4,9 +4,11 @@ import logging
 import os
 import queue
 import threading
+import time
 from collections.abc import Callable, Mapping
 from concurrent.futures import Future
 from contextlib import suppress
+from math import inf
 from typing import Any, BinaryIO
 
 from pylsp_jsonrpc.endpoint import Endpoint
@@ -97,6 +99,8 @@ class Streams:
         self._endpoint = Endpoint(handlers, JsonRpcStreamWriter(target).write)
         self._messages: "queue.SimpleQueue[object]" = queue.SimpleQueue()
         self._wake_reader, self._wake_writer = os.pipe2(os.O_NONBLOCK | os.O_CLOEXEC)
+        # When the last message was taken.
+        self.heard_at = -inf
         self.is_at_end = False
         threading.Thread(target=self._listen, daemon=True).start()
 
@@ -119,6 +123,7 @@ class Streams:
             if message is _END:
                 self.is_at_end = True
             elif _is_message(message):
+                self.heard_at = time.monotonic()
                 self._endpoint.consume(message)
 
     def notify(self, method: str, params: object) -> None:

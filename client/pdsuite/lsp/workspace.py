@@ -127,11 +127,12 @@ class Workspace:
         document = self._documents.get(uri)
         return found if document is not None and found is not None and found.version == document.version else None
 
-    def settle(self, events: Sequence[Event], now: float) -> list[str]:
-        """Looks at what is reported or due, and has run again what that changes: the paths whose results are others."""
+    def settle(self, events: Sequence[Event], now: float, is_at_rest: bool = True) -> list[str]:
+        """Looks at what is reported or, at rest, due, and has run again what that changes: the paths whose results are
+        others."""
         reported = [*events, *self._events]
         self._events = []
-        has_changed = self._folders.look(reported, now)
+        has_changed = bool(is_at_rest or reported) and self._folders.look(reported, now)
         if has_changed:
             self._seen = self._folders.wanted()
         has_ended = self._fleet.mend()

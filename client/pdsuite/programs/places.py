@@ -12,7 +12,9 @@ FOLDER = "PDSUITE_PROGRAMS"
 # In a package: its version, and the commit that it was made of. The programs are then installed, too.
 PACKED = TOP / "version"
 # In a tree: what runs its programs as they stand, without proofs.
-TOOL = TOP / "tools/try_cases.py"
+TOOL = TOP / "tools/try_both.py"
+# What says where a tree's program is, if it is proved.
+_BUILT = "tools/built.sh"
 REGRESS = "pdregress"
 RECORD = "pdrecord"
 
@@ -30,8 +32,13 @@ def locate(name: str) -> Path:
         return path
     if PACKED.exists():
         return TOP.parents[1] / "bin" / name
+    return built(name, TOP)
+
+
+def built(name: str, top: Path) -> Path:
+    """The proved program of this name in a tree."""
     said = subprocess.run(
-        [TOP / "tools/built.sh", name],
+        [top / _BUILT, name],
         stdin=subprocess.DEVNULL,
         capture_output=True,
         process_group=0,  # a key of the terminal ends the client alone
@@ -39,6 +46,12 @@ def locate(name: str) -> Path:
     if said.returncode:
         raise Unproved(shown(said.stderr.strip()))
     return Path(os.fsdecode(said.stdout.removesuffix(b"\n")))
+
+
+def launched_from(folder: Path) -> Path | None:
+    """The tree whose launchers a folder has, or links to them. A launcher also runs what isn't proved."""
+    top = (folder / REGRESS).resolve().parent
+    return top if (top / _BUILT).is_file() and (top / "crates.txt").is_file() else None
 
 
 def commit() -> str:

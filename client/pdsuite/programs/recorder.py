@@ -1,18 +1,24 @@
 """Has pdrecord record a script, with the sender's state after each event."""
 
-from collections.abc import Callable
+from collections.abc import Callable, Iterable
 from dataclasses import dataclass
 from pathlib import Path
 
 from pdsuite.faults import Fault
 from pdsuite.programs.places import RECORD, locate
 from pdsuite.programs.program import Ended, Program
+from pdsuite.programs.starts import Answer, Case
+from pdsuite.programs.tree import Build
 from pdsuite.scripts.settings import Settings, settings_text
-from pdsuite.show.octets import shown_path
+from pdsuite.show.octets import shown, shown_path
 from pdsuite.signals import Stop
 
 # A recording has at most 4,096 events, each with a line of its state.
 _LONGEST = 8 << 20
+_TRACE = "--trace"
+# A recording is expected to have so many octets at most, and so many for each octet of its script.
+_ROOM = 2_048
+_WRITTEN = 6
 
 
 @dataclass(frozen=True, slots=True)
@@ -38,7 +44,7 @@ class Recorder:
         if program is None:
             return Recording("", self._fault)
         try:
-            with Program(_words(program, settings), self._stop) as started:
+            with Program([program, _TRACE, *_settings_words(settings)], self._stop) as started:
                 octets, said = started.record(text, _LONGEST)
         except Ended as end:
             self._note(f"pdsuite: {end}; {shown_path(Path(path))} isn't recorded")
@@ -56,6 +62,18 @@ class Recorder:
         return self._program
 
 
-def _words(program: Path, settings: Settings) -> list[str | Path]:
-    text = settings_text(settings)
-    return [program, "--trace", *(["--settings", text] if text else [])]
+def recording(tree: Path, scripts: Iterable[tuple[Settings, bytes]], is_alone: bool = False) -> Build:
+    """What has a tree's program, as it stands, record scripts, which are texts under settings."""
+    cases = [Case(_settings_words(it), text, _ROOM + _WRITTEN * len(text), is_alone) for it, text in scripts]
+    return Build(tree, RECORD, (_TRACE,), tuple(cases))
+
+
+def recording_of(answer: Answer) -> Recording:
+    """What such a start came to."""
+    said = [line for line in answer.errors.split(b"\n") if line.strip()]
+    fault = answer.fault or (shown(said[0]) if said else "")
+    return Recording(answer.output.decode("utf-8", "surrogateescape"), fault)
+
+
+def _settings_words(settings: Settings) -> tuple[str, ...]:
+    return ("--settings", settings_text(settings)) if settings else ()

@@ -1,4 +1,4 @@
-"""Runs programs of a tree as it stands, without proofs: the tree's tools build one and run it on many cases."""
+"""Runs the programs of a tree as it stands, without proofs: the tree's tools build both as one, which starts them."""
 
 import os
 import select
@@ -10,32 +10,22 @@ from collections.abc import Sequence
 from concurrent.futures import ThreadPoolExecutor
 from contextlib import suppress
 from dataclasses import dataclass
+from itertools import islice
 from pathlib import Path
 
 from pdsuite.faults import Fault
 from pdsuite.programs.places import TOOL
+from pdsuite.programs.starts import Answer, Case, answers_in, input_of, parted, with_program
 from pdsuite.show.octets import shown
 from pdsuite.signals import Stop
 
-# So many programs are built side by side at most.
+# So many trees are built side by side at most.
 _MOST = 4
 _GRACE = 15.0
-# The statuses of a program that has read all of its input.
-_REGULAR = ("0", "1")
-# Begins what a program says that refuses its words, and ends with where help is.
-_REFUSES = b"error: "
 
 
 class Untried(Fault):
-    """That a program can't be run as it stands; the lines below the first are what the compiler says."""
-
-
-@dataclass(frozen=True, slots=True)
-class Case:
-    """A start of a program: its words, none of which has a newline, and its input."""
-
-    words: tuple[str, ...]
-    given: bytes
+    """That a tree's programs can't be run as they stand; the lines below the first are what the compiler says."""
 
 
 @dataclass(frozen=True, slots=True)
@@ -48,57 +38,34 @@ class Build:
     cases: tuple[Case, ...]
 
 
-@dataclass(frozen=True, slots=True)
-class Answer:
-    """What a program wrote on its two outputs, or why there is no answer."""
-
-    output: bytes
-    errors: bytes
-    fault: str = ""
-
-
 def try_all(builds: Sequence[Build], stop: Stop) -> list[list[Answer]]:
-    """The answers to the cases of each program, several of which are built side by side."""
-    if len(builds) < 2:
-        return [_tried(it, stop) for it in builds]
-    count = min(len(os.sched_getaffinity(0)), _MOST)
-    with ThreadPoolExecutor(count) as pool:
-        return list(pool.map(lambda build: _tried(build, stop), builds))
+    """The answers to the cases of each program; both programs of a tree are built as one, and trees side by side."""
+    cases: dict[Path, list[Case]] = {it.tree: [] for it in builds}
+    for it in builds:
+        cases[it.tree] += with_program(it.program, it.words, it.cases)
+    with ThreadPoolExecutor(min(len(os.sched_getaffinity(0)), _MOST)) as pool:
+        tried = list(pool.map(lambda tree: _tried(tree, list(parted(cases[tree])), stop), cases))
+    answers = {tree: iter(each) for tree, each in zip(cases, tried)}
+    return [list(islice(answers[it.tree], len(it.cases))) for it in builds]
 
 
-def answer_of(output: bytes, errors: bytes, status: str) -> Answer:
-    """What came of a start, whose status is a number or why there is none."""
-    if status in _REGULAR:
-        return Answer(output, errors)
-    said = [line for line in errors.split(b"\n") if line.strip()]
-    if not status.isdecimal():
-        return Answer(b"", b"", status)
-    if not said:
-        return Answer(b"", b"", f"ended with status {status}")
-    return Answer(b"", b"", shown(said[0] if said[0].startswith(_REFUSES) else said[-1]))
-
-
-def _tried(build: Build, stop: Stop) -> list[Answer]:
-    """The answers of a program that is built for them."""
+def _tried(tree: Path, runs: Sequence[Sequence[Case]], stop: Stop) -> list[Answer]:
+    """The answers of a tree's programs, which are built for them."""
     stop.check()
     with tempfile.TemporaryDirectory(prefix="pdsuite-") as folder:
-        cases, answers = Path(folder, "cases"), Path(folder, "answers")
-        cases.mkdir()
+        starts, answers = Path(folder, "starts"), Path(folder, "answers")
+        starts.mkdir()
         answers.mkdir()
-        names = [f"{number:06}" for number in range(len(build.cases))]
-        for name, case in zip(names, build.cases):
-            (cases / name).write_bytes(case.given)
-            (cases / f"{name}.args").write_text("".join(f"{word}\n" for word in case.words))
-        words: list[str | Path] = ["--tree", build.tree, build.program, cases, answers]
-        if build.words:
-            words += ["--", *build.words]
-        _run([sys.executable, "-B", TOOL, *words], Path(folder, "said"), stop)
-        return [_read(answers, name) for name in names]
+        names = [f"{number:06}" for number in range(len(runs))]
+        for name, run in zip(names, runs):
+            (starts / name).write_bytes(input_of(run))
+        _run([sys.executable, "-B", TOOL, "--tree", tree, starts, answers], Path(folder, "said"), stop)
+        return [it for name, run in zip(names, runs) for it in _read(answers, name, len(run))]
 
 
-def _read(folder: Path, name: str) -> Answer:
+def _read(folder: Path, name: str, count: int) -> list[Answer]:
     output, errors, status = (folder / f"{name}.{end}" for end in ("output", "errors", "status"))
-    return answer_of(output.read_bytes(), errors.read_bytes(), status.read_text())
+    return answers_in(output.read_bytes(), errors.read_bytes(), status.read_text(), count)
 
 
 def _run(words: Sequence[str | Path], said: Path, stop: Stop) -> None:

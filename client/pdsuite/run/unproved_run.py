@@ -1,19 +1,21 @@
-"""Runs a suite on the sender as it stands, without proofs: all scripts, and what is told of them, after one build."""
+"""Runs a suite on a sender as it stands, without proofs: one build runs scripts, tells of them and records them."""
 
 from collections import ChainMap
 from collections.abc import Callable, Generator, Iterable, Mapping, Sequence
 from contextlib import suppress
-from dataclasses import dataclass, field
+from dataclasses import dataclass, field, replace
 from pathlib import Path
 
 from pdsuite.faults import Fault
-from pdsuite.programs.places import REGRESS, TOP
+from pdsuite.programs.places import RECORD, REGRESS, TOP
 from pdsuite.programs.program import Ended
 from pdsuite.programs.protocol import Cause, Unexpected
 from pdsuite.programs.protocol import add, blocks_in, causes_in, name_of, rows_in, set_and_show, set_key
+from pdsuite.programs.recorder import Recording, recording, recording_of
 from pdsuite.programs.refusals import questions, refusals_at_once
 from pdsuite.programs.rows import Row, Verdict
-from pdsuite.programs.tree import Answer, Build, Case, try_all
+from pdsuite.programs.starts import ROOM, Answer, Case
+from pdsuite.programs.tree import Build, try_all
 from pdsuite.run.explainer import EXPLAIN, JSON, with_block
 from pdsuite.run.outcomes import Outcome
 from pdsuite.run.runs import Run, Script, outcome_of
@@ -24,9 +26,7 @@ from pdsuite.scripts.text import Text
 from pdsuite.show.octets import shown_path
 from pdsuite.signals import Stop
 
-# A start of the program is expected to say so much at most, far less than `rt try` takes; and so much of a script,
-# beside as many octets as its text has.
-_ROOM = 1 << 19
+# Of a script the program is expected to say so much at most, beside as many octets as its text has.
 _TOLD = 4_096
 
 
@@ -36,6 +36,11 @@ class Batch:
 
     settings: Settings
     scripts: tuple[tuple[Script, Text], ...]
+
+    @property
+    def room(self) -> int:
+        """How many octets are expected to be said at most."""
+        return sum(_told(text) for _, text in self.scripts)
 
     def names(self) -> list[bytes]:
         """The names of the scripts in its commands."""
@@ -49,11 +54,12 @@ class Batch:
 
 @dataclass(frozen=True)
 class UnprovedResults:
-    """What came of a suite: the lines of refused settings, or else its scripts, and what is told of them by keys."""
+    """What came of a suite: the lines of refused settings, or else scripts, what is told by keys, and recordings."""
 
     refused: list[str] = field(default_factory=list)
     settled: list[SettledPiece] = field(default_factory=list)
     causes: Mapping[int, Cause] = field(default_factory=dict)
+    recordings: Mapping[int, Recording] = field(default_factory=dict)
 
     def steps(self, runs: Iterable[Run]) -> Generator[Step, None, None]:
         """The pieces of the runs, in their order."""
@@ -67,55 +73,92 @@ def first_line() -> str:
 
 @dataclass(frozen=True)
 class Plan:
-    """What the program is started on: claims that it is asked about, and the batches of all pieces, once or twice."""
+    """What programs are started on: claims to be asked about, and all pieces, told by keys and recorded if need be."""
 
     claims: Sequence[Claim]
     pieces: Sequence[Sequence[tuple[Script, Text | str]]]
-    wants_causes: bool
+    wants_causes: bool = False
+    records: bool = False
 
     @property
     def batches(self) -> list[Batch]:
         return [it for piece in self.pieces for it in batches_of(piece)]
 
-    def cases(self) -> list[Case]:
-        """The starts: one asks about the claims, the others run the batches, a second time for what is told by keys."""
-        asking = Case((), b"".join(set_and_show(*it) for it in questions(self.claims)))
-        told = [Case((JSON,), it.given()) for it in self.batches] if self.wants_causes else []
-        return [asking, *cases_of(self.batches), *told]
+    @property
+    def recorded(self) -> list[tuple[Script, Text]]:
+        """The scripts that are recorded."""
+        return [one for it in self.batches for one in it.scripts] if self.records else []
+
+    def builds(self, tree: Path) -> list[Build]:
+        """The starts of a tree's programs: one asks about the claims, the others run the batches and record."""
+        asking = Case((), b"".join(set_and_show(*it) for it in questions(self.claims)), is_alone=True)
+        runs = cases_of(self.batches, self.wants_causes)
+        return [_explaining(tree, [asking, *runs]), recording(tree, map(_recorded, self.recorded))]
 
 
-def plan_of(runs: Iterable[Run], claims: Iterable[Claim], wants_causes: bool) -> Plan:
+def plan_of(runs: Iterable[Run], claims: Iterable[Claim], wants_causes: bool, records: bool = False) -> Plan:
     """What is to be run of these runs, whose scripts are read."""
     pieces = [[(script, load(script)) for script in piece] for run in runs for piece in run.pieces]
-    return Plan(list(claims), pieces, wants_causes)
-
-
-def explaining(tree: Path, cases: Sequence[Case]) -> Build:
-    """The build of a tree's program that explains, and what it is started on."""
-    return Build(tree, REGRESS, (EXPLAIN,), tuple(cases))
+    return Plan(list(claims), pieces, wants_causes, records)
 
 
 def run_unproved(plan: Plan, tree: Path, stop: Stop, note: Callable[[str], None]) -> UnprovedResults:
     """What comes of a plan, after one build or two."""
-    return results_of(plan, _answers(tree, plan.cases(), stop), tree, stop, note)
+    return results_of(plan, try_all(plan.builds(tree), stop), tree, stop, note)
 
 
 def results_of(
-    plan: Plan, answers: Sequence[Answer], tree: Path, stop: Stop, note: Callable[[str], None]
+    plan: Plan, answers: Sequence[Sequence[Answer]], tree: Path, stop: Stop, note: Callable[[str], None]
 ) -> UnprovedResults:
-    """What the answers say. Where a start ends early, a second build runs its scripts one by one."""
-    asked, *told = answers
+    """What the answers say. Where a start ends early, a second build starts its scripts one by one."""
+    (asked, *told), recorded = answers
     if lines := _refused(plan.claims, asked):
         return UnprovedResults(lines)
-    batches = plan.batches
-    outcomes, unheard = read_answers(batches, told)
-    if unheard:
-        singles = [Batch(it.settings, (one,)) for it, _ in unheard for one in it.scripts]
-        note(f"pdsuite: {unheard[0][1]}; {len(singles):,} scripts are run again, each by itself")
-        again, lost = read_answers(singles, _answers(tree, cases_of(singles), stop))
-        outcomes |= again | {it.scripts[0][0].index: _error(it.scripts[0][0], why) for it, why in lost}
-    causes = [causes_of(*it) for it in zip(batches, told[len(batches) :])]
-    return UnprovedResults([], [_settled(piece, outcomes) for piece in plan.pieces], dict(ChainMap(*causes)))
+    heard = _Heard(plan, told, recorded)
+    heard.hear_again(tree, stop, note)
+    settled = [_settled(piece, heard.outcomes) for piece in plan.pieces]
+    return UnprovedResults([], settled, heard.causes, heard.recordings)
+
+
+class _Heard:
+    """What is heard of a plan's scripts, by their places."""
+
+    def __init__(self, plan: Plan, told: Sequence[Answer], recorded: Sequence[Answer]) -> None:
+        self._wants_causes = plan.wants_causes
+        batches = plan.batches
+        self.outcomes, self._unheard = read_answers(batches, told)
+        self.causes = _causes(batches, told)
+        self.recordings = {script.index: recording_of(answer) for (script, _), answer in zip(plan.recorded, recorded)}
+        self._unrecorded = [(one, it.fault) for one, it in zip(plan.recorded, recorded) if it.is_shared]
+
+    def hear_again(self, tree: Path, stop: Stop, note: Callable[[str], None]) -> None:
+        """Has each script that another one may have ended started by itself, if there is one."""
+        singles = [Batch(it.settings, (one,)) for it, _ in self._unheard for one in it.scripts]
+        scripts = [one for one, _ in self._unrecorded]
+        if singles:
+            note(f"pdsuite: {self._unheard[0][1]}; {len(singles):,} scripts are run again, each by itself")
+        if scripts:
+            why = self._unrecorded[0][1]
+            note(f"pdsuite: {RECORD}: {why}; {len(scripts):,} scripts are recorded again, each by itself")
+        if not (singles or scripts):
+            return
+        cases = [replace(it, is_alone=True) for it in cases_of(singles, self._wants_causes)]
+        builds = [_explaining(tree, cases), recording(tree, map(_recorded, scripts), is_alone=True)]
+        told, recorded = try_all(builds, stop)
+        again, lost = read_answers(singles, told)
+        self.outcomes |= again | {it.scripts[0][0].index: _error(it.scripts[0][0], why) for it, why in lost}
+        self.causes |= _causes(singles, told)
+        self.recordings |= {script.index: recording_of(answer) for (script, _), answer in zip(scripts, recorded)}
+
+
+def _explaining(tree: Path, cases: Sequence[Case]) -> Build:
+    """The starts of a tree's program, which explains."""
+    return Build(tree, REGRESS, (EXPLAIN,), tuple(cases))
+
+
+def _recorded(each: tuple[Script, Text]) -> tuple[Settings, bytes]:
+    script, text = each
+    return script.settings, text.octets
 
 
 def batches_of(piece: Iterable[tuple[Script, Text | str]]) -> list[Batch]:
@@ -125,18 +168,22 @@ def batches_of(piece: Iterable[tuple[Script, Text | str]]) -> list[Batch]:
     for script, text in piece:
         if isinstance(text, str):
             continue
-        told = _TOLD + len(text.octets)
-        if not batches or told > room:
+        if not batches or _told(text) > room:
             batches.append([])
-            room = _ROOM
-        room -= told
+            room = ROOM
+        room -= _told(text)
         batches[-1].append((script, text))
     return [Batch(it[0][0].settings, tuple(it)) for it in batches]
 
 
-def cases_of(batches: Iterable[Batch]) -> list[Case]:
-    """The starts of the program on batches."""
-    return [Case((), it.given()) for it in batches]
+def _told(text: Text) -> int:
+    return _TOLD + len(text.octets)
+
+
+def cases_of(batches: Sequence[Batch], wants_causes: bool = False) -> list[Case]:
+    """The starts of the program on batches, a second time for what is told by keys."""
+    words = [(), (JSON,)] if wants_causes else [()]
+    return [Case(each, it.given(), it.room) for each in words for it in batches]
 
 
 def read_answers(
@@ -175,14 +222,16 @@ def causes_of(batch: Batch, answer: Answer) -> dict[int, Cause]:
     return {places[name]: cause for (name, _), cause in causes.items() if name in places}
 
 
+def _causes(batches: Sequence[Batch], told: Sequence[Answer]) -> dict[int, Cause]:
+    """What is told by keys after the answers of the batches themselves."""
+    causes = [causes_of(*it) for it in zip(batches, told[len(batches) :])]
+    return dict(ChainMap(*causes))
+
+
 def _heard(answer: Answer) -> Answer:
     if answer.fault:
         raise Unexpected(answer.fault)
     return answer
-
-
-def _answers(tree: Path, cases: Sequence[Case], stop: Stop) -> list[Answer]:
-    return try_all([explaining(tree, cases)], stop)[0]
 
 
 def _refused(claims: Iterable[Claim], answer: Answer) -> list[str]:

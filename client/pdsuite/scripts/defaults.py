@@ -1,4 +1,4 @@
-"""The settings that there are: what each takes, and what holds where none is said. docs/SETTINGS.md has the same."""
+"""The settings that there are: what each takes, and what holds where none is said."""
 
 from collections.abc import Iterable, Iterator
 from dataclasses import dataclass
@@ -34,6 +34,7 @@ class Word:
         return " or ".join(map(shown_value, self.words))
 
 
+# made by tools/settings_table.py client
 KEYS: dict[str, Number | Word] = {
     "mss": Number(1_460, 64, 65_495, "octets"),
     "sack": Word(True),
@@ -46,8 +47,10 @@ KEYS: dict[str, Number | Word] = {
     "max_rto_us": Number(60_000_000, 60_000_000, 3_600_000_000, "microseconds"),
     "granularity_us": Number(1_000, 1, 1_000_000, "microseconds"),
     "nagle": Word(True),
+    "limited_transmit": Word(True),
     "tolerance_us": Number(4_000, 0, 1_000_000, "microseconds"),
 }
+# end
 DEFAULTS: dict[str, Value] = {key: it.default for key, it in KEYS.items()}
 
 

@@ -1,0 +1,96 @@
+"""Starts of both programs in one run: what the program tools/both.rattle reads of them, and what it answers."""
+
+import re
+from collections.abc import Iterable, Iterator, Sequence
+from dataclasses import dataclass
+
+from pdsuite.show.octets import shown
+
+# A run is expected to write so much at most, far less than `rt try` takes.
+ROOM = 1 << 19
+_NUMBER = re.compile(rb"(\d{1,9})\n")
+# The statuses of a program that has read all of its input.
+_REGULAR = ("0", "1")
+# Begins what a program says that refuses its words, and ends with where help is.
+_REFUSES = b"error: "
+
+
+@dataclass(frozen=True, slots=True)
+class Case:
+    """A start of a program: its words, its input, and what it is expected to write and say, in octets.
+
+    A case that `is_alone` shares its run with no other, so that nothing else can end it.
+    """
+
+    words: tuple[str, ...]
+    given: bytes
+    room: int = 4_096
+    is_alone: bool = False
+
+
+@dataclass(frozen=True, slots=True)
+class Answer:
+    """What a program wrote on its two outputs, or why there is no answer: what ended it may be a start beside it."""
+
+    output: bytes
+    errors: bytes
+    fault: str = ""
+    is_shared: bool = False
+
+
+def parted(cases: Iterable[Case]) -> Iterator[list[Case]]:
+    """The cases of each run, in their order."""
+    run: list[Case] = []
+    room = 0
+    for case in cases:
+        if run and (case.is_alone or case.room > room):
+            yield run
+            run = []
+        room = 0 if case.is_alone else (room if run else ROOM) - case.room
+        run.append(case)
+    if run:
+        yield run
+
+
+def input_of(cases: Iterable[Case]) -> bytes:
+    """The input of a run; the first word of each case is the program."""
+    return b"".join(_part("\0".join(it.words).encode()) + _part(it.given) for it in cases)
+
+
+def answers_in(output: bytes, errors: bytes, status: str, count: int) -> list[Answer]:
+    """The answers to the cases of a run, which has ended with this status, a number or why there is none."""
+    parts = list(_parts(output)) if status == "0" else []
+    if len(parts) == 3 * count:
+        return [answer_of(written, said, ended.decode().strip()) for written, said, ended in zip(*[iter(parts)] * 3)]
+    why = answer_of(output, errors, status).fault or f"ended with status {status}"
+    return [Answer(b"", b"", why, count > 1)] * count
+
+
+def answer_of(output: bytes, errors: bytes, status: str) -> Answer:
+    """What came of a start, whose status is a number or why there is none."""
+    if status in _REGULAR:
+        return Answer(output, errors)
+    said = [line for line in errors.split(b"\n") if line.strip()]
+    if not status.isdecimal():
+        return Answer(b"", b"", status)
+    if not said:
+        return Answer(b"", b"", f"ended with status {status}")
+    return Answer(b"", b"", shown(said[0] if said[0].startswith(_REFUSES) else said[-1]))
+
+
+def _part(octets: bytes) -> bytes:
+    return b"%d\n%b" % (len(octets), octets)
+
+
+def _parts(octets: bytes) -> Iterator[bytes]:
+    """The octets that stand after a line with their number each."""
+    at = 0
+    while found := _NUMBER.match(octets, at):
+        at = found.end() + int(found[1])
+        yield octets[found.end() : at]
+
+
+def with_program(program: str, words: Sequence[str], cases: Iterable[Case]) -> Iterator[Case]:
+    """The cases with the words of all, before which the program is named."""
+    for it in cases:
+        yield Case((program, *words, *it.words), it.given, it.room, it.is_alone)

@@ -1,0 +1,39 @@
+"""Both programs of this tree, as its sources stand, in one that the kit builds: the one test here that takes long."""
+
+import subprocess
+import sys
+from pathlib import Path
+
+from pdsuite.programs.protocol import add, name_of, set_key
+from pdsuite.programs.starts import Answer, Case, answers_in, input_of
+from pdsuite.scripts.text import text_of
+from tests.helpers import TOP
+
+SECONDS = 1_200
+LISTENS = b"+0 socket(..., SOCK_STREAM, IPPROTO_TCP) = 3\n+0 bind(3, ..., ...) = 0\n+0 listen(3, 1) = 0\n"
+SYN = b"+0.1 < S 0:0(0) win 32792 <mss 1000>\n"
+SYN_ACK = b"+0 > S. 0:0(0) ack 1 win 65535 <mss %d>\n"
+
+
+def test_each_start_of_both_programs_has_its_own_words_input_and_answer(tmp_path: Path) -> None:
+    wrong = text_of(LISTENS + SYN + SYN_ACK % 1_000)
+    cases = [
+        Case(("pdrecord", "--settings", "mss = 1200\nsack = false"), LISTENS + SYN),
+        Case(("pdregress", "--explain"), set_key("mss", "1200") + add(name_of(0), wrong)),
+        Case(("pdrecord", "--no-such-word"), b""),
+        Case(("pdrecord",), LISTENS + SYN),
+    ]
+    starts, answers = tmp_path / "starts", tmp_path / "answers"
+    starts.mkdir()
+    answers.mkdir()
+    (starts / "a").write_bytes(input_of(cases))
+    words: list[str | Path] = [sys.executable, "-B", TOP / "tools/try_both.py", starts, answers]
+    done = subprocess.run(words, stdin=subprocess.DEVNULL, capture_output=True, timeout=SECONDS)
+    assert (done.returncode, done.stdout, done.stderr) == (0, b"", b"")
+    output, errors, status = ((answers / f"a.{end}").read_bytes() for end in ("output", "errors", "status"))
+    recorded, told, refused, other = answers_in(output, errors, status.decode(), len(cases))
+    assert recorded == Answer(LISTENS + SYN + SYN_ACK % 1_200, b"")
+    assert told.output.startswith(b"s0 fail 5 options\ntotal 1 pass 0 fail 1 ")
+    assert told.errors.startswith(b"s0:5: fail options: the packet has other options\n")
+    assert refused.fault == "error: unexpected argument '--no-such-word' found"
+    assert other == Answer(LISTENS + SYN + SYN_ACK % 1_460, b"")

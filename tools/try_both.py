@@ -1,0 +1,104 @@
+"""Runs pdregress and pdrecord of a tree many times without proofs, after one build:
+
+try_both.py [--seconds N] [--tree FOLDER] STARTS ANSWERS
+
+The tree is this one, or FOLDER. What is built is both.rattle, which starts the programs in memory, as often as its input
+says. The folder STARTS has such inputs, and the folder ANSWERS gets for each file NAME.output, NAME.errors and
+NAME.status, as try_cases.py puts them. Where nothing was run, a line on standard error says why, with what was said,
+and the status is 2; else it is 0.
+"""
+from __future__ import annotations
+
+import argparse
+import os
+import re
+import shutil
+import sys
+import tempfile
+from pathlib import Path
+
+import stopping
+import trying
+from try_cases import FAULT, put
+
+# both.rattle is built in the place of this program's main file, and needs what the other one stands on, too.
+PROGRAM = "pdrecord"
+OTHER = "pdregress"
+MAIN = trying.TOP / "tools" / "both.rattle"
+MODULE = "mod record_program;"
+# What of a crate is read.
+PARTS = ("src", "specs", "proofs")
+
+
+def put_tree(tree: Path, room: Path) -> None:
+    """Puts into a folder a tree of the same crates, in which both.rattle is the main file of its program."""
+    for crate in (tree / "crates").iterdir():
+        for part in PARTS:
+            if (crate / part).is_dir():
+                shutil.copytree(crate / part, room / "crates" / crate.name / part)
+    sources = room / "crates" / PROGRAM / "src"
+    modules = sorted(it.stem for it in sources.glob("*.rt") if it.stem != "main")
+    # On one line, so that each line keeps its number.
+    declared = " ".join(f"mod {it};" for it in modules)
+    (sources / "main.rt").write_text(MAIN.read_text().replace(MODULE, declared))
+    (room / "crates.txt").write_text(with_both((tree / "crates.txt").read_text()))
+    if (tree / "HANDLES").exists():
+        shutil.copy(tree / "HANDLES", room)
+
+
+def with_both(table: str) -> str:
+    """A crates.txt in which the program stands on the libraries of the other one, too.
+
+    >>> with_both("low:\\npdregress may_wait=1: low a\\npdrecord: low b\\n")
+    'low:\\npdregress may_wait=1: low a\\npdrecord: low b  low a\\n'
+    """
+    found = re.search(rf"^{OTHER}\b[^:]*:(.*)$", table, re.MULTILINE)
+    return re.sub(rf"^{PROGRAM}\b.*$", rf"\g<0> {found[1] if found else ''}", table, flags=re.MULTILINE)
+
+
+def placed(said: bytes, room: Path, tree: Path) -> bytes:
+    """What is said, with the places in the tree."""
+    said = trying.placed(PROGRAM, said, room)
+    said = said.replace(os.fsencode(room / "crates" / PROGRAM / "src" / "main.rt"), os.fsencode(MAIN))
+    return said.replace(os.fsencode(room / "crates"), os.fsencode(tree / "crates"))
+
+
+def run(asked: argparse.Namespace, tree: Path) -> None:
+    """Builds, starts and answers."""
+    files = sorted(asked.starts.iterdir())
+    cases = [trying.Case((), it.read_bytes()) for it in files]
+    with tempfile.TemporaryDirectory(prefix="pdboth-") as folder:
+        room = Path(folder).resolve()
+        put_tree(tree, room)
+        try:
+            # What is built runs in any case, so that nothing has to be interpreted.
+            answers = trying.run_cases(PROGRAM, cases, room, asked.seconds, top=room, steps=1)
+        except trying.Untried as untried:
+            reason = untried.reason
+            raise trying.Untried(trying.NoAnswer(reason.name, reason.why, placed(reason.said, room, tree))) from None
+    for file, tried in zip(files, answers):
+        put(asked.answers, file.name, tried)
+
+
+def main() -> int:
+    parser = argparse.ArgumentParser(allow_abbrev=False, description=(__doc__ or "").partition(":\n")[0])
+    parser.add_argument("--seconds", type=int, default=trying.SECONDS, help="what a case may take")
+    parser.add_argument("--tree", metavar="FOLDER", type=Path, default=trying.TOP, help="the tree of the programs")
+    parser.add_argument("starts", metavar="STARTS", type=Path)
+    parser.add_argument("answers", metavar="ANSWERS", type=Path)
+    asked = parser.parse_args()
+    stopping.heed()
+    try:
+        run(asked, asked.tree.absolute())
+    except trying.Untried as untried:
+        print(f"{PROGRAM}: unproved: {untried}", file=sys.stderr)
+        sys.stderr.flush()
+        sys.stderr.buffer.write(untried.reason.said)
+        return FAULT
+    except stopping.Stopped as signal:
+        stopping.end_by(signal.number)
+    return 0
+
+
+if __name__ == "__main__":
+    sys.exit(main())
