@@ -2,7 +2,7 @@
 # Measures what it costs to answer a script again after an edit: one of 60 events that transfers data, edited in its last
 # line, against the same script edited in its first line, which has to be read and run from the start. What the edit and the
 # report themselves cost is taken off. Tells nanoseconds, and where valgrind is there instructions, which don't vary with
-# the load. An edit in the last line is to cost at most a fifth. The edit puts a space behind the line or takes it away.
+# the load. An edit in the last line is to cost at most a fifth. The edit puts a space after the line or takes it away.
 # Then what an edit in the last line costs more for each further event that is kept: from scripts of 181 and of 541 events.
 # Last, a script that grows by an event a settle to 4,096: each of the last ten settles may cost 1.5 times what one costs
 # after an edit of the last line of the same script, added whole. The status tells whether it does.
@@ -12,7 +12,7 @@
 turns=${1:-2000}
 transfers 1 >"$work/script"
 
-# A script of a connection on which so many segments are written and acknowledged, three events each behind the first seven.
+# A script of a connection on which so many segments are written and acknowledged, three events each after the first seven.
 connection() { # how many segments
     awk -v segments="$1" "$opening"'BEGIN {
         print "add script1", 7 + 3 * segments

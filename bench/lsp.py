@@ -5,6 +5,7 @@ It is called by bench/suite.sh. Each change is in the middle of a script; every 
 mends it.
 """
 
+import gc
 import os
 import statistics
 import sys
@@ -51,6 +52,7 @@ def told(what: str, times: list[float]) -> None:
 
 def main() -> int:
     """Opens all scripts, changes some, and answers whether it takes longer than it may."""
+    gc.disable()  # this client's garbage is none of the server's time
     paths = sorted(Path(suite).glob("*/*.pkt"))
     begin = time.monotonic()
     with LspClient(Path(os.environ["PDSUITE_PROGRAMS"]), Path(suite)) as client:

@@ -50,7 +50,7 @@ transfers() { # how many
     }'
 }
 
-# The instructions that the program takes for an input, with words behind its name; whatever its status.
+# The instructions that the program takes for an input, with words after its name; whatever its status.
 instructions() { # the input, and the words
     input=$1
     shift

@@ -1,6 +1,6 @@
 #!/bin/sh
 # Measures how scripts are read, as the built program takes them: long argument lists, scripts of 60 events that stop at
-# their first one, so that little but reading is left, and the same scripts run to their end, with a state kept behind each
+# their first one, so that little but reading is left, and the same scripts run to their end, with a state kept after each
 # fourth event. Tells octets per second, and where valgrind is there the instructions an octet, which don't vary with the
 # load.
 #

@@ -1,6 +1,6 @@
 #!/bin/sh
-# Measures what it costs to answer scripts again behind a changed setting that only their last events consult: scripts of
-# 60 events, of which the 58th writes, behind a change of how much may be queued, against the same scripts answered for the
+# Measures what it costs to answer scripts again after a changed setting that only their last events consult: scripts of
+# 60 events, of which the 58th writes, after a change of how much may be queued, against the same scripts answered for the
 # first time. What the commands and the reports themselves cost is taken off. Tells nanoseconds, and where valgrind is there
 # instructions, which don't vary with the load. The scripts are to be answered again at least five times as fast.
 #
@@ -24,7 +24,7 @@ writing() { # how many
 
 # The scripts; then, so many times, the setting changed and a command; then one that ends the input where it stands, so that
 # nothing more is run.
-input() { # the command behind the scripts, how many times, the command behind each change
+input() { # the command after the scripts, how many times, the command after each change
     cat "$work/scripts"
     echo "$1"
     awk -v turns="$2" -v command="$3" 'BEGIN {

@@ -1,6 +1,6 @@
 #!/bin/sh
 # Measures a settle beside workers, over generated scripts that take long: without workers, with 1 and with 4, and how the
-# times compare. A settle behind a changed setting is measured, so that taking the scripts in, which no worker shares, and a
+# times compare. A settle after a changed setting is measured, so that taking the scripts in, which no worker shares, and a
 # first settle are taken off. Far more scripts stand there than tracks are kept, and they come in the same order each time: a
 # script's track is gone before its turn comes, so each is read and run whole. Of several tries the best counts, since times
 # are noisy. A processor alone is often faster than four that are busy: so it also tells what 1 worker takes while three more

@@ -29,7 +29,7 @@ section and from SENDER.md. The folders whose names begin with `with-` have sett
 runs all scripts; each has to pass.
 
 A script can't show that nothing is sent at its end: packets that no event asks for are no failure. So a script that forbids a \
-packet goes on to the next one that is due, and fails there by its time or its number.
+packet goes on to the next one that is due, and fails there by its time or its number; or until 1,025 packets are untaken.
 """
 BUGS = """
 ## Bugs that the scripts see

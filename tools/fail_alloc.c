@@ -1,8 +1,10 @@
 /* Refuses one allocation of a program: the one whose number FAIL_AT says, counted from 1. Where it does, it makes the
-   file that FAIL_MARK names. Loaded before the C library: LD_PRELOAD=fail_alloc.so FAIL_AT=3 FAIL_MARK=met program */
+   file that FAIL_MARK names. The file that FAIL_COUNT names gets the number of allocations when the program ends.
+   Loaded before the C library: LD_PRELOAD=fail_alloc.so FAIL_AT=3 FAIL_MARK=met program */
 #define _GNU_SOURCE
 #include <dlfcn.h>
 #include <fcntl.h>
+#include <stdio.h>
 #include <stdlib.h>
 #include <unistd.h>
 
@@ -44,4 +46,22 @@ void *aligned_alloc(size_t alignment, size_t size)
     if (!next)
         next = (void *(*)(size_t, size_t))dlsym(RTLD_NEXT, "aligned_alloc");
     return is_refused() ? NULL : next(alignment, size);
+}
+
+__attribute__((destructor)) static void tell(void)
+{
+    const char *path = getenv("FAIL_COUNT");
+    int file = path ? open(path, O_CREAT | O_TRUNC | O_WRONLY, 0600) : -1;
+    if (file >= 0) {
+        dprintf(file, "%lu\n", made);
+        close(file);
+    }
+}
+
+void _exit(int status)
+{
+    void (*next)(int) = (void (*)(int))dlsym(RTLD_NEXT, "_exit");
+    tell();
+    next(status);
+    __builtin_unreachable();
 }

@@ -15,6 +15,8 @@ TOP = Path(__file__).resolve().parents[1]
 # What two lanes take at most, in octets, and how many jobs each of them gives a proof.
 ROOM = 16_000_000_000
 JOBS = 2
+# How the folder of a lane begins that stands in what is kept of a crate.
+LANE = "lane-"
 
 
 class Unproved(Exception):
@@ -60,7 +62,7 @@ class Lane:
         built = self.out(program) / program
         built.unlink(missing_ok=True)
         # Its status is that of a run without input, too.
-        self.call(program, "run")
+        self.call(program, "run", *self.flags)
         if not os.access(built, os.X_OK):
             raise Unproved(program)
 
@@ -75,20 +77,30 @@ class Lane:
 
 
 def hand_over(folder: Path, to: Path, room: Path) -> None:
-    """Puts a folder in another place, by hard links where that can be, instead of what stands there.
+    """Puts what a folder has, lanes apart, in another place, by hard links where that can be, instead of what is there.
 
-    ROOM is a folder of the same file system, where it is made first, so that a process that is killed leaves either.
+    ROOM is a folder of the same file system, where each part is made first, so that one who is killed leaves either.
     """
     if folder == to or not folder.is_dir():
         return
+    to.mkdir(parents=True, exist_ok=True)
+    for part in (it for it in folder.iterdir() if not it.name.startswith(LANE)):
+        hand_over_part(part, to / part.name, room)
+
+
+def hand_over_part(part: Path, to: Path, room: Path) -> None:
+    """Puts a folder or a file in another place, instead of what stands there."""
     fresh, before = room / "fresh", room / "before"
     for left in (fresh, before):
         shutil.rmtree(left, ignore_errors=True)
-    shutil.copytree(folder, fresh, copy_function=link, symlinks=True)
-    to.parent.mkdir(parents=True, exist_ok=True)
+        left.unlink(missing_ok=True)
+    if part.is_dir():
+        shutil.copytree(part, fresh, copy_function=link, symlinks=True)
+    else:
+        link(str(part), str(fresh))
     if to.is_dir():
         to.rename(before)
-    fresh.rename(to)
+    fresh.replace(to)
     shutil.rmtree(before, ignore_errors=True)
 
 

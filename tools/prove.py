@@ -1,13 +1,14 @@
 """Proves and builds programs, all where none is named, and the libraries below them: prove [--lanes N] [PROGRAM..]
 
-Two libraries are proved side by side, in two lanes, where the machine has four processors and 16 GB of free memory.
+Two crates are proved side by side, in two lanes, where the machine has four processors and 16 GB of free memory.
 `rt lib` locks each library below the one that it proves, so the second lane works in a copy of the crates. What is
 proved in one is handed to the other by hard links, and the copy is gone at the end.
 
 Says on standard error which crate is proved, how many are left, and about how long they take: as long as they took
 last on this machine, as a file below ~/.cache/pdregress says. Where one isn't proved, it says each error with its file
-and line. Interrupted, it keeps what was proved. Both end with status 2. Two calls in one tree work one after the other.
-In the end it keeps copies of all programs that are proved, with their commit, as tools/kept_programs.py says.
+and line, which definitions aren't those by which it was proved last, and which laws name them. Interrupted, it keeps
+what was proved. Both end with status 2. Two calls in one tree work one after the other. In the end it keeps copies of
+all programs that are proved, with their commit, as tools/kept_programs.py says.
 """
 from __future__ import annotations
 
@@ -27,13 +28,12 @@ from dataclasses import dataclass, field
 from pathlib import Path
 
 import stopping
+from changed_rules import keep, told
 from crate_graph import dependencies, libraries_below
 from kept_programs import keep_programs
-from lanes import JOBS, TOP, Lane, Unproved, copy_crates, hand_over, has_room
+from lanes import JOBS, LANE, TOP, Lane, Unproved, copy_crates, hand_over, has_room
 from prove_errors import errors
 from prove_times import Times, amount, key_of, time_of_proof
-
-LANE = "lane-"
 
 
 class Interrupted(Exception):
@@ -52,9 +52,14 @@ class Running:
 
 @dataclass
 class Work:
-    """Programs, the libraries that are to be proved for them, those that are, and those that a lane is at."""
+    """Programs, the crates that are to be proved for them, those that are, and those that a lane is at.
+
+    A program that is built is as old as this call, so an edit since is newer, and has the checksums of its sources.
+    """
 
     programs: list[str]
+    begun: int
+    sums: dict[str, str]
     uses: dict[str, list[str]]
     waiting: list[str]
     times: Times
@@ -64,25 +69,22 @@ class Work:
 
     def say_begun(self, crate: str, lanes: int) -> None:
         """Says that a crate is begun, and what is left."""
-        at = [it.crate for it in self.running.values()] + [crate]
-        libraries = [it for it in {*self.waiting, *at} if it not in self.programs]
-        seconds = max([sum(map(self.expected.__getitem__, libraries)) / lanes, *map(self.chain_above, libraries)])
-        programs = [it for it in self.programs if it not in self.proved]
-        seconds += sum(map(self.expected.__getitem__, programs))
-        say(f"proving {crate}; {amount(len(libraries) + len(programs), seconds)} are left")
+        left = {*self.waiting, crate, *(it.crate for it in self.running.values())}
+        seconds = max([sum(map(self.expected.__getitem__, left)) / lanes, *map(self.chain_above, left)])
+        say(f"proving {crate}; {amount(len(left), seconds)} are left")
 
-    def next_library(self) -> str | None:
-        """Of the libraries whose own are proved the one with the longest chain of others above it."""
+    def next_crate(self) -> str | None:
+        """Of the crates whose libraries are proved the one with the longest chain of others above it."""
         ready = [it for it in self.waiting if self.proved.issuperset(self.uses[it])]
         return max(ready, key=self.chain_above) if ready else None
 
-    def chain_above(self, library: str) -> float:
-        """The seconds of a library and the longest chain of others above it."""
-        above = max((self.chain_above(it) for it in self.waiting if library in self.uses[it]), default=0.0)
-        return self.expected[library] + above
+    def chain_above(self, crate: str) -> float:
+        """The seconds of a crate and the longest chain of others above it."""
+        above = max((self.chain_above(it) for it in self.waiting if crate in self.uses[it]), default=0.0)
+        return self.expected[crate] + above
 
-    def prove_libraries(self, *lanes: Lane) -> None:
-        """Proves the libraries in the first lane, and beside it in the last, which stands in a tree of its own."""
+    def prove(self, *lanes: Lane) -> None:
+        """Proves the crates in the first lane, and beside it in the last, which stands in a tree of its own."""
         pool = ThreadPoolExecutor(len(lanes))
         try:
             while self.waiting or self.running:
@@ -97,25 +99,30 @@ class Work:
                 hand_over(it.lane.out(it.crate), lanes[0].out(it.crate), lanes[-1].tree)
 
     def begin(self, pool: ThreadPoolExecutor, lanes: tuple[Lane, ...]) -> None:
-        """Gives each lane that is free a library, with what is kept of it."""
+        """Gives each lane that is free a crate, with what is kept of it."""
         busy = [it.lane.tree for it in self.running.values()]
         for lane in (it for it in lanes if it.tree not in busy):
-            library = self.next_library()
-            if library is None:
+            crate = self.next_crate()
+            if crate is None:
                 return
-            self.waiting.remove(library)
-            hand_over(lanes[0].out(library), lane.out(library), lanes[-1].tree)
-            self.say_begun(library, len(lanes))
-            running = Running(library, lane, key_of(library), time.time())
-            self.running[pool.submit(lane.prove_library, library)] = running
+            self.waiting.remove(crate)
+            hand_over(lanes[0].out(crate), lane.out(crate), lanes[-1].tree)
+            self.say_begun(crate, len(lanes))
+            running = Running(crate, lane, key_of(crate), time.time())
+            prove_crate = lane.prove_program if crate in self.programs else lane.prove_library
+            self.running[pool.submit(prove_crate, crate)] = running
 
     def end(self, future: Future[None], lanes: tuple[Lane, ...]) -> None:
-        """Gives the other lane what it reads of a library that was proved, and the first all that is kept of it."""
+        """Gives the other lane what it reads of a crate that was proved, and the first all that is kept of it."""
         future.result()
         it = self.running[future]
         self.keep_time(it)
+        keep(it.lane.out(it.crate), folders_for(it.crate, self.uses))
         hand_over(it.lane.out(it.crate), lanes[0].out(it.crate), lanes[-1].tree)
-        hand_over(it.lane.out(it.crate) / "rlib", lanes[-1].out(it.crate) / "rlib", lanes[-1].tree)
+        if it.crate in self.programs:
+            self.date(it.crate, lanes[0].out(it.crate) / it.crate)
+        else:
+            hand_over(it.lane.out(it.crate) / "rlib", lanes[-1].out(it.crate) / "rlib", lanes[-1].tree)
         # Only now, so that what was proved isn't lost where a signal comes in the midst.
         del self.running[future]
         self.proved.add(it.crate)
@@ -125,21 +132,11 @@ class Work:
         if time_of_proof(it.lane.out(it.crate)) >= it.begun:
             self.times.keep(it.key, time.time() - it.begun)
 
-    def prove_programs(self, lane: Lane, begun: int, sums: dict[str, str]) -> None:
-        """Proves the programs, each of which is then as old as this call, so that an edit since is newer."""
-        try:
-            for program in self.programs:
-                self.say_begun(program, 1)
-                it = Running(program, lane, key_of(program), time.time())
-                lane.prove_program(program)
-                self.keep_time(it)
-                built = lane.out(program) / program
-                own = f"{hashlib.sha256(built.read_bytes()).hexdigest()}  {built.relative_to(TOP)}\n"
-                built.with_suffix(".sums").write_text(own + sums[program])
-                os.utime(built, ns=(begun, begun))
-                self.proved.add(program)
-        finally:
-            lane.stop()
+    def date(self, program: str, built: Path) -> None:
+        """Makes a program as old as this call, and keeps the checksums beside it."""
+        own = f"{hashlib.sha256(built.read_bytes()).hexdigest()}  {built.relative_to(TOP)}\n"
+        built.with_suffix(".sums").write_text(own + self.sums[program])
+        os.utime(built, ns=(self.begun, self.begun))
 
 
 def say(text: str) -> None:
@@ -151,17 +148,15 @@ def prove(programs: list[str], is_one_lane: bool) -> None:
     sums = {program: sums_of(program) for program in programs}
     uses = dependencies((TOP / "crates.txt").read_text())
     times = Times.read()
-    libraries = dict.fromkeys(it for program in programs for it in libraries_below(program, uses))
-    work = Work(programs, uses, list(libraries), times, times.expected(uses))
+    crates = dict.fromkeys(it for program in programs for it in [*libraries_below(program, uses), program])
+    work = Work(programs, begun, sums, uses, list(crates), times, times.expected(uses))
     try:
         if is_one_lane:
-            work.prove_libraries(Lane(TOP, []))
+            work.prove(Lane(TOP, []))
         else:
             prove_in_two_lanes(work)
-        work.prove_programs(Lane(TOP, []), begun, sums)
     except KeyboardInterrupt:
-        at = [it.crate for it in work.running.values()] or [it for it in programs if it not in work.proved][:1]
-        raise Interrupted(" and ".join(at)) from None
+        raise Interrupted(" and ".join(it.crate for it in work.running.values())) from None
 
 
 def prove_in_two_lanes(work: Work) -> None:
@@ -172,7 +167,7 @@ def prove_in_two_lanes(work: Work) -> None:
         shutil.rmtree(left, ignore_errors=True)
     with tempfile.TemporaryDirectory(prefix=LANE, dir=out) as copy:
         copy_crates(work.waiting, Path(copy))
-        work.prove_libraries(Lane(TOP, flags), Lane(Path(copy), flags))
+        work.prove(Lane(TOP, flags), Lane(Path(copy), flags))
 
 
 @contextlib.contextmanager
@@ -196,13 +191,20 @@ def is_built(program: str) -> bool:
     return subprocess.run([TOP / "tools" / "built.sh", program], capture_output=True).returncode == 0
 
 
+def folders_for(crate: str, uses: dict[str, list[str]]) -> list[Path]:
+    """The folders of a crate and of those below it."""
+    return [TOP / "crates" / it for it in [*libraries_below(crate, uses), crate]]
+
+
 def say_errors(crate: str) -> None:
-    """Says why a crate isn't proved."""
+    """Says why a crate isn't proved, and which definitions have changed since it was."""
     folder = TOP / "crates" / crate
     log = folder / "out" / "build.log"
     text = log.read_text(errors="replace")
     say(f"{crate} isn't proved, or wasn't built:")
     print(*list(errors(text, folder)) or text.splitlines()[-5:], sep="\n", file=sys.stderr)
+    for line in told(log.parent, folders_for(crate, dependencies((TOP / "crates.txt").read_text()))):
+        print(line, file=sys.stderr)
     say(f"the whole log: {log}")
 
 
@@ -210,7 +212,7 @@ def main() -> int:
     every = (TOP / "packaging" / "programs.txt").read_text().split()
     parser = argparse.ArgumentParser(prog="prove", allow_abbrev=False, description=(__doc__ or "").partition("\n")[0])
     parser.add_argument("programs", metavar="PROGRAM", nargs="*", help=", ".join(every))
-    parser.add_argument("--lanes", type=int, choices=(1, 2), help="how many libraries are proved side by side")
+    parser.add_argument("--lanes", type=int, choices=(1, 2), help="how many crates are proved side by side")
     asked = parser.parse_args()
     programs = list(dict.fromkeys(asked.programs)) or every
     for unknown in (it for it in programs if it not in every):

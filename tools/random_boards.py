@@ -20,7 +20,7 @@ from random_lists import Dice
 # The greatest window that growth leads to.
 MOST = 2**30
 
-# How many segments recovery and limited transmit send at most behind an ACK.
+# How many segments recovery and limited transmit send at most after an ACK.
 SEGMENTS = 20
 
 # What is counted, by the words of rows: what ACKs lead to, the rules of NextSeg, and the timer.
@@ -98,7 +98,7 @@ class Board:
         return bool(fresh)
 
     def skip(self) -> None:
-        """Sending goes on behind the SACKed octets that it stands at."""
+        """Sending goes on after the SACKed octets that it stands at."""
         while self.next in self.sacked:
             self.next += 1
 
@@ -330,7 +330,7 @@ class Trial:
         return self.dice.below(draws) == 0
 
     def rows(self) -> Iterator[str]:
-        """The whole list: how it begins, and the calls, each with what is answered behind it."""
+        """The whole list: how it begins, and the calls, each with what is answered after it."""
         yield f"list {said(self.board.smss, self.window.ssthresh, self.is_resent)}"
         for _ in range(self.mix.calls):
             yield from self.call()
@@ -441,7 +441,7 @@ class Trial:
             pipe += segment.octets()
 
     def answers(self) -> str:
-        """What is answered behind a call, also of a random octet and of octets sent again up to a random one."""
+        """What is answered after a call, also of a random octet and of octets sent again up to a random one."""
         board, window = self.board, self.window
         octet, high_rxt = self.between(board.una, board.top), self.between(board.una, board.top)
         numbers = said(board.una, board.next, board.top, board.end, window.cwnd, window.is_recovering)

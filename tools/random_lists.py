@@ -35,10 +35,10 @@ LINES = {
 }
 CONNECTION = "ghijklmn"
 
-# Answers are made of the same pieces over and over; each ends behind a `|`.
+# Answers are made of the same pieces over and over; each ends after a `|`.
 PIECES = re.compile(r"[^|]+\|?|\|")
 
-# How many lines of kind `a` may be drawn in a row: 3 behind the last line of the connection, and 15 more.
+# How many lines of kind `a` may be drawn in a row: 3 after the last line of the connection, and 15 more.
 LONGEST = 3 + 15
 
 # Each setting with its default and another value, in the order in which a report says them.
@@ -54,6 +54,7 @@ SETTINGS = {
     "max_rto_us": ("60000000", "3600000000"),
     "granularity_us": ("1000", "10000"),
     "nagle": ("true", "false"),
+    "limited_transmit": ("true", "false"),
     "tolerance_us": ("4000", "1"),
 }
 DEFAULTS = {key: values[0] for key, values in SETTINGS.items()}
@@ -61,12 +62,12 @@ DEFAULTS = {key: values[0] for key, values in SETTINGS.items()}
 # The settings in the order in which one is drawn.
 DRAWN = (
     "mss sack wscale rcv_wnd min_rto_us max_rto_us tolerance_us initial_ssthresh granularity_us nagle "
-    "initial_window sndbuf"
+    "initial_window sndbuf limited_transmit"
 ).split()
 
 # What a SYN that is answered consults, and the ACK that establishes the connection.
 AT_SYN = {"mss", "sack", "wscale", "rcv_wnd", "min_rto_us", "max_rto_us"}
-AT_ACK = {"initial_ssthresh", "granularity_us", "nagle", "initial_window"}
+AT_ACK = {"initial_ssthresh", "granularity_us", "nagle", "initial_window", "limited_transmit"}
 
 # How many octets a line of kind `n` writes.
 WRITTEN = 1_000
@@ -231,7 +232,7 @@ def spared(job: Job, track: Job) -> int:
 
 
 class Tracks:
-    """The jobs whose tracks are kept, by their scripts, the one that was used last behind the others."""
+    """The jobs whose tracks are kept, by their scripts, the one that was used last after the others."""
 
     def __init__(self, most: int) -> None:
         self.most = most
@@ -471,13 +472,13 @@ def drawn_kinds(dice: Dice, bound: int) -> Text:
 
 
 def drawn_text(dice: Dice) -> Text:
-    """Lines, in two of three texts behind those that make a connection, with others between them."""
+    """Lines, in two of three texts after those that make a connection, with others between them."""
     opening = "".join(kind + drawn_kinds(dice, 4) for kind in CONNECTION) if dice.below(3) else ""
     return opening + drawn_kinds(dice, 16)
 
 
 def written(text: Text) -> str:
-    """A text as a row writes it behind other words: lines of kind `a` in a row as one word with their number."""
+    """A text as a row writes it after other words: lines of kind `a` in a row as one word with their number."""
     parts = re.findall("a+|[^a]", text)
     return " " + " | ".join(part if len(part) == 1 else f"a{len(part)}" for part in parts) if text else ""
 

@@ -1,10 +1,10 @@
 #!/usr/bin/env python3
-"""Prints what to read to believe the contracts of public functions: the files, and how many lines of each.
+"""Prints what to read to believe contracts of public functions: the files, and how many lines of each.
 
-    tools/reading_list.py FUNCTION..     as Book::show or pd_cli::run
+    tools/reading_list.py FUNCTION..     as pd_cli::run, or with the clauses that are meant, as Book::show.current,scripts
 
-Each word of a contract is followed, by the imports of its file, to its definition in specs/ or its type in src/, and so
-on from there. A type with private fields counts by the value that contracts see. The kit's libraries aren't followed.
+Each word is followed, by the imports of its file, to its definition in specs/ or its type in src/, and so on from there.
+A type with private fields counts by the value that contracts see. The kit's libraries aren't followed.
 """
 
 import re
@@ -25,9 +25,7 @@ Index = dict[Name, "Place | Name"]  # where that is defined, or the name that it
 
 
 @dataclass(frozen=True, eq=False)
-class Place:
-    """Lines of a file that define or promise something."""
-
+class Place:  # lines of a file that define or promise something
     file: str
     start: int
     text: str
@@ -42,7 +40,7 @@ def read(path: Path, crate: str) -> Iterator[tuple[Name, "Place | Name"]]:
         for name in DEFINED.findall(part) + [owner] * ("    ghost Value" in part):
             yield from (((scope, name.strip("◌")), here) for scope in scopes)
         if found := FUNCTION.search(part):
-            yield (crate, f"{owner}::{found[1]}".lstrip(":")), Place(file, start, f"{part[: found.end()]} {owner}")
+            yield (crate, f"{owner}::{found[1]}".lstrip(":")), Place(file, start, f"{owner} {part[: found.end()]}")
         owner = "" if f"\n{part}".endswith("\n}") else owner
         start += part.count("\n") + 2
 
@@ -51,8 +49,8 @@ def imports_of(file: str, crate: str, text: str) -> Iterator[tuple[Name, Name]]:
     """The words that a file imports, each with its origin; whatever is imported of a type stands for the type."""
     for library, declared, head, alias, names in IMPORT.findall(text):
         for old, _, new in (name.partition(" as ") for name in re.split(r",\s*", alias or names)):
-            defined = (f"{library}/specs/{head}.antt", "" if alias else old.strip("◌"))
-            yield (file, (new or old).strip("◌")), (library, head) if declared else defined
+            name = (library, head) if declared else (f"{library}/specs/{head}.antt", "" if alias else old.strip("◌"))
+            yield (file, (new or old).strip("◌")), name
     for library, names in RUST_IMPORT.findall(text):
         scope = library if library.startswith("pd") else crate
         yield from (((file, name), (scope, name)) for name in re.findall(r"\b[A-Z]\w+", names))
@@ -72,14 +70,22 @@ def meant(index: Index, file: str, word: str) -> list[Place]:
     return [found] if found else []
 
 
+def contract(index: Index, wanted: str) -> Place:
+    """The contract of a function, or the wanted clauses of it."""
+    name, _, clauses = wanted.partition(".")
+    found = [place for key in index if f"::{'::'.join(key)}".endswith(f"::{name}") for place in meant(index, *key)]
+    head, *parts = re.split(r"\n(?= *ensures)", found[0].text if len(found) == 1 else "")
+    kept = [part for part in parts if not clauses or part.split()[1] in clauses.split(",")]
+    if len(found) != 1 or len(kept) < len(clauses.split(",")):
+        sys.exit("reading_list: each word has to name one public function, and clauses of it")
+    return Place(found[0].file, found[0].start, "\n".join([head, *kept]))
+
+
 def reached(index: Index, functions: list[str]) -> list[Place]:
     """The contracts of functions and all that they rest on, what is nearer first."""
-    keys = [key for wanted in functions for key in index if f"::{'::'.join(key)}".endswith(f"::{wanted}")]
-    if len(keys) != len(functions):
-        sys.exit("reading_list: each word has to name one public function")
-    places = [place for scope, name in keys for place in meant(index, scope, name)]
+    places = [contract(index, wanted) for wanted in functions]
     for here in places:
-        words = WORD.findall(re.sub(r"(--|//).*", "", here.text))
+        words = WORD.findall(re.sub(r"(--|//).*|^ +pub \w+ :", "", here.text, flags=re.M))
         beyond = dict.fromkeys(place for word in words for place in meant(index, here.file, word))
         places.extend(place for place in beyond if place not in places)
     return places

@@ -8,6 +8,11 @@ import subprocess
 import sys
 import tempfile
 import time
+from pathlib import Path
+
+sys.path.insert(0, str(Path(__file__).resolve().parents[1] / "tests"))
+
+from rows.comparing import add_command  # noqa: E402
 
 OCTETS = 1_000_000
 SECONDS = 60
@@ -29,6 +34,7 @@ NAMES = [b"a", b"b", b"c", b"script", b"a.b", b"x" * 64]
 KEYS = [
     b"mss", b"sack", b"wscale", b"sndbuf", b"rcv_wnd", b"initial_ssthresh", b"min_rto_us",
     b"max_rto_us", b"granularity_us", b"nagle", b"tolerance_us", b"initial_window",
+    b"limited_transmit",
 ]
 VALUES = [
     b"0", b"1", b"true", b"false", b"1000", b"65495", b"1048576", b"x", b"-1", b"18446744073709551616", b"rfc5681",
@@ -83,8 +89,7 @@ def traffic(dice, count):
 
 
 def added(name, text):
-    lines = text.split(b"\n")
-    return b"add %s %d\n%s\n" % (name, len(lines), b"\n".join(lines))
+    return add_command(name.decode(), text)
 
 
 def scripts(dice, make):

@@ -3,7 +3,7 @@
 
 Runs each command that the tutorial shows, one after another, and compares what it prints. Prints a line for each with
 the seconds that it took, and `N passed, M failed` last. The clone is made in FOLDER, which isn't there yet, and stays.
-The gate runs the other commands, with the built programs; see tools/tests/documents.py.
+The gate runs the other commands, with the built programs; see tests/documents.py.
 """
 
 import argparse
@@ -13,7 +13,7 @@ import time
 from pathlib import Path
 
 TOP = Path(__file__).resolve().parents[1]
-sys.path.insert(0, str(TOP / "tools/tests"))
+sys.path.insert(0, str(TOP / "tests"))
 
 from documents.shown import shown_in  # noqa: E402
 from documents.walking import walk  # noqa: E402

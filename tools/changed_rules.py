@@ -1,0 +1,140 @@
+"""Which definitions changed since a crate was proved last, and which laws name them, also through others."""
+from __future__ import annotations
+
+import json
+import re
+from collections.abc import Iterable, Iterator
+from dataclasses import dataclass
+from pathlib import Path
+
+# The file in a crate's out/ that has the definitions by which it was proved: its own, and those of the crates below.
+KEPT = "definitions.json"
+HEAD = re.compile(r"^(?:abbrev )?(?:pub )?(?:record |data )?(?P<name>[^\W\d][\w-]*)")
+USE = re.compile(r"^(?:pub )?use Rattle\.(\w+)\.specs\.(\w+)(?:\.\{([^}]*)\}| as (\w+))", re.MULTILINE)
+COMMENT = re.compile(r"(?:^|(?<=\s))--(?=\s|$).*")
+WORD = re.compile(r"[^\W\d][\w-]*(?:\.[\w-]+)?")
+# The files whose definitions are laws.
+LAWS = re.compile(r"Laws$")
+# The crate, the file and the name of a definition.
+Key = tuple[str, str, str]
+
+
+@dataclass(frozen=True)
+class Rule:
+    """A definition: its crate, its file, its name and its line; and its text, without comments and layout."""
+
+    crate: str
+    file: str
+    name: str
+    line: int
+    text: str
+
+    @property
+    def key(self) -> Key:
+        """What tells it from all others."""
+        return self.crate, self.file, self.name
+
+    @property
+    def place(self) -> str:
+        """Where it is."""
+        return f"crates/{self.crate}/specs/{self.file}.antt:{self.line}"
+
+
+def rules_in(crate: str, file: str, text: str) -> Iterator[Rule]:
+    """The definitions of a file: each begins after an empty line, below its comments.
+
+    >>> text = "use A.{b}\\n\\n-- why\\nabbrev pub one : ℕ\\none =   1 -- so\\n\\npub record R : Type 0 where\\n  a : ℕ"
+    >>> [(it.name, it.line, it.text) for it in rules_in("c", "F", text)]
+    [('one', 4, 'abbrev pub one : ℕ one = 1'), ('R', 7, 'pub record R : Type 0 where a : ℕ')]
+    """
+    line = 1
+    for block in text.split("\n\n"):
+        lines = [COMMENT.sub("", it) for it in block.split("\n")]
+        skipped = next((number for number, it in enumerate(lines) if it.strip()), len(lines))
+        words = " ".join(" ".join(lines).split())
+        head = HEAD.match(words)
+        if head and not re.match(r"(?:pub )?(?:use|mod) ", words):
+            yield Rule(crate, file, head["name"], line + skipped, words)
+        line += len(lines) + 1
+
+
+def files_of(folder: Path) -> Iterator[tuple[str, str]]:
+    """The names and texts of a crate's files of definitions."""
+    for path in sorted(folder.glob("specs/*.antt")):
+        yield path.stem, path.read_text(encoding="utf-8")
+
+
+def rules_of(folders: Iterable[Path]) -> Iterator[Rule]:
+    """The definitions of crates."""
+    for folder in folders:
+        for file, text in files_of(folder):
+            yield from rules_in(folder.name, file, text)
+
+
+def keep(out: Path, folders: Iterable[Path]) -> None:
+    """Keeps the definitions by which a crate was proved just now, in what is kept of it."""
+    texts = {".".join(it.key): it.text for it in rules_of(folders)}
+    fresh = out / f"{KEPT}.new"
+    fresh.write_text(json.dumps(texts, ensure_ascii=False), encoding="utf-8")
+    # Another tree may have the same file by a hard link.
+    fresh.replace(out / KEPT)
+
+
+def changed(out: Path, folders: Iterable[Path]) -> list[Rule]:
+    """The definitions that aren't those by which a crate was proved; none where nothing is kept of that."""
+    try:
+        kept = json.loads((out / KEPT).read_text(encoding="utf-8"))
+    except (OSError, ValueError):
+        return []
+    return [it for it in rules_of(folders) if kept.get(".".join(it.key)) != it.text]
+
+
+def named_in(crate: str, file: str, text: str, own: set[str]) -> dict[str, Key]:
+    """What each word of a file names: a definition of its own, or one that it imports.
+
+    >>> named_in("c", "F", "use Rattle.low.specs.G.{a as b, d}\\nuse Rattle.low.specs.H as h\\n", {"own"})
+    {'own': ('c', 'F', 'own'), 'b': ('low', 'G', 'a'), 'd': ('low', 'G', 'd'), 'h.': ('low', 'H', '')}
+    """
+    found = {name: (crate, file, name) for name in own}
+    for low, there, names, alias in USE.findall(text):
+        if alias:
+            found[f"{alias}."] = low, there, ""
+        for name in filter(None, map(str.strip, names.split(","))):
+            it, _, other = name.partition(" as ")
+            found[other or it] = low, there, it
+    return found
+
+
+def names_of(rule: Rule, names: dict[str, Key]) -> set[Key]:
+    """What a definition names, by what the words of its file name."""
+    found = set()
+    for word in WORD.findall(rule.text):
+        head, dot, field = word.partition(".")
+        if head in names:
+            found.add(names[head])
+        elif f"{head}." in names and dot:
+            crate, file, _ = names[f"{head}."]
+            found.add((crate, file, field))
+    return found
+
+
+def laws_naming(rule: Rule, folders: list[Path]) -> list[Rule]:
+    """The laws of these crates that name a definition, also through others."""
+    named: dict[Rule, set[Key]] = {}
+    for folder in folders:
+        for file, text in files_of(folder):
+            rules = list(rules_in(folder.name, file, text))
+            names = named_in(folder.name, file, text, {it.name for it in rules})
+            named.update((it, names_of(it, names)) for it in rules)
+    reached = {rule.key}
+    while more := {it.key for it, those in named.items() if it.key not in reached and those & reached}:
+        reached |= more
+    return [it for it in named if it.key in reached and LAWS.search(it.file)]
+
+
+def told(out: Path, folders: list[Path]) -> Iterator[str]:
+    """What changed in the definitions of a crate and those below it since it was proved, and the laws that name it."""
+    for rule in changed(out, folders):
+        yield f"{rule.place}: `{rule.name}` isn't as it was when this was proved last"
+        laws = [f"{law.name} ({law.place})" for law in laws_naming(rule, folders)]
+        yield f"  laws that name it: {', '.join(laws) or 'none'}"
