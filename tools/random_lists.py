@@ -55,6 +55,8 @@ SETTINGS = {
     "granularity_us": ("1000", "10000"),
     "nagle": ("true", "false"),
     "limited_transmit": ("true", "false"),
+    "byte_counting": ("1", "2"),
+    "restart_after_idle": ("false", "true"),
     "tolerance_us": ("4000", "1"),
 }
 DEFAULTS = {key: values[0] for key, values in SETTINGS.items()}
@@ -62,12 +64,20 @@ DEFAULTS = {key: values[0] for key, values in SETTINGS.items()}
 # The settings in the order in which one is drawn.
 DRAWN = (
     "mss sack wscale rcv_wnd min_rto_us max_rto_us tolerance_us initial_ssthresh granularity_us nagle "
-    "initial_window sndbuf limited_transmit"
+    "initial_window sndbuf limited_transmit byte_counting restart_after_idle"
 ).split()
 
 # What a SYN that is answered consults, and the ACK that establishes the connection.
 AT_SYN = {"mss", "sack", "wscale", "rcv_wnd", "min_rto_us", "max_rto_us"}
-AT_ACK = {"initial_ssthresh", "granularity_us", "nagle", "initial_window", "limited_transmit"}
+AT_ACK = {
+    "initial_ssthresh",
+    "granularity_us",
+    "nagle",
+    "initial_window",
+    "limited_transmit",
+    "byte_counting",
+    "restart_after_idle",
+}
 
 # How many octets a line of kind `n` writes.
 WRITTEN = 1_000

@@ -34,7 +34,7 @@ NAMES = [b"a", b"b", b"c", b"script", b"a.b", b"x" * 64]
 KEYS = [
     b"mss", b"sack", b"wscale", b"sndbuf", b"rcv_wnd", b"initial_ssthresh", b"min_rto_us",
     b"max_rto_us", b"granularity_us", b"nagle", b"tolerance_us", b"initial_window",
-    b"limited_transmit",
+    b"limited_transmit", b"byte_counting", b"restart_after_idle",
 ]
 VALUES = [
     b"0", b"1", b"true", b"false", b"1000", b"65495", b"1048576", b"x", b"-1", b"18446744073709551616", b"rfc5681",

@@ -48,6 +48,8 @@ KEYS: dict[str, Number | Word] = {
     "granularity_us": Number(1_000, 1, 1_000_000, "microseconds"),
     "nagle": Word(True),
     "limited_transmit": Word(True),
+    "byte_counting": Number(1, 1, 8, "segments"),
+    "restart_after_idle": Word(False),
     "tolerance_us": Number(4_000, 0, 1_000_000, "microseconds"),
 }
 # end

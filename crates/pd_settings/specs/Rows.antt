@@ -1,10 +1,10 @@
 -- The table of settings: a row for each.
-use Rattle.std.specs.Prelude.{codes, ℕ, true, List, [], ◌∷◌}
+use Rattle.std.specs.Prelude.{codes, ℕ, true, false, List, [], ◌∷◌}
 use Rattle.pd_settings.specs.declared.domains.Domain.{Domain}
 use Rattle.pd_settings.specs.declared.domains.Domain.TheVariants.{Numbers, Truths, Windows}
 use Rattle.pd_settings.specs.declared.initial_window.InitialWindow.TheVariants.{Rfc5681}
 use Rattle.pd_settings.specs.declared.keys.Key.{Key}
-use Rattle.pd_settings.specs.declared.keys.Key.TheVariants.{Mss, Sack, Wscale, Sndbuf, RcvWnd, InitialSsthresh, InitialWindow, MinRtoUs, MaxRtoUs, GranularityUs, Nagle, LimitedTransmit, ToleranceUs}
+use Rattle.pd_settings.specs.declared.keys.Key.TheVariants.{Mss, Sack, Wscale, Sndbuf, RcvWnd, InitialSsthresh, InitialWindow, MinRtoUs, MaxRtoUs, GranularityUs, Nagle, LimitedTransmit, ByteCounting, RestartAfterIdle, ToleranceUs}
 use Rattle.pd_settings.specs.declared.values.Value.{Value}
 use Rattle.pd_settings.specs.declared.values.Value.TheVariants.{Number, Truth, Word}
 
@@ -17,7 +17,7 @@ pub record Row : Type 0 where
 
 -- the settings in the order of their table
 abbrev pub all_keys : List Key
-all_keys = Mss ∷ Sack ∷ Wscale ∷ Sndbuf ∷ RcvWnd ∷ InitialSsthresh ∷ InitialWindow ∷ MinRtoUs ∷ MaxRtoUs ∷ GranularityUs ∷ Nagle ∷ LimitedTransmit ∷ ToleranceUs ∷ []
+all_keys = Mss ∷ Sack ∷ Wscale ∷ Sndbuf ∷ RcvWnd ∷ InitialSsthresh ∷ InitialWindow ∷ MinRtoUs ∷ MaxRtoUs ∷ GranularityUs ∷ Nagle ∷ LimitedTransmit ∷ ByteCounting ∷ RestartAfterIdle ∷ ToleranceUs ∷ []
 
 -- the row of each; docs/SETTINGS.md says what each changes
 abbrev pub row_of : Key → Row
@@ -33,4 +33,6 @@ row_of MaxRtoUs = record { name = codes "max_rto_us"; takes = Numbers 60000000 3
 row_of GranularityUs = record { name = codes "granularity_us"; takes = Numbers 1 1000000; unit = codes "microseconds"; unset = Number 1000 }
 row_of Nagle = record { name = codes "nagle"; takes = Truths; unit = []; unset = Truth true }
 row_of LimitedTransmit = record { name = codes "limited_transmit"; takes = Truths; unit = []; unset = Truth true }
+row_of ByteCounting = record { name = codes "byte_counting"; takes = Numbers 1 8; unit = codes "segments"; unset = Number 1 }
+row_of RestartAfterIdle = record { name = codes "restart_after_idle"; takes = Truths; unit = []; unset = Truth false }
 row_of ToleranceUs = record { name = codes "tolerance_us"; takes = Numbers 0 1000000; unit = codes "microseconds"; unset = Number 4000 }

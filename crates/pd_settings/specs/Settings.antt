@@ -8,7 +8,7 @@ use Rattle.pd_settings.specs.declared.fields.Settings.{Settings}
 use Rattle.pd_settings.specs.declared.initial_window.InitialWindow.{InitialWindow as Window}
 use Rattle.pd_settings.specs.declared.initial_window.InitialWindow.TheVariants.{Rfc5681}
 use Rattle.pd_settings.specs.declared.keys.Key.{Key}
-use Rattle.pd_settings.specs.declared.keys.Key.TheVariants.{Mss, Sack, Wscale, Sndbuf, RcvWnd, InitialSsthresh, InitialWindow, MinRtoUs, MaxRtoUs, GranularityUs, Nagle, LimitedTransmit, ToleranceUs}
+use Rattle.pd_settings.specs.declared.keys.Key.TheVariants.{Mss, Sack, Wscale, Sndbuf, RcvWnd, InitialSsthresh, InitialWindow, MinRtoUs, MaxRtoUs, GranularityUs, Nagle, LimitedTransmit, ByteCounting, RestartAfterIdle, ToleranceUs}
 use Rattle.pd_settings.specs.declared.values.Value.{Value}
 use Rattle.pd_settings.specs.declared.values.Value.TheVariants.{Number, Truth, Word}
 use Rattle.pd_settings.specs.Keys.{Takes, key_named, domain_of, default_of, value_taken}
@@ -46,6 +46,8 @@ defaults = record {
   granularity_us = number_in (default_of GranularityUs);
   nagle = truth_in (default_of Nagle);
   limited_transmit = truth_in (default_of LimitedTransmit);
+  byte_counting = number_in (default_of ByteCounting);
+  restart_after_idle = truth_in (default_of RestartAfterIdle);
   tolerance_us = number_in (default_of ToleranceUs);
   mss_in_range = (lit≤ tt, lit≤ tt);
   wscale_in_range = (lit≤ tt, lit≤ tt);
@@ -55,6 +57,7 @@ defaults = record {
   min_rto_us_in_range = (lit≤ tt, lit≤ tt);
   max_rto_us_in_range = (lit≤ tt, lit≤ tt);
   granularity_us_in_range = (lit≤ tt, lit≤ tt);
+  byte_counting_in_range = (lit≤ tt, lit≤ tt);
   tolerance_us_in_range = (lit≤ tt, lit≤ tt);
 }
 
@@ -72,6 +75,8 @@ value_at s MaxRtoUs = Number s.max_rto_us
 value_at s GranularityUs = Number s.granularity_us
 value_at s Nagle = Truth s.nagle
 value_at s LimitedTransmit = Truth s.limited_transmit
+value_at s ByteCounting = Number s.byte_counting
+value_at s RestartAfterIdle = Truth s.restart_after_idle
 value_at s ToleranceUs = Number s.tolerance_us
 
 -- it is a value that the key takes
@@ -84,6 +89,7 @@ held s InitialSsthresh = s.initial_ssthresh_in_range
 held s MinRtoUs = s.min_rto_us_in_range
 held s MaxRtoUs = s.max_rto_us_in_range
 held s GranularityUs = s.granularity_us_in_range
+held s ByteCounting = s.byte_counting_in_range
 held s ToleranceUs = s.tolerance_us_in_range
 held s _ = tt
 
@@ -106,6 +112,8 @@ put s MaxRtoUs v h = record s { max_rto_us = number_in v; max_rto_us_in_range = 
 put s GranularityUs v h = record s { granularity_us = number_in v; granularity_us_in_range = in_range _ _ v h }
 put s Nagle v h = record s { nagle = truth_in v }
 put s LimitedTransmit v h = record s { limited_transmit = truth_in v }
+put s ByteCounting v h = record s { byte_counting = number_in v; byte_counting_in_range = in_range _ _ v h }
+put s RestartAfterIdle v h = record s { restart_after_idle = truth_in v }
 put s ToleranceUs v h = record s { tolerance_us = number_in v; tolerance_us_in_range = in_range _ _ v h }
 
 -- the same where the key takes the value; else None

@@ -6,7 +6,7 @@ use Rattle.pd_settings.specs.declared.fields.Settings.{Settings}
 use Rattle.pd_settings.specs.declared.initial_window.InitialWindow.{InitialWindow as Window}
 use Rattle.pd_settings.specs.declared.initial_window.InitialWindow.TheVariants.{Rfc5681, Rfc6928}
 use Rattle.pd_settings.specs.declared.keys.Key.{Key}
-use Rattle.pd_settings.specs.declared.keys.Key.TheVariants.{Mss, Sack, Wscale, Sndbuf, RcvWnd, InitialSsthresh, InitialWindow, MinRtoUs, MaxRtoUs, GranularityUs, Nagle, LimitedTransmit, ToleranceUs}
+use Rattle.pd_settings.specs.declared.keys.Key.TheVariants.{Mss, Sack, Wscale, Sndbuf, RcvWnd, InitialSsthresh, InitialWindow, MinRtoUs, MaxRtoUs, GranularityUs, Nagle, LimitedTransmit, ByteCounting, RestartAfterIdle, ToleranceUs}
 use Rattle.pd_settings.specs.declared.use_set.UseSet.{UseSet}
 use Rattle.pd_settings.specs.declared.values.Value.{Value}
 use Rattle.pd_settings.specs.declared.values.Value.TheVariants.{Number, Truth, Word, Other}
@@ -27,6 +27,8 @@ has uses MaxRtoUs = uses.max_rto_us
 has uses GranularityUs = uses.granularity_us
 has uses Nagle = uses.nagle
 has uses LimitedTransmit = uses.limited_transmit
+has uses ByteCounting = uses.byte_counting
+has uses RestartAfterIdle = uses.restart_after_idle
 has uses ToleranceUs = uses.tolerance_us
 
 -- no setting was consulted
@@ -44,6 +46,8 @@ no_uses = record {
   granularity_us = false;
   nagle = false;
   limited_transmit = false;
+  byte_counting = false;
+  restart_after_idle = false;
   tolerance_us = false;
 }
 

@@ -1,7 +1,7 @@
 //! The settings themselves.
 ghost use Rattle.std.specs.Prelude.{◌≡◌, ◌↔◌, IsSome, IfSome, MatchResult};
 ghost use Rattle.pd_settings.specs.Keys.{Takes, domain_of};
-ghost use Rattle.pd_settings.specs.declared.keys.Key.TheVariants.{Mss, Wscale, Sndbuf, RcvWnd, InitialSsthresh, MinRtoUs, MaxRtoUs, GranularityUs, ToleranceUs};
+ghost use Rattle.pd_settings.specs.declared.keys.Key.TheVariants.{Mss, Wscale, Sndbuf, RcvWnd, InitialSsthresh, MinRtoUs, MaxRtoUs, GranularityUs, ByteCounting, ToleranceUs};
 ghost use Rattle.pd_settings.specs.declared.values.Value.TheVariants.{Number, Truth, Word};
 
 use crate::faults::SettingsFault;
@@ -38,6 +38,10 @@ pub struct Settings {
     pub nagle: bool,
     /// Whether the first duplicates send new data (RFC 3042).
     pub limited_transmit: bool,
+    /// L, how many segments an ACK widens the window by at most in slow start (RFC 3465, sections 2.2 and 2.3): 1 to 8.
+    pub byte_counting: u8,
+    /// Whether an idle connection begins again with the restart window (RFC 5681, section 4.1).
+    pub restart_after_idle: bool,
     /// How far a packet's time may lie outside the written one, in microseconds, where the script's header
     /// doesn't say (packetdrill's `--tolerance_usecs`): 0 to 1,000,000.
     pub tolerance_us: u64,
@@ -49,6 +53,7 @@ pub struct Settings {
     pub ghost min_rto_us_in_range: { Takes (domain_of MinRtoUs) (Number min_rto_us) },
     pub ghost max_rto_us_in_range: { Takes (domain_of MaxRtoUs) (Number max_rto_us) },
     pub ghost granularity_us_in_range: { Takes (domain_of GranularityUs) (Number granularity_us) },
+    pub ghost byte_counting_in_range: { Takes (domain_of ByteCounting) (Number byte_counting) },
     pub ghost tolerance_us_in_range: { Takes (domain_of ToleranceUs) (Number tolerance_us) },
 }
 
@@ -84,6 +89,8 @@ impl Settings {
             granularity_us: 1_000,
             nagle: true,
             limited_transmit: true,
+            byte_counting: 1,
+            restart_after_idle: false,
             tolerance_us: 4_000,
         }
     }
@@ -114,6 +121,8 @@ impl Settings {
             Key::GranularityUs => Value::Number(self.granularity_us),
             Key::Nagle => Value::Truth(self.nagle),
             Key::LimitedTransmit => Value::Truth(self.limited_transmit),
+            Key::ByteCounting => Value::Number(u64::from(self.byte_counting)),
+            Key::RestartAfterIdle => Value::Truth(self.restart_after_idle),
             Key::ToleranceUs => Value::Number(self.tolerance_us),
         }
     }
@@ -163,8 +172,13 @@ impl Settings {
             Key::MinRtoUs => with_field!(self, min_rto_us, number),
             Key::MaxRtoUs => with_field!(self, max_rto_us, number),
             Key::GranularityUs => with_field!(self, granularity_us, number),
+            Key::ByteCounting => with_field!(self, byte_counting, number as u8),
             Key::ToleranceUs => with_field!(self, tolerance_us, number),
-            Key::Sack | Key::Nagle | Key::LimitedTransmit | Key::InitialWindow => None,
+            Key::Sack
+            | Key::Nagle
+            | Key::LimitedTransmit
+            | Key::RestartAfterIdle
+            | Key::InitialWindow => None,
         }
     }
 
@@ -175,6 +189,7 @@ impl Settings {
             Key::Sack => with_field!(self, sack, truth),
             Key::Nagle => with_field!(self, nagle, truth),
             Key::LimitedTransmit => with_field!(self, limited_transmit, truth),
+            Key::RestartAfterIdle => with_field!(self, restart_after_idle, truth),
             _ => None,
         }
     }

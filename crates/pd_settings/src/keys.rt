@@ -19,12 +19,14 @@ pub enum Key {
     GranularityUs,
     Nagle,
     LimitedTransmit,
+    ByteCounting,
+    RestartAfterIdle,
     ToleranceUs,
 }
 
 impl Key {
     /// All settings, in the order of the fields of `Settings`.
-    pub const ALL: [Key; 13] = [
+    pub const ALL: [Key; 15] = [
         Key::Mss,
         Key::Sack,
         Key::Wscale,
@@ -37,6 +39,8 @@ impl Key {
         Key::GranularityUs,
         Key::Nagle,
         Key::LimitedTransmit,
+        Key::ByteCounting,
+        Key::RestartAfterIdle,
         Key::ToleranceUs,
     ];
 
@@ -64,6 +68,8 @@ impl Key {
             Key::GranularityUs => b"granularity_us",
             Key::Nagle => b"nagle",
             Key::LimitedTransmit => b"limited_transmit",
+            Key::ByteCounting => b"byte_counting",
+            Key::RestartAfterIdle => b"restart_after_idle",
             Key::ToleranceUs => b"tolerance_us",
         }
     }
@@ -85,6 +91,8 @@ impl Key {
             Key::GranularityUs => Domain::Numbers(1, 1_000_000),
             Key::Nagle => Domain::Truths,
             Key::LimitedTransmit => Domain::Truths,
+            Key::ByteCounting => Domain::Numbers(1, 8),
+            Key::RestartAfterIdle => Domain::Truths,
             Key::ToleranceUs => Domain::Numbers(0, 1_000_000),
         }
     }

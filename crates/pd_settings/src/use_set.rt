@@ -31,6 +31,10 @@ pub struct UseSet {
     pub nagle: bool,
     /// `limited_transmit`, which the establishment consults.
     pub limited_transmit: bool,
+    /// `byte_counting`, which the establishment consults.
+    pub byte_counting: bool,
+    /// `restart_after_idle`, which the establishment consults.
+    pub restart_after_idle: bool,
     /// `tolerance_us`, which a packet that is expected consults, unless the header sets a tolerance.
     pub tolerance_us: bool,
 }
@@ -53,6 +57,8 @@ impl UseSet {
             granularity_us: false,
             nagle: false,
             limited_transmit: false,
+            byte_counting: false,
+            restart_after_idle: false,
             tolerance_us: false,
         }
     }
@@ -74,6 +80,8 @@ impl UseSet {
             Key::GranularityUs => self.granularity_us,
             Key::Nagle => self.nagle,
             Key::LimitedTransmit => self.limited_transmit,
+            Key::ByteCounting => self.byte_counting,
+            Key::RestartAfterIdle => self.restart_after_idle,
             Key::ToleranceUs => self.tolerance_us,
         }
     }
