@@ -23,6 +23,9 @@ MOST = 2**30
 # How many segments recovery and limited transmit send at most after an ACK.
 SEGMENTS = 20
 
+# How many segments the initial window has.
+FIRST = 4
+
 # What is counted, by the words of rows: what ACKs lead to, the rules of NextSeg, and the timer.
 NAMES = {
     "ordinary": "ordinary sending",
@@ -30,6 +33,7 @@ NAMES = {
     "segment": "limited transmit without SACK",
     "again": "fast retransmit",
     "expire": "expiry",
+    "restart": "restart",
     "limited": "limited transmit",
     "entry": "entry",
     "new": "rule 2",
@@ -192,6 +196,8 @@ class Window:
     high_rxt: int = 0
     rescue_rxt: int = 0
     has_expired: bool = False  # since the last ACK of new octets
+    limit: int = 1  # L, in segments
+    follows_expiry: bool = False  # whether slow start began at an expiry last
 
     def expire(self, board: Board) -> None:
         """The timer has expired."""
@@ -201,7 +207,12 @@ class Window:
         self.is_recovering = False
         self.recovery_point = board.top
         self.duplicates = self.limited = 0
-        self.has_expired = True
+        self.has_expired = self.follows_expiry = True
+
+    def restart(self, board: Board) -> None:
+        """Sending begins after an idle time."""
+        self.cwnd = min(FIRST * board.smss, self.cwnd)
+        self.follows_expiry = False
 
     def take(self, board: Board, ack: Ack) -> tuple[str, Span | None]:
         """What an ACK leads to, and the segment of that; the scoreboard is as it is since."""
@@ -260,7 +271,7 @@ class Window:
     def grow(self, board: Board, ack: Ack) -> None:
         """New octets widen the window."""
         if ack.acked and self.cwnd < self.ssthresh:
-            self.cwnd += min(ack.acked, board.smss)
+            self.cwnd += min(ack.acked, (1 if self.follows_expiry else self.limit) * board.smss)
         elif ack.acked:
             self.cwnd += max(board.smss * board.smss // self.cwnd, 1)
         self.cwnd = min(self.cwnd, MOST)
@@ -318,8 +329,9 @@ class Trial:
         ssthresh = self.between(128, 1_000)
         self.is_resent = self.is_once_in(8)
         self.has_sack = not self.is_once_in(3)
-        first = 1 if self.is_resent else 4
-        self.window = Window(cwnd=first * self.board.smss, ssthresh=ssthresh)
+        first = 1 if self.is_resent else FIRST
+        limit = self.between(1, 8)
+        self.window = Window(cwnd=first * self.board.smss, ssthresh=ssthresh, limit=limit)
 
     def between(self, first: int, last: int) -> int:
         """A number from the first one to the last one."""
@@ -331,7 +343,7 @@ class Trial:
 
     def rows(self) -> Iterator[str]:
         """The whole list: how it begins, and the calls, each with what is answered after it."""
-        yield f"list {said(self.board.smss, self.window.ssthresh, self.is_resent)}"
+        yield f"list {said(self.board.smss, self.window.ssthresh, self.is_resent, self.window.limit)}"
         for _ in range(self.mix.calls):
             yield from self.call()
             yield self.answers()
@@ -348,8 +360,18 @@ class Trial:
         elif kind == 6:
             self.board.skip()
             yield "skip"
+        elif kind == 7:
+            yield self.restart()
         else:
             yield from self.acknowledge()
+
+    def restart(self) -> str:
+        """Sending begins, after an idle time or without one."""
+        is_idle = self.is_once_in(2)
+        if is_idle:
+            self.window.restart(self.board)
+            self.counts["restart"] += 1
+        return f"restart {said(is_idle)}"
 
     def write(self) -> Iterator[str]:
         """Queues octets."""

@@ -5,10 +5,10 @@ use Rattle.pd_recover.specs.declared.feedback.Ack.{Ack}
 use Rattle.pd_recover.specs.declared.feedback.News.{News}
 use Rattle.pd_recover.specs.declared.responses.Then.{Then}
 use Rattle.pd_recover.specs.declared.responses.Then.TheVariants.{Ordinary, StepC, Entry, LimitedTransmit, NewSegment, FastRetransmit, Nothing}
-use Rattle.pd_recover.specs.Acks.{told_by_sack, told_by_number, advanced, counted, grown_by, recovered, selective_duplicate, plain_duplicate, limited_transmit, sent_limited, entered, retransmitted, new_segment, first_outstanding}
+use Rattle.pd_recover.specs.Acks.{told_by_sack, told_by_number, advanced, counted, grown_by, recovered, selective_duplicate, plain_duplicate, sent_limited, entered, retransmitted, new_segment, first_outstanding}
 use Rattle.pd_recover.specs.Cong.{CongView, widened, with_limited}
 
-either : {A : Type 0} (P : A → Type 0) (b : Bool) (x y : A) → P x → P y → P (if b then x else y)
+pub either : {A : Type 0} (P : A → Type 0) (b : Bool) (x y : A) → P x → P y → P (if b then x else y)
 either P true x y first second = first
 either P false x y first second = second
 

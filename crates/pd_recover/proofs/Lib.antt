@@ -4,5 +4,6 @@ pub mod Cases
 pub mod Chosen
 pub mod Found
 pub mod Sendable
+pub mod SlowStart
 pub mod Spared
 pub mod Windows

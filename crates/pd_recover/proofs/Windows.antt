@@ -6,7 +6,7 @@ use Rattle.pd_recover.specs.declared.responses.Then.{Then}
 use Rattle.pd_settings.specs.declared.initial_window.InitialWindow.{InitialWindow}
 use Rattle.pd_settings.specs.declared.initial_window.InitialWindow.TheVariants.{Rfc5681, Rfc6928}
 use Rattle.pd_recover.specs.Acks.{acked, renewed, told, told_by_sack, told_by_number, selective_duplicate, plain_duplicate, counted, grown_by, advanced, entered, recovered, retransmitted, is_duplicate}
-use Rattle.pd_recover.specs.Cong.{CongView, first_segments, window_by, first_window, widened, growth}
+use Rattle.pd_recover.specs.Cong.{CongView, window_by, first_window, widened, growth, restart_window, restarted}
 use Rattle.pd_recover.specs.Laws.{IsWithin, StaysWithin}
 use Rattle.pd_recover.proofs.Cases.{selective_cases, plain_cases}
 
@@ -32,7 +32,7 @@ half_initial initial flight smss = omega arith
 abbrev IsInRange : ℕ → ℕ → Type 0
 IsInRange smss window = (smss ≤ window) × (window ≤ 2 ^ 30)
 
-in_range : (rule : InitialWindow) (smss : ℕ) → smss ≤ 65495 → IsInRange smss (window_by rule smss)
+pub in_range : (rule : InitialWindow) (smss : ℕ) → smss ≤ 65495 → IsInRange smss (window_by rule smss)
 in_range Rfc6928 smss small = (omega arith, omega (arith, small))
 in_range Rfc5681 smss small = first (nat_lt 2190 smss) (nat_lt 1095 smss)
   where
@@ -159,6 +159,27 @@ module _ (initial : ℕ) (ack : Ack) (small : ack.smss ≤ 65495) (few : ack.top
   acked-within : (w : CongView) → Within w → LeadsWithin (acked ack w)
   acked-within w h = told-within ack.sack (renewed ack w) (renewed-within w h)
 
+lesser : (smss a b : ℕ) → smss ≤ a → smss ≤ b → b ≤ 2 ^ 30 → IsInRange smss (min a b)
+lesser smss a b h k l = (omega (arith, h, k), omega (arith, l))
+
+-- the window after an idle time
+after_idle : (o : Option InitialWindow) (smss cwnd : ℕ) → smss ≤ 65495 → IsInRange smss cwnd → IsInRange smss (restart_window o smss cwnd)
+after_idle None smss cwnd small h = h
+after_idle (Some rule) smss cwnd small h = lesser smss (window_by rule smss) cwnd (in_range rule smss small).0 h.0 h.1
+
+pub restarted-within : (initial smss : ℕ) (idle : Bool) (w : CongView) → smss ≤ 65495 → IsWithin smss initial w
+    → IsWithin smss initial (restarted smss idle w)
+restarted-within initial smss idle w small h =
+    let k : IsInRange smss (if idle then restart_window w.restarts_by smss w.cwnd else w.cwnd) =
+    chosen (IsInRange smss) idle _ _ (λ _. after_idle w.restarts_by smss w.cwnd small (h.cwnd_from, h.cwnd_to)) (λ _. (h.cwnd_from, h.cwnd_to)) in
+    record {
+      cwnd_from = k.0;
+      cwnd_to = k.1;
+      ssthresh_from = h.ssthresh_from;
+      ssthresh_to = h.ssthresh_to;
+      recovering = h.recovering;
+    }
+
 -- the threshold after an expiry
 after_expiry : (initial smss flight : ℕ) (w : CongView) (expired : Bool) → smss ≤ 65495 → flight ≤ 2 ^ 20 + 1 → IsWithin smss initial w
     → (min (2 * smss) initial ≤ (if expired then w.ssthresh else half flight smss)) × ((if expired then w.ssthresh else half flight smss) ≤ 2 ^ 30)
@@ -183,4 +204,5 @@ stays_within = record {
     ssthresh_to = (after_expiry initial smss (top - una) w w.expired small few h).1;
     recovering = λ e. cc;
   };
+  restart = λ initial smss idle w small h. restarted-within initial smss idle w small h;
 }

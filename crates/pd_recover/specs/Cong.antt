@@ -1,5 +1,5 @@
--- The congestion window (RFC 5681), and what loss recovery keeps (RFC 6675). All sizes are in octets.
-use Rattle.std.specs.Prelude.{ℕ, ◌+◌, ◌-◌, ◌*◌, ◌/◌, ◌^◌, ◌≤◌, nat_lt, min, max, Bool, true, false, if◌then◌else◌}
+-- The congestion window (RFC 5681; RFC 3465), and what loss recovery keeps (RFC 6675). All sizes are in octets.
+use Rattle.std.specs.Prelude.{ℕ, ◌+◌, ◌-◌, ◌*◌, ◌/◌, ◌^◌, ◌≤◌, nat_lt, min, max, Bool, true, false, ◌&&◌, Option, None, Some, is_some, if◌then◌else◌}
 use Rattle.pd_board.specs.Loss.{dup_thresh}
 use Rattle.pd_settings.specs.declared.fields.Settings.{Settings}
 use Rattle.pd_settings.specs.declared.initial_window.InitialWindow.{InitialWindow}
@@ -26,6 +26,12 @@ pub record CongView : Type 0 where
   pub rescue_rxt : ℕ
   -- whether the timer has expired since the establishment and the last ACK of new octets
   pub expired : Bool
+  -- L, in segments: by how many an ACK widens the window at most in slow start (RFC 3465, section 2.2)
+  pub byte_limit : ℕ
+  -- whether slow start began at an expiry last (RFC 3465, section 2.3)
+  pub follows_expiry : Bool
+  -- the rule for IW, where the window restarts by it after an idle time (RFC 5681, section 4.1)
+  pub restarts_by : Option InitialWindow
 
 -- the ranges of the window, the threshold and the counts
 pub record IsRanged (cwnd ssthresh dup_acks limited : ℕ) : Type 0 where
@@ -57,8 +63,12 @@ window_by Rfc6928 smss = min (10 * smss) (max (2 * smss) 14600)
 abbrev pub first_window : InitialWindow → ℕ → Bool → ℕ
 first_window rule smss resent = if resent then smss else window_by rule smss
 
--- the state at establishment, by the settings' rule for the initial window, their first threshold and whether they have
--- limited transmit; whether the SYN/ACK was sent again counts
+-- IW's rule where the setting is on
+abbrev pub restart_rule : Bool → InitialWindow → Option InitialWindow
+restart_rule on rule = if on then Some rule else None
+
+-- the state at establishment, by the settings' rule for the initial window, their first threshold, their L, and whether they
+-- have limited transmit and the restart after an idle time; whether the SYN/ACK was sent again counts
 abbrev pub begun : Settings → ℕ → Bool → CongView
 begun settings smss resent = record {
   cwnd = first_window settings.initial_window smss resent;
@@ -71,20 +81,33 @@ begun settings smss resent = record {
   high_rxt = 0;
   rescue_rxt = 0;
   expired = false;
+  byte_limit = settings.byte_counting;
+  follows_expiry = false;
+  restarts_by = restart_rule settings.restart_after_idle settings.initial_window;
 }
 
 -- the settings that it consults
 abbrev pub begun_uses : UseSet → UseSet
-begun_uses uses = record uses { initial_ssthresh = true; initial_window = true; limited_transmit = true }
+begun_uses uses = record uses {
+  initial_ssthresh = true;
+  initial_window = true;
+  limited_transmit = true;
+  byte_counting = true;
+  restart_after_idle = true;
+}
 
 -- a window that grows stays at or below 2^30
 abbrev pub widened : ℕ → CongView → CongView
 widened octets w = record w { cwnd = min (w.cwnd + octets) (2 ^ 30) }
 
+-- L, in segments: 1 in the slow start after an expiry (RFC 3465, sections 2.2 and 2.3)
+abbrev pub limit_of : CongView → ℕ
+limit_of w = if w.follows_expiry then 1 else w.byte_limit
+
 -- by how much an ACK of n new octets widens the window: slow start below ssthresh, else congestion avoidance (RFC 5681,
--- section 3.1, equations 2 and 3)
+-- section 3.1, equations 2 and 3; RFC 3465, section 2.2)
 abbrev pub growth : ℕ → ℕ → CongView → ℕ
-growth smss n w = if nat_lt w.cwnd w.ssthresh then min n smss else max (smss * smss / w.cwnd) 1
+growth smss n w = if nat_lt w.cwnd w.ssthresh then min n (limit_of w * smss) else max (smss * smss / w.cwnd) 1
 
 -- the window after an ACK of n new octets (RFC 5681, section 3.1)
 abbrev pub grown : ℕ → ℕ → CongView → CongView
@@ -110,6 +133,20 @@ timed_out smss una top w = record w {
   recovering = false;
   recovery_point = top;
   expired = true;
+  follows_expiry = true;
+}
+
+-- RW, the restart window: min(IW, cwnd) (RFC 5681, section 4.1); without a rule for IW the window stays
+abbrev pub restart_window : Option InitialWindow → ℕ → ℕ → ℕ
+restart_window None smss cwnd = cwnd
+restart_window (Some rule) smss cwnd = min (window_by rule smss) cwnd
+
+-- sending begins: after an idle time the window is RW at most (RFC 5681, section 4.1), and the slow start that begins so
+-- doesn't follow an expiry (own)
+abbrev pub restarted : ℕ → Bool → CongView → CongView
+restarted smss idle w = record w {
+  cwnd = if idle then restart_window w.restarts_by smss w.cwnd else w.cwnd;
+  follows_expiry = if idle && is_some w.restarts_by then false else w.follows_expiry;
 }
 
 -- an entry has sent the segment at una again, up to this number (RFC 6675, section 5, step 4.3)

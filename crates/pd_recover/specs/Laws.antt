@@ -1,7 +1,8 @@
 -- What holds of every state that the rules reach.
-use Rattle.std.specs.Prelude.{◌≡◌, ◌≢◌, ◌↔◌, Some, ℕ, ◌+◌, ◌-◌, ◌*◌, ◌^◌, ◌<◌, ◌≤◌, min, Bool, true, false, None, IsSome}
+use Rattle.std.specs.Prelude.{◌≡◌, ◌≢◌, ◌↔◌, Some, ℕ, ◌+◌, ◌-◌, ◌*◌, ◌^◌, ◌<◌, ◌≤◌, min, Bool, true, false, Option, None, IsSome}
 use Rattle.pd_seg.specs.declared.sack_blocks.Span.{Span}
 use Rattle.pd_settings.specs.declared.fields.Settings.{Settings}
+use Rattle.pd_settings.specs.declared.initial_window.InitialWindow.{InitialWindow}
 use Rattle.pd_settings.specs.declared.use_set.UseSet.{UseSet}
 use Rattle.pd_settings.specs.Uses.{Agree}
 use Rattle.pd_board.specs.Choice.{run_at}
@@ -12,7 +13,7 @@ use Rattle.pd_recover.specs.declared.segments.NextSegment.TheVariants.{Rescue}
 use Rattle.pd_recover.specs.declared.feedback.Ack.{Ack}
 use Rattle.pd_recover.specs.Acks.{acked}
 use Rattle.pd_recover.specs.Choice.{IsSendable, segment_of, new_data, next_send, step_c_segment, noted}
-use Rattle.pd_recover.specs.Cong.{CongView, begun, begun_uses, timed_out}
+use Rattle.pd_recover.specs.Cong.{CongView, window_by, begun, begun_uses, limit_of, growth, timed_out, restarted}
 
 -- the window lies between one segment and 2^30, the threshold between 2 segments, or its initial value where that is lower,
 -- and 2^30; in recovery it is at least 2 segments
@@ -39,12 +40,56 @@ pub record StaysWithin : Type 0 where
       → smss ≤ 65495 → top - una ≤ 2 ^ 20 + 1
       → IsWithin smss initial_ssthresh w
       → IsWithin smss initial_ssthresh (timed_out smss una top w)
+  pub restart :
+      (initial_ssthresh smss : ℕ) (idle : Bool) (w : CongView)
+      → smss ≤ 65495
+      → IsWithin smss initial_ssthresh w
+      → IsWithin smss initial_ssthresh (restarted smss idle w)
 
 -- a connection begins alike by settings that agree on those that are consulted
 abbrev pub BeginsByUses : Type 0
 BeginsByUses =
     (uses : UseSet) (a b : Settings) (smss : ℕ) (resent : Bool) → Agree (begun_uses uses) a b
     → begun b smss resent ≡ begun a smss resent
+
+-- in slow start an ACK widens the window by no more octets than it acknowledges, nor than L segments have: by one segment
+-- at most in the slow start after an expiry (RFC 3465, sections 2.2 and 2.3)
+pub record CountsOctets : Type 0 where
+  pub acknowledged : (smss n : ℕ) (w : CongView) → w.cwnd < w.ssthresh → growth smss n w ≤ n
+  pub limited : (smss n : ℕ) (w : CongView) → w.cwnd < w.ssthresh → growth smss n w ≤ limit_of w * smss
+  pub all : (smss n : ℕ) (w : CongView) → w.cwnd < w.ssthresh → n ≤ limit_of w * smss → growth smss n w ≡ n
+  pub after_expiry : (smss una top : ℕ) (w : CongView) → limit_of (timed_out smss una top w) ≡ 1
+
+-- what the settings said of slow start, and whether it began at an expiry last
+abbrev pub slow_start_of : CongView → ℕ × (Option InitialWindow × Bool)
+slow_start_of w = (w.byte_limit, (w.restarts_by, w.follows_expiry))
+
+-- ACKs leave it, so that the slow start after an expiry counts as such until a restart (RFC 3465, section 2.3)
+abbrev pub KeepsSlowStart : Type 0
+KeepsSlowStart = (ack : Ack) (w : CongView) → slow_start_of (acked ack w).0 ≡ slow_start_of w
+
+-- where the setting is on, the window is min(IW, cwnd) after an idle time (RFC 5681, section 4.1); else, and where sending
+-- goes on without one, all stays as it is
+pub record RestartsWhenIdle : Type 0 where
+  pub idle :
+      (smss : ℕ) (rule : InitialWindow) (w : CongView) → w.restarts_by ≡ Some rule
+      → (restarted smss true w).cwnd ≡ min (window_by rule smss) w.cwnd
+  pub no_wider : (smss : ℕ) (idle : Bool) (w : CongView) → (restarted smss idle w).cwnd ≤ w.cwnd
+  pub busy : (smss : ℕ) (w : CongView) → restarted smss false w ≡ w
+  pub off : (smss : ℕ) (idle : Bool) (w : CongView) → w.restarts_by ≡ None → restarted smss idle w ≡ w
+
+-- where the settings are 1 and false, slow start widens by min(N, SMSS) (RFC 5681, section 3.1, equation 2), and no idle
+-- time changes the window
+pub record IsAsBefore : Type 0 where
+  pub counting :
+      (smss n : ℕ) (w : CongView) → w.byte_limit ≡ 1 → w.cwnd < w.ssthresh
+      → growth smss n w ≡ min n smss
+  pub limit :
+      (settings : Settings) (smss : ℕ) (resent : Bool) → settings.byte_counting ≡ 1
+      → (begun settings smss resent).byte_limit ≡ 1
+  pub restart :
+      (settings : Settings) (smss : ℕ) (resent : Bool) → settings.restart_after_idle ≡ false
+      → (begun settings smss resent).restarts_by ≡ None
 
 -- an ACK ends recovery exactly where una reaches RecoveryPoint, if SACK was agreed, and else exactly where it
 -- acknowledges new octets; an expiry always ends it (RFC 6675, section 5; RFC 5681, section 3.2)

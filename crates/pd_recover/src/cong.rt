@@ -1,6 +1,6 @@
 //! The congestion window and what loss recovery keeps.
 ghost use Rattle.std.specs.Prelude.{◌≡◌, ◌<◌, ◌≤◌, ◌^◌};
-ghost use Rattle.pd_recover.specs.Cong.{IsCongView, first_segments, window_by, first_window, begun, begun_uses, timed_out, entered_to, with_limited};
+ghost use Rattle.pd_recover.specs.Cong.{IsCongView, first_segments, window_by, first_window, restart_rule, begun, begun_uses, timed_out, restarted, entered_to, with_limited};
 
 mod acks;
 mod choice;
@@ -37,6 +37,12 @@ pub struct Cong {
     rescue_rxt: u32,
     /// Whether the timer has expired since the establishment and the last ACK of new octets (RFC 5681, section 3.1).
     expired: bool,
+    /// L, in segments: by how many an ACK widens the window at most in slow start (RFC 3465, section 2.2).
+    byte_limit: u8,
+    /// Whether slow start began at an expiry last (RFC 3465, section 2.3).
+    follows_expiry: bool,
+    /// The rule for IW, where the window restarts by it after an idle time (RFC 5681, section 4.1).
+    restarts_by: Option<InitialWindow>,
 }
 
 impl Model for Cong {
@@ -44,11 +50,11 @@ impl Model for Cong {
 
     ghost Value = { CongView };
 
-    ghost view = { λ c. record { cwnd = c.cwnd; ssthresh = c.ssthresh; dup_acks = c.dup_acks; sends_early = c.sends_early; limited = c.limited; recovering = c.recovering; recovery_point = c.recovery_point; high_rxt = c.high_rxt; rescue_rxt = c.rescue_rxt; expired = c.expired } };
+    ghost view = { λ c. record { cwnd = c.cwnd; ssthresh = c.ssthresh; dup_acks = c.dup_acks; sends_early = c.sends_early; limited = c.limited; recovering = c.recovering; recovery_point = c.recovery_point; high_rxt = c.high_rxt; rescue_rxt = c.rescue_rxt; expired = c.expired; byte_limit = c.byte_limit; follows_expiry = c.follows_expiry; restarts_by = c.restarts_by } };
 
     ghost invariant = { λ c. IsRanged c.cwnd c.ssthresh c.dup_acks c.limited };
 
-    ghost inverse = { λ c. record { cwnd = c.cwnd; ssthresh = c.ssthresh; dup_acks = c.dup_acks; sends_early = c.sends_early; limited = c.limited; recovering = c.recovering; recovery_point = c.recovery_point; high_rxt = c.high_rxt; rescue_rxt = c.rescue_rxt; expired = c.expired } };
+    ghost inverse = { λ c. record { cwnd = c.cwnd; ssthresh = c.ssthresh; dup_acks = c.dup_acks; sends_early = c.sends_early; limited = c.limited; recovering = c.recovering; recovery_point = c.recovery_point; high_rxt = c.high_rxt; rescue_rxt = c.rescue_rxt; expired = c.expired; byte_limit = c.byte_limit; follows_expiry = c.follows_expiry; restarts_by = c.restarts_by } };
 }
 
 impl Clone for Cong {
@@ -97,6 +103,13 @@ fn first_window(rule: InitialWindow, smss: u16, resent: bool) -> u32
     }
 }
 
+/// IW's rule, where the setting is on.
+fn restart_rule(on: bool, rule: InitialWindow) -> Option<InitialWindow>
+    ensures { result ≡ restart_rule on rule }
+{
+    if on { Some(rule) } else { None }
+}
+
 impl Cong {
     /// The state at establishment: the initial window (RFC 5681, section 3.1; RFC 6928, section 2), one segment where
     /// the SYN/ACK was sent again. SMSS is in octets. Of the settings it looks at those of `with_uses`
@@ -119,6 +132,9 @@ impl Cong {
             high_rxt: 0,
             rescue_rxt: 0,
             expired: false,
+            byte_limit: settings.byte_counting,
+            follows_expiry: false,
+            restarts_by: restart_rule(settings.restart_after_idle, settings.initial_window),
         }
     }
 
@@ -130,6 +146,8 @@ impl Cong {
             initial_ssthresh: true,
             initial_window: true,
             limited_transmit: true,
+            byte_counting: true,
+            restart_after_idle: true,
             ..uses
         }
     }
@@ -198,6 +216,23 @@ impl Cong {
         self.recovering = false;
         self.recovery_point = top;
         self.expired = true;
+        self.follows_expiry = true;
+    }
+
+    /// Sending begins, with this SMSS in octets. After an idle time cwnd is RW, the restart window, at most, where the
+    /// setting was on (RFC 5681, section 4.1).
+    pub fn restart(&mut self, smss: u16, idle: bool)
+        requires from { 64 ≤ smss }
+        requires to { smss ≤ 65495 }
+        ensures { self.new ≡ restarted smss idle self.old }
+    {
+        if !idle {
+            return;
+        }
+        if let Some(rule) = self.restarts_by {
+            self.cwnd = window_by(rule, smss).min(self.cwnd);
+            self.follows_expiry = false;
+        }
     }
 
     /// An entry has sent the segment at SND.UNA again, up to this number (RFC 6675, section 5, step 4.3).

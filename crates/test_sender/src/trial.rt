@@ -19,12 +19,20 @@ pub struct Trial {
     window: Cong,
 }
 
-/// The settings with a threshold of slow start.
-fn settings(ssthresh: u64) -> Settings {
-    let defaults = Settings::new();
-    defaults
-        .with(b"initial_ssthresh", Value::Number(ssthresh))
-        .unwrap_or(defaults)
+/// The settings with another value, if the key takes it.
+fn with(settings: Settings, key: &[u8], value: Value) -> Settings {
+    settings.with(key, value).unwrap_or(settings)
+}
+
+/// The settings with a threshold of slow start, the L of byte counting, and the restart after an idle time.
+fn settings(ssthresh: u64, limit: u64) -> Settings {
+    let begun = with(
+        Settings::new(),
+        b"initial_ssthresh",
+        Value::Number(ssthresh),
+    );
+    let counting = with(begun, b"byte_counting", Value::Number(limit));
+    with(counting, b"restart_after_idle", Value::Truth(true))
 }
 
 /// What an ACK leads to in a word, and its segment if it has one.
@@ -84,6 +92,7 @@ impl Trial {
             "pipe" => row.expect("the pipe", self.board.pipe(self.window.high_rxt())),
             "next" => self.recover(row),
             "limited" => self.transmit_limited(row),
+            "restart" => self.window.restart(self.board.smss(), row.is_set()),
             _ => row.note("its call, which is none"),
         }
     }
@@ -101,7 +110,8 @@ impl Trial {
         let ssthresh = row.number();
         self.smss = smss;
         self.board = Board::new(self.alloc, smss);
-        self.window = Cong::new(&settings(ssthresh), smss, row.is_set());
+        let is_resent = row.is_set();
+        self.window = Cong::new(&settings(ssthresh, row.number()), smss, is_resent);
     }
 
     /// Octets are queued, up to a limit.

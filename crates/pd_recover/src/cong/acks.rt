@@ -2,7 +2,7 @@
 ghost use Rattle.std.specs.Prelude.{◌≡◌, ◌+◌, ◌<◌, ◌≤◌, ◌^◌, IfSome};
 ghost use Rattle.std.specs.Bool.{OnTrue};
 ghost use Rattle.pd_recover.specs.Acks.{IsAck, IsNamed, acked, is_duplicate, grown_by, half_of, counted, new_segment, first_outstanding, told_by_sack, told_by_number, selective_duplicate, plain_duplicate, limited_transmit, advanced};
-ghost use Rattle.pd_recover.specs.Cong.{growth, widened};
+ghost use Rattle.pd_recover.specs.Cong.{growth, limit_of, widened};
 
 use super::Cong;
 use crate::feedback::{Ack, News};
@@ -195,7 +195,7 @@ impl Cong {
         Then::NewSegment(segment)
     }
 
-    /// Outside recovery new octets widen the window (RFC 5681, section 3.1, equations 2 and 3).
+    /// Outside recovery new octets widen the window (RFC 5681, section 3.1, equations 2 and 3; RFC 3465, section 2.2).
     fn grow(&mut self, ack: Ack)
         requires { IsAck ack }
         ensures { self.new ≡ grown_by ack self.old }
@@ -206,13 +206,25 @@ impl Cong {
         }
     }
 
+    /// L, in segments: 1 in the slow start after an expiry (RFC 3465, sections 2.2 and 2.3).
+    fn limit(&self) -> u32
+        ensures value { result ≡ limit_of self.now }
+        ensures small { result < 2 ^ 8 }
+    {
+        if self.follows_expiry {
+            1
+        } else {
+            u32::from(self.byte_limit)
+        }
+    }
+
     fn growth(&self, smss: u16, acked: u32) -> u32
         requires { smss ≤ 65495 }
         ensures { result ≡ growth smss acked self.now }
     {
         let smss = u32::from(smss);
         if self.cwnd < self.ssthresh {
-            acked.min(smss)
+            acked.min(self.limit() * smss)
         } else {
             (smss * smss / self.cwnd).max(1)
         }

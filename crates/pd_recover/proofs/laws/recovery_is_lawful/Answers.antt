@@ -1,6 +1,7 @@
 -- The laws hold.
 use Rattle.pd_recover.proofs.Begun.{begins_by_uses}
 use Rattle.pd_recover.proofs.Sendable.{data_sendable, next_sendable}
+use Rattle.pd_recover.proofs.SlowStart.{counts_octets, keeps_slow_start, restarts_when_idle, is_as_before}
 use Rattle.pd_recover.proofs.Spared.{spares_sacked}
 use Rattle.pd_recover.proofs.Windows.{stays_within}
 use Rattle.pd_recover.proofs.laws.recovery_is_lawful.Goals as goal
@@ -10,6 +11,18 @@ returns-clause-windows c = stays_within
 
 pub returns-clause-uses : goal.returns-clause-uses
 returns-clause-uses c = begins_by_uses
+
+pub returns-clause-counting : goal.returns-clause-counting
+returns-clause-counting c = counts_octets
+
+pub returns-clause-slow_start : goal.returns-clause-slow_start
+returns-clause-slow_start c = keeps_slow_start
+
+pub returns-clause-idle : goal.returns-clause-idle
+returns-clause-idle c = restarts_when_idle
+
+pub returns-clause-defaults : goal.returns-clause-defaults
+returns-clause-defaults c = is_as_before
 
 pub returns-clause-sacked : goal.returns-clause-sacked
 returns-clause-sacked c = spares_sacked
