@@ -47,6 +47,7 @@ begun_with mss sack wscale rcv_wnd least greatest now syn = record {
   fin = false;
   timer = started now (initial least greatest);
   timed = Some (record { segment = syn_octet; sent_at = now });
+  last_sent = now;
   widest = syn.win;
   resent = false;
   established = None;

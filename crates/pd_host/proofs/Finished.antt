@@ -18,7 +18,7 @@ counted (Err halt) t h = absurd cc
 pub sends_all_that_may : SendsAllThatMay
 sends_all_that_may = record {
   ordinary = λ now s t h.
-      let u : State = ready s.endpoint.connection s in
+      let u : State = ready now s.endpoint.connection s in
       came (λ (x : State). finds x ≡ None) (ordinary now s) t h (done finds (sends now) (places_left u) u);
   filling = λ now filling s t h.
       let n = counted (filled_from now filling (s, pipe_of s.endpoint.connection)) t h in (

@@ -10,7 +10,7 @@ use Rattle.pd_seg.specs.declared.sack_blocks.Span.{Span}
 use Rattle.pd_host.specs.Acknowledgments.{OnTheWay, next_found, sent_as, noted_on, one_filled, pipe_of, filled, put_segment, entered_on, entry, led_to}
 use Rattle.pd_host.specs.Connection.{ConnectionView}
 use Rattle.pd_host.specs.Places.{has_place}
-use Rattle.pd_host.specs.Sending.{value_on, places_left, with_block, past_sacked, sent_on, with_segment, found, sent_ordinarily, ready, ordinary}
+use Rattle.pd_host.specs.Sending.{value_on, places_left, with_block, begun_again, past_sacked, sent_on, with_segment, found, sent_ordinarily, ready, ordinary}
 use Rattle.pd_host.specs.Timing.{clocked, timed_after}
 use Rattle.pd_host.specs.declared.established.Established.{Established}
 use Rattle.pd_host.specs.declared.fillings.Filling.{Filling}
@@ -19,7 +19,7 @@ use Rattle.pd_host.specs.declared.halts.Halt.TheVariants.{Limit}
 use Rattle.pd_host.specs.declared.sender_state.State.{State}
 use Rattle.pd_host.proofs.Chosen.{Stands, ordinary_end, ordinary_queued, filling_stands, run_end}
 use Rattle.pd_host.proofs.Outcomes.{Leaves, kept, either, then_leaves}
-use Rattle.pd_host.proofs.SentOn.{still, sender_leaves, finds, sends, fill_finds, fill_sends, fill_still, entered_still}
+use Rattle.pd_host.proofs.SentOn.{still, sender_leaves, finds, sends, fill_finds, fill_sends, fill_still, entered_still, begun_still}
 use Rattle.pd_host.proofs.Rules.{found_on, next_on}
 
 -- the number after the last octet that the peer's window takes
@@ -195,13 +195,13 @@ module _ (now : ℕ) (R : State → State → Type 0) (rules : Goes now R) where
   once segment s None e h = rules.none s
   once segment s (Some c) e h = rules.sent segment c (past_sacked (sent_on now segment c)) s e (ordinary_sending now segment c h)
 
-  made_ready : (s : State) (o : Option ConnectionView) → s.endpoint.connection ≡ o → R s (ready o s)
+  made_ready : (s : State) (o : Option ConnectionView) → s.endpoint.connection ≡ o → R s (ready now o s)
   made_ready s None e = rules.none s
-  made_ready s (Some c) e = rules.moved c (past_sacked c) s e (record { stays = refl; timed = refl; top = refl })
+  made_ready s (Some c) e = rules.moved c (past_sacked (begun_again now c)) s e (record { stays = begun_still now c; timed = refl; top = refl })
 
   pub ordinary_goes : (r s : State) → R r s → Leaves (R r) (ordinary now s)
   ordinary_goes r s h =
-      let u : State = ready s.endpoint.connection s in
+      let u : State = ready now s.endpoint.connection s in
       kept (R r) finds (sends now)
       (λ segment t e so_far. rules.more r t (sends now segment t) so_far (once segment t t.endpoint.connection refl e))
       (places_left u) u (rules.more r s u h (made_ready s s.endpoint.connection refl))

@@ -14,7 +14,7 @@ use Rattle.pd_host.proofs.Sends.{sending_done}
 
 nothing_ordinary : (now : ℕ) (s : State) → s.endpoint.connection ≡ None → ordinary now s ≡ Ok s
 nothing_ordinary now s none =
-    ap (λ (o : Option ConnectionView). sent_until_done now (ready o s)) none ∙ sending_done now s (ap found none)
+    ap (λ (o : Option ConnectionView). sent_until_done now (ready now o s)) none ∙ sending_done now s (ap found none)
 
 pub led_ordinary : (now : ℕ) (s : State) (o : Option ConnectionView) → s.endpoint.connection ≡ o → led_on now s Ordinary o ≡ ordinary now s
 led_ordinary now s None none = sym (nothing_ordinary now s none)

@@ -7,14 +7,15 @@ use Rattle.pd_settings.specs.declared.fields.Settings.{Settings}
 use Rattle.pd_seg.specs.declared.sack_blocks.Span.{Span}
 use Rattle.pd_timer.specs.Rto.{RtoView, started, restarted}
 use Rattle.pd_recover.specs.Choice.{segment_of}
-use Rattle.pd_recover.specs.Cong.{CongView, entered_to}
+use Rattle.pd_recover.proofs.Windows.{restarted-within}
+use Rattle.pd_recover.specs.Cong.{CongView, entered_to, restarted as window_restarted}
 use Rattle.pd_recover.specs.Laws.{IsWithin}
 use Rattle.pd_recover.specs.declared.segments.NextSegment.{NextSegment}
 use Rattle.pd_recover.specs.declared.segments.NextSegment.TheVariants.{Lost, New, Hole, Rescue}
 use Rattle.pd_host.specs.Acknowledgments.{sent_as, noted_by, noted_on, entered_on}
 use Rattle.pd_host.specs.Connection.{ConnectionView}
 use Rattle.pd_host.specs.Invariants.{IsEnding, IsOfPhase, IsInBounds, IsTimed, IsReached}
-use Rattle.pd_host.specs.Sending.{past_sacked, sent_on}
+use Rattle.pd_host.specs.Sending.{is_idle, restarted_in, begun_again, past_sacked, sent_on}
 use Rattle.pd_host.specs.Timing.{overlaps, timed_after, clocked}
 use Rattle.pd_host.specs.declared.established.Established.{Established}
 use Rattle.pd_host.specs.declared.fillings.Filling.{Filling}
@@ -131,14 +132,6 @@ module _ (b : Settings) (now : ℕ) where
   found_leaves c segment None h is e = absurd cc
   found_leaves c segment (Some est) h is e = sent_live c est segment h is (ordinary_leaves c est h.reached.board segment e)
 
-  pub sending_live : KeptBySending now (IsLive b now)
-  sending_live = record {
-    ready = λ c h. record { reached = ready_reached c h.reached; live = h.live };
-    sent = λ c segment h e.
-        let k = found_leaves c segment c.established h refl e in
-        record { reached = ready_reached (sent_on now segment c) k.reached; live = k.live };
-  }
-
   -- congestion control changes, within its bounds
   pub congestion_live : (c : ConnectionView) (e : Established) (w : CongView) → IsLive b now c → c.established ≡ Some e
       → IsWithin c.board.smss b.initial_ssthresh w → IsBelow c.board.top w
@@ -181,6 +174,33 @@ module _ (b : Settings) (now : ℕ) where
   numbers c e h is =
       let k : IsInBounds b c.board.smss c.board.top c.widest e = at_some (IsInBounds b c.board.smss c.board.top c.widest) c.established e is h.reached.bounds in
       record { recovery_point = k.recovery_point; high_rxt = k.high_rxt; rescue_rxt = k.rescue_rxt }
+
+  -- sending begins, after an idle time or without one
+  restarted_live : (smss : ℕ) (idle : Bool) (c : ConnectionView) (o : Option Established) → smss ≡ c.board.smss → IsLive b now c → c.established ≡ o
+      → IsLive b now (record c { established = restarted_in smss idle o })
+  restarted_live smss idle c None same h is = subst (λ (o : Option Established). IsLive b now (record c { established = o })) is h
+  restarted_live smss idle c (Some e) same h is =
+      let k : IsInBounds b c.board.smss c.board.top c.widest e = at_some (IsInBounds b c.board.smss c.board.top c.widest) c.established e is h.reached.bounds in
+      let below = numbers c e h is in
+      congestion_live c e (window_restarted smss idle e.congestion) h is
+      (subst (λ (n : ℕ). IsWithin n b.initial_ssthresh (window_restarted smss idle e.congestion)) same
+      (restarted-within b.initial_ssthresh smss idle e.congestion
+      (subst (λ (n : ℕ). n ≤ 65495) (sym same) h.reached.board.smss_high)
+      (subst (λ (n : ℕ). IsWithin n b.initial_ssthresh e.congestion) (sym same) k.windows)))
+      (record { recovery_point = below.recovery_point; high_rxt = below.high_rxt; rescue_rxt = below.rescue_rxt })
+
+  begun_live : (c : ConnectionView) → IsLive b now c → IsLive b now (begun_again now c)
+  begun_live c h = restarted_live c.board.smss (is_idle now c) c c.established refl h refl
+
+  pub sending_live : KeptBySending now (IsLive b now)
+  sending_live = record {
+    ready = λ c h.
+        let k = begun_live c h in
+        record { reached = ready_reached (begun_again now c) k.reached; live = k.live };
+    sent = λ c segment h e.
+        let k = found_leaves c segment c.established h refl e in
+        record { reached = ready_reached (sent_on now segment c) k.reached; live = k.live };
+  }
 
   -- what congestion control notes of a segment
   noted_numbers : (filling : Filling) (sent : NextSegment) (top : ℕ) (w : CongView) → IsBelow top w → (segment_of sent).end ≤ top

@@ -31,9 +31,9 @@ again settings r = mapped (rebound settings) r
 abbrev pub rebound_too : Settings → OnTheWay → OnTheWay
 rebound_too settings t = (rebound settings t.0, t.1)
 
-ready_again : (b : Settings) (o : Option ConnectionView) (s : State) → ready o (rebound b s) ≡ rebound b (ready o s)
-ready_again b None s = refl
-ready_again b (Some c) s = refl
+ready_again : (b : Settings) (now : ℕ) (o : Option ConnectionView) (s : State) → ready now o (rebound b s) ≡ rebound b (ready now o s)
+ready_again b now None s = refl
+ready_again b now (Some c) s = refl
 
 sent_again : (b : Settings) (now : ℕ) (segment : Span) (o : Option ConnectionView) (s : State)
     → sent_ordinarily now segment o (rebound b s) ≡ rebound b (sent_ordinarily now segment o s)
@@ -46,7 +46,7 @@ until_done_again b now s =
 
 pub ordinary_again : (b : Settings) (now : ℕ) (s : State) → ordinary now (rebound b s) ≡ again b (ordinary now s)
 ordinary_again b now s =
-    ap (sent_until_done now) (ready_again b s.endpoint.connection s) ∙ until_done_again b now (ready s.endpoint.connection s)
+    ap (sent_until_done now) (ready_again b now s.endpoint.connection s) ∙ until_done_again b now (ready now s.endpoint.connection s)
 
 fill_again : (b : Settings) (now : ℕ) (filling : Filling) (sent : NextSegment) (o : Option ConnectionView) (t : OnTheWay)
     → one_filled now filling sent o (rebound_too b t) ≡ rebound_too b (one_filled now filling sent o t)

@@ -21,6 +21,7 @@ use Rattle.pd_host.specs.Calls.{with_stream, with_nagle}
 use Rattle.pd_host.specs.Connection.{ConnectionView}
 use Rattle.pd_host.specs.Handshake.{looked_at}
 use Rattle.pd_host.specs.Invariants.{RecoversBelow, IsBelowPoint}
+use Rattle.pd_host.specs.Sending.{is_idle, restarted_in, begun_again}
 use Rattle.pd_host.specs.Timing.{is_measured, measured, with_sample, with_timer_moved}
 use Rattle.pd_host.specs.declared.established.Established.{Established}
 use Rattle.pd_host.specs.declared.fillings.Filling.{Filling}
@@ -182,6 +183,14 @@ noted_below now filling c (Rescue segment) o h is = noted_too filling (sent_as n
 pub entered_below : (segment : Span) (c : ConnectionView) (o : Option Established) → IsBelowPoint c → c.established ≡ o → IsBelowPoint (entered_on segment c o)
 entered_below segment c None h is = h
 entered_below segment c (Some e) h is = recongested c e (entered_to segment.end e.congestion) h is refl refl
+
+-- sending begins, after an idle time or without one
+begun_same : (una smss : ℕ) (idle : Bool) (o : Option Established) → RecoversBelow una o → RecoversBelow una (restarted_in smss idle o)
+begun_same una smss idle None h = h
+begun_same una smss idle (Some e) h = h
+
+pub begun_below : (now : ℕ) (c : ConnectionView) → IsBelowPoint c → IsBelowPoint (begun_again now c)
+begun_below now c h sack = begun_same c.board.una c.board.smss (is_idle now c) c.established (h sack)
 
 -- another stream, or Nagle's algorithm
 stream_same : (una : ℕ) (d : Stream) (o : Option Established) → RecoversBelow una o → RecoversBelow una (option_map {T = Established} (λ e. record e { stream = d }) o)

@@ -13,7 +13,7 @@ use Rattle.pd_recover.proofs.Chosen.{AllOf, one_of, either_of, map_of, allowed_o
 use Rattle.pd_recover.proofs.Found.{least}
 use Rattle.pd_seg.specs.declared.sack_blocks.Span.{Span}
 use Rattle.pd_seg.specs.declared.segments.Sent.{Sent}
-use Rattle.pd_host.specs.Acknowledgments.{OnTheWay, octets_of, next_by, next_found, sent_as, noted_on, one_filled, pipe_of, filled}
+use Rattle.pd_host.specs.Acknowledgments.{OnTheWay, octets_of, next_by, next_found, sent_as, noted_by, noted_on, one_filled, pipe_of, filled}
 use Rattle.pd_host.specs.Connection.{ConnectionView}
 use Rattle.pd_host.specs.Packets.{data_of}
 use Rattle.pd_host.specs.Sending.{value_on, places_left, with_segment}
@@ -25,7 +25,7 @@ use Rattle.pd_host.specs.declared.sender_state.State.{State}
 use Rattle.pd_host.proofs.Chosen.{is_within}
 use Rattle.pd_host.proofs.InWindow.{packet_ends}
 use Rattle.pd_host.proofs.Outcomes.{Leaves, came, leaves_too, kept}
-use Rattle.pd_host.proofs.SentOn.{still, at_rest, sender_leaves, fill_finds, fill_sends, fill_still}
+use Rattle.pd_host.proofs.SentOn.{sender_leaves, fill_finds, fill_sends, sent_as_established}
 use Rattle.pd_host.proofs.Rules.{next_on}
 
 -- Segments of SMSS octets at most
@@ -123,15 +123,20 @@ counted_more pipe before last start end n whole h k e = omega (arith, h, k, e)
 fuller : (pipe cwnd n octets : ℕ) → n ≤ max pipe cwnd → octets ≤ cwnd - n → n + octets ≤ max pipe cwnd
 fuller pipe cwnd n octets h k = omega (arith, h, k)
 
-rest_window : (c : ConnectionView) (o : Option Established) → cwnd_on (still c) (at_rest o) ≡ cwnd_on c o
-rest_window c None = refl
-rest_window c (Some e) = refl
+noted_window : (filling : Filling) (sent : NextSegment) (w : CongView) → (noted_by filling sent w).cwnd ≡ w.cwnd
+noted_window NewData sent w = refl
+noted_window NextSeg (Lost segment) w = refl
+noted_window NextSeg (New segment) w = refl
+noted_window NextSeg (Hole segment) w = refl
+noted_window NextSeg (Rescue segment) w = refl
 
-same_window : (c d : ConnectionView) → still d ≡ still c → cwnd_in (Some d) ≡ cwnd_in (Some c)
-same_window c d h = sym (rest_window d d.established) ∙ ap (λ (x : ConnectionView). cwnd_in (Some x)) h ∙ rest_window c c.established
+same_window : (now : ℕ) (filling : Filling) (sent : NextSegment) (c : ConnectionView) (o : Option Established) → c.established ≡ o
+    → cwnd_in (Some (noted_on filling sent (sent_as now sent c) o)) ≡ cwnd_on c o
+same_window now filling sent c None is = ap (cwnd_on c) (sent_as_established now sent c ∙ is)
+same_window now filling sent c (Some e) is = noted_window filling sent e.congestion
 
 one_filling : (pipe cwnd now : ℕ) (s : State) (t : OnTheWay) (segment : Span) (c d : ConnectionView) → t.0.endpoint.connection ≡ Some c
-    → HasRoom (cwnd_in (Some c)) t.1 segment → still d ≡ still c → IsFilling pipe cwnd s t
+    → HasRoom (cwnd_in (Some c)) t.1 segment → cwnd_in (Some d) ≡ cwnd_in (Some c) → IsFilling pipe cwnd s t
     → IsFilling pipe cwnd s (with_segment now segment c d t.0, t.1 + octets_of segment)
 one_filling pipe cwnd now s t segment c d e room stays h =
     let packet : Sent = record { segment = data_of c segment; at = now } in
@@ -142,7 +147,7 @@ one_filling pipe cwnd now s t segment c d e room stays h =
       counted = counted_more pipe (octets_in h.packets) (end_with_fin packet.segment) segment.start segment.end t.1 (octets_in (h.packets ++ packet ∷ []))
           h.counted (packet_ends c segment) (one_more h.packets packet);
       full = fuller pipe cwnd t.1 (octets_of segment) h.full (subst (λ (n : ℕ). octets_of segment ≤ n - t.1) here room);
-      window = same_window c d stays ∙ here;
+      window = stays ∙ here;
     }
 
 fill_once : (filling : Filling) (pipe cwnd now : ℕ) (s : State) (t : OnTheWay) (sent : NextSegment) (o : Option ConnectionView)
@@ -151,7 +156,7 @@ fill_once : (filling : Filling) (pipe cwnd now : ℕ) (s : State) (t : OnTheWay)
 fill_once filling pipe cwnd now s t sent None e f h = h
 fill_once filling pipe cwnd now s t sent (Some c) e f h =
     one_filling pipe cwnd now s t (segment_of sent) c (noted_on filling sent (sent_as now sent c) c.established) e
-    (room_on filling t.1 c c.established sent f) (fill_still now filling sent c) h
+    (room_on filling t.1 c c.established sent f) (same_window now filling sent c c.established refl) h
 
 most : (pipe cwnd : ℕ) → pipe ≤ max pipe cwnd
 most pipe cwnd = omega arith

@@ -14,7 +14,7 @@ use Rattle.pd_host.specs.Calls.{stream_of, is_open, is_waiting, with_stream, wit
 use Rattle.pd_host.specs.Connection.{ConnectionView}
 use Rattle.pd_host.specs.Expiries.{due_by, resent_by, expired_by}
 use Rattle.pd_host.specs.Handshake.{is_opening, block_begun, established_by}
-use Rattle.pd_host.specs.Sending.{value_on, ordinary_segment, past_sacked, sent_on}
+use Rattle.pd_host.specs.Sending.{value_on, ordinary_segment, begun_again, past_sacked, sent_on}
 use Rattle.pd_host.specs.Timing.{clocked}
 use Rattle.pd_host.specs.declared.established.Established.{Established}
 use Rattle.pd_host.specs.declared.fillings.Filling.{Filling}
@@ -41,7 +41,7 @@ next_on filling pipe c o = value_on None (next_by filling pipe) c o
 
 -- ordinary sending
 pub record KeptBySending (now : ℕ) (C : ConnectionView → Type 0) : Type 0 where
-  pub ready : (c : ConnectionView) → C c → C (past_sacked c)
+  pub ready : (c : ConnectionView) → C c → C (past_sacked (begun_again now c))
   pub sent : (c : ConnectionView) (segment : Span) → C c → found_on c c.established ≡ Some segment → C (past_sacked (sent_on now segment c))
 
 -- the segment at una

@@ -27,7 +27,7 @@ module _ (now : ℕ) (O : List Sent → Type 0) (C : Settings → ConnectionView
     ordinarily None segment s h d e = h
     ordinarily (Some c) segment s h d e = placed_where _ _ s h ((rules s.settings).sent c segment d e)
 
-    made_ready : (o : Option ConnectionView) (s : State) → Holds O C s → IfSome o (C s.settings) → Holds O C (ready o s)
+    made_ready : (o : Option ConnectionView) (s : State) → Holds O C s → IfSome o (C s.settings) → Holds O C (ready now o s)
     made_ready None s h d = h
     made_ready (Some c) s h d = record { packets = h.packets; connection = (rules s.settings).ready c d }
 
@@ -35,7 +35,7 @@ module _ (now : ℕ) (O : List Sent → Type 0) (C : Settings → ConnectionView
     ordinary_where s h =
         repeated_holds (Holds O C) (λ t. found t.endpoint.connection) (λ segment t. sent_ordinarily now segment t.endpoint.connection t)
         (λ t segment k e. ordinarily t.endpoint.connection segment t k k.connection e)
-        (places_left (ready s.endpoint.connection s)) (ready s.endpoint.connection s)
+        (places_left (ready now s.endpoint.connection s)) (ready now s.endpoint.connection s)
         (made_ready s.endpoint.connection s h h.connection)
 
 -- the same where any packet may be put out

@@ -1,5 +1,5 @@
 -- What all sending leaves as it is, and that its packets follow the others.
-use Rattle.std.proofs.Common.{◌≡◌, ℕ, nat_lt, List, [], ◌∷◌, ◌++◌, Option, None, Some, Result, Ok, Err, refl, sym, ap, ◌∙◌, append_assoc, append-nil}
+use Rattle.std.proofs.Common.{◌≡◌, ℕ, Bool, false, nat_lt, List, [], ◌∷◌, ◌++◌, Option, None, Some, Result, Ok, Err, refl, sym, ap, ◌∙◌, append_assoc, append-nil}
 use Rattle.std.specs.List.{AllByRecursion}
 use Rattle.pd_board.specs.Choice.{run_at}
 use Rattle.pd_recover.specs.declared.responses.Then.{Then}
@@ -14,7 +14,7 @@ use Rattle.pd_host.specs.Acknowledgments.{OnTheWay, next_found, sent_as, noted_o
 use Rattle.pd_host.specs.Connection.{ConnectionView}
 use Rattle.pd_host.specs.Packets.{data_of}
 use Rattle.pd_host.specs.Places.{has_place}
-use Rattle.pd_host.specs.Sending.{places_left, with_block, past_sacked, sent_on, with_segment, found, sent_ordinarily, ready, sent_until_done, ordinary}
+use Rattle.pd_host.specs.Sending.{places_left, with_block, is_idle, restarted_in, begun_again, past_sacked, sent_on, with_segment, found, sent_ordinarily, ready, sent_until_done, ordinary}
 use Rattle.pd_host.specs.Timing.{clocked}
 use Rattle.pd_host.specs.declared.established.Established.{Established}
 use Rattle.pd_host.specs.declared.fillings.Filling.{Filling}
@@ -27,13 +27,14 @@ use Rattle.pd_host.proofs.Outcomes.{Leaves, kept, either, then_leaves}
 -- what sending moves, at rest
 abbrev pub at_rest : Option Established → Option Established
 at_rest None = None
-at_rest (Some e) = Some (record e { congestion = record e.congestion { limited = 0; high_rxt = 0; rescue_rxt = 0 } })
+at_rest (Some e) = Some (record e { congestion = record e.congestion { cwnd = 0; limited = 0; high_rxt = 0; rescue_rxt = 0; follows_expiry = false } })
 
 abbrev resting : ConnectionView → Option Established → ConnectionView
 resting c e = record c {
   board = record c.board { next = 0; top = 0 };
   timer = initial 0 0;
   timed = None;
+  last_sent = 0;
   established = at_rest e;
 }
 
@@ -44,6 +45,15 @@ still c = resting c c.established
 abbrev pub stills : Option ConnectionView → Option ConnectionView
 stills None = None
 stills (Some c) = Some (still c)
+
+-- where sending begins, a restart leaves it
+rested : (idle : Bool) (smss : ℕ) (o : Option Established) → at_rest (restarted_in smss idle o) ≡ at_rest o
+rested idle smss None = refl
+rested idle smss (Some e) = refl
+
+pub begun_still : (now : ℕ) (c : ConnectionView) → still (past_sacked (begun_again now c)) ≡ still c
+begun_still now c =
+    ap (λ (o : Option Established). record (resting c None) { established = o }) (rested (is_idle now c) c.board.smss c.established)
 
 -- something was sent at a moment: packets follow the others, and all else is as it was
 pub record IsSentOn (now : ℕ) (s t : State) : Type 0 where
@@ -122,9 +132,10 @@ once : (now : ℕ) (segment : Span) (s : State) (o : Option ConnectionView) → 
 once now segment s None e = nothing_sent now s
 once now segment s (Some c) e = one_sent now segment c (past_sacked (sent_on now segment c)) s (sym (ap stills e))
 
-made_ready : (now : ℕ) (s : State) (o : Option ConnectionView) → s.endpoint.connection ≡ o → IsSentOn now s (ready o s)
+made_ready : (now : ℕ) (s : State) (o : Option ConnectionView) → s.endpoint.connection ≡ o → IsSentOn now s (ready now o s)
 made_ready now s None e = nothing_sent now s
-made_ready now s (Some c) e = only_moved now (past_sacked c) s (sym (ap stills e))
+made_ready now s (Some c) e =
+    only_moved now (past_sacked (begun_again now c)) s (ap (λ (d : ConnectionView). Some d) (begun_still now c) ∙ sym (ap stills e))
 
 until_done : (now : ℕ) (r s : State) → IsSentOn now r s → Leaves (IsSentOn now r) (sent_until_done now s)
 until_done now r s h =
@@ -134,7 +145,7 @@ until_done now r s h =
 
 pub ordinary_sends : (now : ℕ) (r s : State) → IsSentOn now r s → Leaves (IsSentOn now r) (ordinary now s)
 ordinary_sends now r s h =
-    let t = ready s.endpoint.connection s in
+    let t = ready now s.endpoint.connection s in
     until_done now r t (then_more now r s t h (made_ready now s s.endpoint.connection refl))
 
 -- Step C and limited transmit
@@ -151,7 +162,7 @@ sent_as_still now (New segment) c = refl
 sent_as_still now (Hole segment) c = refl
 sent_as_still now (Rescue segment) c = refl
 
-sent_as_established : (now : ℕ) (sent : NextSegment) (c : ConnectionView) → (sent_as now sent c).established ≡ c.established
+pub sent_as_established : (now : ℕ) (sent : NextSegment) (c : ConnectionView) → (sent_as now sent c).established ≡ c.established
 sent_as_established now (Lost segment) c = refl
 sent_as_established now (New segment) c = refl
 sent_as_established now (Hole segment) c = refl

@@ -20,7 +20,7 @@ use Rattle.pd_host.proofs.Kept.{by_test}
 use Rattle.pd_host.proofs.Moments.{Good, good, up_to, anything, expiries, one_more, starts_up_to_date, taking_keeps_up}
 use Rattle.pd_host.proofs.Queued.{accepted_reached, nagle_reached, finned_reached, queued_live, finished_live, abandoned_reached}
 use Rattle.pd_host.proofs.Reached.{IsLive, sending_live, filling_live, entry_live, entry_alone_live}
-use Rattle.pd_host.proofs.Recovers.{taking_below, noted_below, entered_below, stream_below, nagle_below, finned_below}
+use Rattle.pd_host.proofs.Recovers.{taking_below, noted_below, entered_below, stream_below, begun_below, nagle_below, finned_below}
 use Rattle.pd_host.proofs.Rules.{Holds, HoldsFirst, KeptBySending, KeptByArrivals, KeptByCalls, KeptByExpiries, first_run}
 use Rattle.pd_host.proofs.Shaken.{begun_reached, reset_reached, established_reached}
 use Rattle.pd_host.proofs.Timely.{IsTimely, first_timely, arrivals_timely, calls_timely}
@@ -45,7 +45,7 @@ closed_below c h =
 module _ (bounds : Bounds) (windows : Windows) where
   sending_known : (now : ℕ) (b : Settings) → KeptBySending now (IsSending b now)
   sending_known now b = record {
-    ready = λ c h. record { timely = (arrivals_timely bounds now b b).sending.ready c h.timely; live = (sending_live b now).ready c h.live; below = h.below };
+    ready = λ c h. record { timely = (arrivals_timely bounds now b b).sending.ready c h.timely; live = (sending_live b now).ready c h.live; below = begun_below now c h.below };
     sent = λ c segment h e. record {
       timely = (arrivals_timely bounds now b b).sending.sent c segment h.timely e;
       live = (sending_live b now).sent c segment h.live e;

@@ -26,6 +26,8 @@ pub record ConnectionView : Type 0 where
   pub timer : RtoView
   -- the segment whose round trip is measured, if one is (RFC 6298, section 3)
   pub timed : Option Timing
+  -- when octets were last sent, our SYN and FIN too (RFC 5681, section 4.1)
+  pub last_sent : ℕ
   -- the largest of the peer's windows seen so far, in octets, the SYN's too (RFC 9293, section 3.8.6.2.1: Max(SND.WND))
   pub widest : ℕ
   -- whether the SYN/ACK was sent again (RFC 5681, section 3.1; RFC 6298, section 5.7)

@@ -22,9 +22,10 @@ abbrev pub due_by : ℕ → Option ℕ → Option ℕ
 due_by until None = None
 due_by until (Some at) = if nat_le at until then Some at else None
 
--- RTO is doubled, the timer starts anew, and what is sent again isn't timed (RFC 6298, sections 3, 5.5 and 5.6)
+-- RTO is doubled, the timer starts anew, and what is sent again, which is noted, isn't timed (RFC 6298, sections 3, 5.5 and
+-- 5.6; RFC 5681, section 4.1)
 abbrev pub with_backoff : ℕ → ConnectionView → ConnectionView
-with_backoff at c = record c { timer = expired_rto at c.timer; timed = None }
+with_backoff at c = record c { timer = expired_rto at c.timer; timed = None; last_sent = at }
 
 -- in the handshake the SYN/ACK is sent again, which is noted (RFC 5681, section 3.1; RFC 6298, section 5.7)
 abbrev pub resent_by : ℕ → ConnectionView → ConnectionView

@@ -116,6 +116,7 @@ block_begun now settings syn = record {
   fin = false;
   timer = started now (initial settings.min_rto_us settings.max_rto_us);
   timed = Some (record { segment = syn_octet; sent_at = now });
+  last_sent = now;
   widest = syn.win;
   resent = false;
   established = None;

@@ -1,9 +1,10 @@
 -- Ordinary sending: what the windows and Nagle's algorithm let leave.
-use Rattle.std.specs.Prelude.{ℕ, ◌+◌, ◌-◌, ◌*◌, nat_lt, nat_le, min, zero, suc, not, Bool, false, ◌&&◌, ◌||◌, [], ◌∷◌, ◌++◌, length, Option, Some, None, is_some, Result, Ok, Err, if◌then◌else◌}
+use Rattle.std.specs.Prelude.{ℕ, ◌+◌, ◌-◌, ◌*◌, ◌==◌, nat_lt, nat_le, min, zero, suc, not, Bool, false, ◌&&◌, ◌||◌, [], ◌∷◌, ◌++◌, length, Option, Some, None, is_some, Result, Ok, Err, if◌then◌else◌}
 use Rattle.pd_seg.specs.declared.sack_blocks.Span.{Span}
 use Rattle.pd_seg.specs.declared.segments.Segment.{Segment}
 use Rattle.pd_board.specs.Choice.{run_at}
 use Rattle.pd_board.specs.Board.{sent_to, skipped}
+use Rattle.pd_recover.specs.Cong.{restarted}
 use Rattle.pd_host.specs.Connection.{ConnectionView}
 use Rattle.pd_host.specs.Packets.{data_of, covers_fin}
 use Rattle.pd_host.specs.Places.{most_packets}
@@ -131,19 +132,33 @@ abbrev pub sent_ordinarily : ℕ → Span → Option ConnectionView → State �
 sent_ordinarily now segment None s = s
 sent_ordinarily now segment (Some c) s = with_segment now segment c (past_sacked (sent_on now segment c)) s
 
--- before anything is sent, the sending place moves past SACKed octets (RFC 2018, section 5)
-abbrev pub ready : Option ConnectionView → State → State
-ready None s = s
-ready (Some c) s = with_block (past_sacked c) s
+-- no octets were sent for longer than RTO (RFC 5681, section 4.1), and none are outstanding (own)
+abbrev pub is_idle : ℕ → ConnectionView → Bool
+is_idle now c = c.board.una == c.board.top && nat_lt c.timer.rto (now - c.last_sent)
+
+-- congestion control where sending begins, after an idle time or without one
+abbrev pub restarted_in : ℕ → Bool → Option Established → Option Established
+restarted_in smss idle None = None
+restarted_in smss idle (Some e) = Some (record e { congestion = restarted smss idle e.congestion })
+
+-- sending begins at a moment: after an idle time the window restarts, where the setting was on (RFC 5681, section 4.1)
+abbrev pub begun_again : ℕ → ConnectionView → ConnectionView
+begun_again now c = record c { established = restarted_in c.board.smss (is_idle now c) c.established }
+
+-- before anything is sent at a moment, the sending place moves past SACKed octets too (RFC 2018, section 5)
+abbrev pub ready : ℕ → Option ConnectionView → State → State
+ready now None s = s
+ready now (Some c) s = with_block (past_sacked (begun_again now c)) s
 
 -- ordinary sending at a moment, until nothing more leaves
 abbrev pub sent_until_done : ℕ → State → Result State Halt
 sent_until_done now s =
     repeated (λ t. found t.endpoint.connection) (λ segment t. sent_ordinarily now segment t.endpoint.connection t) (places_left s) s
 
--- ordinary sending at a moment: the sending place moves past SACKed octets, and then segments leave until none may
+-- ordinary sending at a moment: the window may restart, the sending place moves past SACKed octets, and then segments leave
+-- until none may
 abbrev pub ordinary : ℕ → State → Result State Halt
-ordinary now s = sent_until_done now (ready s.endpoint.connection s)
+ordinary now s = sent_until_done now (ready now s.endpoint.connection s)
 
 -- whether loss recovery goes on
 abbrev pub is_recovering : Option Established → Bool

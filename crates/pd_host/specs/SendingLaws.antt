@@ -1,11 +1,12 @@
 -- What holds of all that is sent.
-use Rattle.std.specs.Prelude.{◌≡◌, ◌↔◌, ℕ, ◌+◌, ◌-◌, ◌<◌, ◌≤◌, ◌⊎◌, ◌&&◌, nat_lt, max, Bool, true, false, List, [], ◌∷◌, ◌++◌, Option, Some, None, Ok, if◌then◌else◌, unwrap_or, option_map, option_and_then}
+use Rattle.std.specs.Prelude.{◌≡◌, ◌↔◌, ℕ, ◌+◌, ◌-◌, ◌<◌, ◌≤◌, ◌⊎◌, ◌&&◌, nat_lt, min, max, Bool, true, false, List, [], ◌∷◌, ◌++◌, Option, Some, None, Ok, if◌then◌else◌, unwrap_or, option_map, option_and_then}
 use Rattle.std.specs.List.{AllByRecursion}
 use Rattle.pd_board.specs.Choice.{run_at}
 use Rattle.pd_board.specs.Board.{BoardView, IsBoardView}
 use Rattle.pd_recover.specs.Acks.{acked}
 use Rattle.pd_recover.specs.Choice.{segment_of}
-use Rattle.pd_recover.specs.Cong.{CongView}
+use Rattle.pd_settings.specs.declared.initial_window.InitialWindow.{InitialWindow}
+use Rattle.pd_recover.specs.Cong.{CongView, window_by}
 use Rattle.pd_recover.specs.Laws.{IsSpared}
 use Rattle.pd_recover.specs.declared.feedback.Ack.{Ack}
 use Rattle.pd_recover.specs.declared.responses.Then.TheVariants.{NewSegment}
@@ -22,7 +23,7 @@ use Rattle.pd_host.specs.Connection.{ConnectionView, data_end}
 use Rattle.pd_host.specs.Expiries.{deadline_of, due_by, block_expired, expired_by, expired, advanced}
 use Rattle.pd_host.specs.Packets.{data_of}
 use Rattle.pd_host.specs.Requests.{request_of}
-use Rattle.pd_host.specs.Sending.{value_in, window_edge, ordinary_segment, found, sent_ordinarily, ordinary, is_recovering}
+use Rattle.pd_host.specs.Sending.{value_in, window_edge, ordinary_segment, found, sent_ordinarily, is_idle, ordinary, is_recovering}
 use Rattle.pd_host.specs.Timing.{overlaps, clocked}
 use Rattle.pd_host.specs.declared.established.Established.{Established}
 use Rattle.pd_host.specs.declared.fillings.Filling.{Filling}
@@ -90,12 +91,19 @@ pub record StaysInWindow : Type 0 where
 abbrev pub edge_of : Option ConnectionView → ℕ
 edge_of connection = value_in 0 window_edge connection
 
--- ordinary sending chooses nothing that ends beyond the congestion window, and so puts nothing out that does; step C and
--- limited transmit choose where it has room for a full segment beside what is on the way
+-- ordinary sending chooses nothing that ends beyond the congestion window, and so puts nothing out that does; after an idle
+-- time none that ends beyond the restart window, where the setting was on (RFC 5681, section 4.1); step C and limited
+-- transmit choose where the window has room for a full segment beside what is on the way
 pub record ControlsCongestion : Type 0 where
   pub chosen :
       (c : ConnectionView) (e : Established) (segment : Span)
       → ordinary_segment c e ≡ Some segment → segment.end ≤ c.board.una + e.congestion.cwnd
+  pub restart :
+      (now : ℕ) (s t : State) (c : ConnectionView) (e : Established) (rule : InitialWindow) → s.endpoint.connection ≡ Some c
+      → c.established ≡ Some e → e.congestion.restarts_by ≡ Some rule → is_idle now c ≡ true → ordinary now s ≡ Ok t
+      → (packets : List Sent)
+      × AllByRecursion (λ p. end_with_fin p.segment ≤ c.board.una + min (window_by rule c.board.smss) e.congestion.cwnd) packets
+      × (t.endpoint.outbox ≡ s.endpoint.outbox ++ packets)
   pub ordinary :
       (now : ℕ) (s t : State) → ordinary now s ≡ Ok t
       → (packets : List Sent)

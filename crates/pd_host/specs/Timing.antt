@@ -16,11 +16,13 @@ abbrev pub timed_after : ℕ → Span → ℕ → Option Timing → Option Timin
 timed_after now segment top None = if nat_le top segment.start then Some (record { segment = segment; sent_at = now }) else None
 timed_after now segment top (Some t) = if overlaps t.segment segment then None else Some t
 
--- a segment was sent at a moment: the timer runs from now on, if it didn't (RFC 6298, section 5.1)
+-- a segment was sent at a moment, which is noted (RFC 5681, section 4.1): the timer runs from now on, if it didn't (RFC 6298,
+-- section 5.1)
 abbrev pub clocked : ℕ → Span → ConnectionView → ConnectionView
 clocked now segment c = record c {
   timer = started now c.timer;
   timed = timed_after now segment c.board.top c.timed;
+  last_sent = now;
 }
 
 -- the timed segment is acknowledged, where all octets below this number are

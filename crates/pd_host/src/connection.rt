@@ -60,6 +60,8 @@ pub struct Connection {
     timer: Rto,
     /// The segment whose round trip is measured, if one is (RFC 6298, section 3).
     timed: Option<Timing>,
+    /// When octets were last sent, our SYN and FIN too, in microseconds since the start of the run (RFC 5681, section 4.1).
+    last_sent: u64,
     /// Max(SND.WND): the largest of the peer's windows seen so far, the SYN's too, in octets (RFC 9293, section 3.8.6.2.1).
     widest: u32,
     /// Whether the SYN/ACK was sent again (RFC 5681, section 3.1; RFC 6298, section 5.7).
@@ -76,7 +78,7 @@ impl Model for Connection {
 
     ghost Value = { ConnectionView };
 
-    ghost view = { λ c. record { announced = c.announced; sack = c.sack; scaling = c.scaling; rcv_wnd = c.rcv_wnd; board = c.board; fin = c.fin; timer = c.timer; timed = c.timed; widest = c.widest; resent = c.resent; established = c.established; reset = c.reset } };
+    ghost view = { λ c. record { announced = c.announced; sack = c.sack; scaling = c.scaling; rcv_wnd = c.rcv_wnd; board = c.board; fin = c.fin; timer = c.timer; timed = c.timed; last_sent = c.last_sent; widest = c.widest; resent = c.resent; established = c.established; reset = c.reset } };
 
     ghost invariant = { λ c. IsConnection c.scaling c.board.una c.established };
 }
@@ -138,6 +140,7 @@ impl Connection {
                 segment: Span { start: 0, end: 1 },
                 sent_at: now,
             }),
+            last_sent: now,
             widest: u32::from(syn.win),
             resent: false,
             established: None,

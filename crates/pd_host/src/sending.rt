@@ -18,18 +18,19 @@ impl State {
         requires early { now < 2 ^ 62 }
         ensures { Gives (ordinary now self.old) result self.new }
     {
-        self.skip_sacked();
+        self.make_ready(now);
         while let Some(segment) = self.next_segment() {
             self.send_next(segment, now)?;
         }
         Ok(())
     }
 
-    /// The sending place moves past SACKed octets.
-    fn skip_sacked(&mut self)
-        ensures { self.new ≡ ready self.old.endpoint.connection self.old }
+    /// The congestion window restarts after an idle time, and the sending place moves past SACKed octets.
+    fn make_ready(&mut self, now: u64)
+        ensures { self.new ≡ ready now self.old.endpoint.connection self.old }
     {
         if let Some(connection) = &mut self.endpoint.connection {
+            connection.begin_again(now);
             connection.skip_sacked();
         }
     }

@@ -134,14 +134,14 @@ until_done_freed w now s =
     repeated_by (in_front w) finds (sends now) (places_left (in_front w s)) (places_left s) s (fewer w s)
     (λ t. refl) (λ segment t. sent_freed w now segment t.endpoint.connection t)
 
-ready_freed : (w : List Sent) (o : Option ConnectionView) (s : State) → ready o (in_front w s) ≡ in_front w (ready o s)
-ready_freed w None s = refl
-ready_freed w (Some c) s = refl
+ready_freed : (w : List Sent) (now : ℕ) (o : Option ConnectionView) (s : State) → ready now o (in_front w s) ≡ in_front w (ready now o s)
+ready_freed w now None s = refl
+ready_freed w now (Some c) s = refl
 
 pub ordinary_freed : (w : List Sent) (now : ℕ) (s : State) → CameBy (in_front w) (ordinary now (in_front w s)) (ordinary now s)
 ordinary_freed w now s =
-    let ready_now : State = ready s.endpoint.connection s in
-    subst (λ (u : State). CameBy (in_front w) (sent_until_done now u) (sent_until_done now ready_now)) (sym (ready_freed w s.endpoint.connection s))
+    let ready_now : State = ready now s.endpoint.connection s in
+    subst (λ (u : State). CameBy (in_front w) (sent_until_done now u) (sent_until_done now ready_now)) (sym (ready_freed w now s.endpoint.connection s))
     (until_done_freed w now ready_now)
 
 -- ---- step C and limited transmit

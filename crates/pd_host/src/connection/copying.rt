@@ -32,6 +32,7 @@ impl Connection {
             fin: self.fin,
             timer: self.timer,
             timed: self.timed,
+            last_sent: self.last_sent,
             widest: self.widest,
             resent: self.resent,
             established: self.established,

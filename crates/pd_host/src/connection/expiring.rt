@@ -25,6 +25,7 @@ impl Connection {
         ensures state { IfOk result (λ _. self.new ≡ block_expired at self.old self.old.established) }
     {
         self.timed = None;
+        self.last_sent = at;
         self.timer.expire(at);
         let Some(mut established) = self.established else {
             self.resent = true;

@@ -3,7 +3,7 @@ ghost use Rattle.std.specs.Prelude.{◌≡◌, ◌<◌, ◌^◌, Some, IfSome, I
 ghost use Rattle.pd_host.specs.Connection.{data_end};
 ghost use Rattle.pd_host.specs.Packets.{covers_fin, ends_data, data_of};
 ghost use Rattle.pd_host.specs.Holds.{is_enough};
-ghost use Rattle.pd_host.specs.Sending.{window_edge, usable, unsent, sendable, unsent_segment, is_full, is_all, is_half_window, leaves_now, is_held_back, next_new, next_again, found, past_sacked, sent_on};
+ghost use Rattle.pd_host.specs.Sending.{window_edge, usable, unsent, sendable, unsent_segment, is_full, is_all, is_half_window, leaves_now, is_held_back, next_new, next_again, found, is_idle, begun_again, past_sacked, sent_on};
 ghost use Rattle.pd_host.specs.Steps.{IsQueued};
 
 use super::Connection;
@@ -174,6 +174,26 @@ impl Connection {
             self.next_again(established)
         } else {
             self.next_new(established)
+        }
+    }
+
+    /// Whether no octets were sent for longer than RTO and none are outstanding.
+    fn is_idle(&self, now: u64) -> bool
+        ensures { result ≡ is_idle now self.now }
+    {
+        self.board.una() == self.board.top()
+            && now.saturating_sub(self.last_sent) > self.timer.rto()
+    }
+
+    /// Sending begins at a moment: after an idle time the congestion window restarts, where the setting was on (RFC 5681,
+    /// section 4.1).
+    pub fn begin_again(&mut self, now: u64)
+        ensures { self.new ≡ begun_again now self.old }
+    {
+        let idle = self.is_idle(now);
+        let smss = self.board.smss();
+        if let Some(established) = &mut self.established {
+            established.congestion.restart(smss, idle);
         }
     }
 

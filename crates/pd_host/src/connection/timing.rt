@@ -34,6 +34,7 @@ impl Connection {
     {
         self.timed = timed_after(now, segment, self.board.top(), self.timed);
         self.timer.start(now);
+        self.last_sent = now;
     }
 
     /// A sample is taken, if the timed segment lies below this ack number.

@@ -9,7 +9,7 @@ use Rattle.pd_host.proofs.Tails.{arrivals_queue_nothing, expiries_queue_nothing}
 use Rattle.pd_host.proofs.RecoveryEnds.{ends_recovery}
 use Rattle.pd_host.proofs.Room.{keeps_to_window}
 use Rattle.pd_host.proofs.SentOnce.{measures_what_is_sent_once}
-use Rattle.pd_host.proofs.Within.{ordinary_below}
+use Rattle.pd_host.proofs.Within.{ordinary_below, restart_below}
 use Rattle.pd_host.proofs.laws.sending_is_lawful.Goals as goal
 
 pub returns-clause-flow : goal.returns-clause-flow
@@ -26,6 +26,7 @@ returns-clause-window c = stays_in_window
 pub returns-clause-congestion : goal.returns-clause-congestion
 returns-clause-congestion c = record {
   chosen = λ b e segment h. in_window b e segment (chosen_within b e segment h);
+  restart = restart_below;
   ordinary = ordinary_below;
   filling = λ filling n b e sent h. filling_room filling n b e sent h;
 }
