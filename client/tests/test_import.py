@@ -54,7 +54,6 @@ def test_a_folder_is_imported_with_settings_and_a_list(programs: Path, tmp_path:
         "dropped from set-up:",
         "      1 metrics of earlier connections",
         "      1 no ECN",
-        "      1 no restart after idle",
         "      1 offload",
         "      1 queues of the device",
         "changed to this profile:",
@@ -63,8 +62,11 @@ def test_a_folder_is_imported_with_settings_and_a_list(programs: Path, tmp_path:
         "assertions for pdsuite run:",
         "      2 tcpi_snd_cwnd",
         "settings, scripts:",
+        "      2 byte_counting = 8",
         '      2 initial_window = "rfc6928"',
         "      2 min_rto_us = 200000",
+        "      1 restart_after_idle = false",
+        "      1 restart_after_idle = true",
         "      1 wscale = 7",
         "      1 wscale = 8",
         "  of a kernel, min_rto_us: RFC 6298 puts this floor under the whole RTO, Linux under 4 RTTVAR alone",
@@ -74,8 +76,8 @@ def test_a_folder_is_imported_with_settings_and_a_list(programs: Path, tmp_path:
     assert files == ["net/idle.pkt", "net/pdsuite.toml", "net/slow.pkt", "pdsuite.toml"]
     assert (tmp_path / "to/net/idle.pkt").read_text() == OPEN
     assert (tmp_path / "to/net/slow.pkt").read_text().startswith("// SPDX-License-Identifier: GPL-2.0\n")
-    settings = 'initial_window = "rfc6928", min_rto_us = 200000, wscale'
-    listed = f"to/net/idle.pkt: {settings} = 7\nto/net/slow.pkt: {settings} = 8\n"
+    before = 'byte_counting = 8, initial_window = "rfc6928", min_rto_us = 200000, restart_after_idle'
+    listed = f"to/net/idle.pkt: {before} = true, wscale = 7\nto/net/slow.pkt: {before} = false, wscale = 8\n"
     assert call(None, "list", "to").out == listed
     assert call(programs, "run", "-v", "to").rows == ["to/net/idle.pkt: pass 7", "to/net/slow.pkt: pass 21"]
 

@@ -51,7 +51,13 @@ WITHOUT = ["", "\n", "// SPDX-License-Identifier: GPL-2.0\r\n\r\n", "/* a\n*/ --
 @pytest.mark.parametrize("text", WITHOUT, ids=range(len(WITHOUT)))
 def test_a_script_of_this_language_stays_as_it_is(text: str) -> None:
     assert imported(text).text == text
-    assert imported(text).settings == (("initial_window", "rfc6928"), ("min_rto_us", 200_000), ("wscale", 7))
+    assert imported(text).settings == (
+        ("byte_counting", 8),
+        ("initial_window", "rfc6928"),
+        ("min_rto_us", 200_000),
+        ("restart_after_idle", True),
+        ("wscale", 7),
+    )
     assert imported(text, {"mss": 1000}).settings == (("mss", 1000),)
 
 
@@ -163,7 +169,7 @@ def test_a_script_with_settings_of_its_own_may_be_offered_timestamps() -> None:
 
 LEFT = [
     ("`sysctl -q net.ipv4.tcp_ecn=1`", 1, "ECN"),
-    ("`sysctl -q net.ipv4.tcp_slow_start_after_idle=1`", 1, "restart after idle"),
+    ("`sysctl -q net.ipv4.tcp_slow_start_after_idle=2`", 1, "a value that isn't read"),
     ("`ip link set dev tun0 mtu 1000`", 1, "MTU"),
     ("`ip route change default mtu 1000 initcwnd 10`", 1, "a command of set-up"),
     ("`./defaults.sh`", 1, "a command of set-up"),

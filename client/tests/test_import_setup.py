@@ -55,8 +55,8 @@ MEANINGS = [
     ("net.ipv4.tcp_sack", "0", Use.SETTING, "sack"),
     ("net.ipv4.tcp_congestion_control", "cubic", Use.FEATURE, "congestion control by name"),
     ("net.ipv4.tcp_early_retrans", "3", Use.FEATURE, "TLP"),
-    ("net.ipv4.tcp_slow_start_after_idle", "0", Use.ALIKE, "no restart after idle"),
-    ("net.ipv4.tcp_slow_start_after_idle", "1", Use.REFUSED, "restart after idle"),
+    ("net.ipv4.tcp_slow_start_after_idle", "0", Use.SETTING, "restart_after_idle"),
+    ("net.ipv4.tcp_slow_start_after_idle", "1", Use.SETTING, "restart_after_idle"),
     ("net.ipv4.tcp_ecn", "1", Use.REFUSED, "ECN"),
     ("net.ipv4.tcp_reordering", "5", Use.REFUSED, "another number of duplicates"),
     ("net.ipv4.tcp_base_mss", "512", Use.REFUSED, "MTU"),
@@ -104,7 +104,13 @@ def came_of(text: str, own: dict[str, Value] | None = None, smss: int = 1000, fi
     return setup_of(looked(text, file=file).told, smss, own)
 
 
-KERNEL = {"initial_window": "rfc6928", "min_rto_us": 200_000, "wscale": 7}
+KERNEL = {
+    "initial_window": "rfc6928",
+    "byte_counting": 8,
+    "restart_after_idle": True,
+    "min_rto_us": 200_000,
+    "wscale": 7,
+}
 
 
 def test_a_kernels_settings_come_first() -> None:
@@ -147,7 +153,8 @@ SETUPS: list[tuple[str, dict[str, Value]]] = [
     ("ip route change default rto_min 2sec", {"min_rto_us": 2_000_000}),
     ("ip route change default initcwnd 10", {"initial_window": "rfc6928"}),
     ("ip route change default initcwnd 4", {"initial_window": "rfc5681"}),
-    ("sysctl net.ipv4.tcp_slow_start_after_idle=1 net.ipv4.tcp_slow_start_after_idle=0", {}),
+    ("sysctl net.ipv4.tcp_slow_start_after_idle=0", {"restart_after_idle": False}),
+    ("sysctl net.ipv4.tcp_slow_start_after_idle=0 net.ipv4.tcp_slow_start_after_idle=1", {"restart_after_idle": True}),
 ]
 
 

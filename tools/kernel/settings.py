@@ -27,6 +27,7 @@ class Settings:
     min_rto_us: int = 1_000_000
     max_rto_us: int = 60_000_000
     nagle: bool = True
+    restart_after_idle: bool | None = None  # where nothing sets it, as the kernel has it
 
 
 @dataclass(frozen=True)
@@ -137,6 +138,8 @@ def tuning_of(events: tuple[Event, ...], settings: Settings, switches: Mapping[s
         "net.ipv4.tcp_wmem": f"4096 {2 * settings.sndbuf} {max(4194304, 2 * settings.sndbuf)}",
         "net.ipv4.tcp_rto_max_ms": str(min(120_000, settings.max_rto_us // 1000)),
     }
+    if settings.restart_after_idle is not None:
+        sysctls["net.ipv4.tcp_slow_start_after_idle"] = str(int(settings.restart_after_idle))
     route = [
         *("initcwnd", str(initial_segments(size, settings.initial_window))),
         *("rto_min", f"{settings.min_rto_us // 1000}ms"),

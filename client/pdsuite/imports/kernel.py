@@ -49,6 +49,7 @@ SETTINGS: Mapping[str, str] = {
     "net.ipv4.tcp_rmem": "wscale",
     "net.core.rmem_max": "wscale",
     "net.ipv4.tcp_sack": "sack",
+    "net.ipv4.tcp_slow_start_after_idle": "restart_after_idle",
     "net.ipv4.tcp_rto_min_us": "min_rto_us",
     "net.ipv4.tcp_rto_max_ms": "max_rto_us",
 }
@@ -108,7 +109,6 @@ FEATURES: tuple[_Feature, ...] = (
 
 ALIKE: Mapping[str, _Alike] = {
     "net.ipv4.tcp_ecn": _Alike(frozenset({"0"}), "no ECN", "ECN"),
-    "net.ipv4.tcp_slow_start_after_idle": _Alike(frozenset({"0"}), "no restart after idle", "restart after idle"),
     "net.ipv4.tcp_mtu_probing": _Alike(frozenset({"0"}), "no MTU probing", "MTU"),
     "net.ipv4.tcp_base_mss": _Alike(frozenset(), "", "MTU"),
     "net.ipv4.ip_no_pmtu_disc": _Alike(frozenset(), "", "MTU"),

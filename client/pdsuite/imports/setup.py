@@ -18,7 +18,12 @@ Load = Callable[[str], str]
 USUAL_RMEM = 6_291_456
 MOST_WSCALE = 14
 # What holds on a kernel where no command says anything else.
-KERNEL: Mapping[str, Value] = {"initial_window": "rfc6928", "min_rto_us": 200_000}
+KERNEL: Mapping[str, Value] = {
+    "initial_window": "rfc6928",
+    "byte_counting": 8,
+    "restart_after_idle": True,
+    "min_rto_us": 200_000,
+}
 
 # What a command in the midst is that is about nothing known.
 RUN = "commands, which are never run"
@@ -28,7 +33,8 @@ _NUMBER = re.compile(r"[0-9]{1,18}")
 _TIME = re.compile(r"([0-9]{1,12})(s|secs?|ms|msecs?)")
 _RMEM = "net.ipv4.tcp_rmem"
 _RMEM_MAX = "net.core.rmem_max"
-_SACK = "net.ipv4.tcp_sack"
+# Switches that are 0 or 1, as the settings that they name are false or true.
+_TRUTHS = frozenset({"net.ipv4.tcp_sack", "net.ipv4.tcp_slow_start_after_idle"})
 _TIMESTAMPS = "net.ipv4.tcp_timestamps"
 
 
@@ -160,8 +166,8 @@ def _of_switches(switches: Mapping[str, tuple[str, int]], is_kernel: bool) -> It
         found = meaning(name, value)
         if found.use is Use.REFUSED:
             yield Reason(line, found.words, f"{name}={value}")
-        elif name == _SACK:
-            yield ("sack", value == "1") if value in ("0", "1") else _unclear(name, value, line)
+        elif name in _TRUTHS:
+            yield (found.words, value == "1") if value in ("0", "1") else _unclear(name, value, line)
         elif found.use is Use.SETTING and found.words != "wscale":
             factor = 1_000 if name.endswith("_ms") else 1
             yield _ranged(found.words, _scaled(value, factor), f"{name}={value}", line)
