@@ -8,6 +8,7 @@ from typing import Optional
 
 import pytest
 
+from rows.accepting import accept_all
 from rows.asking import Call, Said, run
 from rows.comparing import Finding, report_of
 from rows.kinds import groups_of
@@ -194,3 +195,143 @@ def test_what_holds_of_each_recording(change: Callable[[bytes], bytes], fault: s
 def test_what_is_not_written_as_its_kind_wants_it_fails(text: str, why: str, teller: Teller) -> None:
     (fault,) = teller.faults(text, judge).values()
     assert fault.endswith(why) and not teller.calls
+
+
+@dataclass
+class Accepting:
+    """Takes what a stand-in says into a file of rows, and keeps what is said of that."""
+
+    teller: Teller
+    taken: list[str] = field(default_factory=list)
+    refused: list[str] = field(default_factory=list)
+
+    def text(self, text: str, program: Program) -> str:
+        """The file after that."""
+        self.teller.file.write_text(text)
+        above = f"{self.teller.file.parent}/"
+        for rows, others in accept_all([self.teller.file], lambda calls: [program(it) for it in calls]):
+            self.taken += [it.removeprefix(above) for it in rows]
+            self.refused += [it.removeprefix(above) for it in others]
+        return self.teller.file.read_text()
+
+
+@pytest.fixture
+def accepting(teller: Teller) -> Accepting:
+    return Accepting(teller)
+
+
+MARKED = "#? taken from the program: work it out by hand, and then take this line away\n"
+
+
+def test_verdicts_are_taken_each_with_a_mark(accepting: Accepting) -> None:
+    text = "[a] scripts\n# b\npass 1: 0\npass 1 under mss 500: a: x\nfail 1 result: x\n\npass 2: y\n"
+    wanted = text.replace("pass 1 under mss 500: a", f"{MARKED}fail 1 result under mss 500: a")
+    wanted = wanted.replace("pass 2", f"{MARKED}pass 1")
+    assert accepting.text(text, judge) == wanted
+    assert accepting.taken == ["a.cases:5: taken: fail 1 result, was pass 1", "a.cases:9: taken: pass 1, was pass 2"]
+    assert accepting.text(wanted, judge) == wanted and len(accepting.taken) == 2
+
+
+def test_a_marked_row_fails_by_name_and_line_until_its_mark_is_taken_away(teller: Teller) -> None:
+    rows = "[a] scripts\npass 1: 0\n{}pass 1: 1\npass 1: 2\n"
+    (name, fault), *others = teller.faults(rows.format(MARKED), judge).items()
+    assert (name, others) == ("line-4", [])
+    does = "work it out by hand, from docs/SENDER.md and docs/SCRIPTS.md, and take away line 3"
+    assert fault.endswith(f"/a.cases:3: this answer was taken from the program: {does}")
+    assert teller.faults(rows.format(""), judge) == {}
+
+
+@pytest.mark.parametrize("text", [f"[a] scripts\npass 1: 0\n{MARKED}", f"{MARKED}[a] scripts\npass 1: 0\n"])
+def test_a_mark_without_a_row_fails(text: str, teller: Teller) -> None:
+    assert len(teller.faults(text, judge)) == 1
+
+
+def test_a_row_that_is_marked_and_turns_again_keeps_one_mark(accepting: Accepting) -> None:
+    text = f"[a] scripts\n{MARKED}fail 1 result: 0\n"
+    assert accepting.text(text, judge) == f"[a] scripts\n{MARKED}pass 1: 0\n"
+    assert accepting.taken == ["a.cases:3: taken: pass 1, was fail 1 result"]
+
+
+STORIES = """[before] opening
+> 0
+[a] stories
+# one
+$ -v
+after before
+< a
+># 1 3 b #
+>> tests/pytest.ini
+! c\\td
+= 0
+
+# two
+!~ a:1:
+= 1
+"""
+INI = Path(__file__).with_name("pytest.ini").read_text()
+
+
+def test_a_story_keeps_the_lines_that_say_the_same(accepting: Accepting) -> None:
+    one, two = Said(f"0\nb 1\nz\nb 3\n{INI}y\n".encode(), b"", 1), Said(b"e\n", b"a:2: fail\n  f\ng\xe4\\<\n", 1)
+
+    def say(call: Call) -> Said:
+        return one if call.words else two
+
+    wanted = STORIES.replace("# one\n", f"# one\n{MARKED}").replace("># 1 3 b #\n", "> b 1\n> z\n> b 3\n")
+    wanted = wanted.replace("pytest.ini\n! c\\td\n= 0", "pytest.ini\n> y\n= 1")
+    wanted = wanted.replace("# two\n!~ a:1:\n", f"# two\n{MARKED}!~ a:2:\n! g\\xe4\\\\\\x3c\n> e\n")
+    assert accepting.text(STORIES, say) == wanted
+    assert accepting.taken == ["a.cases:6: taken", "a.cases:18: taken"]
+    assert set(accepting.teller.faults(wanted, say)) == {"one", "two"}
+    assert accepting.teller.faults(wanted.replace(MARKED, ""), say) == {}
+
+
+@pytest.mark.parametrize(
+    "answer, why",
+    [
+        (says("1\n"), "'after before' says otherwise now: change what it names"),
+        (says("0\n1"), "what is said has no newline at its end"),
+        (says(status=-1), "the program came to no end, by this row or by one that is told with it"),
+        (says(status=3), "the program came to no end"),
+    ],
+)
+def test_what_a_row_does_not_write_is_not_taken(answer: Program, why: str, accepting: Accepting) -> None:
+    text = "[before] opening\n> 0\n[a] stories\n# one\nafter before\n= 0\n"
+    assert accepting.text(text, answer) == text
+    assert (accepting.refused, accepting.taken) == ([f"a.cases:5: not taken: {why}"], [])
+
+
+def test_a_row_of_another_kind_is_changed_by_hand(accepting: Accepting) -> None:
+    text = "[a] cuts\npass 1 | x\n[b] settings\n4 BadValue: mss 500\n[c] bad words\n-a\n"
+    assert accepting.text(text, judge) == text
+    by_hand = "not taken: a row of this kind is changed by hand"
+    assert (accepting.taken, accepting.refused) == ([], [f"a.cases:2: {by_hand}", f"a.cases:4: {by_hand}"])
+
+
+@pytest.mark.parametrize(
+    "before, after",
+    [
+        ("> A\n< x\n< y\n< z\n", f"{MARKED}> B\n< x\n> A\n< y\n< z\n"),
+        ("> A\n< y\n< x\n< z\n", f"> A\n< y\n{MARKED}> B\n< x\n> A\n< z\n"),
+        ("> A\n# b\n< x\n< x x\n> A\n< z\n", f"# b\n{MARKED}> B\n< x\n< x x\n> A\n< z\n"),
+        ("> A\n< y\n> B\n< x\n", "> A\n< y\n> B\n< x\n"),
+    ],
+)
+def test_an_explanation_stands_before_the_scripts_of_which_it_is_said(
+    before: str, after: str, accepting: Accepting
+) -> None:
+    def explain(call: Call) -> Said:
+        """Says B of scripts with an x, and A of others."""
+        said = {"A": "syntax 1 end: a", "B": "syntax 1 end: b"}
+        blocks = ""
+        for name, text in scripts_of(call).items():
+            what = said["B" if b"x" in text else "A"]
+            blocks += (
+                f'{{"name": "{name}", "verdict": "syntax", "line": 1, "column": null, "expected": ["{what[-1]}"]}}\n'
+            )
+        return Said(report_of({name: "syntax 1" for name in scripts_of(call)}).output, blocks.encode(), 1)
+
+    def table(rows: str) -> str:
+        return "[a] explained\n" + rows.replace("> A", "> syntax 1 end: a").replace("> B", "> syntax 1 end: b")
+
+    assert accepting.text(table(before), explain) == table(after)

@@ -4,7 +4,7 @@ import difflib
 import re
 from collections.abc import Callable, Iterable, Iterator, Mapping, Sequence
 from dataclasses import dataclass, replace
-from typing import Generic, Optional, TypeVar
+from typing import Generic, Optional, TypeVar, Union
 
 from rows.asking import NO_STATUS, Asking, Call, Said
 from rows.tables import PROGRAM, Row, Table, Unread, reading
@@ -18,6 +18,8 @@ BLOCK_LINE = re.compile(rb"  ")
 OBJECT = re.compile(rb"[{].*[}]")
 BLOCK = re.compile(rb"([A-Za-z0-9_.-]+:[0-9]+:) .")
 T = TypeVar("T")
+# What is said of a script in a word or two, or all that is said in a run.
+Answer = Union[str, Said]
 
 
 @dataclass(frozen=True)
@@ -44,12 +46,16 @@ class Script:
 
 @dataclass(frozen=True)
 class Case(Generic[T]):
-    """A test: its name in its table, its row, and what it tries, or else why its row can't be read."""
+    """A test: its name in its table, its row, and what it tries, or else why its row can't be read.
+
+    A mark says that its answer was taken from the program, and what to do about that.
+    """
 
     name: str
     row: Row
     tries: tuple[T, ...] = ()
     unread: str = ""
+    mark: str = ""
 
 
 @dataclass(frozen=True)
@@ -69,16 +75,23 @@ class Finding:
 
 @dataclass(frozen=True)
 class Kind(Generic[T]):
-    """A kind of table: how its cases are read, how what they try is told, and which programs are told it."""
+    """A kind of table: how its cases are read, how what they try is told, and which programs are told it.
+
+    Where rows have answers, which a change of the sender may turn, `answer` says in one step what is said of each try.
+    """
 
     read: Callable[[Table], Iterator[Case[T]]]
     tell: Callable[[Sequence[T]], Asking[list[Finding]]]
     programs: tuple[str, ...] = ()
+    answer: Optional[Callable[[Sequence[T]], Asking[list[Optional[Answer]]]]] = None
 
     def told(self, cases: Sequence[Case[T]]) -> Asking[list[Finding]]:
         """Tells cases, all of one table or some, and finds what is wrong about each."""
         found = iter((yield from self.tell([it for case in cases for it in case.tries])))
-        return [Finding.joined([Finding(case.unread), *(next(found) for _ in case.tries)]) for case in cases]
+        return [
+            Finding.joined([Finding(case.unread), Finding(case.mark), *(next(found) for _ in case.tries)])
+            for case in cases
+        ]
 
 
 def case_of(row: Row, read: Callable[[], Iterable[T]], name: str = "") -> Case[T]:
@@ -187,6 +200,16 @@ def tell_scripts(scripts: Sequence[Script]) -> Asking[list[Finding]]:
     return [Finding(faults.get(place, "")) for place in range(len(scripts))]
 
 
+def script_answers(scripts: Sequence[Script]) -> Asking[list[Optional[Answer]]]:
+    """The verdict of each script; none where its run stopped."""
+    told = batches(scripts)
+    said = yield [Call(PROGRAM, (), input_of([scripts[place] for place in places])) for places in told]
+    found: dict[int, str] = {}
+    for places, answer in zip(told, said):
+        found.update(zip(places, verdicts_said(answer, len(places))))
+    return [found[place] or None for place in range(len(scripts))]
+
+
 def shortened(text: bytes) -> bytes:
     """What is said without the lines of blocks: of the first line of each the name and the number stay."""
     short = []
@@ -201,10 +224,14 @@ def shortened(text: bytes) -> bytes:
     return b"\n".join(short)
 
 
+def as_wanted(run: Run, said: Said) -> Said:
+    """What is said in a run, as far as it is compared."""
+    return replace(said, errors=shortened(said.errors)) if run.is_short else said
+
+
 def run_fault(run: Run, said: Said) -> str:
     """How what is said in a run differs from what is wanted; empty where it doesn't."""
-    if run.is_short:
-        said = replace(said, errors=shortened(said.errors))
+    said = as_wanted(run, said)
     return difference(run.row, run.wanted, said) if said != run.wanted else ""
 
 
@@ -212,3 +239,9 @@ def tell_runs(runs: Sequence[Run]) -> Asking[list[Finding]]:
     """Compares what is said in runs."""
     said = yield [Call(run.program, run.words, run.given) for run in runs]
     return [Finding(is_untold=True) if it is None else Finding(run_fault(run, it)) for run, it in zip(runs, said)]
+
+
+def run_answers(runs: Sequence[Run]) -> Asking[list[Optional[Answer]]]:
+    """What is said in each run; none where it wasn't told."""
+    said = yield [Call(run.program, run.words, run.given) for run in runs]
+    return [None if it is None or it.status == NO_STATUS else as_wanted(run, it) for run, it in zip(runs, said)]

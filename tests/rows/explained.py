@@ -3,12 +3,14 @@
 import json
 from collections.abc import Iterator, Mapping, Sequence
 from dataclasses import replace
+from typing import Optional
 
 from rows.asking import Asking, Call
-from rows.comparing import Case, Finding, Kind, Script, batches, case_of, input_of, shown, verdicts_said
+from rows.comparing import Answer, Case, Finding, Kind, Script, batches, case_of, input_of, shown, verdicts_said
 from rows.tables import PROGRAM, Row, Table, Unread, octets
 
 EXPLAINING = (b"--explain", b"--json")
+NOTHING_SAID = "nothing"
 Explained = list[tuple[Script, str, Mapping[str, object]]]
 
 
@@ -17,11 +19,11 @@ def explain(scripts: Sequence[Script]) -> Asking[Explained]:
     told = [[scripts[place] for place in places] for places in batches(scripts)]
     found: Explained = []
     for batch, said in zip(told, (yield [Call(PROGRAM, EXPLAINING, input_of(batch)) for batch in told])):
-        assert said is not None
-        objects = [json.loads(line) for line in said.errors.split(b"\n") if line.startswith(b"{")]
+        lines = said.errors.split(b"\n") if said else []
+        objects = [json.loads(line) for line in lines if line.startswith(b"{")]
         blocks = {block["name"]: block for block in objects}
         for number, (script, verdict) in enumerate(zip(batch, verdicts_said(said, len(batch))), 1):
-            found.append((script, verdict or "nothing", blocks.get(f"a{number}", {})))
+            found.append((script, verdict or NOTHING_SAID, blocks.get(f"a{number}", {})))
     return found
 
 
@@ -65,6 +67,12 @@ def tell_explained(scripts: Sequence[Script]) -> Asking[list[Finding]]:
     return found
 
 
+def explained_answers(scripts: Sequence[Script]) -> Asking[list[Optional[Answer]]]:
+    """What is said of each script; none where its run stopped."""
+    told = {script.row: explained_of(verdict, block) for script, verdict, block in (yield from explain(scripts))}
+    return [None if told[script.row] == NOTHING_SAID else told[script.row] for script in scripts]
+
+
 def beginning_tries(row: Row) -> Iterator[Script]:
     text = octets(row.text)
     for count in range(len(text)):
@@ -85,10 +93,10 @@ def tell_beginnings(scripts: Sequence[Script]) -> Asking[list[Finding]]:
         column, line = block.get("column"), block.get("text")
         is_shown = isinstance(line, str) and (column is None or isinstance(column, int) and column < len(line))
         is_told = verdict == f"syntax {block.get('line')}" and block.get("expected") and is_shown
-        is_wrong = not is_told and (verdict.startswith("syntax") or verdict == "nothing")
+        is_wrong = not is_told and (verdict.startswith("syntax") or verdict == NOTHING_SAID)
         found.append(Finding(f"{shown(str(script.row))}: {verdict}, {block}" if is_wrong else ""))
     return found
 
 
-EXPLAINED = Kind(explained, tell_explained)
+EXPLAINED = Kind(explained, tell_explained, answer=explained_answers)
 BEGINNINGS = Kind(beginnings, tell_beginnings)

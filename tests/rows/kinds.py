@@ -1,7 +1,7 @@
 """The kinds of tables, and what is read of a file of rows."""
 
-from collections.abc import Iterator
-from dataclasses import dataclass
+from collections.abc import Iterator, Sequence
+from dataclasses import dataclass, replace
 from pathlib import Path
 from typing import Any
 
@@ -44,13 +44,34 @@ def unread_group(name: str, row: Row, why: str) -> Group:
     return Group(name, STORIES, (), [Case("unread", row, unread=why)])
 
 
+def what_a_mark_says(mark: Row) -> str:
+    """That a row is marked, and what to do about that."""
+    return (
+        f"{mark.file}:{mark.line}: this answer was taken from the program: work it out by hand, from docs/SENDER.md "
+        f"and docs/SCRIPTS.md, and take away line {mark.line}"
+    )
+
+
+def marked(cases: Sequence[Case[Any]], marks: Sequence[Row]) -> Iterator[Case[Any]]:
+    """The cases of a table, of which a marked one fails; so does a mark without a case after it."""
+    says: dict[int, str] = {}
+    for mark in marks:
+        place = next((at for at, case in enumerate(cases) if case.row.line > mark.line), len(cases))
+        says[place] = what_a_mark_says(mark)
+    for at, case in enumerate(cases):
+        yield replace(case, mark=says[at]) if at in says else case
+    if len(cases) in says:
+        yield Case("marked", marks[-1], unread=says[len(cases)])
+
+
 def group_of(table: Table) -> Group:
     """What is read of a table."""
     if table.kind not in KINDS:
         return unread_group(table.name, table.heading, f"{table.heading}: there is no such kind")
     kind = KINDS[table.kind]
     try:
-        return Group(table.name, kind, kind.programs or (table.program,), list(kind.read(table)))
+        cases = list(marked(list(kind.read(table)), table.marks))
+        return Group(table.name, kind, kind.programs or (table.program,), cases)
     except Unread as why:
         return unread_group(table.name, table.heading, str(why))
 

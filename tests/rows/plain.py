@@ -14,9 +14,14 @@ from rows.tables import Row, place_in_tree  # noqa: E402
 from rows.telling import Programs, Told, heed_signals, programs_in, proved_programs, tell, tell_in_step  # noqa: E402
 
 
+def files_in(path: Path) -> list[Path]:
+    """The files of a path: those of rows that a folder has, or the path itself."""
+    return sorted(path.rglob("*.cases")) if path.is_dir() else [path]
+
+
 def groups_in(path: Path) -> Iterator[Group]:
     """The tables of a path, which is a folder, a file of rows, or one of tests that pytest alone makes."""
-    for file in sorted(path.rglob("*.cases")) if path.is_dir() else [path]:
+    for file in files_in(path):
         if file.suffix == ".cases":
             yield from groups_of(file)
         else:
@@ -36,13 +41,18 @@ def findings(told: Sequence[Told], programs: Programs) -> Iterator[list[Finding]
     return tell_in_step(told, programs)
 
 
-def main(words: Sequence[str]) -> int:
-    parser = argparse.ArgumentParser(description=__doc__)
+def parser_of(what: str | None) -> argparse.ArgumentParser:
+    """What reads the words that choose programs and paths."""
+    parser = argparse.ArgumentParser(description=what)
     parser.add_argument("--proved", action="store_true", help="the proved programs alone")
     parser.add_argument("--unproved", action="store_true", help="the sources as they stand")
     parser.add_argument("--programs", metavar="FOLDER", type=Path, help="those of a folder, and the sources of others")
     parser.add_argument("paths", metavar="PATH", nargs="+", type=Path)
-    chosen = parser.parse_args(words)
+    return parser
+
+
+def main(words: Sequence[str]) -> int:
+    chosen = parser_of(__doc__).parse_args(words)
     heed_signals()
     programs = chosen_programs(chosen)
     if programs.unbuilt and chosen.proved:

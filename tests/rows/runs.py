@@ -4,7 +4,8 @@ from collections.abc import Iterator, Sequence
 from dataclasses import dataclass, replace
 
 from rows.asking import Asking, Call, Said
-from rows.comparing import NOTHING, Case, Finding, Kind, Run, case_of, difference, report_of, tell_runs, verdict_of
+from rows.comparing import NOTHING, Case, Finding, Kind, Run
+from rows.comparing import case_of, difference, report_of, run_answers, tell_runs, verdict_of
 from rows.tables import PROGRAM, Row, Table, octets, parted
 
 
@@ -86,7 +87,7 @@ def ends(table: Table) -> Iterator[Case[Run]]:
         yield case_of(row, lambda: ending.tries(row))
 
 
-SETTINGS = Kind(settings, tell_runs)
+SETTINGS = Kind(settings, tell_runs, answer=run_answers)
 BAD_WORDS = Kind(bad_words, tell_bad_words)
-BAD_COMMANDS = Kind(bad_commands, tell_runs)
-ENDS = Kind(ends, tell_runs)
+BAD_COMMANDS = Kind(bad_commands, tell_runs, answer=run_answers)
+ENDS = Kind(ends, tell_runs, answer=run_answers)

@@ -3,7 +3,7 @@
 from collections.abc import Iterator
 from dataclasses import dataclass, replace
 
-from rows.comparing import Case, Kind, Script, case_of, tell_scripts, verdict_of
+from rows.comparing import Case, Kind, Script, case_of, script_answers, tell_scripts, verdict_of
 from rows.tables import Row, Table, Unread, octets, parted
 
 PLAIN = frozenset(b"\t\r") | frozenset(range(0x20, 0x7F))
@@ -120,6 +120,6 @@ def places(table: Table) -> Iterator[Case[Script]]:
         yield case_of(lines[0], lambda: place_try(lines))
 
 
-SCRIPTS = Kind(scripts, tell_scripts)
-CUTS = Kind(cuts, tell_scripts)
-PLACES = Kind(places, tell_scripts)
+SCRIPTS = Kind(scripts, tell_scripts, answer=script_answers)
+CUTS = Kind(cuts, tell_scripts, answer=script_answers)
+PLACES = Kind(places, tell_scripts, answer=script_answers)

@@ -9,8 +9,8 @@ from dataclasses import dataclass, field
 from pathlib import Path
 
 from rows.asking import Said
-from rows.comparing import Case, Kind, Run, add_command, tell_runs
-from rows.tables import TOP, Opening, Row, Table, Unread, lines_of, octets, parted, place_in_tree, reading
+from rows.comparing import Case, Kind, Run, add_command, run_answers, tell_runs
+from rows.tables import MARK, TOP, Opening, Row, Table, Unread, lines_of, octets, parted, place_in_tree, reading
 
 
 def slug(title: str) -> str:
@@ -33,9 +33,11 @@ class Story:
     workers: list[str] = field(default_factory=list)
     is_short: bool = False
     is_whole: bool = False
+    rows: list[Row] = field(default_factory=list)
 
     def take(self, row: Row) -> None:
         """Takes a line."""
+        self.rows.append(row)
         mark, _, rest = row.text.partition(" ")
         match mark:
             case "$":
@@ -106,7 +108,7 @@ def stories_in(table: Table) -> Iterator[Story]:
     story = Story(table)
     for row in table.lines:
         if row.text.startswith("#"):
-            if story.first is None:
+            if story.first is None and not row.text.startswith(MARK):
                 story.title = row.text.removeprefix("#").strip()
             continue
         story.first = story.first or row
@@ -154,5 +156,5 @@ def stories_of(file: Path, program: str) -> Iterator[Case[Run]]:
         line += story.count(b"\n")
 
 
-STORIES = Kind(stories, tell_runs)
+STORIES = Kind(stories, tell_runs, answer=run_answers)
 TITLED_STORIES = Kind(titled_stories, tell_runs)

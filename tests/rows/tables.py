@@ -14,6 +14,8 @@ OPENINGS = CASES / "openings.cases"
 PROGRAM = "pdregress"
 HEADING = re.compile(r"\[([^]]+)\] ([a-z ]+?)(?: of (\w+))?(?: after (\w+))?")
 BEHIND = ("opening", "scripts", "explained")
+# A line that begins so stands before a row whose answer was taken from the program.
+MARK = "#?"
 SHORT = {b"n": b"\n", b"r": b"\r", b"t": b"\t", b"\\": b"\\"}
 
 
@@ -68,6 +70,11 @@ class Table:
     def rows(self) -> list[Row]:
         """The lines that are no comments."""
         return [row for row in self.lines if not row.text.startswith("#")]
+
+    @property
+    def marks(self) -> list[Row]:
+        """The lines that mark the row after them."""
+        return [row for row in self.lines if row.text.startswith(MARK)]
 
 
 def place_in_tree(file: Path) -> str:
@@ -129,7 +136,7 @@ def tables_of(file: Path) -> list[Table]:
                 tables.append(heading_of(row))
             elif line and tables:
                 tables[-1].lines.append(row)
-            elif line and not line.startswith("#"):
+            elif line and (not line.startswith("#") or line.startswith(MARK)):
                 raise Unread("a row stands in a table")
     if not tables:
         raise Unread("a file has a table at least")
