@@ -1,0 +1,279 @@
+"""Which paragraphs of pages a changed sender owes: those that cite a section of an RFC that the change cites, too.
+
+What changes are definitions in `specs/`, and functions and constants in `src/`. A definition cites what its comment
+does, and what those that name it cite; a function what its own comment and the definitions of its contract do; a
+constant what the functions that name it do. A comment that names a section or a step alone means the RFC, and the
+section, of the heading above it, or of the file's first line.
+"""
+from __future__ import annotations
+
+import re
+from collections.abc import Iterator
+from dataclasses import dataclass, field, replace
+from pathlib import Path
+
+from changed_rules import Key, Rule, files_of, named_in, names_of, rules_in
+
+# The pages whose paragraphs, or rows of tables, are about rules.
+PAGES = ("docs/SENDER.md", "docs/LINUX.md")
+# The crates that have the rules of the sender.
+CRATES = ("pd_seg", "pd_board", "pd_timer", "pd_recover", "pd_host")
+NUMBER = r"(?:\d+|[A-Z]\b)(?:\.\d+)*"
+LIST = rf"{NUMBER}(?:(?:, and |, | and | to ){NUMBER})*"
+TOKEN = re.compile(
+    rf"RFC (?P<rfc>\d+)(?:, (?P<bare>\d+(?:\.\d+)*)\b)?|[Ss]ections? (?P<sections>{LIST})"
+    rf"|(?P<word>[Ss]teps?|rules?|equation) (?P<steps>{LIST})"
+    r"|(?P<check>\w+th|first|second) check\b|(?P<name>IsLost|SetPipe|NextSeg)\b"
+)
+ITEM = re.compile(r"(?P<indent> *)(?:pub(?:\(\w+\))? )?(?P<kind>const fn|fn|const) (?P<name>\w+)")
+GHOST_USE = re.compile(r"^ghost use Rattle\.(\w+)\.specs\.(\w+)\.\{([^}]*)\};", re.MULTILINE)
+IDENTIFIER = re.compile(r"[^\W\d][\w-]*")
+
+
+@dataclass(frozen=True)
+class Cited:
+    """A section of an RFC, and the steps or names in it."""
+
+    rfc: str
+    section: str = ""
+    parts: frozenset[str] = frozenset()
+
+    def is_about(self, other: Cited) -> bool:
+        """Whether both are about the same."""
+        is_same = (self.rfc, self.section) == (other.rfc, other.section) and self.section
+        return bool(is_same and (not self.parts or not other.parts or self.parts & other.parts))
+
+    def __str__(self) -> str:
+        return f"RFC {self.rfc}, section {self.section}"
+
+
+NOTHING = Cited("")
+
+
+def numbers(text: str) -> list[str]:
+    """The numbers of a list, as `5.2 and 5.3`."""
+    return [it for it in re.split(r", and |, | and | to ", text) if it]
+
+
+def cited_in(text: str, above: Cited = NOTHING) -> list[Cited]:
+    """What a comment or a paragraph cites.
+
+    >>> [str(it) for it in cited_in("a (RFC 6298, sections 3 and 5.6; RFC 2018, section 5)")]
+    ['RFC 6298, section 3', 'RFC 6298, section 5.6', 'RFC 2018, section 5']
+    >>> [str(it) for it in cited_in("RFC 6298, 5: a; RFC 8985, 7: b")]
+    ['RFC 6298, section 5', 'RFC 8985, section 7']
+    >>> cited_in("b (step 4.3)", Cited("6675", "5"))
+    [Cited(rfc='6675', section='5', parts=frozenset({'4'}))]
+    """
+    found: list[Cited] = []
+    rfc, names = above.rfc, set()
+    for token in TOKEN.finditer(text):
+        if token["rfc"]:
+            rfc = token["rfc"]
+            found += [Cited(rfc, token["bare"])] if token["bare"] else []
+        elif token["sections"]:
+            found += [Cited(rfc, it) for it in numbers(token["sections"])]
+        elif token["name"]:
+            names.add(token["name"])
+        else:
+            part = token["check"] or ""
+            parts = {part} if part else {it.partition(".")[0] for it in numbers(token["steps"])}
+            found = found or [replace(above, parts=frozenset())]
+            found[-1] = replace(found[-1], parts=found[-1].parts | parts)
+    return [replace(it, parts=it.parts | names) for it in found if it.section]
+
+
+def heading_in(text: str, above: Cited = NOTHING) -> Cited:
+    """What a heading puts above what has no citation of its own: the only section that it names, or an RFC alone."""
+    found = cited_in(text, above)
+    rfc = re.search(r"RFC (\d+)", text)
+    if len({(it.rfc, it.section) for it in found}) == 1:
+        return replace(found[0], parts=frozenset())
+    return Cited(rfc[1]) if rfc else above
+
+
+@dataclass(frozen=True)
+class Item:
+    """A definition, a function or a constant: its name and place, what it is written as, and what it cites."""
+
+    name: str
+    place: str
+    text: str
+    cited: tuple[Cited, ...]
+    # The definitions that a definition or the contract of a function names.
+    names: frozenset[Key] = frozenset()
+    is_constant: bool = False
+
+
+def definitions_in(crate: str, file: str, text: str) -> Iterator[tuple[Rule, list[Cited]]]:
+    """The definitions of a file, each with what it cites."""
+    above = heading_in(text.partition("\n")[0])
+    head, line = above, 0
+    for block in text.split("\n\n"):
+        rule = next(rules_in(crate, file, block), None)
+        comment = " ".join(re.findall(r"^\s*--(.*)", block, re.MULTILINE))
+        if rule is None and line:
+            head = heading_in(comment, above) if comment else head
+        elif rule is not None:
+            own = cited_in(comment, head)
+            yield replace(rule, line=rule.line + line), own or [head] * bool(head.section)
+        line += block.count("\n") + 2
+
+
+def items_of_code(text: str) -> Iterator[tuple[re.Match[str], int, list[str]]]:
+    """The functions and constants of a file of code: each with its line, and its lines from its comment to its end."""
+    lines = text.split("\n")
+    for number, line in enumerate(lines):
+        found = ITEM.match(line)
+        if not found:
+            continue
+        begin = number
+        while begin and lines[begin - 1].lstrip().startswith(("///", "#[")):
+            begin -= 1
+        closing = f"{found['indent']}}}"
+        end = number
+        while end < len(lines) - 1 and not (
+            lines[end].endswith(";") if found["kind"] == "const" else lines[end] == closing
+        ):
+            end += 1
+        yield found, number + 1, lines[begin : end + 1]
+
+
+def code_in(crate: str, path: str, text: str) -> Iterator[Item]:
+    """The functions and constants of a file."""
+    used = {
+        name.partition(" as ")[0]: (low, file, name.partition(" as ")[0])
+        for low, file, names in GHOST_USE.findall(text)
+        for name in (it.strip() for it in names.split(","))
+    }
+    for found, line, lines in items_of_code(text):
+        comment = " ".join(it.strip().removeprefix("///") for it in lines if it.lstrip().startswith("///"))
+        body = [it.strip() for it in lines if not it.lstrip().startswith("//")]
+        contract = " ".join(it for it in body if it.startswith(("ensures", "requires")))
+        named = frozenset(used[it] for it in IDENTIFIER.findall(contract) if it in used)
+        place = f"crates/{crate}/{path}:{line}"
+        yield Item(found["name"], place, "\n".join(body), tuple(cited_in(comment)), named, found["kind"] == "const")
+
+
+@dataclass
+class Sources:
+    """What the crates of a sender have: definitions by their keys, and items of code by crate, file, name and count."""
+
+    definitions: dict[Key, Item] = field(default_factory=dict)
+    code: dict[tuple[str, str, str, int], Item] = field(default_factory=dict)
+
+    def cited_by(self, key: Key) -> tuple[Cited, ...]:
+        """What a definition cites."""
+        return self.definitions[key].cited if key in self.definitions else ()
+
+
+def sources_of(tree: Path) -> Sources:
+    """What a tree has."""
+    sources = Sources()
+    for crate in CRATES:
+        folder = tree / "crates" / crate
+        for file, text in files_of(folder):
+            rules = list(definitions_in(crate, file, text))
+            names = named_in(crate, file, text, {rule.name for rule, _ in rules})
+            for rule, cited in rules:
+                named = frozenset(names_of(rule, names) - {rule.key})
+                sources.definitions[rule.key] = Item(rule.name, rule.place, rule.text, tuple(cited), named)
+        for path in sorted(folder.glob("src/**/*.rt")):
+            inner = str(path.relative_to(folder))
+            for item in code_in(crate, inner, path.read_text(encoding="utf-8")):
+                count = sum(key[:3] == (crate, inner, item.name) for key in sources.code)
+                sources.code[crate, inner, item.name, count] = item
+    return sources
+
+
+def changed_in(before: dict, after: dict) -> list[Item]:  # type: ignore[type-arg]
+    """The items that are others, or are new; and those that are gone, as they were."""
+    others = [it for key, it in after.items() if key not in before or before[key].text != it.text]
+    return others + [it for key, it in before.items() if key not in after]
+
+
+def changed_items(before: Sources, after: Sources) -> Iterator[tuple[Item, set[Cited]]]:
+    """What changed, each with all that it cites."""
+    for item in changed_in(before.definitions, after.definitions):
+        users = [it for it in after.definitions.values() if any(after.definitions.get(key) is item for key in it.names)]
+        yield item, {*item.cited, *(cited for it in users for cited in it.cited)}
+    for item in changed_in(before.code, after.code):
+        users = []
+        if item.is_constant:
+            word = re.compile(rf"\b{item.name}\b")
+            users = [it for it in after.code.values() if it is not item and word.search(it.text)]
+        each = [item, *users]
+        named = {cited for it in each for key in it.names for cited in after.cited_by(key)}
+        yield item, named.union(*(it.cited for it in each))
+
+
+@dataclass(frozen=True)
+class Paragraph:
+    """A paragraph of the page, or a line of a list: its line, the heading above it, its name, and what it cites."""
+
+    line: int
+    heading: str
+    name: str
+    cited: tuple[Cited, ...]
+
+
+def paragraphs_in(page: str) -> Iterator[Paragraph]:
+    """The paragraphs of the page that cite something."""
+    heading, above = "", NOTHING
+    for number, line in enumerate(page.split("\n"), 1):
+        if line.startswith("## "):
+            heading, above = line.removeprefix("## "), NOTHING
+        elif heading and line:
+            if not line.lstrip().startswith(("-", "|")) and above == NOTHING:
+                above = heading_in(line)
+            cited = tuple(cited_in(line, above))
+            if cited:
+                yield Paragraph(number, heading, name_of(line), cited)
+
+
+def paragraphs_of(page: Path) -> Iterator[Paragraph]:
+    """The paragraphs of a page, if it is there."""
+    return paragraphs_in(page.read_text(encoding="utf-8")) if page.exists() else iter(())
+
+
+def name_of(line: str) -> str:
+    """What a paragraph is called: its bold words, the first cell of its row, or else its first words.
+
+    >>> [name_of(it) for it in ("- a **b c** d", "| [e f](#e) | g |", "1. h i j k l m n")]
+    ['b c', 'e f', 'h i j k l m']
+    """
+    bold = re.search(r"\*\*(.+?)\*\*", line)
+    if bold:
+        return bold[1]
+    if line.startswith("| "):
+        return re.sub(r"\[(.+?)\]\([^)]*\)", r"\1", line.split("|")[1].strip())
+    return " ".join(line.lstrip("-0123456789. ").split()[:6])
+
+
+@dataclass(frozen=True)
+class SectionOwed:
+    """A paragraph that may say otherwise now; or what changed, of which no paragraph speaks."""
+
+    page: str
+    line: int
+    heading: str
+    name: str
+    sections: tuple[str, ...]
+    rules: tuple[str, ...]
+
+
+def sections_owed(before: Path, tree: Path) -> Iterator[SectionOwed]:
+    """The paragraphs that cite what something that changed cites, and last what changed without one."""
+    changed = list(changed_items(sources_of(before), sources_of(tree)))
+    told: set[str] = set()
+    for page, it in ((page, it) for page in PAGES for it in paragraphs_of(tree / page)):
+        mine = [(item, mine) for item, cited in changed for mine in it.cited if any(map(mine.is_about, cited))]
+        if mine:
+            rules = tuple(dict.fromkeys(f"{item.name} ({item.place})" for item, _ in mine))
+            told |= set(rules)
+            yield SectionOwed(
+                page, it.line, it.heading, it.name, tuple(dict.fromkeys(str(each) for _, each in mine)), rules
+            )
+    for item, _ in changed:
+        if f"{item.name} ({item.place})" not in told:
+            yield SectionOwed("", 0, "", "", (), (f"{item.name} ({item.place})",))
