@@ -175,8 +175,10 @@ def diff_command(old: Path, new: tuple[Path, ...], no_color: bool) -> int:
 def compare_command(no_color: bool, search: int | None, seed: int | None, save: Path | None, **words: Any) -> int:
     """Shows what a change of the sender does to scripts: which turn, and which are played otherwise.
 
-    Without --base the sender before is the one that ./prove has proved last in this tree. With --search it makes inputs
-    of its own, in place of scripts, until a recording of the sender before fails under the one after.
+    Without --base the sender before is the one that ./prove has proved last in this tree. Where the sender after is a
+    tree, what the change owes there comes before the total: rows of tests/cases that say otherwise now, and paragraphs
+    of docs/SENDER.md and docs/LINUX.md that cite a section of what changed. With --search it makes inputs of its own,
+    in place of scripts, until a recording of the sender before fails under the one after.
     """
     # Only who compares senders pays for what runs two.
     from pdsuite.commands.compare import CompareOptions, compare_senders

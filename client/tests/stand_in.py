@@ -173,8 +173,12 @@ def main() -> None:
     if "--settings" in sys.argv:
         text = sys.argv[sys.argv.index("--settings") + 1]
         settings.update(dict(it.split(" = ") for it in text.splitlines()))
+    words: list[str] = []
     while line := sys.stdin.buffer.readline():
-        take(line.decode().split())
+        words = line.decode().split()
+        take(words)
+    if words[:1] not in (["settle"], ["show"]):
+        take(["settle"])
 
 
 main()

@@ -9,6 +9,7 @@ from tests.helpers import HANGS, TOP, Called
 
 HERE = Path(__file__).parent
 PROGRAMS = ("pdregress", "pdrecord")
+PAGE = "# A page\n\n## Loss\n- An octet is lost when three runs lie above it. (RFC 6675, section 4)\n- Own.\n"
 _TOOLS = (
     "both.rattle",
     "built.sh",
@@ -57,6 +58,25 @@ class Tree:
             "XDG_CACHE_HOME": str(self.notes / "cache"),
             "PATH": f"{self.bin}:{os.environ['PATH']}",
         }
+
+    def put_rows(self, rows: str) -> None:
+        """Gives it tests: rows, and what tells them."""
+        for name in ("changed_rules.py", "owed.py", "owed_sections.py"):
+            shutil.copy(TOP / "tools" / name, self.top / "tools")
+        shutil.copytree(TOP / "tests/rows", self.top / "tests/rows", ignore=shutil.ignore_patterns("__pycache__"))
+        cases = self.top / "tests/cases"
+        cases.mkdir()
+        (cases / "openings.cases").write_text("[none] opening\n< a\n")
+        (cases / "a.cases").write_text(rows)
+        (self.top / "docs").mkdir()
+        (self.top / "docs/SENDER.md").write_text(PAGE)
+        self.put_code("3")
+
+    def put_code(self, value: str) -> None:
+        """Gives it a constant of the sender."""
+        folder = self.top / "crates/pd_board/src"
+        folder.mkdir(parents=True, exist_ok=True)
+        (folder / "counts.rt").write_text(f"/// A rule (RFC 6675, section 4).\npub const RULE: u32 = {value};\n")
 
     def change(self, commands: str) -> None:
         """Changes its sender, by commands of `sed`."""

@@ -9,10 +9,11 @@ from typing import TYPE_CHECKING
 
 from pdsuite.commands.options import threads_of
 from pdsuite.compare.comparison import ComparedScript, Results, compare
+from pdsuite.compare.owed import Owed, Telling, owed_of, telling_of
 from pdsuite.compare.senders import Sender, last_proved, sender_of, standing
 from pdsuite.compare.two_senders import SettingsRefused, Task, run_both
 from pdsuite.programs.rows import Verdict
-from pdsuite.reports.comparison import as_json, plain
+from pdsuite.reports.comparison import Told, as_json, plain
 from pdsuite.run.choice import found_of, scripts_of
 from pdsuite.run.runs import runs_of
 from pdsuite.scripts.suite import Suite, option_of
@@ -56,9 +57,11 @@ def compare_senders(options: CompareOptions, screen: Screen) -> int:
             senders = _senders(options, Path(room))
             _say_senders(senders, screen)
             records = all(it.records for it in senders)
-            task = Task(runs_of(scripts), list(suite.claims()), records, page is not None)
+            telling = telling_of(senders[1], Path(room))
+            task = Task(runs_of(scripts), list(suite.claims()), records, page is not None, telling)
             results = run_both(senders, task, threads_of(None), stop, screen.note)
-            return _tell(senders, results, page, options, screen, begin)
+            owed = None if telling is None else _owed(telling, senders[0], results, Path(room))
+            return _tell(senders, results, (page, owed), options, screen, begin)
     except SettingsRefused as refused:
         return _refuse(refused.lines)
     except Stopped as stopped:
@@ -104,15 +107,22 @@ def _page(folder: Path) -> "Page":
     return Page(folder)
 
 
+def _owed(telling: Telling, before: Sender, results: Sequence[Results], room: Path) -> Owed:
+    """What the change owes in the tree of the sender after it."""
+    sources = before.sources(room / "sources")
+    return owed_of(telling, [it.said for it in results], sources, room)
+
+
 def _tell(
     senders: tuple[Sender, Sender],
     results: Sequence[Results],
-    page: "Page | None",
+    more: "tuple[Page | None, Owed | None]",
     options: CompareOptions,
     screen: Screen,
     begin: float,
 ) -> int:
-    """Reports what differs, and answers the exit status."""
+    """Reports what differs and what is owed, and answers the exit status."""
+    page, owed = more
     before, after = results
     compared = compare(before, after)
     is_unproved = not all(it.is_proved for it in senders)
@@ -120,12 +130,12 @@ def _tell(
     if page is not None:
         page.write(compared, (before, after), names, is_unproved)
     seconds = time.monotonic() - begin
-    form = as_json(compared, names, seconds, is_unproved) if options.is_json else plain(compared, seconds, is_unproved)
-    screen.show(form)
-    return _status(compared)
+    told = Told(compared, owed, seconds, is_unproved)
+    screen.show(as_json(told, names) if options.is_json else plain(told))
+    return _status(compared, owed)
 
 
-def _status(compared: Sequence[ComparedScript]) -> int:
+def _status(compared: Sequence[ComparedScript], owed: Owed | None) -> int:
     if any(Verdict.ERROR in (it.before.row.verdict, it.after.row.verdict) for it in compared):
         return _FAULT
-    return 1 if any(it.differs for it in compared) else 0
+    return 1 if any(it.differs for it in compared) or owed is not None and owed.is_any else 0

@@ -9,6 +9,7 @@ from enum import StrEnum
 from pdsuite.compare.parting import Parting, parting_of
 from pdsuite.programs.protocol import Cause
 from pdsuite.programs.recorder import Recording
+from pdsuite.programs.starts import Said
 from pdsuite.run.outcomes import Outcome
 from pdsuite.scripts.text import Text
 
@@ -24,12 +25,16 @@ class Kind(StrEnum):
 
 @dataclass(frozen=True)
 class Results:
-    """What a sender did: by the places of scripts their outcomes, texts, recordings, and what is told by keys."""
+    """What a sender did: by the places of scripts their outcomes, texts, recordings, and what is told by keys.
+
+    Last comes what it said of rows, in their order.
+    """
 
     outcomes: Mapping[int, Outcome]
     texts: Mapping[int, Text] = field(default_factory=dict)
     recordings: Mapping[int, Recording] = field(default_factory=dict)
     causes: Mapping[int, Cause] = field(default_factory=dict)
+    said: Sequence[Said] = ()
 
 
 @dataclass(frozen=True)

@@ -4,6 +4,7 @@ import os
 import subprocess
 import sys
 import tarfile
+from contextlib import suppress
 from dataclasses import dataclass
 from pathlib import Path
 
@@ -14,17 +15,22 @@ from pdsuite.show.octets import shown, shown_path, shown_text
 
 _KEPT = TOP / "tools/kept_programs.py"
 _COMMIT = "commit"
-# What of a commit a program is built from.
-_PARTS = ("crates", "crates.txt", "HANDLES")
+# What of a commit a program is built from, and by what its rows are told.
+_PARTS = ("crates", "crates.txt", "HANDLES", "docs", "examples", "tests", "tools")
+_DIRTY = "-dirty"
 
 
 @dataclass(frozen=True)
 class Sender:
-    """A sender, as people call it: its programs by their names, or else the tree that it is built from."""
+    """A sender, as people call it: its programs by their names, or else the tree that it is built from.
+
+    The tree is that of programs, too, where it is known; of those that ./prove has kept there is a commit instead.
+    """
 
     name: str
     programs: dict[str, Path] | None
-    tree: Path = TOP
+    tree: Path | None = TOP
+    commit: str = ""
 
     @property
     def is_proved(self) -> bool:
@@ -36,6 +42,21 @@ class Sender:
         """Whether it can record."""
         return self.programs is None or RECORD in self.programs
 
+    def sources(self, place: Path) -> Path | None:
+        """The tree of its sources, if it is known; that of a commit is put into a new folder."""
+        if self.tree is None and self.commit:
+            with suppress(Fault):
+                place.mkdir()
+                _checked_out(self.commit, _COMMIT, place)
+                return place
+        return self.tree
+
+    @property
+    def top(self) -> Path:
+        """The tree that it is built from."""
+        assert self.tree is not None
+        return self.tree
+
     def __str__(self) -> str:
         return self.name if self.is_proved else f"{self.name}, unproved"
 
@@ -46,7 +67,7 @@ def sender_of(word: str, option: str, place: Path) -> Sender:
     if tree := launched_from(folder):
         return _of_tree(tree, shown_path(folder))
     if (folder / REGRESS).is_file():
-        return Sender(shown_path(folder), _programs_in(folder, option))
+        return Sender(shown_path(folder), _programs_in(folder, option), None)
     if folder.is_dir():
         raise Fault(f"{option}: {shown_path(folder)}: no folder of programs: it has no {REGRESS}")
     if not TOOL.is_file():
@@ -65,13 +86,14 @@ def standing() -> Sender:
         if not TOOL.is_file():
             raise
         return Sender(f"the tree as it stands, {commit()}", None)
-    return Sender(f"the proved programs, {commit()}", programs)
+    is_elsewhere = PACKED.exists() or os.environ.get(FOLDER)
+    return Sender(f"the proved programs, {commit()}", programs, None if is_elsewhere else TOP)
 
 
 def _of_tree(tree: Path, name: str) -> Sender:
     """A tree's sender: its programs if both are proved."""
     try:
-        return Sender(name, {it: built(it, tree) for it in (REGRESS, RECORD)})
+        return Sender(name, {it: built(it, tree) for it in (REGRESS, RECORD)}, tree)
     except Unproved:
         return Sender(name, None, tree)
 
@@ -88,7 +110,7 @@ def last_proved() -> Sender:
         name = shown((folder / _COMMIT).read_bytes().strip())
     except OSError as error:
         raise Fault(f"{shown_path(folder / _COMMIT)}: {why(error)}") from error
-    return Sender(f"the last proved programs, {name}", _programs_in(folder, "./prove"))
+    return Sender(f"the last proved programs, {name}", _programs_in(folder, "./prove"), None, name.removesuffix(_DIRTY))
 
 
 def _programs_in(folder: Path, option: str) -> dict[str, Path]:

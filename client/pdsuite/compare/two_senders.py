@@ -8,14 +8,15 @@ from dataclasses import dataclass
 from pathlib import Path
 
 from pdsuite.compare.comparison import Results
+from pdsuite.compare.owed import Telling, heard_of_builds, heard_of_programs
 from pdsuite.compare.senders import Sender
 from pdsuite.programs.places import RECORD, REGRESS
 from pdsuite.programs.program import Program
 from pdsuite.programs.protocol import Cause
 from pdsuite.programs.recorder import Recorder, Recording
 from pdsuite.programs.refusals import refusals
-from pdsuite.programs.starts import Answer
-from pdsuite.programs.tree import try_all
+from pdsuite.programs.starts import Answer, Said
+from pdsuite.programs.tree import Build, try_all
 from pdsuite.run.explainer import CAUSES, Asker, Explainer
 from pdsuite.run.local_mapper import local_mapper
 from pdsuite.run.outcomes import Outcome
@@ -26,15 +27,19 @@ from pdsuite.scripts.suite import Claim
 from pdsuite.scripts.text import Text
 from pdsuite.signals import Stop
 
+# So many of the builds of a sender are of scripts.
+_OF_SCRIPTS = 2
+
 
 @dataclass(frozen=True)
 class Task:
-    """What both senders are to do, and whether they record, and tell by keys."""
+    """What both senders are to do, whether they record, and tell by keys, and which rows they are told."""
 
     runs: Sequence[Run]
     claims: Sequence[Claim]
     records: bool
     wants_causes: bool
+    telling: Telling | None = None
 
 
 class SettingsRefused(Exception):
@@ -51,34 +56,48 @@ def run_both(
     """The results of each sender, those that are proved first."""
     proved = [_run_proved(it, task, workers, stop, note) if it.is_proved else None for it in senders]
     plan = plan_of(task.runs, task.claims, task.wants_causes, task.records)
-    builds = [[] if it.is_proved else plan.builds(it.tree) for it in senders]
+    builds = [[] if it.is_proved else _builds(plan, task.telling, it.top) for it in senders]
     answers = iter(try_all([it for each in builds for it in each], stop))
     heard = [[next(answers) for _ in each] for each in builds]
     return [
-        _read(sender, plan, each, stop, note) if there is None else there
+        _read(sender, (plan, task.telling), each, stop, note) if there is None else there
         for sender, there, each in zip(senders, proved, heard)
     ]
 
 
+def _builds(plan: Plan, telling: Telling | None, tree: Path) -> list[Build]:
+    """What a tree's programs are started on: the scripts, and then the rows."""
+    return [*plan.builds(tree), *(telling.builds(tree) if telling else [])]
+
+
 def _read(
-    sender: Sender, plan: Plan, heard: Sequence[Sequence[Answer]], stop: Stop, note: Callable[[str], None]
+    sender: Sender,
+    asked: tuple[Plan, Telling | None],
+    heard: Sequence[Sequence[Answer]],
+    stop: Stop,
+    note: Callable[[str], None],
 ) -> Results:
     """The results of a sender that was built."""
-    tried = results_of(plan, heard, sender.tree, stop, note)
+    plan, telling = asked
+    tried = results_of(plan, heard[:_OF_SCRIPTS], sender.top, stop, note)
     if tried.refused:
         raise SettingsRefused(sender, tried.refused)
-    return _results(tried.settled, tried.recordings, tried.causes)
+    said = heard_of_builds(telling, heard[_OF_SCRIPTS:], sender.top, stop, note) if telling else []
+    return _results(tried.settled, tried.recordings, tried.causes, said)
 
 
 def _results(
-    settled: Iterable[SettledPiece], recordings: Mapping[int, Recording], causes: Mapping[int, Cause]
+    settled: Iterable[SettledPiece],
+    recordings: Mapping[int, Recording],
+    causes: Mapping[int, Cause],
+    said: Sequence[Said],
 ) -> Results:
     outcomes: dict[int, Outcome] = {}
     texts: dict[int, Text] = {}
     for it in settled:
         outcomes |= {script.index: outcome for script, outcome in it.outcomes}
         texts |= it.texts
-    return Results(outcomes, texts, recordings, causes)
+    return Results(outcomes, texts, recordings, causes, said)
 
 
 def _run_proved(sender: Sender, task: Task, workers: int, stop: Stop, note: Callable[[str], None]) -> Results:
@@ -97,7 +116,8 @@ def _run_proved(sender: Sender, task: Task, workers: int, stop: Stop, note: Call
     asker = Asker(program, CAUSES, stop, lambda line: None)
     causes = [asker.told(it) for it in settled] if task.wants_causes else []
     recordings = _record(programs[RECORD], settled, stop, note) if task.records else {}
-    return _results(settled, recordings, dict(ChainMap(*causes)))
+    said = heard_of_programs(programs, task.telling, stop) if task.telling else []
+    return _results(settled, recordings, dict(ChainMap(*causes)), said)
 
 
 def _record(

@@ -12,6 +12,7 @@ from collections.abc import Sequence
 from pathlib import Path
 
 from pdsuite.faults import why
+from pdsuite.programs.starts import Said
 from pdsuite.show.octets import shown, shown_path
 from pdsuite.signals import Stop
 
@@ -94,8 +95,19 @@ class Program:
         self._finish(text, longest)
         return bytes(self._got[1:]), shown(self._said.partition(b"\n")[0], _SHOWN)
 
+    def run(self, given: bytes, longest: int) -> Said:
+        """All that the program writes of this, which is all of its input, and its status."""
+        status = self._end_of(given, longest)
+        return Said(bytes(self._got[1:]), self._said, str(status))
+
     def _finish(self, commands: bytes, longest: int) -> None:
-        """Writes the last of the input, and reads what the program writes until it has ended."""
+        """The same, of a program that has to end regularly."""
+        status = self._end_of(commands, longest)
+        if status not in _REGULAR:
+            raise Ended((self._last_line() if status > 0 else "") or self._end())
+
+    def _end_of(self, commands: bytes, longest: int) -> int:
+        """Writes the last of the input, and reads what the program writes until it has ended; its status."""
         self._kept = longest + 1
         self._is_last = True
         self._send(commands)
@@ -105,9 +117,7 @@ class Program:
                 raise Ended(f"{self._name} said more than was asked")
         if not self._has_ended():
             raise Ended(f"{self._name} closed its output")
-        status = self._kill()
-        if status not in _REGULAR:
-            raise Ended((self._last_line() if status > 0 else "") or self._end())
+        return self._kill()
 
     def said(self) -> bytes:
         """What a program that answered has said on standard error since this was asked last, the last octets of it."""

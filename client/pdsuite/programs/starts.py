@@ -2,7 +2,7 @@
 
 import re
 from collections.abc import Iterable, Iterator, Sequence
-from dataclasses import dataclass
+from dataclasses import dataclass, field
 
 from pdsuite.show.octets import shown
 
@@ -29,13 +29,26 @@ class Case:
 
 
 @dataclass(frozen=True, slots=True)
+class Said:
+    """All that a program wrote on its two outputs, and its status, which is no number where it came to no end."""
+
+    output: bytes = b""
+    errors: bytes = b""
+    status: str = ""
+
+
+@dataclass(frozen=True, slots=True)
 class Answer:
-    """What a program wrote on its two outputs, or why there is no answer: what ended it may be a start beside it."""
+    """What a program wrote on its two outputs, or why there is no answer: what ended it may be a start beside it.
+
+    In `said` all of it stands, also of a program that refused its input.
+    """
 
     output: bytes
     errors: bytes
     fault: str = ""
     is_shared: bool = False
+    said: Said = field(default=Said(), compare=False)
 
 
 def parted(cases: Iterable[Case]) -> Iterator[list[Case]]:
@@ -54,14 +67,14 @@ def parted(cases: Iterable[Case]) -> Iterator[list[Case]]:
 
 def input_of(cases: Iterable[Case]) -> bytes:
     """The input of a run; the first word of each case is the program."""
-    return b"".join(_part("\0".join(it.words).encode()) + _part(it.given) for it in cases)
+    return b"".join(part("\0".join(it.words).encode()) + part(it.given) for it in cases)
 
 
 def answers_in(output: bytes, errors: bytes, status: str, count: int) -> list[Answer]:
     """The answers to the cases of a run, which has ended with this status, a number or why there is none."""
-    parts = list(_parts(output)) if status == "0" else []
-    if len(parts) == 3 * count:
-        return [answer_of(written, said, ended.decode().strip()) for written, said, ended in zip(*[iter(parts)] * 3)]
+    each = list(parts(output)) if status == "0" else []
+    if len(each) == 3 * count:
+        return [answer_of(written, said, ended.decode().strip()) for written, said, ended in zip(*[iter(each)] * 3)]
     why = answer_of(output, errors, status).fault or f"ended with status {status}"
     return [Answer(b"", b"", why, count > 1)] * count
 
@@ -69,20 +82,22 @@ def answers_in(output: bytes, errors: bytes, status: str, count: int) -> list[An
 def answer_of(output: bytes, errors: bytes, status: str) -> Answer:
     """What came of a start, whose status is a number or why there is none."""
     if status in _REGULAR:
-        return Answer(output, errors)
-    said = [line for line in errors.split(b"\n") if line.strip()]
+        return Answer(output, errors, said=Said(output, errors, status))
     if not status.isdecimal():
         return Answer(b"", b"", status)
-    if not said:
-        return Answer(b"", b"", f"ended with status {status}")
-    return Answer(b"", b"", shown(said[0] if said[0].startswith(_REFUSES) else said[-1]))
+    lines = [line for line in errors.split(b"\n") if line.strip()]
+    why = f"ended with status {status}"
+    if lines:
+        why = shown(lines[0] if lines[0].startswith(_REFUSES) else lines[-1])
+    return Answer(b"", b"", why, said=Said(output, errors, status))
 
 
-def _part(octets: bytes) -> bytes:
+def part(octets: bytes) -> bytes:
+    """Octets after a line with their number."""
     return b"%d\n%b" % (len(octets), octets)
 
 
-def _parts(octets: bytes) -> Iterator[bytes]:
+def parts(octets: bytes) -> Iterator[bytes]:
     """The octets that stand after a line with their number each."""
     at = 0
     while found := _NUMBER.match(octets, at):

@@ -2,10 +2,13 @@
 
 import json
 from collections.abc import Iterator, Sequence
+from dataclasses import asdict, dataclass
 
 from pdsuite.compare.comparison import ComparedScript, Count, Kind, counts_of
+from pdsuite.compare.owed import Owed
 from pdsuite.compare.parting import Parting, PlayedEvent
 from pdsuite.reports.outcome_text import block, meaning
+from pdsuite.reports.owed import owed_lines
 from pdsuite.run.outcomes import UNPROVED, Outcome
 from pdsuite.show.octets import shown_path, shown_text
 from pdsuite.show.styled_text import StyledText, unstyled
@@ -50,36 +53,48 @@ def _unrecorded(why: str) -> str:
     return f"not recorded: {why}" if why else "recorded"
 
 
-def plain(compared: Sequence[ComparedScript], seconds: float, is_unproved: bool) -> StyledText:
-    """The scripts that turned, those that are played otherwise, and the totals by folder."""
+@dataclass(frozen=True)
+class Told:
+    """What is told of a comparison: scripts, what is owed in a tree, the seconds, and whether a sender is unproved."""
+
+    compared: Sequence[ComparedScript]
+    owed: Owed | None
+    seconds: float
+    is_unproved: bool
+
+
+def plain(told: Told) -> StyledText:
+    """The scripts that turned, those that are played otherwise, the totals by folder, and what is owed in the tree."""
     text = StyledText()
     for kind in _STYLES:
-        for it in compared:
+        for it in told.compared:
             if it.kind is kind:
                 text.append(f"{shown_path(it.path)}: ").append(kind, _STYLES[kind]).append("\n")
                 text.append("".join(f"  {line}\n" for line in lines_of(it)), "dim")
-    *folders, total = counts_of(compared)
+    *folders, total = counts_of(told.compared)
     for count in folders:
         text.append(f"{shown_path(count.name)}: {count}\n")
-    mark = f" {UNPROVED}" if is_unproved else ""
-    return text.append(f"total {total} in {seconds:.2f} s{mark}\n")
+    if told.owed is not None:
+        text.append("".join(f"{line}\n" for line in owed_lines(told.owed)))
+    mark = f" {UNPROVED}" if told.is_unproved else ""
+    return text.append(f"total {total} in {told.seconds:.2f} s{mark}\n")
 
 
-def as_json(
-    compared: Sequence[ComparedScript], names: tuple[str, str], seconds: float, is_unproved: bool
-) -> StyledText:
-    """One object: the two senders, the scripts that differ, and the totals by folder."""
-    *folders, total = counts_of(compared)
-    told: dict[str, object] = {
+def as_json(told: Told, names: tuple[str, str]) -> StyledText:
+    """One object: the two senders, the scripts that differ, the totals by folder, and what is owed in the tree."""
+    *folders, total = counts_of(told.compared)
+    whole: dict[str, object] = {
         **dict(zip(_SIDES, names)),
-        "scripts": [_script(it) for it in compared if it.differs],
+        "scripts": [_script(it) for it in told.compared if it.differs],
         "folders": {shown_path(it.name): _counts(it) for it in folders},
         "total": _counts(total),
-        "seconds": round(seconds, 2),
+        "seconds": round(told.seconds, 2),
     }
-    if is_unproved:
-        told[UNPROVED] = True
-    return unstyled(json.dumps(told, ensure_ascii=False, indent=1) + "\n")
+    if told.owed is not None:
+        whole["owed"] = asdict(told.owed)
+    if told.is_unproved:
+        whole[UNPROVED] = True
+    return unstyled(json.dumps(whole, ensure_ascii=False, indent=1) + "\n")
 
 
 def _counts(count: Count) -> dict[str, int]:

@@ -124,7 +124,7 @@ class UnprovedAsker:
         self._stop = stop
 
     def recordings(self, inputs: Sequence[Inputs]) -> list[Recording]:
-        asked = recording(self._sender.tree, [(it.settings, it.script()) for it in inputs])
+        asked = recording(self._sender.top, [(it.settings, it.script()) for it in inputs])
         (answers,) = try_all([asked], self._stop)
         return [recording_of(it) for it in answers]
 
@@ -145,7 +145,7 @@ class UnprovedAsker:
             Case((), _sets(it[0].settings) + _commands(it), LONGEST_BLOCK if words else LONGEST_LINE * (len(it) + 2))
             for it in pieces
         )
-        (answers,) = try_all([Build(self._sender.tree, REGRESS, words, cases)], self._stop)
+        (answers,) = try_all([Build(self._sender.top, REGRESS, words, cases)], self._stop)
         return answers
 
 

@@ -1,0 +1,49 @@
+"""What a changed sender owes in its tree, as lines."""
+
+from collections.abc import Iterator, Sequence
+from itertools import groupby
+
+from pdsuite.compare.owed import Owed, Paragraph, Row
+from pdsuite.show.octets import shown_text
+
+
+def owed_lines(owed: Owed) -> list[str]:
+    """A line for each file of rows, run and paragraph that is owed, after one that counts them."""
+    runs = [it for it in owed.rows if it.title]
+    rows = [it for it in owed.rows if not it.title]
+    found = [it for it in owed.paragraphs or () if it.page]
+    lines = [*_row_lines(rows), *(f"{_place(it.file, it.line)}: {shown_text(it.title)}" for it in runs)]
+    lines += [line for it in owed.paragraphs or () for line in _paragraph_lines(it)]
+    if owed.paragraphs is None:
+        lines.append("paragraphs of pages: unknown, since the sources of the sender before are")
+    if owed.unheard:
+        lines.append(f"{owed.unheard} rows: nothing was heard of them, since the program ended")
+    counts = f"rows {len(rows)} runs {len(runs)} paragraphs {len(found)}"
+    return [f"owed in the tree: {counts}", *(f"  {it}" for it in lines)]
+
+
+def _place(file: str, line: int) -> str:
+    return f"{shown_text(file)}:{line}"
+
+
+def _row_lines(rows: Sequence[Row]) -> Iterator[str]:
+    """The rows of each file: their lines."""
+    for file, mine in groupby(rows, key=lambda it: it.file):
+        lines = [it.line for it in mine]
+        word = "line" if len(lines) == 1 else f"{len(lines)} rows, lines"
+        yield f"{shown_text(file)}: {word} {', '.join(_spans(lines))}"
+
+
+def _spans(numbers: Sequence[int]) -> Iterator[str]:
+    """Numbers, those that follow one another as `FIRST-LAST`."""
+    for _, each in groupby(enumerate(numbers), key=lambda it: it[1] - it[0]):
+        span = [number for _, number in each]
+        yield str(span[0]) if len(span) == 1 else f"{span[0]}-{span[-1]}"
+
+
+def _paragraph_lines(it: Paragraph) -> Iterator[str]:
+    if it.page:
+        yield f"{_place(it.page, it.line)}: {it.heading}, '{it.name}': {', '.join(it.sections)}"
+        yield from (f"  {rule}" for rule in it.rules)
+    else:
+        yield from (f"{rule}: no paragraph cites its section" for rule in it.rules)

@@ -1,0 +1,112 @@
+"""What `pdsuite compare` says that a changed sender owes in its tree, by stand-ins."""
+
+import json
+import shutil
+from pathlib import Path
+
+import pytest
+
+from tests.helpers import Called, write
+from tests.test_compare import git
+from tests.trees import Tree
+
+TOTAL = "total 1 pass 1 fail 0 syntax 0 unsupported 0 limit 0 pending 0"
+ROWS = f"""[rows] scripts
+pass 9: row pass 9
+pass 9: row pass 9\\n
+pass 8: row pass 8
+fail 1 seq: row pass 9
+
+[runs] stories
+# a title
+< add b 1
+< row pass 9
+> b pass 9
+> {TOTAL}
+= 0
+
+[runs] stories of pdrecord
+< a
+~ b
+> b
+= 0
+"""
+CHANGE = "s/^row pass 9/row fail 2 seq/\n"
+COUNTS = "suite: 1 turned 0 played otherwise 0 as before 1 not compared 0"
+
+
+@pytest.fixture
+def tree(tmp_path: Path) -> Tree:
+    """A tree with rows, and a script."""
+    tree = Tree(tmp_path)
+    tree.put_rows(ROWS)
+    write(tree.suite, quick=b"row pass 7\n+0 > . 1:1001(1000) ack 1\n")
+    return tree
+
+
+def owed(called: Called) -> list[str]:
+    """The lines of the list, which stands before the total."""
+    lines = called.out.splitlines()
+    heads = [at for at, line in enumerate(lines) if line.startswith("owed ")]
+    return lines[heads[0] : -1] if heads else []
+
+
+def compare(tree: Tree, *words: str | Path) -> Called:
+    return tree.call("compare", *words, "suite")
+
+
+def test_rows_runs_and_paragraphs_that_say_otherwise_are_named(tree: Tree) -> None:
+    git(tree.top, "init", "-q")
+    git(tree.top, "add", "tools", "tests", "docs", "crates.txt", "crates")
+    for name in ("pdregress", "pdrecord"):
+        (tree.top / "crates" / name / "src/x").touch()
+    git(tree.top, "add", ".")
+    git(tree.top, "commit", "-qm", "one")
+    tree.change(CHANGE)
+    tree.put_code("2")
+    called = compare(tree, "--base", "HEAD")
+    assert called.status == 1 and owed(called) == [
+        "owed in the tree: rows 3 runs 1 paragraphs 1",
+        "  tests/cases/a.cases: 3 rows, lines 2-3, 5",
+        "  tests/cases/a.cases:9: a title",
+        "  docs/SENDER.md:4: Loss, 'An octet is lost when three': RFC 6675, section 4",
+        "    RULE (crates/pd_board/src/counts.rt:2)",
+    ]
+    assert tree.builds() == 2 and " turned 0 played otherwise 0 " in called.out
+
+
+def test_of_a_folder_of_programs_no_sources_are_known(tree: Tree) -> None:
+    tree.change(CHANGE)
+    called = compare(tree, "--base", tree.bin)
+    assert (called.status, tree.builds()) == (1, 1)
+    unknown = "  paragraphs of pages: unknown, since the sources of the sender before are"
+    assert (owed(called)[0], owed(called)[-1]) == ("owed in the tree: rows 3 runs 1 paragraphs 0", unknown)
+    told = json.loads(compare(tree, "--base", tree.bin, "--json").out)["owed"]
+    assert [(it["line"], it["title"]) for it in told["rows"]] == [(2, ""), (3, ""), (5, ""), (9, "a title")]
+    assert (told["unheard"], told["paragraphs"]) == (0, None)
+
+
+def test_where_no_row_turns_nothing_is_owed(tree: Tree) -> None:
+    called = compare(tree, "--base", tree.bin)
+    assert called.status == 0 and owed(called)[0] == "owed in the tree: rows 0 runs 0 paragraphs 0"
+
+
+def test_a_folder_of_programs_owes_nothing_in_this_tree(tree: Tree) -> None:
+    other = tree.suite.parent / "other"
+    shutil.copytree(tree.bin, other)
+    called = compare(tree, "--base", tree.bin, "--with", other)
+    assert (called.status, owed(called), "owed" in called.out) == (0, [], False)
+
+
+def test_a_row_that_ends_the_program_is_named_and_the_others_are_told_again(tree: Tree) -> None:
+    tree.change("s/^row pass 8/crash/\n")
+    called = compare(tree, "--base", tree.bin)
+    assert called.status == 1 and "pdsuite: 3 starts on rows are tried again, each by itself\n" in called.err
+    assert owed(called)[0] == "owed in the tree: rows 0 runs 0 paragraphs 0"
+    assert owed(called)[-1] == "  4 rows: nothing was heard of them, since the program ended"
+
+
+def test_a_tool_that_fails_is_told_with_its_last_line(tree: Tree) -> None:
+    (tree.top / "tests/rows/kinds.py").write_text("import nowhere\n")
+    called = compare(tree, "--base", tree.bin)
+    assert called.status == 2 and called.err.endswith("owed.py: ModuleNotFoundError: No module named 'nowhere'\n")
