@@ -168,6 +168,7 @@ def diff_command(old: Path, new: tuple[Path, ...], no_color: bool) -> int:
 @click.option("--with", "other", metavar="SENDER", help="The sender after, if not the tree as it stands.")
 @html_option
 @click.option("--json", "is_json", is_flag=True, help="Print JSON.")
+@click.option("--owes", is_flag=True, help="Name rows of tests and paragraphs of pages that say otherwise, too.")
 @click.option(
     "--search", metavar="SECONDS", type=click.IntRange(1, MOST_SECONDS), help="Search for a script that turns."
 )
@@ -175,10 +176,11 @@ def diff_command(old: Path, new: tuple[Path, ...], no_color: bool) -> int:
 def compare_command(no_color: bool, search: int | None, seed: int | None, save: Path | None, **words: Any) -> int:
     """Shows what a change of the sender does to scripts: which turn, and which are played otherwise.
 
-    Without --base the sender before is the one that ./prove has proved last in this tree. Where the sender after is a
-    tree, what the change owes there comes before the total: rows of tests/cases that say otherwise now, and paragraphs
-    of docs/SENDER.md and docs/LINUX.md that cite a section of what changed. With --search it makes inputs of its own,
-    in place of scripts, until a recording of the sender before fails under the one after.
+    Without --base the sender before is the one that ./prove has proved last in this tree. With --owes, where the sender
+    after is a tree, it names before the total what the change owes there: rows of tests/cases that say otherwise now,
+    and paragraphs of docs/SENDER.md and docs/LINUX.md that cite a section of what changed. That takes some seconds, or
+    minutes where a sender isn't proved. With --search it makes inputs of its own, in place of scripts, until a
+    recording of the sender before fails under the one after.
     """
     # Only who compares senders pays for what runs two.
     from pdsuite.commands.compare import CompareOptions, compare_senders
@@ -208,8 +210,8 @@ def _refuse_search(options: "CompareOptions") -> None:
         raise click.UsageError("Missing argument 'PATHS...', or --search")
     if options.search is not None and (options.paths or options.only or options.settings):
         raise click.UsageError("--search makes scripts, and takes no PATH, --only or --settings")
-    if options.search is not None and (options.html is not None or options.is_json):
-        raise click.UsageError("--search shows what it finds as text, without --html and --json")
+    if options.search is not None and (options.html is not None or options.is_json or options.owes):
+        raise click.UsageError("--search shows what it finds as text, without --html, --json and --owes")
 
 
 @pdsuite.command(name="search")

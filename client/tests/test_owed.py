@@ -52,7 +52,7 @@ def owed(called: Called) -> list[str]:
 
 
 def compare(tree: Tree, *words: str | Path) -> Called:
-    return tree.call("compare", *words, "suite")
+    return tree.call("compare", "--owes", *words, "suite")
 
 
 def test_rows_runs_and_paragraphs_that_say_otherwise_are_named(tree: Tree) -> None:
@@ -91,11 +91,20 @@ def test_where_no_row_turns_nothing_is_owed(tree: Tree) -> None:
     assert called.status == 0 and owed(called)[0] == "owed in the tree: rows 0 runs 0 paragraphs 0"
 
 
-def test_a_folder_of_programs_owes_nothing_in_this_tree(tree: Tree) -> None:
+def test_a_sender_without_a_tree_owes_nothing(tree: Tree) -> None:
     other = tree.suite.parent / "other"
     shutil.copytree(tree.bin, other)
     called = compare(tree, "--base", tree.bin, "--with", other)
-    assert (called.status, owed(called), "owed" in called.out) == (0, [], False)
+    said = f"pdsuite: --owes: {other} is no tree with tests/cases and tools/owed.py\n"
+    assert (called.status, called.out, called.err.endswith(said)) == (2, "", True)
+    called = tree.call("compare", "--base", tree.bin, "--search", "1", "--owes")
+    assert called.status == 2 and "without --html, --json and --owes" in called.err
+
+
+def test_where_nobody_asks_nothing_is_said_of_what_is_owed(tree: Tree) -> None:
+    tree.change(CHANGE)
+    called = tree.call("compare", "--base", tree.bin, "suite")
+    assert called.status == 0 and "owed" not in called.out
 
 
 def test_a_row_that_ends_the_program_is_named_and_the_others_are_told_again(tree: Tree) -> None:

@@ -38,6 +38,7 @@ class CompareOptions:
     base: str | None
     other: str | None
     is_json: bool
+    owes: bool
     html: Path | None
     search: "SearchOptions | None" = None
 
@@ -57,7 +58,7 @@ def compare_senders(options: CompareOptions, screen: Screen) -> int:
             senders = _senders(options, Path(room))
             _say_senders(senders, screen)
             records = all(it.records for it in senders)
-            telling = telling_of(senders[1], Path(room))
+            telling = telling_of(senders[1], Path(room)) if options.owes else None
             task = Task(runs_of(scripts), list(suite.claims()), records, page is not None, telling)
             results = run_both(senders, task, threads_of(None), stop, screen.note)
             owed = None if telling is None else _owed(telling, senders[0], results, Path(room))

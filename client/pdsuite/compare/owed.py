@@ -77,11 +77,11 @@ class Telling:
         return [Build(tree, it, (), self.of(it)) for it in (REGRESS, RECORD)]
 
 
-def telling_of(sender: Sender, room: Path) -> Telling | None:
-    """What the rows tell of the tree of a sender, if it has rows."""
+def telling_of(sender: Sender, room: Path) -> Telling:
+    """What the rows of a sender's tree tell."""
     tree = sender.sources(room)
     if tree is None or not (tree / _TOOL).is_file() or not (tree / _ROWS).is_dir():
-        return None
+        raise Fault(f"--owes: {sender} is no tree with {_ROWS} and {_TOOL}")
     return Telling(tree, list(_starts(_said(tree, "starts"))))
 
 
