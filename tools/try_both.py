@@ -3,9 +3,9 @@
 try_both.py [--seconds N] [--tree FOLDER] STARTS ANSWERS
 
 The tree is this one, or FOLDER. What is built is both.rattle, which starts the programs in memory, as often as its
-input says. The folder STARTS has such inputs, and the folder ANSWERS gets for each file NAME.output, NAME.errors and
-NAME.status, as try_cases.py puts them. Where nothing was run, a line on standard error says why, with what was said,
-and the status is 2; else it is 0.
+input says, or what comes through a named pipe. The folder STARTS has such inputs, which are run one after the other,
+and the folder ANSWERS gets for each file NAME.output, NAME.errors and NAME.status, as try_cases.py puts them. Where
+nothing was run, a line on standard error says why, with what was said, and the status is 2; else it is 0.
 """
 from __future__ import annotations
 
@@ -26,21 +26,24 @@ PROGRAM = "pdrecord"
 OTHER = "pdregress"
 MAIN = trying.TOP / "tools" / "both.rattle"
 MODULE = "mod record_program;"
-# What of a crate is read.
-PARTS = ("src", "specs", "proofs")
+# What the main file calls of the program's other files, which keep it to themselves.
+CALLED = re.compile(r"^(?=fn run_chosen\b)", re.MULTILINE)
+# What of a crate is read: definitions and proofs are not.
+PART = "src"
 
 
 def put_tree(tree: Path, room: Path) -> None:
     """Puts into a folder a tree of the same crates, in which both.rattle is the main file of its program."""
     for crate in (tree / "crates").iterdir():
-        for part in PARTS:
-            if (crate / part).is_dir():
-                shutil.copytree(crate / part, room / "crates" / crate.name / part)
+        if (crate / PART).is_dir():
+            shutil.copytree(crate / PART, room / "crates" / crate.name / PART)
     sources = room / "crates" / PROGRAM / "src"
     modules = sorted(it.stem for it in sources.glob("*.rt") if it.stem != "main")
     # On one line, so that each line keeps its number.
     declared = " ".join(f"mod {it};" for it in modules)
     (sources / "main.rt").write_text(MAIN.read_text().replace(MODULE, declared))
+    for file in sources.glob("*.rt"):
+        file.write_text(CALLED.sub("pub ", file.read_text()))
     (room / "crates.txt").write_text(with_both((tree / "crates.txt").read_text()))
     if (tree / "HANDLES").exists():
         shutil.copy(tree / "HANDLES", room)
