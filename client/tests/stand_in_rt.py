@@ -5,12 +5,14 @@ NOTES names a folder, which gets a line for each build. A tree whose pdregress h
 tree's file crates/pdregress/src/change says, for `sed`, what its sender does otherwise.
 """
 
+import io
 import os
 import subprocess
 import sys
 import time
 from collections.abc import Iterator
 from pathlib import Path
+from typing import BinaryIO
 
 HERE = Path(__file__).resolve().parent
 NOTES = Path(os.environ["NOTES"])
@@ -50,25 +52,34 @@ def recorded(words: list[str], given: bytes) -> tuple[bytes, bytes, int]:
     return done.stdout, done.stderr, done.returncode
 
 
-def parts(octets: bytes) -> Iterator[bytes]:
+def parts(file: BinaryIO) -> Iterator[bytes]:
     """The parts of an input, each after a line with its length."""
-    while octets:
-        length, _, octets = octets.partition(b"\n")
-        yield octets[: int(length)]
-        octets = octets[int(length) :]
+    while length := file.readline():
+        yield file.read(int(length))
 
 
-def started(given: bytes) -> tuple[bytes, bool]:
-    """What comes of all starts of an input; false where one ends by a fault."""
-    output = b""
-    found = parts(given)
+def serve(starts: BinaryIO, output: BinaryIO) -> bool:
+    """Answers all starts of an input; false where one ends the program by a fault."""
+    found = parts(starts)
     for joined, one in zip(found, found):
         program, *words = joined.decode().split("\0")
         *said, status = (recorded if program == "pdrecord" else explained)(words, changed(one))
         if status not in (0, 1, 2):
-            return b"", False
-        output += b"".join(b"%d\n%b" % (len(it), it) for it in (*said, b"%d\n" % status))
-    return output, True
+            return False
+        output.write(b"".join(b"%d\n%b" % (len(it), it) for it in (*said, b"%d\n" % status)))
+        output.flush()
+    return True
+
+
+def started(given: bytes) -> tuple[bytes, bool]:
+    """What comes of an input: of its starts, or of those that come through the pipes that it names."""
+    if given.startswith(b"/"):
+        asks, answers = given.decode().splitlines()
+        with open(asks, "rb") as starts, open(answers, "wb") as pipe:
+            return b"", serve(starts, pipe)
+    output = io.BytesIO()
+    has_ended = serve(io.BytesIO(given), output)
+    return output.getvalue() if has_ended else b"", has_ended
 
 
 def answer(name: str, given: bytes) -> None:

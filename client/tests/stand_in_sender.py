@@ -2,8 +2,9 @@
 """Stands in for pdrecord and pdregress, by the name that it is called by, with a small sender of its own.
 
 It sends what is written in segments of 1,000 octets, two at a time, and the first again after a second, then two, four
-and so on. In CHANGE_FILE, beside it, stands what it does otherwise: `late` has it wait two seconds each time after the
-first; `extra` has it answer an RST by an ACK; `greedy` has it send three at a time under the setting `mss`.
+and so on. A call of `abort` ends it. In CHANGE_FILE, beside it, stands what it does otherwise: `late` has it wait two
+seconds each time after the first; `extra` has it answer an RST by an ACK; `greedy` has it send three at a time under
+the setting `mss`.
 """
 
 import os
@@ -50,6 +51,8 @@ class Sender:
 
     def call(self, now: int, name: bytes, arguments: bytes) -> str:
         """Answers a call."""
+        if name == b"abort":
+            os.abort()
         if name == b"write" and self.state == "ESTABLISHED":
             self.end += int(arguments.rsplit(b",")[-1])
             self.send(now)

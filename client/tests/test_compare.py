@@ -230,10 +230,11 @@ def test_the_page_has_both_blocks_and_says_that_nothing_is_proved(tree: Tree) ->
     assert "after: line 2: fail seq: so it is" in page
 
 
-def test_a_signal_while_both_programs_are_built_ends_all(tree: Tree) -> None:
+@pytest.mark.parametrize("words", [["suite"], ["--search", "60"]])
+def test_a_signal_while_both_programs_are_built_ends_all(tree: Tree, words: list[str]) -> None:
     (tree.notes / "stall").touch()
     process = subprocess.Popen(
-        [tree.top / "pdsuite", "compare", "--base", tree.bin, "suite"],
+        [tree.top / "pdsuite", "compare", "--base", tree.bin, *words],
         cwd=tree.suite.parent,
         env=tree.environment,
         stdout=subprocess.PIPE,

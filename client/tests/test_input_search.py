@@ -12,7 +12,8 @@ from pdsuite.compare.senders import Sender
 from pdsuite.packetdrill.items import Packet, TcpOption
 from pdsuite.programs.recorder import Recording
 from pdsuite.programs.rows import Row, Verdict
-from pdsuite.search.asking import Asked, asker_of
+from pdsuite.programs.tree import Untried
+from pdsuite.search.asking import Asked, askers_of
 from pdsuite.search.finds import Differs, Fails, Reaches, without_trace
 from pdsuite.search.hunt import Hunt, Hunted, play_all
 from pdsuite.search.inputs import Input, Inputs, call, packet
@@ -56,7 +57,7 @@ class Toy:
 
 
 def hunt(change: str, lists: int = 1, seed: int = 1) -> Hunted:
-    """Searches so many lists of inputs for what tells the changed stand-in from the other, however long it takes."""
+    """Searches so many lists of inputs for what tells the changed stand-in from the one as it is."""
     after = Toy(change)
     return Hunt(Toy(), Fails(after), Differs(after), repeat(48, lists), seed, 300).run(lambda inputs: None)
 
@@ -213,13 +214,18 @@ def test_a_saved_script_passes_before_and_fails_after(tree: Tree) -> None:
     assert [it.status for it in runs] == [0, 1]
 
 
-def test_a_tree_that_is_not_proved_is_asked_in_batches(tree: Tree, monkeypatch: pytest.MonkeyPatch) -> None:
+@pytest.fixture
+def unproved(tree: Tree, monkeypatch: pytest.MonkeyPatch) -> Sender:
+    """The tree as a sender."""
     for name in ("PATH", "NOTES"):
         monkeypatch.setenv(name, tree.environment[name])
+    return Sender("the tree", None, tree.top)
+
+
+def test_a_tree_that_is_not_proved_is_built_once(tree: Tree, unproved: Sender) -> None:
     inputs = [Inputs((("mss", size),), (Input(0, call("listen", 3, 1)),)) for size in (536, 536, 1_000)]
     refused = Inputs((), (Input(0, packet("S", 0, None, 9)),))
-    with Stop(()) as stop:
-        asker = asker_of(Sender("the tree", None, tree.top), stop)
+    with Stop(()) as stop, askers_of([unproved], stop) as (asker,):
         recordings = asker.recordings([*inputs, refused])
         scripts = [Asked(it.settings, without_trace(one.text)) for it, one in zip(inputs, recordings)]
         wrong = Asked((), b"+0 listen(3, 1) = 7\n")
@@ -227,7 +233,29 @@ def test_a_tree_that_is_not_proved_is_asked_in_batches(tree: Tree, monkeypatch: 
         told = asker.told(wrong)
     assert [bool(it.text) for it in recordings] == [True, True, True, False]
     assert [str(it) for it in rows] == ["pass 1", "pass 1", "pass 1", "fail seq"] and told == ["fail seq: so it is"]
-    assert tree.builds() == 3
+    assert tree.builds() == 1
+
+
+def test_where_programs_end_on_a_start_others_of_the_same_build_go_on(tree: Tree, unproved: Sender) -> None:
+    texts = [b"+0 listen(3, 1) = 0\n", b"+0 abort() = 0\n", b"+0 listen(3, 1) = 0\n"]
+    with Stop(()) as stop, askers_of([unproved], stop) as (asker,):
+        rows = asker.rows([Asked((), it) for it in texts])
+    assert [str(it) for it in rows] == ["pass 1", "error: the programs ended on it", "pass 1"]
+    assert tree.builds() == 1
+
+
+def test_a_tree_that_does_not_compile_is_told_with_its_errors(tree: Tree, unproved: Sender) -> None:
+    (tree.top / "crates/pdregress/src/main.rt").touch()
+    with Stop(()) as stop, pytest.raises(Untried, match="unproved: NotCompiled: .*\n.*wrong"):
+        with askers_of([unproved], stop):
+            pass
+
+
+def test_a_search_builds_a_sender_once(tree: Tree) -> None:
+    words = ("--base", "new", "--with", tree.top, "--search", "60", "--seed", "1", "--save", "suite/found.pkt")
+    called = tree.call("compare", *words)
+    assert called.status == 1 and called.out.startswith("a script fails under the sender after\n  no settings\n")
+    assert called.out.endswith(", seed 1 UNPROVED\n") and tree.builds() == 1
 
 
 def test_a_state_is_searched_for_with_one_sender(tree: Tree) -> None:

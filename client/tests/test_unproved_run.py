@@ -12,7 +12,7 @@ from pdsuite.programs.program import Ended
 from pdsuite.programs.protocol import Unexpected
 from pdsuite.programs.refusals import questions, refusals_at_once
 from pdsuite.programs.rows import Row, Verdict
-from pdsuite.programs.starts import Answer, Case, answer_of, answers_in, input_of, parted
+from pdsuite.programs.starts import Answer, Case, answer_of, answers_in, input_of, parted, parts_in
 from pdsuite.run.runs import Script
 from pdsuite.run.unproved_run import Batch, batches_of, causes_of, outcomes_of, read_answers
 from pdsuite.scripts.suite import Claim
@@ -131,6 +131,13 @@ def test_a_run_gets_the_words_and_inputs_of_its_starts_and_answers_each() -> Non
 def test_a_run_without_an_answer_has_none_for_its_starts(output: bytes, status: str, why: str) -> None:
     assert answers_in(output, b"", status, 1) == [Answer(b"", b"", why)]
     assert answers_in(output, b"", status, 2) == [Answer(b"", b"", why, True)] * 2
+
+
+def test_parts_are_taken_once_they_are_whole() -> None:
+    octets = bytearray(b"2\nab3\nx")
+    assert (list(parts_in(octets)), octets) == ([b"ab"], b"3\nx")
+    octets += b"yz0\n1"
+    assert (list(parts_in(octets)), octets) == ([b"xyz", b""], b"1")
 
 
 def test_what_is_built_stands_on_the_libraries_of_both_programs() -> None:

@@ -9,7 +9,7 @@ from tempfile import TemporaryDirectory
 from pdsuite.compare.senders import Sender, sender_of, standing
 from pdsuite.faults import Fault
 from pdsuite.reports.search import found, totals
-from pdsuite.search.asking import SenderAsker, asker_of, sizes_for
+from pdsuite.search.asking import SenderAsker, askers_of, sizes
 from pdsuite.search.finds import Differs, Fails, Find, Reaches, script_of
 from pdsuite.search.hunt import Hunt
 from pdsuite.search.reached import pattern_of
@@ -41,11 +41,9 @@ def search_state(text: str, word: str | None, options: SearchOptions, screen: Sc
         with Stop() as stop, TemporaryDirectory(prefix="pdsuite-") as room:
             sender = standing() if word is None else sender_of(word, "--with", Path(room) / "sender")
             _need_recorder([sender])
-            asker = asker_of(sender, stop)
             seed = _seed(options)
-            hunted = Hunt(asker, Reaches(pattern), None, sizes_for([sender]), seed, options.seconds).run(
-                _progress(screen)
-            )
+            with askers_of([sender], stop) as (asker,):
+                hunted = Hunt(asker, Reaches(pattern), None, sizes(), seed, options.seconds).run(_progress(screen))
             if hunted.find is not None:
                 screen.show(found(hunted.find, f"an input reaches {shown_text(text)}", None, ()))
                 _save(options, hunted.find, [f"Reaches {shown_text(text)}.", f"Recorded by {sender}."])
@@ -60,14 +58,13 @@ def search_difference(senders: tuple[Sender, Sender], options: SearchOptions, st
     if options.save is not None:
         check_place(options.save)
     _need_recorder(senders)
-    before, after = (asker_of(it, stop) for it in senders)
     seed = _seed(options)
-    hidden = Differs(after) if senders[1].is_proved else None
-    hunted = Hunt(before, Fails(after), hidden, sizes_for(senders), seed, options.seconds).run(_progress(screen))
-    find = hunted.find or hunted.unshown
-    if find is not None:
-        _show_difference(find, after, screen)
-        _save(options, find, _head(find, senders))
+    with askers_of(senders, stop) as (before, after):
+        hunted = Hunt(before, Fails(after), Differs(after), sizes(), seed, options.seconds).run(_progress(screen))
+        find = hunted.find or hunted.unshown
+        if find is not None:
+            _show_difference(find, after, screen)
+            _save(options, find, _head(find, senders))
     screen.show(totals(hunted, seed, not all(it.is_proved for it in senders)))
     return 0 if find is None else 1
 

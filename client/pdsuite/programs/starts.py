@@ -72,9 +72,9 @@ def input_of(cases: Iterable[Case]) -> bytes:
 
 def answers_in(output: bytes, errors: bytes, status: str, count: int) -> list[Answer]:
     """The answers to the cases of a run, which has ended with this status, a number or why there is none."""
-    each = list(parts(output)) if status == "0" else []
-    if len(each) == 3 * count:
-        return [answer_of(written, said, ended.decode().strip()) for written, said, ended in zip(*[iter(each)] * 3)]
+    parts = list(parts_in(bytearray(output))) if status == "0" else []
+    if len(parts) == 3 * count:
+        return [answer_of(written, said, ended.decode().strip()) for written, said, ended in zip(*[iter(parts)] * 3)]
     why = answer_of(output, errors, status).fault or f"ended with status {status}"
     return [Answer(b"", b"", why, count > 1)] * count
 
@@ -97,12 +97,11 @@ def part(octets: bytes) -> bytes:
     return b"%d\n%b" % (len(octets), octets)
 
 
-def parts(octets: bytes) -> Iterator[bytes]:
-    """The octets that stand after a line with their number each."""
-    at = 0
-    while found := _NUMBER.match(octets, at):
-        at = found.end() + int(found[1])
-        yield octets[found.end() : at]
+def parts_in(octets: bytearray) -> Iterator[bytes]:
+    """Takes the octets that stand after a line with their number each, up to what isn't whole."""
+    while (found := _NUMBER.match(octets)) and len(octets) >= (end := found.end() + int(found[1])):
+        yield bytes(octets[found.end() : end])
+        del octets[:end]
 
 
 def with_program(program: str, words: Sequence[str], cases: Iterable[Case]) -> Iterator[Case]:

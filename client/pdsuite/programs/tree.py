@@ -53,55 +53,67 @@ def _tried(tree: Path, runs: Sequence[Sequence[Case]], stop: Stop) -> list[Answe
     """The answers of a tree's programs, which are built for them."""
     stop.check()
     with tempfile.TemporaryDirectory(prefix="pdsuite-") as folder:
-        starts, answers = Path(folder, "starts"), Path(folder, "answers")
+        tool = Tool(tree, [input_of(it) for it in runs], Path(folder))
+        try:
+            wait(tool.fileno(), stop)
+        finally:
+            tool.end()
+        tool.check()
+        return [it for number, run in enumerate(runs) for it in _read(tool, number, len(run))]
+
+
+def _read(tool: "Tool", number: int, count: int) -> list[Answer]:
+    output, errors, status = (tool.answer(number, end) for end in ("output", "errors", "status"))
+    return answers_in(output, errors, status.decode(), count)
+
+
+def wait(descriptor: int, stop: Stop) -> None:
+    """Waits until something can be read from a descriptor, or a signal comes."""
+    poll = select.poll()
+    for each in (descriptor, stop.fileno()):
+        poll.register(each, select.POLLIN)
+    while descriptor not in dict(poll.poll()):
+        stop.check()
+
+
+class Tool:
+    """The tool that builds a tree's programs as one and runs it on inputs, in a process group of its own."""
+
+    def __init__(self, tree: Path, inputs: Sequence[bytes], room: Path, *words: str) -> None:
+        starts, self._answers, self._said = room / "starts", room / "answers", room / "said"
         starts.mkdir()
-        answers.mkdir()
-        names = [f"{number:06}" for number in range(len(runs))]
-        for name, run in zip(names, runs):
-            (starts / name).write_bytes(input_of(run))
-        _run([sys.executable, "-B", TOOL, "--tree", tree, starts, answers], Path(folder, "said"), stop)
-        return [it for name, run in zip(names, runs) for it in _read(answers, name, len(run))]
+        self._answers.mkdir()
+        for number, octets in enumerate(inputs):
+            (starts / f"{number:06}").write_bytes(octets)
+        command: list[str | Path] = [sys.executable, "-B", TOOL, *words, "--tree", tree, starts, self._answers]
+        with self._said.open("wb") as file:
+            self._process = subprocess.Popen(
+                command, stdin=subprocess.DEVNULL, stdout=subprocess.DEVNULL, stderr=file, process_group=0
+            )
+        self._descriptor = os.pidfd_open(self._process.pid)
 
+    def fileno(self) -> int:
+        """What can be read once the tool has ended."""
+        return self._descriptor
 
-def _read(folder: Path, name: str, count: int) -> list[Answer]:
-    output, errors, status = (folder / f"{name}.{end}" for end in ("output", "errors", "status"))
-    return answers_in(output.read_bytes(), errors.read_bytes(), status.read_text(), count)
+    def end(self) -> None:
+        """Ends the tool, if it hasn't ended, which ends what it started."""
+        for number in (signal.SIGTERM, signal.SIGKILL):
+            if self._process.poll() is None:
+                with suppress(ProcessLookupError):
+                    self._process.send_signal(number)
+                with suppress(subprocess.TimeoutExpired):
+                    self._process.wait(_GRACE)
+        self._process.wait()
+        os.close(self._descriptor)
 
+    def check(self) -> None:
+        """Says why nothing was run, if so it was: the tool has ended."""
+        if status := self._process.wait():
+            first, *lines = self._said.read_bytes().splitlines() or [b"the tool ended with status %d" % status]
+            reason = shown(first).partition("unproved: ")[2] or shown(first)
+            raise Untried("\n".join([f"unproved: {reason}", *map(shown, lines)]))
 
-def _run(words: Sequence[str | Path], said: Path, stop: Stop) -> None:
-    """Runs a tool in a process group of its own, until it has ended or a signal comes."""
-    with said.open("wb") as file:
-        process = subprocess.Popen(
-            words, stdin=subprocess.DEVNULL, stdout=subprocess.DEVNULL, stderr=file, process_group=0
-        )
-    try:
-        _wait(process.pid, stop)
-    finally:
-        status = _end(process)
-    if status:
-        first, *lines = said.read_bytes().splitlines() or [b"the tool ended with status %d" % status]
-        reason = shown(first).partition("unproved: ")[2] or shown(first)
-        raise Untried("\n".join([f"unproved: {reason}", *map(shown, lines)]))
-
-
-def _wait(number: int, stop: Stop) -> None:
-    descriptor = os.pidfd_open(number)
-    try:
-        poll = select.poll()
-        for each in (descriptor, stop.fileno()):
-            poll.register(each, select.POLLIN)
-        while descriptor not in dict(poll.poll()):
-            stop.check()
-    finally:
-        os.close(descriptor)
-
-
-def _end(process: "subprocess.Popen[bytes]") -> int:
-    """Ends a tool, if it hasn't ended, which ends what it started; its status."""
-    for number in (signal.SIGTERM, signal.SIGKILL):
-        if process.poll() is None:
-            with suppress(ProcessLookupError):
-                process.send_signal(number)
-            with suppress(subprocess.TimeoutExpired):
-                process.wait(_GRACE)
-    return process.wait()
+    def answer(self, number: int, end: str) -> bytes:
+        """What came of an input: its output, its errors or its status."""
+        return (self._answers / f"{number:06}.{end}").read_bytes()

@@ -1,13 +1,16 @@
-"""Asks a sender in batches: for recordings of inputs, and for what comes of scripts."""
+"""Asks a sender: for recordings of inputs, and for what comes of scripts."""
 
 import os
-from collections.abc import Callable, Iterable, Iterator, Sequence
+from collections.abc import Callable, Iterable, Iterator, Mapping, Sequence
 from concurrent.futures import ThreadPoolExecutor
+from contextlib import ExitStack, contextmanager
 from dataclasses import dataclass
 from itertools import repeat
+from pathlib import Path
 from typing import Protocol, TypeVar
 
 from pdsuite.compare.senders import Sender
+from pdsuite.programs.conversation import Conversation
 from pdsuite.programs.places import RECORD, REGRESS
 from pdsuite.programs.program import Ended, Program
 from pdsuite.programs.protocol import LONGEST_BLOCK, LONGEST_LINE, SETTLE, Unexpected
@@ -15,7 +18,7 @@ from pdsuite.programs.protocol import add, blocks_in, name_of, rows_in, set_key
 from pdsuite.programs.recorder import Recorder, Recording, recording, recording_of
 from pdsuite.programs.rows import Row, Verdict
 from pdsuite.programs.starts import Answer, Case
-from pdsuite.programs.tree import Build, try_all
+from pdsuite.programs.tree import Build
 from pdsuite.run.explainer import EXPLAIN
 from pdsuite.run.runs import cut
 from pdsuite.scripts.settings import Settings, set_words, settings_text
@@ -31,8 +34,6 @@ U = TypeVar("U")
 _PIECE = 16
 _FIRST = (8, 16, 32)
 _LATER = 64
-# So many inputs are worth a build.
-_BATCH = 192
 _NAME = "the search"
 
 
@@ -57,20 +58,28 @@ class SenderAsker(Protocol):
         """The row of a script that doesn't pass with what it means, and the lines below it."""
 
 
-def asker_of(sender: Sender, stop: Stop) -> SenderAsker:
-    """What asks a sender: proved programs one by one, or the tree that they are built from in great batches."""
+@contextmanager
+def askers_of(senders: Sequence[Sender], stop: Stop) -> Iterator[list[SenderAsker]]:
+    """What asks senders: proved programs, or those of a tree, which are built once for the block, side by side."""
+    with ExitStack() as stack:
+        trees = {it.tree for it in senders if not it.is_proved}
+        talks = {tree: stack.enter_context(Conversation(tree, stop)) for tree in trees}
+        for talk in talks.values():
+            talk.wait()
+        yield [_asker(it, stop, talks) for it in senders]
+
+
+def _asker(sender: Sender, stop: Stop, talks: Mapping[Path, Conversation]) -> SenderAsker:
     if sender.is_proved:
         return ProvedAsker(sender, stop)
-    return UnprovedAsker(sender, stop)
+    return UnprovedAsker(sender, talks[sender.tree])
 
 
-def sizes_for(senders: Iterable[Sender]) -> Iterator[int]:
+def sizes() -> Iterator[int]:
     """How many inputs senders are asked about at once, one time after the other."""
-    if all(it.is_proved for it in senders):
-        # What is found at once costs few inputs; where it isn't, many keep all processors at work.
-        yield from _FIRST
-        yield from repeat(_LATER)
-    yield from repeat(_BATCH)
+    # What is found at once costs few inputs; where it isn't, many keep all processors at work.
+    yield from _FIRST
+    yield from repeat(_LATER)
 
 
 class ProvedAsker:
@@ -117,49 +126,42 @@ class ProvedAsker:
 
 
 class UnprovedAsker:
-    """Asks the programs of a tree as it stands: each question builds one, and runs it on all that is asked."""
+    """Asks the programs that were built of a tree as it stands."""
 
-    def __init__(self, sender: Sender, stop: Stop) -> None:
-        self._sender = sender
-        self._stop = stop
+    def __init__(self, sender: Sender, talk: Conversation) -> None:
+        self._tree = sender.tree
+        self._talk = talk
 
     def recordings(self, inputs: Sequence[Inputs]) -> list[Recording]:
-        asked = recording(self._sender.top, [(it.settings, it.script()) for it in inputs])
-        (answers,) = try_all([asked], self._stop)
+        answers = self._talk.answers(recording(self._tree, [(it.settings, it.script()) for it in inputs]))
         return [recording_of(it) for it in answers]
 
     def rows(self, scripts: Sequence[Asked]) -> list[Row]:
-        pieces = list(_pieces(scripts))
-        answers = self._answers([[scripts[place] for place in it] for it in pieces])
-        rows: dict[int, Row] = {}
-        for piece, answer in zip(pieces, answers):
-            rows |= dict(zip(piece, _rows_of(answer, [scripts[place] for place in piece])))
-        return [rows[place] for place in range(len(scripts))]
+        return [_row_of(it) for it in self._answers(scripts)]
 
     def told(self, script: Asked) -> list[str]:
-        (answer,) = self._answers([[script]], EXPLAIN)
+        (answer,) = self._answers([script], EXPLAIN)
         return [answer.fault] if answer.fault else _told(answer.errors)
 
-    def _answers(self, pieces: Sequence[Sequence[Asked]], *words: str) -> list[Answer]:
-        cases = tuple(
-            Case((), _sets(it[0].settings) + _commands(it), LONGEST_BLOCK if words else LONGEST_LINE * (len(it) + 2))
-            for it in pieces
-        )
-        (answers,) = try_all([Build(self._sender.top, REGRESS, words, cases)], self._stop)
-        return answers
+    def _answers(self, scripts: Sequence[Asked], *words: str) -> list[Answer]:
+        """What comes of each script in a start of its own, which costs little."""
+        cases = tuple(Case((), _sets(it.settings) + _commands([it])) for it in scripts)
+        return self._talk.answers(Build(self._tree, REGRESS, words, cases))
 
 
 def _unheard(line: str) -> None:
     """An input on which a program ends is a find; its recording says so."""
 
 
-def _rows_of(answer: Answer, scripts: Sequence[Asked]) -> list[Row]:
+def _row_of(answer: Answer) -> Row:
+    """The row of the only script."""
     if answer.fault:
-        return [Row(Verdict.ERROR, 0, answer.fault)] * len(scripts)
+        return Row(Verdict.ERROR, 0, answer.fault)
     try:
-        return rows_in(answer.output, b"", _names(scripts), len(scripts))
+        (row,) = rows_in(answer.output, b"", [name_of(0)], 1)
+        return row
     except Unexpected as unexpected:
-        return [Row(Verdict.ERROR, 0, str(unexpected))] * len(scripts)
+        return Row(Verdict.ERROR, 0, str(unexpected))
 
 
 def _pieces(scripts: Sequence[Asked]) -> Iterable[tuple[int, ...]]:

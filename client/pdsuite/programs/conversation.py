@@ -1,0 +1,114 @@
+"""A conversation with the programs of a tree as it stands: they are built once, without proofs, and asked again."""
+
+import os
+import select
+import tempfile
+from collections.abc import Iterator, Sequence
+from pathlib import Path
+
+from pdsuite.programs.places import RECORD
+from pdsuite.programs.starts import Answer, Case, answer_of, input_of, parts_in, with_program
+from pdsuite.programs.tree import Build, Tool, Untried
+from pdsuite.signals import Stop
+
+# So many starts may end the programs on the way; then others go on, of the same build.
+_ENDS = 256
+# What one conversation may take, in seconds.
+_SECONDS = 1_000_000
+_READ = 1 << 18
+_PARTS = 3
+_ENDED = "the programs ended on it"
+
+
+class Conversation:
+    """Asks a tree's programs, of which one start comes after the other, through named pipes. It ends with its block."""
+
+    def __init__(self, tree: Path, stop: Stop) -> None:
+        self._stop = stop
+        self._folder = tempfile.TemporaryDirectory(prefix="pdsuite-")
+        self._pipes = _pipes_in(Path(self._folder.name))
+        inputs = [f"{asks}\n{answers}\n".encode() for asks, answers in self._pipes]
+        self._tool = Tool(tree, inputs, Path(self._folder.name), "--seconds", str(_SECONDS))
+        self._asks = self._answers = -1
+        self._meet()
+
+    def __enter__(self) -> "Conversation":
+        return self
+
+    def __exit__(self, *error: object) -> None:
+        self._part()
+        self._tool.end()
+        self._folder.cleanup()
+
+    def wait(self) -> None:
+        """Waits until the programs are built."""
+        self._hear([Case((RECORD,), b"")])
+
+    def answers(self, build: Build) -> list[Answer]:
+        """The answers to the cases of a build of this tree."""
+        left = list(with_program(build.program, build.words, build.cases))
+        answers: list[Answer] = []
+        while left:
+            heard = self._hear(left)
+            answers += heard
+            left = left[len(heard) :]
+            if left:
+                answers.append(Answer(b"", b"", _ENDED))
+                del left[0]
+                self._part()
+                self._meet()
+        return answers
+
+    def _meet(self) -> None:
+        """Opens the pipes of the next programs."""
+        if not self._pipes:
+            raise Untried(f"unproved: the programs ended {_ENDS} times")
+        asks, answers = self._pipes.pop(0)
+        # So neither waits for the other side.
+        self._asks = os.open(asks, os.O_RDWR | os.O_NONBLOCK | os.O_CLOEXEC)
+        self._answers = os.open(answers, os.O_RDONLY | os.O_NONBLOCK | os.O_CLOEXEC)
+
+    def _part(self) -> None:
+        for each in (self._asks, self._answers):
+            os.close(each)
+
+    def _hear(self, cases: Sequence[Case]) -> list[Answer]:
+        """The answers to the cases, up to one on which the programs end."""
+        unsent = memoryview(input_of(cases))
+        got = bytearray()
+        parts: list[bytes] = []
+        poll = select.poll()
+        for each in (self._answers, self._tool.fileno(), self._stop.fileno()):
+            poll.register(each, select.POLLIN)
+        poll.register(self._asks, select.POLLOUT)
+        while len(parts) < _PARTS * len(cases):
+            ready = dict(poll.poll())
+            self._stop.check()
+            if self._asks in ready:
+                unsent = unsent[os.write(self._asks, unsent) :]
+                if not unsent:
+                    poll.unregister(self._asks)
+            if self._answers in ready:
+                octets = os.read(self._answers, _READ)
+                if not octets:
+                    break
+                got += octets
+                parts += parts_in(got)
+            elif self._tool.fileno() in ready:
+                self._tool.check()
+                raise Untried("unproved: the programs have ended")
+        return list(_answers(parts))
+
+
+def _pipes_in(folder: Path) -> list[tuple[Path, Path]]:
+    """The named pipes in a folder: one for what is asked, and one for the answers."""
+    pipes = [(folder / f"asks.{number}", folder / f"answers.{number}") for number in range(_ENDS)]
+    for pair in pipes:
+        for each in pair:
+            os.mkfifo(each)
+    return pipes
+
+
+def _answers(parts: Sequence[bytes]) -> Iterator[Answer]:
+    for written, said, status in zip(*[iter(parts)] * _PARTS):
+        yield answer_of(written, said, status.decode().strip())
