@@ -1,0 +1,124 @@
+"""Plants changes in the sender and holds what `pdsuite compare` lists against full reports of both senders:
+
+bench/planted.py [--base SENDER] SUITE
+
+SENDER is what --base of compare takes: this tree, if it isn't given. For each change a line says how many scripts
+turned and how long compare took. The status is 1 where a list isn't what the reports give, or no script turned. It
+takes two builds for a change, and more where the base isn't proved.
+"""
+
+import argparse
+import json
+import shutil
+import subprocess
+import sys
+import tempfile
+import time
+from collections.abc import Iterator
+from dataclasses import dataclass
+from pathlib import Path
+from typing import Any
+
+TOP = Path(__file__).resolve().parents[1]
+# What of this tree a copy has.
+FOLDERS = ("client/pdsuite", "crates", "tools")
+FILES = ("client/packages.txt", "crates.txt", "HANDLES", "pdrecord", "pdregress", "pdsuite")
+# A verdict with its number of events or its kind, and the line.
+Row = tuple[str, "int | None"]
+
+
+@dataclass(frozen=True)
+class Change:
+    """A line of the sender's code, and what stands in its place."""
+
+    name: str
+    file: str
+    old: str
+    new: str
+
+
+CHANGES = (
+    Change("DupThresh is 2", "crates/pd_board/src/counts.rt", "DUP_THRESH: u32 = 3", "DUP_THRESH: u32 = 2"),
+    Change("no limited transmit", "crates/pd_recover/src/cong.rt", "early: settings.limited_transmit", "early: false"),
+    Change(
+        "a quarter of the window is sent at once",
+        "crates/pd_host/src/connection/sending.rt",
+        "(established)) * 2 >=",
+        "(established)) * 4 >=",
+    ),
+)
+
+
+def planted(change: Change, place: Path) -> Path:
+    """A tree like this one, with the change."""
+    for folder in FOLDERS:
+        shutil.copytree(TOP / folder, place / folder, ignore=shutil.ignore_patterns("out", "__pycache__"))
+    for file in FILES:
+        shutil.copy(TOP / file, place / file, follow_symlinks=False)
+    changed = place / change.file
+    text = changed.read_text()
+    if text.count(change.old) != 1:
+        raise SystemExit(f"{change.file}: no line to change, or several: {change.old}")
+    changed.write_text(text.replace(change.old, change.new))
+    return place
+
+
+def said(*words: "str | Path") -> Any:
+    """What a pdsuite says as JSON."""
+    done = subprocess.run(words, stdin=subprocess.DEVNULL, stdout=subprocess.PIPE)
+    if done.returncode not in (0, 1):
+        raise SystemExit(f"{' '.join(map(str, words))} ended with status {done.returncode}")
+    return json.loads(done.stdout)
+
+
+def rows(report: Any) -> Iterator[tuple[str, Row]]:
+    """The rows of a report of `run`, by paths, in the form that `compare` gives them."""
+    for it in report["scripts"]:
+        words = (it["verdict"], it.get("events"), it.get("kind"))
+        yield it["path"], (" ".join(str(word) for word in words if word is not None), it.get("line"))
+
+
+def turned_in(compared: Any) -> dict[str, tuple[Row, Row]]:
+    """The scripts that `compare` lists as turned, with their rows."""
+    turned = [it for it in compared["scripts"] if it["kind"] == "turned"]
+    return {it["path"]: (row_of(it["before"]), row_of(it["after"])) for it in turned}
+
+
+def row_of(side: Any) -> Row:
+    return side["row"], side["line"]
+
+
+def main() -> int:
+    parser = argparse.ArgumentParser(allow_abbrev=False, description=(__doc__ or "").partition(":\n")[0])
+    parser.add_argument("--base", metavar="SENDER", default=str(TOP))
+    parser.add_argument("suite", metavar="SUITE", type=Path)
+    asked = parser.parse_args()
+    is_well = True
+    with tempfile.TemporaryDirectory(prefix="planted-") as folder:
+        before = dict(rows(report_of(asked.base, asked.suite)))
+        for number, change in enumerate(CHANGES):
+            tree = planted(change, Path(folder, str(number)))
+            begin = time.monotonic()
+            compared = said(TOP / "pdsuite", "compare", "--base", asked.base, "--with", tree, "--json", asked.suite)
+            seconds = time.monotonic() - begin
+            after = dict(rows(report_of(str(tree), asked.suite)))
+            listed = turned_in(compared)
+            turned = {path: (before[path], row) for path, row in after.items() if before[path] != row}
+            is_same = bool(listed) and listed == turned
+            is_well = is_well and is_same
+            print(
+                f"{change.name}: {'same' if is_same else 'OTHER'}: {compared['total']} in {seconds:.1f} s", flush=True
+            )
+    return 0 if is_well else 1
+
+
+def report_of(sender: str, suite: Path) -> Any:
+    """The full report of a sender: a tree, or a folder of programs."""
+    tree = Path(sender)
+    if (tree / "pdsuite").is_file():
+        return said(tree / "pdsuite", "run", "--json", suite)
+    return said("env", f"PDSUITE_PROGRAMS={sender}", TOP / "pdsuite", "run", "--json", suite)
+
+
+if __name__ == "__main__":
+    sys.exit(main())
