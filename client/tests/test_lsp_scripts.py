@@ -6,15 +6,16 @@ import pytest
 
 from pdsuite.lsp.actions import Action, Failing, edits_to, leads_past
 from pdsuite.lsp.actions import recording_all, recording_from_here, switching_off, taking
-from pdsuite.lsp.diagnostics import diagnostics_of, unshown
+from pdsuite.lsp.diagnostics import diagnostics_of
 from pdsuite.lsp.documents import Document
 from pdsuite.lsp.hover import hover_of, plain
-from pdsuite.lsp.layout import layout_of
 from pdsuite.lsp.packets_sent import as_lines, sent_in, sent_of
 from pdsuite.lsp.positions import Lines
 from pdsuite.lsp.recorded import lines_of_untaken, met_by, recorded_in, tolerance_of, without_trace
+from pdsuite.packetdrill.layout import layout_of
 from pdsuite.programs.rows import Row, Verdict
 from pdsuite.run.outcomes import Outcome
+from pdsuite.run.row_place import unshown
 from pdsuite.scripts.expectation import Expectation
 
 SCRIPT = """0 write(4, ..., 1500) = 1500 // two

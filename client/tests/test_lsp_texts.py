@@ -4,8 +4,8 @@ import pytest
 
 from pdsuite.lsp.documents import Document, opened, path_of, uri_of
 from pdsuite.lsp.json_values import Malformed
-from pdsuite.lsp.layout import layout_of
 from pdsuite.lsp.positions import Lines, Position
+from pdsuite.packetdrill.layout import layout_of
 
 CRAB = "\U0001f980"
 

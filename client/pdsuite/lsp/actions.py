@@ -5,17 +5,18 @@ from dataclasses import dataclass
 
 
 from pdsuite.lsp.comments import comments_of
-from pdsuite.lsp.diagnostics import failing_event
 from pdsuite.lsp.documents import text_edit
 from pdsuite.lsp.json_values import Json
-from pdsuite.lsp.layout import Event, Layout
 from pdsuite.lsp.packets_sent import Sent, as_lines, sent_in, sent_of, taken
-from pdsuite.lsp.positions import Extent, Lines
+from pdsuite.lsp.positions import Lines
 from pdsuite.lsp.recorded import Recorded, recorded_in, without_trace
 from pdsuite.packetdrill.items import SECOND
+from pdsuite.packetdrill.layout import Event, Layout
+from pdsuite.packetdrill.lines import Extent
 from pdsuite.packetdrill.tokens import Unread, tokens_of
 from pdsuite.programs.protocol import Cause
 from pdsuite.programs.rows import Row, Verdict
+from pdsuite.run.row_place import failing_event
 
 QUICK = "quickfix"
 REWRITE = "refactor.rewrite"

@@ -7,18 +7,20 @@ from pdsuite.lsp import pages
 from pdsuite.lsp.actions import Action, Failing, edits_to, leads_past
 from pdsuite.lsp.actions import recording_all, recording_from_here, switching_off, taking
 from pdsuite.lsp.completion import items_of, keys_proposed, proposals, typed_before
-from pdsuite.lsp.diagnostics import Diagnostic, diagnostics_of, failing_event, untaken, with_related
+from pdsuite.lsp.diagnostics import Diagnostic, diagnostics_of, untaken, with_related
 from pdsuite.lsp.documents import Document
 from pdsuite.lsp.hover import hover_of
 from pdsuite.lsp.json_values import Json
-from pdsuite.lsp.layout import NOTHING, Event, Layout, layout_of
-from pdsuite.lsp.positions import Extent, Position
+from pdsuite.lsp.positions import Position
 from pdsuite.lsp.recorded import Met, Recorded, lines_of_untaken, met_by, recorded_in, tolerance_of
 from pdsuite.lsp.settings_places import key_at
 from pdsuite.lsp.tools import Tools, tolerance
 from pdsuite.lsp.workspace import Result, Workspace, settings_path
+from pdsuite.packetdrill.layout import NOTHING, Event, Layout, layout_of
+from pdsuite.packetdrill.lines import Extent
 from pdsuite.programs.protocol import Cause
 from pdsuite.programs.rows import Row, Verdict
+from pdsuite.run.row_place import failing_event
 
 DRAW = "pdsuite.draw"
 _NO_CAUSE: Cause = {}

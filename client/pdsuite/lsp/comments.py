@@ -4,9 +4,10 @@ import re
 from collections.abc import Iterator
 from dataclasses import dataclass
 
-from pdsuite.packetdrill.tokens import Unread, tokens_of
 from pdsuite.lsp.json_values import Json
-from pdsuite.lsp.positions import Extent, Lines
+from pdsuite.lsp.positions import Lines
+from pdsuite.packetdrill.lines import Extent
+from pdsuite.packetdrill.tokens import Unread, tokens_of
 
 _COMMENT = re.compile(r"//[^\n]*|/\*.*?\*/", re.DOTALL)
 _NAMESPACE = 3

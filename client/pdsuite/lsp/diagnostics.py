@@ -5,12 +5,14 @@ from collections.abc import Iterator, Mapping, Sequence
 from dataclasses import dataclass, replace
 
 from pdsuite.lsp.json_values import Json
-from pdsuite.lsp.layout import Event, Layout
-from pdsuite.lsp.positions import Extent, Lines
+from pdsuite.lsp.positions import Lines
+from pdsuite.packetdrill.layout import Event, Layout
+from pdsuite.packetdrill.lines import Extent
 from pdsuite.programs.protocol import Cause
-from pdsuite.programs.rows import Row, Verdict
-from pdsuite.run.outcomes import Outcome
+from pdsuite.programs.rows import Verdict
 from pdsuite.reports.outcome_text import said, warnings
+from pdsuite.run.outcomes import Outcome
+from pdsuite.run.row_place import place_of
 
 SOURCE = "pdsuite"
 ERROR, WARNING, HINT = 1, 2, 4
@@ -38,27 +40,6 @@ _FACTS = {
     "expected": "expected",
 }
 _NULLS = {"awaited_until_us": "any time", "timer_us": "never, it doesn't run"}
-# Which part of an event a rule is about, where it isn't all of it.
-_RULES = {
-    "time": "time",
-    "inbound_time": "time",
-    "call_time": "time",
-    "start": "seq",
-    "end": "seq",
-    "ack": "ack",
-    "win": "win",
-    "options": "options",
-    "mss": "options",
-    "wscale": "options",
-    "blocks": "options",
-    "block": "options",
-    "write": "arguments",
-    "call_shape": "arguments",
-    "call_name": "call",
-    "flag": "flags",
-    "small_mss": "options",
-    "data": "seq",
-}
 _MICROSECONDS = "_us"
 _HIDDEN = re.compile(r"\s+")
 
@@ -105,7 +86,7 @@ def diagnostics_of(outcome: Outcome, cause: Cause | None, layout: Layout, lines:
         return
     if row.verdict is not Verdict.PASS or outcome.is_unexpected:
         yield Diagnostic(
-            _extent(row, cause, layout, lines),
+            place_of(row, cause, layout, lines).extent,
             _severity(outcome),
             row.word or row.verdict.value,
             _message(outcome, cause),
@@ -159,51 +140,3 @@ def _shown(key: str, value: object) -> str:
     if key.endswith(_MICROSECONDS) and isinstance(value, int):
         return f"{value // _SECOND}.{value % _SECOND:06}"
     return _HIDDEN.sub(" ", str(value))
-
-
-def failing_event(row: Row, cause: Cause | None, layout: Layout) -> Event | None:
-    """The event that a row is about."""
-    if row.line is None:
-        return None
-    told = cause or {}
-    said_of_it = next((str(told[it]) for it in ("script_packet", "call", "event") if it in told), "")
-    return layout.of_line(row.line, said_of_it)
-
-
-def _extent(row: Row, cause: Cause | None, layout: Layout, lines: Lines) -> Extent:
-    """The field that a row is about, else its event, else its line."""
-    if row.line is None:
-        return lines.whole_line(0)
-    line = min(row.line, lines.count) - 1
-    if row.verdict is Verdict.SYNTAX:
-        return _token(line, cause, layout, lines)
-    event = failing_event(row, cause, layout)
-    if event is None:
-        return lines.whole_line(line)
-    field = "time" if row.word == "backwards" else row.word or _RULES.get(str((cause or {}).get("rule")), "")
-    return event.fields.get(field, event.extent)
-
-
-def _token(line: int, cause: Cause | None, layout: Layout, lines: Lines) -> Extent:
-    """The token at which no script goes on; at the end of the text, what stands in its last line."""
-    column = (cause or {}).get("column")
-    if not isinstance(column, int):
-        return lines.whole_line(line)
-    start = lines.start(line) + unshown(lines.content(line), column)
-    found = re.compile(r"[0-9A-Za-z_]+|.").match(layout.text, start)
-    return Extent(start, start + 1 if found is None else found.end())
-
-
-def unshown(content: str, column: int) -> int:
-    """The character of a line that stands at a column of it as the program shows it, where a hidden octet takes 4."""
-    shown = 0
-    for place, character in enumerate(content):
-        if shown >= column:
-            return place
-        shown += 1 if " " <= character <= "~" else 4 * _octets(character)
-    return len(content)
-
-
-def _octets(character: str) -> int:
-    """How many octets a character is of; one that isn't UTF-8 stands as Python's `surrogateescape` has it."""
-    return 1 if "\udc80" <= character <= "\udcff" else len(character.encode("utf-8", "surrogatepass"))

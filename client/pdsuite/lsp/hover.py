@@ -3,10 +3,10 @@
 import re
 from collections.abc import Iterator, Mapping, Sequence
 
-from pdsuite.packetdrill.items import SECOND, Call, HeaderOption
 from pdsuite.lsp import pages
-from pdsuite.lsp.layout import Event
 from pdsuite.lsp.recorded import Met, Recorded, State
+from pdsuite.packetdrill.items import SECOND, Call, HeaderOption
+from pdsuite.packetdrill.layout import Event
 
 _MARKS = re.compile(r"^```.*\n?|`|\*\*", re.MULTILINE)
 _FIELDS = ("flags", "options", "ack", "win", "seq")

@@ -5,7 +5,7 @@ from collections.abc import Sequence
 from dataclasses import dataclass
 
 from pdsuite.packetdrill.items import SECOND
-from pdsuite.lsp.layout import Event
+from pdsuite.packetdrill.layout import Event
 
 _SHOWN = re.compile(
     r"(?P<time>.*?)\s*> +(?P<flags>[A-Z.-]+)\s+(?P<seq>\d+:\d+\(\d+\))"

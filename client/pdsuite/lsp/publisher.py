@@ -7,10 +7,11 @@ from pdsuite.lsp.answers import Running
 from pdsuite.lsp.diagnostics import ERROR, Diagnostic, diagnostics_of
 from pdsuite.lsp.documents import Document, path_of, uri_of
 from pdsuite.lsp.json_values import Json
-from pdsuite.lsp.layout import layout_of
-from pdsuite.lsp.positions import Extent, Lines
+from pdsuite.lsp.positions import Lines
 from pdsuite.lsp.settings_places import diagnostic_of
 from pdsuite.lsp.workspace import Result, settings_path
+from pdsuite.packetdrill.layout import layout_of
+from pdsuite.packetdrill.lines import Extent
 from pdsuite.scripts.suite import LONGEST
 from pdsuite.scripts.text import Unfit, read_file
 

@@ -6,7 +6,7 @@ from dataclasses import dataclass
 from math import inf
 
 from pdsuite.packetdrill.items import SECOND, HeaderOption, Time
-from pdsuite.lsp.layout import Event
+from pdsuite.packetdrill.layout import Event
 
 _TRACE = re.compile(
     r"^//= at (?P<whole>[0-9]+)\.(?P<part>[0-9]{6}) (?P<name>[A-Z0-9-]+)(?P<facts>(?: [A-Za-z]+:[A-Za-z0-9.]+)*)\n?",

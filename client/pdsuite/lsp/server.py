@@ -14,12 +14,12 @@ from pdsuite.lsp.documents import Document, opened, path_of, position_in, uri_of
 from pdsuite.lsp.drawing import Drawn
 from pdsuite.lsp.hover import plain
 from pdsuite.lsp.json_values import Json, Malformed, list_in, member, optional, text_in
-from pdsuite.lsp.positions import Extent
 from pdsuite.lsp.publisher import Publisher
 from pdsuite.lsp.streams import CONTENT_MODIFIED, INTERNAL, INVALID_PARAMS, INVALID_REQUEST, NOT_INITIALIZED
 from pdsuite.lsp.streams import Promise, Refused, Streams
-from pdsuite.programs.program import Ended
+from pdsuite.packetdrill.lines import Extent
 from pdsuite.programs.places import commit
+from pdsuite.programs.program import Ended
 from pdsuite.signals import Stopped
 from pdsuite.watch.watcher import Event, Kind
 

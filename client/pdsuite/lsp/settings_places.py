@@ -4,7 +4,8 @@ import re
 from collections.abc import Iterator
 
 from pdsuite.lsp.diagnostics import ERROR, Diagnostic
-from pdsuite.lsp.positions import Extent, Lines
+from pdsuite.lsp.positions import Lines
+from pdsuite.packetdrill.lines import Extent
 
 _KEY = re.compile(r"""\s*(?:"([^"]*)"|'([^']*)'|([A-Za-z0-9_-]+))\s*=""")
 _TABLE = re.compile(r"""\s*\[\s*(?:"([^"]*)"|'([^']*)'|([^\]]*?))\s*\]""")

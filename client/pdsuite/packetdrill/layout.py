@@ -5,9 +5,9 @@ from dataclasses import dataclass
 from functools import cached_property
 
 from pdsuite.packetdrill.items import Call, Item, Packet
+from pdsuite.packetdrill.lines import Extent
 from pdsuite.packetdrill.reader import read
 from pdsuite.packetdrill.tokens import Kind, Token, Unread, tokens_of
-from pdsuite.lsp.positions import Extent
 
 
 @dataclass(frozen=True, eq=False)
