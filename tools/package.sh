@@ -109,7 +109,7 @@ completion() { # NAME PROGRAM
 documents() {
     doc=usr/share/doc/$name
     put 644 "$top/README.md" "$top/CHANGELOG.md" "$top/packaging/copyright" "$doc"
-    put 644 "$top"/docs/*.md "$top"/docs/*.png "$doc/docs"
+    put 644 "$top"/docs/*.md "$top"/docs/*.png "$top"/docs/*.json "$doc/docs"
     cp -R "$top/examples" "$root/$doc"
     printf '%s (%s) unstable; urgency=medium\n\n  * CHANGELOG.md tells what changed.\n\n -- %s  %s\n' \
         "$name" "$version" "$(sed -n 's/^Maintainer: //p' "$top/packaging/control")" "$(date -u -R -d "@$SOURCE_DATE_EPOCH")" |

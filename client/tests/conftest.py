@@ -15,6 +15,7 @@ from pdsuite.programs.places import RECORD, locate
 from pdsuite.signals import Stop
 from pdsuite.watch.watcher import Watcher
 from tests.helpers import HANGS, TOP, Call, Called
+from tests.schemas import hold_output
 from tests.site import Site
 
 pytest_plugins = ["tests.browsing", "tests.lsp_client"]
@@ -112,7 +113,9 @@ def call(tmp_path: Path) -> Call:
         done = subprocess.run(
             [TOP / "pdsuite", *words], cwd=tmp_path, env=environment, capture_output=True, timeout=HANGS
         )
-        return Called(done.returncode, done.stdout.decode(), done.stderr.decode())
+        out = done.stdout.decode()
+        hold_output(words, out)
+        return Called(done.returncode, out, done.stderr.decode())
 
     return called
 

@@ -12,6 +12,24 @@ import time
 
 KILL, SEGV = 9, 11
 
+# What is told by keys of a script that doesn't pass, by its verdict and, where it fails, its kind.
+KEYS: dict[str, dict[str, object]] = {
+    "fail": {"untaken_packets": [], "more_untaken_packets": 0, "state": {"name": "ESTABLISHED"}},
+    "syntax": {"text": "?", "column": 0, "expected": []},
+    "unsupported": {"rule": "command", "rule_words": "a command"},
+    "limit": {"rule": "time", "rule_words": "a time", "limit": 3_600},
+    "packet": {"script_packet": "+0 > . 1:2(1) ack 1", "actual_packet": "+0 > . 1:3(2) ack 1 win 5", "sent_us": 7},
+    "time": {
+        **{"script_packet": "+0 > . 1:2(1) ack 1", "actual_packet": "+1 > . 1:2(1) ack 1 win 5", "sent_us": 7},
+        **{"awaited_until_us": None, "early_us": 3},
+    },
+    "missing": {
+        **{"script_packet": "* > . 1:2(1) ack 1", "awaited_until_us": None, "timer_us": None},
+        **{"reason": "all_sent", "reason_words": "all was sent"},
+    },
+    "result": {"call": "0 close(3) = 0", "expected_result": "0", "actual_result": "-1 EBADF"},
+    "backwards": {"event": "0 close(3) = 0", "moment_us": 1, "before_us": 2},
+}
 texts: dict[str, list[bytes]] = {}
 settings: dict[str, str] = {}
 
@@ -145,8 +163,27 @@ def block(name: str, row: list[str], text: list[bytes]) -> bytes:
         case [b"other line\n"]:
             row = [row[0], "7", *row[2:]]
     verdict, line, *kind = row
+    if "--json" in sys.argv:
+        return told_by_keys(name, verdict, int(line), kind, text)
     means = ": so it is" if text else ""
     return f"{name}:{line}: {' '.join([verdict, *kind])}{means}\n".encode() + b"".join(b"  " + it for it in text)
+
+
+def told_by_keys(name: str, verdict: str, line: int, kind: list[str], text: list[bytes]) -> bytes:
+    """What is said of a script that doesn't pass as JSON: a line `KEY: VALUE` of its text is told by its key."""
+    import json
+
+    said = "so it is" if text else ""
+    told: dict[str, object] = {"name": name, "line": line, "verdict": verdict, "what": said}
+    told |= KEYS[verdict]
+    if kind:
+        told["kind"] = kind[0]
+        told |= KEYS.get(kind[0], KEYS["packet"])
+    for each in text:
+        key, colon, value = each.decode("latin-1").rstrip("\n").partition(": ")
+        if colon and key.replace(" ", "_") in told:
+            told[key.replace(" ", "_")] = value
+    return json.dumps(told).encode() + b"\n"
 
 
 def explain() -> int:

@@ -128,6 +128,7 @@ def test_json_is_one_object(stand_in: Path, tmp_path: Path, call: Call) -> None:
     scripts = {it["path"]: it for it in report["scripts"]}
     assert [it["verdict"] for it in report["scripts"]] == [name[2:] for name in ROWS]
     assert scripts["a pass.pkt"]["events"] == 9
+    assert scripts["b fail.pkt"].pop("explanation")["kind"] == "seq"
     assert scripts["b fail.pkt"] == {
         "path": "b fail.pkt",
         "verdict": "fail",

@@ -6,6 +6,7 @@ import subprocess
 from pathlib import Path
 
 from tests.helpers import HANGS, TOP, Called
+from tests.schemas import hold_output
 
 HERE = Path(__file__).parent
 PROGRAMS = ("pdregress", "pdrecord")
@@ -96,4 +97,6 @@ class Tree:
             capture_output=True,
             timeout=HANGS,
         )
-        return Called(done.returncode, done.stdout.decode(), done.stderr.decode())
+        out = done.stdout.decode()
+        hold_output(words, out)
+        return Called(done.returncode, out, done.stderr.decode())

@@ -71,6 +71,11 @@ class RunOptions:
         return bool(self.only) or self.shard is not None or self.last_failed
 
     @property
+    def by_keys(self) -> bool:
+        """Whether the report has what is told of scripts by keys."""
+        return self.form == "json"
+
+    @property
     def summary(self) -> Path | None:
         """The file for a summary that GitHub names, where its annotations are asked for."""
         name = os.environ.get(SUMMARY)
@@ -141,7 +146,7 @@ def _run_unproved(
     if lines := unused_in(suite):
         return _refuse(lines)
     screen.note(f"pdsuite: {first_line()}")
-    plan = plan_of(runs_of(scripts), suite.claims(), options.html is not None)
+    plan = plan_of(runs_of(scripts), suite.claims(), options.html is not None or options.by_keys)
     tried = run_unproved(plan, TOP, stop, screen.note)
     if tried.refused:
         return _refuse(tried.refused)
@@ -172,12 +177,12 @@ def _mapper(
     """The cluster that was asked for, else the processors of this machine."""
     if options.scheduler is None:
         start = start_with(program, threads_of(options.workers), 1, stop)
-        return nullcontext(local_mapper(start, Explainer(program, stop, note, of_known)))
+        return nullcontext(local_mapper(start, Explainer(program, stop, note, of_known, options.by_keys)))
     # Only who has a cluster needs what speaks with it.
     need("distributed")
     from pdsuite.run.cluster import cluster
 
-    return cluster(options.scheduler, (str(program), digest(program)), stop, note)
+    return cluster(options.scheduler, (str(program), digest(program)), options.by_keys, stop, note)
 
 
 def _run(
@@ -200,7 +205,8 @@ def _run(
         report.open()
         with closing(mapper(runs_of(scripts))) as steps:
             heard = steps if drawing is None else _kept(steps, texts)
-            ended = _take(heard, report, checking, screen, options.fail_fast)
+            told = _whole(heard) if options.by_keys else heard
+            ended = _take(told, report, checking, screen, options.fail_fast)
         totals = report.close(time.monotonic() - begin)
         if ended is None:
             for line in checking.lines():
@@ -217,6 +223,14 @@ def _run(
     if ended is not None:
         raise ended
     return 2 if drawing is not None and drawing.has_failed else totals.status()
+
+
+def _whole(steps: Iterable[Step]) -> Iterator[Step]:
+    """The steps with whole explanations."""
+    # Only who asks for them pays for what reads scripts.
+    from pdsuite.run.explanation import whole_steps
+
+    return whole_steps(steps)
 
 
 def _take(

@@ -1,6 +1,7 @@
 """The report as one JSON object."""
 
 import json
+from collections.abc import Mapping
 from dataclasses import dataclass
 from functools import cache
 
@@ -27,7 +28,7 @@ class Json:
 
     def entry(self, number: int, outcome: Outcome) -> StyledText:
         begin = "\n" if number == 1 else ",\n"
-        return unstyled(begin + script_text(outcome, shown_path(outcome.path)))
+        return unstyled(begin + script_text(outcome, shown_path(outcome.path), outcome.explanation))
 
     def foot(self, totals: Totals, seconds: float) -> StyledText:
         counts = {it.value: totals.counts[it] for it in Verdict}
@@ -40,11 +41,12 @@ class Json:
         return unstyled(f'\n], "total": {total}, "seconds": {seconds:.2f}{shard}{unproved}}}\n')
 
 
-def script_text(outcome: Outcome, path: str) -> str:
-    """A script on one line, under this path, which is safe to print."""
+def script_text(outcome: Outcome, path: str, explanation: Mapping[str, object] | None = None) -> str:
+    """A script on one line, under this path, which is safe to print; beside what is told of it the explanation."""
     row = outcome.row
     if row.verdict is not _PASS or not row.number or outcome.expected is not None:
-        return _encoded(_script(outcome, path))
+        script = _script(outcome, path)
+        return _encoded(script if explanation is None else {**script, "explanation": explanation})
     # Most scripts pass and have nothing else to tell: their line is put together by hand, in a fifth of the time.
     quoted = _encoded(path) if '"' in path or "\\" in path else f'"{path}"'
     settings = _settings(outcome.settings) if outcome.settings else "{}"

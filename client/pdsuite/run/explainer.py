@@ -85,19 +85,30 @@ class Asker(Generic[T]):
 
 
 class Explainer:
-    """Has the program tell why scripts don't pass, in lines for people; of those that are known not to if asked."""
+    """Has the program tell why scripts don't pass, in lines for people.
 
-    def __init__(self, program: Path, stop: Stop, note: Callable[[str], None], of_known: bool = True) -> None:
-        self._asker = Asker(program, BLOCKS, stop, note)
+    And of those that are known not to, and by keys, where these are asked for.
+    """
+
+    def __init__(
+        self, program: Path, stop: Stop, note: Callable[[str], None], of_known: bool = True, by_keys: bool = False
+    ) -> None:
+        say = _each_once(note)
+        self._asker = Asker(program, BLOCKS, stop, say)
+        self._by_keys = Asker(program, CAUSES, stop, say) if by_keys else None
         self._of_known = of_known
 
     def explain(self, step: SettledPiece) -> list[tuple[Script, Outcome]]:
         """The outcomes of a piece, each that doesn't pass with what is told of it."""
         asked = step if self._of_known else replace(step, outcomes=[it for it in step.outcomes if not it[1].is_known])
         blocks = self._asker.told(asked)
-        if not blocks:
+        causes = {} if self._by_keys is None else self._by_keys.told(asked)
+        if not blocks and not causes:
             return step.outcomes
-        return [(script, with_block(outcome, blocks.get(script.index))) for script, outcome in step.outcomes]
+        return [
+            (it, with_cause(with_block(outcome, blocks.get(it.index)), causes.get(it.index)))
+            for it, outcome in step.outcomes
+        ]
 
 
 def with_block(outcome: Outcome, block: Sequence[bytes] | None) -> Outcome:
@@ -106,6 +117,23 @@ def with_block(outcome: Outcome, block: Sequence[bytes] | None) -> Outcome:
         return outcome
     why, told = _told(block, outcome.row)
     return replace(outcome, why=why, told=told)
+
+
+def with_cause(outcome: Outcome, cause: Cause | None) -> Outcome:
+    """The outcome with what is told of it by keys."""
+    return outcome if cause is None else replace(outcome, explanation=cause)
+
+
+def _each_once(note: Callable[[str], None]) -> Callable[[str], None]:
+    """Notes a line the first time alone: a program that ends on a script does so each time it is asked about it."""
+    noted: set[str] = set()
+
+    def once(line: str) -> None:
+        if line not in noted:
+            noted.add(line)
+            note(line)
+
+    return once
 
 
 def explained_steps(steps: Iterable[Step], explainer: Explainer) -> Iterator[Step]:

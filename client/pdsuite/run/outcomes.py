@@ -1,6 +1,6 @@
 """What came of scripts: outcomes and their totals."""
 
-from collections.abc import Iterable
+from collections.abc import Iterable, Mapping
 from dataclasses import dataclass
 from enum import StrEnum
 
@@ -29,8 +29,9 @@ class Warned(StrEnum):
 class Outcome:
     """A script's path and settings, its row, the line of its text that the row names, and why it is so.
 
-    That is what the row means and the lines below it, as they are said by the program that explains. Whether a warning
-    makes the script fail, and which row is expected of it, is said by whoever runs it.
+    That is what the row means and the lines below it, as they are said by the program that explains, and the same as an
+    object where that is asked for. Whether a warning makes the script fail, and which row is expected of it, is said by
+    whoever runs it.
     """
 
     path: str
@@ -41,6 +42,7 @@ class Outcome:
     told: tuple[str, ...] = ()
     is_strict: bool = False
     expected: Expectation | None = None
+    explanation: Mapping[str, object] | None = None
 
     @property
     def is_known(self) -> bool:

@@ -7,8 +7,9 @@ from pathlib import Path
 
 from pdsuite.faults import Fault, why
 from pdsuite.programs.places import FOLDER, REGRESS, digest
+from pdsuite.programs.protocol import Cause
 from pdsuite.programs.rows import Row, Verdict
-from pdsuite.run.explainer import Explainer, explained_steps
+from pdsuite.run.explainer import Explainer, explained_steps, with_cause
 from pdsuite.run.outcomes import Outcome
 from pdsuite.run.runs import Piece, Run, Script, outcome_of
 from pdsuite.run.settling import SettledPiece, Step
@@ -22,8 +23,8 @@ from pdsuite.signals import Stop
 Parcel = tuple[Settings, list[list[tuple[str, bytes | str]]]]
 # The program: its path on the machine that asks, and its SHA-256.
 WantedProgram = tuple[str, str]
-# A verdict with its number and word, the line that it names, what it means and what stands below it.
-PlainRow = tuple[str, int, str, bytes | None, str, tuple[str, ...]]
+# A verdict with its number and word, the line that it names, what it means, what stands below it, and all that by keys.
+PlainRow = tuple[str, int, str, bytes | None, str, tuple[str, ...], Cause | None]
 # The rows of each piece, and before them what is said on the way; or why nothing was run.
 Answer = list[str | list[PlainRow]] | str
 
@@ -44,7 +45,7 @@ def fault_of(wanted: WantedProgram) -> str:
     return ""
 
 
-def work(parcel: Parcel, wanted: WantedProgram) -> Answer:
+def work(parcel: Parcel, wanted: WantedProgram, by_keys: bool) -> Answer:
     """Settles and explains a run on the machine where this is called, if its program is that one."""
     try:
         program = _find(*wanted)
@@ -53,7 +54,7 @@ def work(parcel: Parcel, wanted: WantedProgram) -> Answer:
     run, texts = _unpacked(parcel)
     answer: list[str | list[PlainRow]] = []
     with Stop(signals=()) as stop:
-        explainer = Explainer(program, stop, answer.append)
+        explainer = Explainer(program, stop, answer.append, by_keys=by_keys)
         start = start_with(program, 0, 1, stop)
         for step in explained_steps(settle(run, start, lambda it: texts[it.index]), explainer):
             answer.append(_plain_step(step))
@@ -101,12 +102,12 @@ def _plain_step(step: Step) -> str | list[PlainRow]:
 
 
 def _plain_row(it: Outcome) -> PlainRow:
-    return it.row.verdict.value, it.row.number, it.row.word, it.text, it.why, it.told
+    return it.row.verdict.value, it.row.number, it.row.word, it.text, it.why, it.told, it.explanation
 
 
 def _outcome(script: Script, plain: PlainRow) -> Outcome:
-    verdict, number, word, line, meaning, told = plain
-    return outcome_of(script, Row(Verdict(verdict), number, word), line, meaning, told)
+    verdict, number, word, line, meaning, told, cause = plain
+    return with_cause(outcome_of(script, Row(Verdict(verdict), number, word), line, meaning, told), cause)
 
 
 def _find(path: str, wanted: str) -> Path:

@@ -16,7 +16,7 @@ from pdsuite.programs.refusals import questions, refusals_at_once
 from pdsuite.programs.rows import Row, Verdict
 from pdsuite.programs.starts import ROOM, Answer, Case
 from pdsuite.programs.tree import Build, try_all
-from pdsuite.run.explainer import EXPLAIN, JSON, with_block
+from pdsuite.run.explainer import EXPLAIN, JSON, with_block, with_cause
 from pdsuite.run.outcomes import Outcome
 from pdsuite.run.runs import Run, Script, outcome_of
 from pdsuite.run.settling import SettledPiece, Step, load
@@ -116,7 +116,8 @@ def results_of(
         return UnprovedResults(lines)
     heard = _Heard(plan, told, recorded)
     heard.hear_again(tree, stop, note)
-    settled = [_settled(piece, heard.outcomes) for piece in plan.pieces]
+    outcomes = {index: with_cause(it, heard.causes.get(index)) for index, it in heard.outcomes.items()}
+    settled = [_settled(piece, outcomes) for piece in plan.pieces]
     return UnprovedResults([], settled, heard.causes, heard.recordings)
 
 

@@ -1,0 +1,101 @@
+"""The explanation of a row as an object: what the program says by keys, where that is, and both packets by field."""
+
+from collections.abc import Iterable, Iterator, Mapping
+from dataclasses import replace
+
+from pdsuite.packetdrill.items import Packet
+from pdsuite.packetdrill.layout import Event, Layout, layout_of
+from pdsuite.packetdrill.lines import Extent, TextLines
+from pdsuite.packetdrill.reader import flat
+from pdsuite.packetdrill.tokens import tokens_of
+from pdsuite.programs.protocol import Cause
+from pdsuite.programs.rows import Row
+from pdsuite.run.outcomes import Outcome
+from pdsuite.run.row_place import Place, failing_event, place_of
+from pdsuite.run.settling import SettledPiece, Step
+from pdsuite.scripts.text import Text
+from pdsuite.show.octets import shown_text
+
+# The name of a script in a run, which nobody else knows.
+_NAME = "name"
+# The packets that are told by field.
+_SCRIPT_PACKET, _ACTUAL_PACKET = "script_packet", "actual_packet"
+
+
+def whole_steps(steps: Iterable[Step]) -> Iterator[Step]:
+    """The steps, in which each explanation has the place of its row and its packets by field."""
+    for step in steps:
+        if isinstance(step, SettledPiece):
+            outcomes = [(it, _whole(outcome, step.texts.get(it.index))) for it, outcome in step.outcomes]
+            step = replace(step, outcomes=outcomes)
+        yield step
+
+
+def _whole(outcome: Outcome, text: Text | None) -> Outcome:
+    if outcome.explanation is None or text is None:
+        return outcome
+    return replace(outcome, explanation=explanation_of(outcome.row, outcome.explanation, text))
+
+
+def explanation_of(row: Row, cause: Cause, text: Text) -> Mapping[str, object]:
+    """What the program says of a row, safe to print, with the place in the text and the packets by field."""
+    script = text.octets.decode("utf-8", "surrogateescape")
+    layout, lines = layout_of(script), TextLines(script)
+    told: dict[str, object] = {key: _safe(value) for key, value in cause.items() if key != _NAME}
+    told["place"] = _told_place(place_of(row, cause, layout, lines), lines)
+    fields = {key: _by_field(event) for key, event in _packets(row, cause, layout) if event is not None}
+    return {**told, "fields": fields} if fields else told
+
+
+def _told_place(place: Place, lines: TextLines) -> dict[str, object]:
+    """Lines count from 1, and columns are octets before the place in its line."""
+    line, column = _line_and_column(place.extent.start, lines)
+    end_line, end_column = _line_and_column(place.extent.end, lines)
+    told: dict[str, object] = {"field": place.field} if place.field else {}
+    return {**told, "line": line, "column": column, "end_line": end_line, "end_column": end_column}
+
+
+def _line_and_column(offset: int, lines: TextLines) -> tuple[int, int]:
+    line = lines.line_of(offset)
+    return line + 1, len(lines.text[lines.start(line) : offset].encode("utf-8", "surrogateescape"))
+
+
+def _packets(row: Row, cause: Cause, layout: Layout) -> Iterator[tuple[str, Event | None]]:
+    """The packet of the script, as its text has it, and the one that was sent."""
+    if _SCRIPT_PACKET in cause:
+        event = failing_event(row, cause, layout)
+        yield _SCRIPT_PACKET, event if event is not None and event.is_expected else _read(cause[_SCRIPT_PACKET])
+    if _ACTUAL_PACKET in cause:
+        yield _ACTUAL_PACKET, _read(cause[_ACTUAL_PACKET])
+
+
+def _read(packet: object) -> Event | None:
+    """A packet of the program's words."""
+    events = layout_of(packet).items if isinstance(packet, str) else ()
+    return next((it for it in events if it.is_expected), None)
+
+
+def _by_field(event: Event) -> dict[str, object]:
+    """A packet by the names that kinds of failures have, as far as it has these fields."""
+    packet = event.item.what
+    assert isinstance(packet, Packet)  # what is expected to leave
+    told: dict[str, object] = {it: _written(event, event.fields[it]) for it in ("time", "flags") if it in event.fields}
+    told["seq"] = {"start": packet.start, "end": packet.end}
+    told |= {name: number for name, number in (("ack", packet.ack), ("win", packet.win)) if number is not None}
+    return {**told, "options": packet.options_text} if packet.options_text else told
+
+
+def _written(event: Event, extent: Extent) -> str:
+    return flat(list(tokens_of(event.text[extent.start : extent.end])))
+
+
+def _safe(value: object) -> object:
+    """What the program has made safe to print, and anything else as it is shown."""
+    match value:
+        case str():
+            return value if value.isprintable() else shown_text(value)
+        case list():
+            return [_safe(it) for it in value]
+        case dict():
+            return {str(_safe(key)): _safe(it) for key, it in value.items()}
+    return value

@@ -1,0 +1,157 @@
+"""Explanations as objects: what the program says by keys, the place in the text, and the packets by field."""
+
+import json
+from collections.abc import Mapping
+from pathlib import Path
+from typing import Any
+
+import jsonschema
+import pytest
+
+from pdsuite.programs.rows import Row, Verdict
+from pdsuite.run.explanation import explanation_of
+from pdsuite.scripts.text import text_of
+from tests.helpers import TOP, Call, write
+from tests.schemas import held, schema_of, validator
+
+SCRIPT = b"""0 write(4, ..., 1000) = 1000 // \xc3\xbc \xff
+/* \xc3\xbc */ +0 > P. 1:501(500) ack 1 win 9 <mss 1000,
+    nop>
++.1 close(4) = 1
+"""
+SENT = "+0 > P. 1:1001(1000) ack 1 win 511 <...> // 0.200000"
+PACKETS = {"script_packet": r"+0 > P. 1:501(500) ack 1 win 9 <mss 1000,\x0a    nop>", "actual_packet": SENT}
+
+
+def told(row: Row, cause: Mapping[str, object], text: bytes = SCRIPT) -> Any:
+    """What is told of a row."""
+    return explanation_of(row, {"name": "s7", "line": row.number, **cause}, text_of(text))
+
+
+def place(line: int, column: int, end_line: int, end_column: int, field: str = "") -> dict[str, object]:
+    """A place as it is told."""
+    where: dict[str, object] = {"line": line, "column": column, "end_line": end_line, "end_column": end_column}
+    if field:
+        where["field"] = field
+    return where
+
+
+@pytest.mark.parametrize(
+    ("kind", "where"),
+    [
+        ("time", place(2, 9, 2, 11, "time")),
+        ("flags", place(2, 14, 2, 16, "flags")),
+        ("seq", place(2, 17, 2, 27, "seq")),
+        ("ack", place(2, 28, 2, 33, "ack")),
+        ("win", place(2, 34, 2, 39, "win")),
+        ("options", place(2, 40, 3, 8, "options")),
+        ("missing", place(2, 9, 3, 8)),
+    ],
+)
+def test_the_field_that_differs_has_its_place_in_octets(kind: str, where: object) -> None:
+    assert told(Row(Verdict.FAIL, 2, kind), {"kind": kind, **PACKETS})["place"] == where
+
+
+def test_both_packets_are_told_by_field() -> None:
+    found = told(Row(Verdict.FAIL, 2, "seq"), PACKETS)
+    script, actual = found["fields"]["script_packet"], found["fields"]["actual_packet"]
+    assert script == {
+        "time": "+0",
+        "flags": "P.",
+        "seq": {"start": 1, "end": 501},
+        "ack": 1,
+        "win": 9,
+        "options": "<mss 1000, nop>",
+    }
+    assert actual == {**script, "seq": {"start": 1, "end": 1001}, "win": 511, "options": "<...>"}
+    assert "name" not in found and found["actual_packet"] == SENT
+
+
+@pytest.mark.parametrize(
+    ("row", "cause", "where"),
+    [
+        (Row(Verdict.FAIL, 4, "result"), {"call": "+.1 close(4) = 1"}, place(4, 15, 4, 16, "result")),
+        (Row(Verdict.FAIL, 4, "backwards"), {"event": "+.1 close(4) = 1"}, place(4, 0, 4, 3, "time")),
+        (Row(Verdict.UNSUPPORTED, 4), {"rule": "call_name"}, place(4, 4, 4, 9, "call")),
+        (Row(Verdict.LIMIT, 4), {"rule": "outbox"}, place(4, 0, 4, 16)),
+        (Row(Verdict.SYNTAX, 1), {"column": 2}, place(1, 2, 1, 7)),
+        (Row(Verdict.SYNTAX, 1), {"column": 41}, place(1, 35, 1, 36)),
+        (Row(Verdict.SYNTAX, 1), {"column": None}, place(1, 0, 1, 36)),
+        (Row(Verdict.FAIL, 3, "seq"), {}, place(3, 4, 3, 8)),
+    ],
+)
+def test_other_rows_have_their_places(row: Row, cause: dict[str, object], where: object) -> None:
+    assert told(row, cause)["place"] == where
+
+
+def test_a_packet_that_the_client_reads_otherwise_is_told_as_the_program_shows_it() -> None:
+    row = Row(Verdict.FAIL, 1, "seq")
+    found = told(row, {"script_packet": "+0 > . 1:2(1) ack 1", "actual_packet": "no packet"}, b"?\n")
+    assert found["fields"] == {"script_packet": {"time": "+0", "flags": ".", "seq": {"start": 1, "end": 2}, "ack": 1}}
+    assert "fields" not in told(row, {"script_packet": "no packet", "actual_packet": 7}, b"?\n")
+
+
+def test_what_is_not_safe_to_print_is_shown() -> None:
+    found = told(Row(Verdict.FAIL, 1, "result"), {"call": "\x1b[2J", "state": {"\x07": ["\x9b", 1, None]}})
+    assert (found["call"], found["state"]) == (r"\x1b[2J", {r"\x07": [r"\xc2\x9b", 1, None]})
+
+
+def test_a_report_has_whole_explanations_and_what_the_last_run_left_has_none(
+    stand_in: Path, tmp_path: Path, call: Call
+) -> None:
+    write(
+        tmp_path / "suite", a=b"row fail 2 seq\n+0 > . 1:2(1) ack 1\n", b=b"row pass 1\n", c=b"row fail 1 ack\nsilent\n"
+    )
+    called = call(stand_in, "run", "--json", "suite", XDG_CACHE_HOME=str(tmp_path / "cache"))
+    first, second, third = held("run", called.out)["scripts"]
+    assert first["explanation"]["fields"]["actual_packet"]["seq"] == {"start": 1, "end": 3}
+    assert first["explanation"]["state"] == {"name": "ESTABLISHED"}
+    assert "explanation" not in second and "explanation" not in third
+    (kept,) = tmp_path.glob("cache/pdsuite/*.json")
+    assert "explanation" not in kept.read_text()
+
+
+def test_a_program_that_ends_on_a_script_is_told_of_once(stand_in: Path, tmp_path: Path, call: Call) -> None:
+    write(tmp_path, a=b"row fail 1 seq\ncrash\n", b=b"row fail 1 seq\nwhy\n")
+    called = call(stand_in, "run", "--json", ".")
+    assert called.err == "pdsuite: pdregress was ended by SIGSEGV; nothing is told of a.pkt\n"
+    assert ["explanation" in it for it in held("run", called.out)["scripts"]] == [False, True]
+
+
+def rows_of_the_programs() -> list[str]:
+    """What rows of the programs want of `--json`, an object each."""
+    files = sorted((TOP / "tests/cases/runs").glob("*.cases"))
+    lines = [line for file in files for line in file.read_text().splitlines()]
+    return [line.removeprefix("! ").replace("\\\\", "\\") for line in lines if line.startswith('! {"')]
+
+
+def test_what_the_program_tells_has_the_schema() -> None:
+    schema = {**schema_of("run"), "$ref": "#/$defs/explanation"}
+    for key in ("type", "required", "properties", "additionalProperties"):
+        del schema[key]
+    rows = [json.loads(it) for it in rows_of_the_programs()]
+    assert len({it.get("kind", it["verdict"]) for it in rows}) >= 5
+    for row in rows:
+        del row["name"]
+        jsonschema.validate({**row, "place": place(1, 0, 1, 1)}, schema)
+
+
+@pytest.mark.parametrize(
+    "change",
+    [
+        {"verdict": "lost"},
+        {"line": 0},
+        {"kind": "sequence"},
+        {"below": "why"},
+        {"more": 1},
+        {"explanation": {"verdict": "fail"}},
+        {"settings": {"mss": 1.5}},
+    ],
+)
+def test_other_objects_do_not_have_the_schema(change: dict[str, object]) -> None:
+    script: dict[str, object] = {"path": "a", "verdict": "fail", "line": 1, "kind": "seq", "below": [], "settings": {}}
+    counts = {it: 0 for it in ("pass", "syntax", "unsupported", "limit", "error", "not run")}
+    report: dict[str, object] = {"scripts": [script], "total": {"scripts": 1, "fail": 1, **counts}, "seconds": 0.5}
+    validator("run").validate(report)
+    report["scripts"] = [{**script, **change}]
+    assert not validator("run").is_valid(report)
