@@ -1,5 +1,6 @@
 """Files and folders that are written whole or not at all."""
 
+import errno
 import os
 import shutil
 import stat
@@ -17,11 +18,30 @@ def write(path: Path, octets: bytes, keeps_rights: bool = False) -> None:
     """
     try:
         target = Path(os.path.realpath(path))
-        if target.exists() and not stat.S_ISREG(target.stat().st_mode):
-            target.write_bytes(octets)
+        if is_special(path):
+            path.write_bytes(octets)
         else:
             _write_beside(target, octets, target.stat().st_mode if keeps_rights and target.exists() else None)
     except OSError as error:
+        raise Fault(f"{shown_path(path)}: {why(error)}") from error
+
+
+def is_special(path: Path) -> bool:
+    """Whether a device or a pipe is there, or anything else that isn't put in another one's place."""
+    return path.exists() and not path.is_file()
+
+
+def check_writable(path: Path) -> None:
+    """Raises a fault where it is plain that no file can be written: at a folder, or in one that isn't there or shut."""
+    try:
+        above = Path(os.path.realpath(path)).parent
+        if path.is_dir():
+            raise Fault(f"{shown_path(path)}: is a folder")
+        if not is_special(path) and not above.is_dir():
+            raise Fault(f"{shown_path(path)}: the folder above it isn't there")
+        if not (os.access(path, os.W_OK) if is_special(path) else os.access(above, os.W_OK | os.X_OK)):
+            raise Fault(f"{shown_path(path)}: {os.strerror(errno.EACCES)}")
+    except (OSError, ValueError) as error:
         raise Fault(f"{shown_path(path)}: {why(error)}") from error
 
 

@@ -13,6 +13,7 @@ from pdsuite.commands.list import list_scripts
 from pdsuite.commands.options import MOST_SECONDS, PlaceWord, ReasonWord
 from pdsuite.commands.options import choice_options, free_choice_options, html_option, no_color_option, part_options
 from pdsuite.commands.options import plot_options, search_options, strict_option, workers_option
+from pdsuite.commands.report_files import FileWord, FormOption, ReportCommand
 from pdsuite.commands.run import RunOptions, run
 from pdsuite.commands.version import version
 from pdsuite.faults import Fault, why
@@ -51,7 +52,7 @@ def pdsuite() -> None:
     """Runs folders of packetdrill scripts by the built program pdregress."""
 
 
-@pdsuite.command(name="run")
+@pdsuite.command(name="run", cls=ReportCommand)
 @choice_options
 @part_options
 @click.option("--new", is_flag=True, help="Show only rows that the last run of these paths didn't have.")
@@ -65,11 +66,13 @@ def pdsuite() -> None:
 @click.option(
     "--junit",
     metavar="FILE",
-    type=PlaceWord(),
+    type=FileWord(),
     help="Write JUnit's XML, too.",
 )
-@click.option("--tap", "form", flag_value="tap", help="Print TAP, version 13.")
-@click.option("--json", "form", flag_value="json", help="Print JSON.")
+@click.option(
+    "--tap", "form", cls=FormOption, flag_value="tap", help="Print TAP, version 13, or write it into FILE, too."
+)
+@click.option("--json", "form", cls=FormOption, flag_value="json", help="Print JSON, or write it into FILE, too.")
 @click.option("--github", "form", flag_value="github", help="Print annotations.")
 @click.option("-v", "--verbose", is_flag=True, help="A line for each script.")
 def run_command(no_color: bool, **words: Any) -> int:

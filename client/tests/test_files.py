@@ -9,7 +9,7 @@ import pytest
 
 from pdsuite import files
 from pdsuite.faults import Fault
-from tests.helpers import PASSES, TOP, Call, write
+from tests.helpers import PASSES, TOP, write
 
 
 def test_a_file_is_written_beside_and_renamed(tmp_path: Path) -> None:
@@ -46,12 +46,13 @@ def test_a_file_has_the_rights_that_the_mask_leaves(tmp_path: Path) -> None:
     ],
 )
 def test_what_cannot_be_written_is_a_line_with_its_path(
-    path: str, reason: str, stand_in: Path, tmp_path: Path, call: Call
+    path: str, reason: str, tmp_path: Path, monkeypatch: pytest.MonkeyPatch
 ) -> None:
     write(tmp_path / "suite", a=PASSES)
-    called = call(stand_in, "run", "--junit", path, "suite")
-    assert called.totals == {"pass": 1}
-    assert (called.status, called.err) == (2, f"pdsuite: {reason}\n")
+    monkeypatch.chdir(tmp_path)
+    with pytest.raises(Fault) as fault:
+        files.write(Path(path), b"new")
+    assert str(fault.value) == reason
 
 
 def test_a_full_disk_leaves_the_old_file(tmp_path: Path) -> None:

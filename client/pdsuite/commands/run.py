@@ -10,8 +10,9 @@ from pathlib import Path
 from typing import TYPE_CHECKING
 
 from pdsuite.commands.options import threads_of
-from pdsuite.faults import Cut
-from pdsuite.files import append, write
+from pdsuite.commands.report_files import ReportFiles
+from pdsuite.faults import Cut, Fault
+from pdsuite.files import append
 from pdsuite.packages import need
 from pdsuite.page.plots import plots_asked
 from pdsuite.programs.places import REGRESS, TOOL, TOP, Unproved, digest, locate
@@ -59,6 +60,8 @@ class RunOptions:
     proved: bool  # whether nothing else may run
     fail_fast: bool
     junit: Path | None
+    json: Path | None
+    tap: Path | None
     form: str | None
     verbose: bool
     html: Path | None
@@ -71,9 +74,14 @@ class RunOptions:
         return bool(self.only) or self.shard is not None or self.last_failed
 
     @property
+    def files(self) -> ReportFiles:
+        """The files that reports are written to, too."""
+        return ReportFiles(self.junit, self.json, self.tap)
+
+    @property
     def by_keys(self) -> bool:
-        """Whether the report has what is told of scripts by keys."""
-        return self.form == "json"
+        """Whether a report has what is told of scripts by keys."""
+        return self.form == "json" or self.json is not None
 
     @property
     def summary(self) -> Path | None:
@@ -93,8 +101,9 @@ def run(options: RunOptions, screen: Screen) -> int:
             scripts = scripts_of(found_of(options.paths, options.only, suite, stop, part), suite, options.strict)
             if not scripts:
                 screen.note(f"pdsuite: {part.nothing()}")
+            options.files.check(it.path for it in scripts)
             # For people a known row is one line, and so nothing is asked about it.
-            of_known = not isinstance(form, Plain) or options.junit is not None or options.html is not None
+            of_known = not isinstance(form, Plain) or bool(options.files.named) or options.html is not None
             if options.new:
                 form = only_new(form, Plain(True) if isinstance(form, Plain) else form, options.paths, screen.note)
             program = _proved(options)
@@ -214,14 +223,16 @@ def _run(
     finally:
         # Also where nothing can be shown any more.
         leave(options.paths, [*report.outcomes, *report.left()], options.is_part, screen.note)
-        _write_files(options, report, time.monotonic() - begin)
+        faults = _write_files(options, report, time.monotonic() - begin)
         if drawing is not None and ended is None:
             causes = {} if tried is None else tried.causes
             ended = _draw(drawing, report, texts, causes, screen, stop)
-    if isinstance(ended, Stopped):
-        return ended.status
-    if ended is not None:
+    if isinstance(ended, Cut):
         raise ended
+    if faults:
+        return 2
+    if ended is not None:
+        return ended.status
     return 2 if drawing is not None and drawing.has_failed else totals.status()
 
 
@@ -251,16 +262,21 @@ def _take(
     return None
 
 
-def _write_files(options: RunOptions, report: Report, seconds: float) -> None:
-    """Writes the files that are asked for beside the report."""
-    if options.junit is not None:
-        # Only who asks for this file pays for what writes it.
-        from pdsuite.reports.junit import junit
-
-        write(options.junit, junit([*report.outcomes, *report.left()], seconds, report.is_unproved))
+def _write_files(options: RunOptions, report: Report, seconds: float) -> list[Fault]:
+    """Writes the files that are asked for beside the report, and says of each that can't be written why."""
+    if not options.files.named and options.summary is None:
+        return []
+    outcomes = [*report.outcomes, *report.left()]
+    totals = report.totals(outcomes)
+    faults = options.files.write(outcomes, totals, seconds, options.shard)
     if options.summary is not None:
-        outcomes = [*report.outcomes, *report.left()]
-        append(options.summary, summary_of(outcomes, report.totals(outcomes)).encode())
+        try:
+            append(options.summary, summary_of(outcomes, totals).encode())
+        except Fault as fault:
+            faults.append(fault)
+    for it in faults:
+        say(f"pdsuite: {it}")
+    return faults
 
 
 def _draw(

@@ -1,7 +1,7 @@
 """What every form of a report offers."""
 
+from collections.abc import Sequence
 from typing import Protocol
-
 
 from pdsuite.run.outcomes import Outcome, Totals
 from pdsuite.show.styled_text import StyledText
@@ -18,3 +18,10 @@ class Form(Protocol):
 
     def foot(self, totals: Totals, seconds: float) -> StyledText:
         """What stands at the end."""
+
+
+def whole(form: Form, outcomes: Sequence[Outcome], totals: Totals, seconds: float) -> str:
+    """A report of outcomes that are all there."""
+    entries = (form.entry(number, it) for number, it in enumerate(outcomes, 1))
+    parts = [form.head(len(outcomes)), *entries, form.foot(totals, seconds)]
+    return "".join(it.plain for it in parts if it is not None)

@@ -1,0 +1,173 @@
+"""The files that reports are written to beside the one that is shown: which words name them, and where they may be."""
+
+import os
+import sys
+from collections.abc import Collection, Iterable, Mapping, Sequence
+from dataclasses import dataclass
+from pathlib import Path
+
+import click
+
+from pdsuite.commands.options import PlaceWord
+from pdsuite.faults import Fault
+from pdsuite.files import check_writable, is_special, write
+from pdsuite.reports.as_json import Json
+from pdsuite.reports.form import Form, whole
+from pdsuite.reports.tap import Tap
+from pdsuite.run.outcomes import Outcome, Totals
+from pdsuite.scripts.search import SUFFIX
+from pdsuite.scripts.shards import Shard
+from pdsuite.scripts.suite import FILE as SETTINGS
+from pdsuite.show.octets import shown_path
+
+# Flags that print a report, or write it where a file comes after `=`, or as the next word if that ends so.
+_SUFFIXES = {"--json": ".json", "--tap": ".tap"}
+_JUNIT, _JSON, _TAP = "--junit", "--json", "--tap"
+# Names standard output, as without a file.
+_OUTPUT = "-"
+_END = "--"
+
+
+class FileWord(PlaceWord):
+    """The path of a file to write."""
+
+    def convert(self, value: str | os.PathLike[str], param: click.Parameter | None, ctx: click.Context | None) -> Path:
+        if os.fspath(value) == _OUTPUT:
+            self.fail("- is no file, and standard output has the report.", param, ctx)
+        return super().convert(value, param, ctx)
+
+
+class FormOption(click.Option):
+    """A flag that may have a file."""
+
+    def get_help_record(self, ctx: click.Context) -> tuple[str, str] | None:
+        record = super().get_help_record(ctx)
+        return None if record is None else (f"{record[0]}[=FILE]", record[1])
+
+
+class ReportCommand(click.Command):
+    """A command of which some flags may have a file."""
+
+    def parse_args(self, ctx: click.Context, args: list[str]) -> list[str]:
+        options = [it for it in self.params if isinstance(it, click.Option)]
+        taking = {name for it in options if not it.is_flag for name in it.opts}
+        words, files = parted(args, taking)
+        left = super().parse_args(ctx, words)
+        for option in options:
+            for name in _SUFFIXES.keys() & set(option.opts):
+                ctx.params[name.lstrip("-")] = None if ctx.resilient_parsing else _file_of(option, files[name], ctx)
+        return left
+
+
+def _file_of(option: click.Option, named: Sequence[str], ctx: click.Context) -> Path | None:
+    """The file that a flag has, if it has one."""
+    paths = list(dict.fromkeys(FileWord().convert(it, option, ctx) for it in named))
+    if len(paths) > 1:
+        first, second, *_ = map(shown_path, paths)
+        raise click.UsageError(f"{option.opts[0]} names two files: {first} and {second}", ctx)
+    return paths[0] if paths else None
+
+
+def parted(words: Sequence[str], taking: Collection[str]) -> tuple[list[str], Mapping[str, list[str]]]:
+    """The words without those that name files of reports, and these by their flags.
+
+    The word after an option that takes one is no flag.
+    """
+    rest: list[str] = []
+    files: dict[str, list[str]] = {it: [] for it in _SUFFIXES}
+    left = list(words)
+    while left:
+        word = left.pop(0)
+        flag, equals, file = word.partition("=")
+        if word == _END:
+            return [*rest, word, *left], files
+        if word in taking:
+            rest += [word, *left[:1]]
+            del left[:1]
+        elif flag not in _SUFFIXES:
+            rest.append(word)
+        else:
+            if not equals and left and _is_file(left[0], _SUFFIXES[flag]):
+                equals, file = "=", left.pop(0)
+            if equals and file != _OUTPUT:
+                files[flag].append(file)
+            else:
+                rest.append(flag)
+    return rest, files
+
+
+def _is_file(word: str, suffix: str) -> bool:
+    """Whether the word after a flag is its file."""
+    return word == _OUTPUT or (word.endswith(suffix) and not word.startswith("-"))
+
+
+@dataclass(frozen=True)
+class ReportFiles:
+    """The files of a run's reports, where they are asked for."""
+
+    junit: Path | None
+    json: Path | None
+    tap: Path | None
+
+    @property
+    def named(self) -> list[tuple[str, Path]]:
+        """The files, each after its word."""
+        files = ((_JUNIT, self.junit), (_JSON, self.json), (_TAP, self.tap))
+        return [(word, path) for word, path in files if path is not None]
+
+    def check(self, scripts: Iterable[str]) -> None:
+        """Raises a fault where a report can't be written, or would take the place of another one or of a script."""
+        words: dict[Path, str] = {}
+        for word, path in self.named:
+            try:
+                check_writable(path)
+            except Fault as fault:
+                raise Fault(f"{word}: {fault}") from fault
+            if is_special(path):
+                continue
+            place = Path(os.path.realpath(path))
+            if place in words:
+                raise Fault(f"{word}: {shown_path(path)}: {words[place]} is written there")
+            words[place] = word
+            if place.suffix == SUFFIX or place.name == SETTINGS:
+                raise Fault(f"{word}: {shown_path(path)}: has the name of a script or of settings")
+        _check_others([it for it in self.named if it[1].is_file()], scripts)
+
+    def write(self, outcomes: Sequence[Outcome], totals: Totals, seconds: float, shard: Shard | None) -> list[Fault]:
+        """Writes the reports, and answers why some couldn't be written."""
+        faults: list[Fault] = []
+        for word, path in self.named:
+            try:
+                write(path, _octets(word, outcomes, totals, seconds, shard))
+            except Fault as fault:
+                faults.append(fault)
+        return faults
+
+
+def _octets(word: str, outcomes: Sequence[Outcome], totals: Totals, seconds: float, shard: Shard | None) -> bytes:
+    if word == _JUNIT:
+        # Only who asks for this file pays for what writes it.
+        from pdsuite.reports.junit import junit
+
+        return junit(outcomes, seconds, totals.is_unproved)
+    forms: dict[str, Form] = {_JSON: Json(shard), _TAP: Tap()}
+    return whole(forms[word], outcomes, totals, seconds).encode()
+
+
+def _check_others(files: Iterable[tuple[str, Path]], scripts: Iterable[str]) -> None:
+    """Refuses to put a report in the place of a script, or of the file that standard output goes to."""
+    known = {_identity(path): f"{word}: {shown_path(path)}" for word, path in files}
+    if known and (found := known.get(_identity(sys.stdout.fileno()))) is not None:
+        raise Fault(f"{found}: standard output goes there")
+    for script in scripts if known else ():
+        if (found := known.get(_identity(script))) is not None:
+            raise Fault(f"{found}: is one of the scripts")
+
+
+def _identity(path: str | Path | int) -> tuple[int, int] | None:
+    """What tells a file that is there, or is open, from all others; None where none is."""
+    try:
+        found = os.stat(path)
+    except (OSError, ValueError):
+        return None
+    return found.st_dev, found.st_ino
