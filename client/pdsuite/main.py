@@ -173,7 +173,10 @@ def diff_command(old: Path, new: tuple[Path, ...], no_color: bool) -> int:
 @click.option("--json", "is_json", is_flag=True, help="Print JSON.")
 @click.option("--owes", is_flag=True, help="Name rows of tests and paragraphs of pages that say otherwise, too.")
 @click.option(
-    "--search", metavar="SECONDS", type=click.IntRange(1, MOST_SECONDS), help="Search for a script that turns."
+    "--search",
+    metavar="SECONDS",
+    type=click.IntRange(1, MOST_SECONDS),
+    help="Search for a script that turns; cutting it down may take as long again.",
 )
 @search_options
 def compare_command(no_color: bool, search: int | None, seed: int | None, save: Path | None, **words: Any) -> int:
@@ -220,7 +223,11 @@ def _refuse_search(options: "CompareOptions") -> None:
 @pdsuite.command(name="search")
 @click.option("--for", "pattern", metavar="PATTERN", required=True, help="Facts of a state, NAME:VALUE each.")
 @click.option(
-    "--seconds", metavar="N", type=click.IntRange(1, MOST_SECONDS), default=60, help="Search so long at most, not 60."
+    "--seconds",
+    metavar="N",
+    type=click.IntRange(1, MOST_SECONDS),
+    default=60,
+    help="Search so long at most, not 60; cutting down may take as long again.",
 )
 @click.option("--with", "sender", metavar="SENDER", help="A folder of programs or a commit, if not the tree.")
 @search_options
