@@ -13,9 +13,8 @@ CASES = TOP / "tests" / "cases"
 OPENINGS = CASES / "openings.cases"
 PROGRAM = "pdregress"
 HEADING = re.compile(r"\[([^]]+)\] ([a-z ]+?)(?: of (\w+))?(?: after (\w+))?")
-BEHIND = ("opening", "scripts", "explained")
-# A line that begins so stands before a row whose answer was taken from the program.
-MARK = "#?"
+# The kinds that may stand after an opening.
+OPENED = ("opening", "scripts", "explained")
 SHORT = {b"n": b"\n", b"r": b"\r", b"t": b"\t", b"\\": b"\\"}
 
 
@@ -121,8 +120,8 @@ def heading_of(row: Row) -> Table:
         raise Unread("a heading is [NAME] KIND")
     if found[3] and not found[2].endswith("stories"):
         raise Unread("only stories are of a program")
-    if found[4] and found[2] not in BEHIND:
-        raise Unread("only scripts and openings stand after one")
+    if found[4] and found[2] not in OPENED:
+        raise Unread("only openings, scripts and what is explained stand after one")
     return Table(row, found[1], found[2], found[3] or PROGRAM, found[4] or "")
 
 
