@@ -229,7 +229,7 @@ def _refuse_search(options: "CompareOptions") -> None:
     default=60,
     help="Search so long at most, not 60; cutting down may take as long again.",
 )
-@click.option("--with", "sender", metavar="SENDER", help="A folder of programs or a commit, if not the tree.")
+@click.option("--with", "sender", metavar="SENDER", help="A folder of programs, a tree or a commit, if not this tree.")
 @search_options
 @no_color_option
 def search_command(
