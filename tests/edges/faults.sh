@@ -1,5 +1,5 @@
-# Tests the built programs where what they need is refused from outside, words that aren't UTF-8 and room for threads; and how
-# many threads they start.
+# Tests the built programs where what they need is refused from outside, words that aren't UTF-8 and room for threads; how many
+# threads they start; and the scripts of files.
 
 # Each program says the same line of words that can't be read.
 test_words() {
@@ -48,5 +48,20 @@ test_threads() {
     expect as-many-workers-as-are-asked-for "$(printf '3 workers\nstatus 0')" count_workers 3
 }
 
+# Scripts of files: one that is recorded, one that is too large, one that isn't there, and none after that.
+test_files() {
+    mkdir "$work/files"
+    printf '0 socket(..., SOCK_STREAM, 0) = 0\n// end' >"$work/files/a b.pkt"
+    seq 4097 >"$work/files/large.pkt"
+    record=$("$top/tools/built.sh" pdrecord)
+    one=$(printf 'recorded 2 a b.pkt\n+0 socket(..., SOCK_STREAM, 0) = 3\n// end')
+    large=$(printf 'refused 1 large.pkt\npdrecord: 2 TooLarge')
+    expect a-file "$(printf '%s\nstatus 0' "$one")" in_folder "$work/files" "$record" 'a b.pkt'
+    expect files "$(printf '%s\n%s\n%s\nstatus 1' "$large" "$one" "$large")" in_folder "$work/files" "$record" large.pkt 'a b.pkt' large.pkt
+    expect no-file "$(printf '%s\n! pdregress: 17 Read\nstatus 2' "$one")" in_folder "$work/files" "$record" 'a b.pkt' none.pkt large.pkt
+    expect files-under-settings-that-are-none "$(printf '! pdregress: 20 NotToml\nstatus 2')" in_folder "$work/files" "$record" --settings mss -- 'a b.pkt'
+}
+
 test_words
+test_files
 test_threads

@@ -3,4 +3,5 @@ pub mod Below
 mod Gathering
 mod Joining
 mod Memory
+mod Sections
 mod Words

@@ -2,24 +2,29 @@
 #![tactic(auto)]
 
 mod causes;
+mod file_sections;
+mod host_files;
 mod outcomes;
 mod record_program;
 mod record_words;
 mod recorded_text;
 mod script_input;
+mod shelf;
 
+use host_files::HostFiles;
 use pd_words::{arguments, refuse_arguments};
-use record_program::run_recording;
+use record_program::run_with_files;
 use std::process::ExitCode;
 
 fn main(rt: HostRuntime) -> ExitCode {
     let exit = match arguments(&rt) {
         Ok(words) => {
             let words = words.as_slice();
-            run_recording(
+            run_with_files(
                 rt.alloc(),
                 words,
                 &mut rt.stdin(),
+                &HostFiles::new(&rt),
                 &mut rt.stdout(),
                 &mut rt.stderr(),
             )

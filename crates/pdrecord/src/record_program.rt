@@ -1,4 +1,4 @@
-//! The program that records: one script in, its recording out.
+//! The program that records: one script in, its recording out; or the scripts of files, one after the other.
 ghost use Rattle.std.specs.Prelude.{◌≡◌, ◌≢◌, ◌⊎◌, ℕ, List, [], Some, IfOk, IfErr, IfSome, map, take, true};
 ghost use Rattle.std.specs.Io.KnownBytes.{Appends};
 ghost use Rattle.pd_words.specs.SettingsText.{settings_in};
@@ -6,12 +6,16 @@ ghost use Rattle.pd_words.specs.Said.{Refuses, Says};
 ghost use Rattle.pd_words.specs.ProgramFaults.{fault_line};
 ghost use Rattle.pd_words.specs.ProgramWords.{settings_text, word_faults};
 ghost use Rattle.pdrecord.specs.RecordProgram.{Comes, Ends, FinishesRecording, IsOutcome, IsStop};
-ghost use Rattle.pdrecord.specs.RecordWords.{pdrecord, asks_trace};
+ghost use Rattle.pdrecord.specs.RecordWords.{pdrecord, asks_trace, files_named};
+ghost use Rattle.pdrecord.specs.FileSections.{EndsAfter, FinishesFiles};
+ghost use Rattle.pd_words.specs.Chosen.{names_of};
 
+use crate::file_sections::put_sections;
 use crate::outcomes::{Outcome, refusal_of};
 use crate::record_words::{RecordOptions, record_options};
 use crate::recorded_text::octets_of;
 use crate::script_input::ScriptInput;
+use crate::shelf::{NoFiles, Shelf};
 use pd_record::{NotRecorded, record};
 use pd_settings::Settings;
 use pd_words::{Exit, ProgramFault, ServeFault, fail, put_all, refuse, say, settings_of};
@@ -22,8 +26,8 @@ use std::io::{Read, Write};
 /// The status where the script isn't recorded.
 const NOT_RECORDED: u8 = 1;
 
-/// Runs the program that records on its words, of which the first is its own name. Words that `clap` refuses, and `--help`,
-/// print its own text on `err`, with the status 2.
+/// Runs the program that records on its words, of which the first is its own name, where no files are. Words that `clap`
+/// refuses, and `--help`, print its own text on `err`, with the status 2.
 pub fn run_recording<S: AsStr, R: Read, W: Write, E: Write>(
     alloc: Global,
     words: &[S],
@@ -33,17 +37,56 @@ pub fn run_recording<S: AsStr, R: Read, W: Write, E: Write>(
 ) -> Exit
     ensures taken { let words = map S.text words.now in
         let input = R.remaining reader.old in
-        word_faults pdrecord words ≡ [] → FinishesRecording result (settings_text pdrecord words) (asks_trace words) input (W.contents out.old) (W.contents out.new) (E.contents err.old) (E.contents err.new) }
+        word_faults pdrecord words ≡ [] → files_named words ≡ [] → FinishesRecording result (settings_text pdrecord words) (asks_trace words) input (W.contents out.old) (W.contents out.new) (E.contents err.old) (E.contents err.new) }
+    ensures refused { word_faults pdrecord (map S.text words.now) ≢ [] → Refuses result (W.contents out.old) (W.contents out.new) }
+{
+    run_with_files(alloc, words, reader, &NoFiles, out, err)
+}
+
+/// The same where files are.
+pub fn run_with_files<S: AsStr, R: Read, Q: Read + Drop, F: Shelf<Q>, W: Write, E: Write>(
+    alloc: Global,
+    words: &[S],
+    reader: &mut R,
+    files: &F,
+    out: &mut W,
+    err: &mut E,
+) -> Exit
+    ensures taken { let words = map S.text words.now in
+        let input = R.remaining reader.old in
+        word_faults pdrecord words ≡ [] → files_named words ≡ [] → FinishesRecording result (settings_text pdrecord words) (asks_trace words) input (W.contents out.old) (W.contents out.new) (E.contents err.old) (E.contents err.new) }
+    ensures files { let words = map S.text words.now in
+        word_faults pdrecord words ≡ [] → files_named words ≢ [] → FinishesFiles (settings_in (settings_text pdrecord words)) (asks_trace words) (F.held files.now) (files_named words) result (W.contents out.old) (W.contents out.new) (E.contents err.old) (E.contents err.new) }
     ensures refused { word_faults pdrecord (map S.text words.now) ≢ [] → Refuses result (W.contents out.old) (W.contents out.new) }
 {
     match record_options(alloc, words) {
-        Ok(options) => run_chosen(alloc, &options, reader, out, err),
+        Ok(options) => run_chosen(alloc, &options, reader, files, out, err),
         Err(error) => refuse(alloc, &error, err),
     }
 }
 
+/// Records what words choose: the scripts of files, or else the input.
+fn run_chosen<R: Read, Q: Read + Drop, F: Shelf<Q>, W: Write, E: Write>(
+    alloc: Global,
+    options: &RecordOptions<'_>,
+    reader: &mut R,
+    files: &F,
+    out: &mut W,
+    err: &mut E,
+) -> Exit
+    ensures input { let input = R.remaining reader.old in
+        names_of options.now.files.items ≡ [] → FinishesRecording result options.now.settings.now options.now.trace input (W.contents out.old) (W.contents out.new) (E.contents err.old) (E.contents err.new) }
+    ensures files { names_of options.now.files.items ≢ [] → FinishesFiles (settings_in options.now.settings.now) options.now.trace (F.held files.now) (names_of options.now.files.items) result (W.contents out.old) (W.contents out.new) (E.contents err.old) (E.contents err.new) }
+{
+    if options.files.is_empty() {
+        run_alone(alloc, options, reader, out, err)
+    } else {
+        run_files(alloc, options, files, out, err)
+    }
+}
+
 /// Records the input and writes the recording, or says why there is none.
-fn run_chosen<R: Read, W: Write, E: Write>(
+fn run_alone<R: Read, W: Write, E: Write>(
     alloc: Global,
     options: &RecordOptions<'_>,
     reader: &mut R,
@@ -55,6 +98,39 @@ fn run_chosen<R: Read, W: Write, E: Write>(
 {
     let end = record_input(alloc, options, reader);
     finish(end, out, err)
+}
+
+/// Records the scripts of files, and writes what came of each.
+fn run_files<R: Read + Drop, F: Shelf<R>, W: Write, E: Write>(
+    alloc: Global,
+    options: &RecordOptions<'_>,
+    files: &F,
+    out: &mut W,
+    err: &mut E,
+) -> Exit
+    ensures { FinishesFiles (settings_in options.now.settings.now) options.now.trace (F.held files.now) (names_of options.now.files.items) result (W.contents out.old) (W.contents out.new) (E.contents err.old) (E.contents err.new) }
+{
+    match settings_of(alloc, options.settings) {
+        Ok(settings) => {
+            let names = options.files.as_slice();
+            let end = put_sections(alloc, &settings, options.trace, names, files, out);
+            end_after(end, err)
+        }
+        Err(fault) => fail(err, fault),
+    }
+}
+
+/// Ends a run over files.
+fn end_after<E: Write>(end: Result<bool, ServeFault>, err: &mut E) -> Exit
+    ensures { EndsAfter end result (E.contents err.old) (E.contents err.new) }
+{
+    match end {
+        Ok(is_all) => Exit {
+            status: if is_all { 0 } else { NOT_RECORDED },
+            told: true,
+        },
+        Err(fault) => fail(err, ProgramFault::Serving(fault)),
+    }
 }
 
 /// Ends a run: writes a recording, or says why there is none.
@@ -92,7 +168,10 @@ fn record_input<R: Read>(
 }
 
 /// What comes of a script that was read.
-fn outcome_of(
+///
+/// # Errors
+/// `Differs` and `OutOfMemory`.
+pub fn outcome_of(
     alloc: Global,
     input: &ScriptInput,
     settings: &Settings,

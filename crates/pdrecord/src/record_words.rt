@@ -1,22 +1,25 @@
 //! The words of the program that records, read by `clap`.
-ghost use Rattle.std.specs.Prelude.{false, ◌≡◌, ◌≢◌, ◌⊎◌, [], IfOk, IfErr, map};
-ghost use Rattle.clap.specs.Words.{app_of, kind_of, rule_of};
+ghost use Rattle.std.specs.Prelude.{false, ◌≡◌, ◌≢◌, ◌⊎◌, [], IfOk, IfErr, codes, map, option_map, unwrap_or};
+ghost use Rattle.clap.specs.Words.{app_of, found_of, kind_of, matched_of, raw_values, rule_of};
+ghost use Rattle.pd_words.specs.Chosen.{names_of};
 ghost use Rattle.pd_words.specs.ProgramWords.{word_faults};
-ghost use Rattle.pdrecord.specs.RecordWords.{pdrecord, trace_rule, HasChosenToRecord};
+ghost use Rattle.pdrecord.specs.RecordWords.{pdrecord, trace_rule, file_rule, HasChosenToRecord};
 
 use clap::error::ErrorKind;
-use clap::{Arg, ArgAction, Command, Error};
+use clap::{Arg, ArgAction, ArgMatches, Command, Error};
 use pd_words::{is_true, settings_option};
-use std::alloc::Global;
+use std::alloc::{AllocError, Global};
 use std::convert::AsStr;
 
 /// What the words of the program that records choose.
-#[derive(Clone, Copy)]
+#[derive(Drop)]
 pub struct RecordOptions<'a> {
     /// A TOML text of settings.
     pub settings: &'a str,
     /// Whether a trace is written.
     pub trace: bool,
+    /// The files whose scripts are recorded; without one it is the input.
+    pub files: Vec<&'a str>,
 }
 
 /// What `--help` says first.
@@ -29,6 +32,10 @@ One script is read from standard input. The recorded script is written to
 standard output: its inputs with what the sender answers, and each packet that
 the sender puts out, at its moment. The exit status is 0 if the script was
 recorded, 1 if not, and 2 after a fault; standard error says why.
+
+With FILE.. the scripts of files are recorded, one after the other. Each has a
+title, `recorded COUNT FILE` with the COUNT lines of its recording after it, or
+`refused COUNT FILE` with the COUNT lines that say why.
 
 Example:
   printf '+0 socket(..., SOCK_STREAM, 0) = 0\\n' | pdrecord
@@ -49,10 +56,22 @@ pub fn record_options<'a, S: AsStr>(
 {
     let command = record_command(alloc)?;
     let matches = command.try_get_matches_from(words)?;
+    let files = files_in(alloc, &matches)?;
     Ok(RecordOptions {
         settings: matches.get_str("settings").unwrap_or(""),
         trace: is_true(matches.get_str("trace").unwrap_or("").as_bytes()),
+        files,
     })
+}
+
+/// The files that are named.
+fn files_in<'a>(alloc: Global, matches: &ArgMatches<'a>) -> Result<Vec<&'a str>, AllocError>
+    ensures { IfOk result (λ names. names_of names.items ≡ unwrap_or (option_map raw_values (matched_of (found_of matches.now) (codes "file"))) []) }
+{
+    match matches.get_strs("file") {
+        Some(names) => Vec::from_slice(alloc, names),
+        None => Ok(Vec::new(alloc)),
+    }
 }
 
 /// What the words of the program that records may be.
@@ -65,6 +84,7 @@ fn record_command<'a>(alloc: Global) -> Result<Command<'a>, Error>
             .bin_name("pdrecord")?
             .arg(settings_option(alloc))?
             .arg(trace_option(alloc))?
+            .arg(file_option(alloc))?
             .about(ABOUT)
             .after_help(AFTER),
     )
@@ -80,4 +100,14 @@ fn trace_option<'a>(alloc: Global) -> Arg<'a>
             "Writes after each event its moment and the state of the sender, in a line that begins with //=",
         )
         .action(ArgAction::SetTrue)
+}
+
+fn file_option<'a>(alloc: Global) -> Arg<'a>
+    ensures rule { rule_of result ≡ file_rule }
+    ensures local { result.global ≡ false }
+{
+    Arg::new(alloc, "file")
+        .value_name("FILE")
+        .help("Records the scripts of files, and writes a title before each recording")
+        .action(ArgAction::Append)
 }

@@ -1,7 +1,7 @@
 use Rattle.std.proofs.Common.{true, codes, ap, refl, map, subst, sym, bytes_eq, List, [], ℕ, Bor, ◌≡◌, ◌∙◌}
 use Rattle.clap.specs.Words.{App, is_simple_and_free, HasMatchesOf}
 use Rattle.pd_words.specs.ProgramWords.{word_faults}
-use Rattle.pd_words.proofs.SettingsText.{chosen_text}
+use Rattle.pd_words.proofs.SettingsText.{chosen_text, chosen_values}
 use Rattle.pdrecord.specs.RecordWords.{pdrecord}
 use Rattle.pdrecord.proofs.Words.{simple_pdrecord, free_pdrecord}
 use Rattle.pdrecord.proofs.record_words.record_options.Goals as goal
@@ -13,7 +13,8 @@ returns-clause-chosen g c =
     let text = λ (id : List ℕ). chosen_text pdrecord id c.in_ok-matches.matches words simple_pdrecord matched in
     let settings = ap (λ (b : Bor (List ℕ)). b.now) c.unwrap_or.ensures ∙ text (codes "settings") c.get_str.result _ c.get_str.ensures refl in
     let trace = ap (λ (b : Bor (List ℕ)). b.now) c.unwrap_or-2.ensures ∙ text (codes "trace") c.get_str-2.result _ c.get_str-2.ensures refl in
-    (settings, c.is_true.ensures ∙ ap (λ (t : List ℕ). bytes_eq t (codes "true")) (c.as_bytes.ensures.value ∙ trace))
+    let names = c.in_ok-files.ensures ∙ chosen_values pdrecord (codes "file") c.in_ok-matches.matches words simple_pdrecord matched in
+    (settings, c.is_true.ensures ∙ ap (λ (t : List ℕ). bytes_eq t (codes "true")) (c.as_bytes.ensures.value ∙ trace), names)
 
 pub returns-clause-taken : goal.returns-clause-taken
 returns-clause-taken g c =

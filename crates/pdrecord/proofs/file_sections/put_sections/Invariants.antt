@@ -1,0 +1,7 @@
+-- What was written so far is of the first files.
+use Rattle.pdrecord.proofs.Sections.{SoFar}
+use Rattle.pdrecord.proofs.file_sections.put_sections.Given as goal
+
+abbrev pub invariant-loop-name : goal.invariant-loop-name
+invariant-loop-name g l =
+    SoFar l.settings l.with_trace (g.F.Shelf.held l.files) l.names l.name-index l.is_all (g.W.Write.contents l.initial.out) (g.W.Write.contents l.out)

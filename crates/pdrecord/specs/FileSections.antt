@@ -1,0 +1,83 @@
+-- What the program that records writes of files.
+use Rattle.std.specs.Prelude.{◌≡◌, ℕ, Bool, true, false, ◌&&◌, ◌==◌, ◌⊎◌, List, [], ◌∷◌, ◌++◌, take, count_by, codes, Option, Result, Ok, Err, IfSome, if◌then◌else◌}
+use Rattle.std.specs.Fmt.{decimal}
+use Rattle.std.specs.Io.KnownBytes.{Appends}
+use Rattle.pd_settings.specs.declared.fields.Settings.{Settings}
+use Rattle.pd_words.specs.Said.{Says}
+use Rattle.pd_words.specs.ProgramFaults.{fault_line}
+use Rattle.pd_words.specs.declared.exits.Exit.{Exit}
+use Rattle.pd_words.specs.declared.faults.ServeFault.{ServeFault}
+use Rattle.pd_words.specs.declared.faults.ServeFault.TheVariants.{Differs, Read, Write, OutOfMemory}
+use Rattle.pd_words.specs.declared.program_faults.ProgramFault.{ProgramFault}
+use Rattle.pd_words.specs.declared.program_faults.ProgramFault.TheVariants.{Serving}
+use Rattle.pdrecord.specs.RecordProgram.{IsOutcome}
+use Rattle.pdrecord.specs.ScriptInput.{script_in}
+use Rattle.pdrecord.specs.declared.outcomes.Outcome.{Outcome}
+use Rattle.pdrecord.specs.declared.outcomes.Outcome.TheVariants.{Recorded, Refused}
+
+-- how many lines octets have, each ended by a newline
+abbrev pub lines_in : List ℕ → ℕ
+lines_in octets = count_by (λ octet. octet == 10) octets
+
+-- a word, how many lines follow, and the name of a file
+abbrev pub title : List ℕ → List ℕ → List ℕ → List ℕ
+title word octets name = word ++ decimal (lines_in octets) ++ codes " " ++ name ++ codes "\n"
+
+-- what is written of the script of a file: its recording, or the lines that tell why there is none, after a title
+abbrev pub section : List ℕ → Outcome → List ℕ
+section name (Recorded octets) = title (codes "recorded ") octets.items name ++ octets.items
+section name (Refused said) = title (codes "refused ") said.items name ++ said.items
+
+-- a script was recorded
+abbrev pub is_recorded : Outcome → Bool
+is_recorded (Recorded octets) = true
+is_recorded (Refused said) = false
+
+-- these octets are written of a file of this name, which holds an input; and whether its script was recorded
+abbrev pub IsSection : Settings → Bool → List ℕ → Option (List ℕ) → Bool → List ℕ → Type 0
+IsSection settings trace name input done octets =
+    (outcome : Outcome) × IfSome input (λ all. IsOutcome settings trace (script_in all) outcome)
+    × (done ≡ is_recorded outcome) × (octets ≡ section name outcome)
+
+-- these octets are written of files, one after the other; and whether all their scripts were recorded
+abbrev pub AreSections : Settings → Bool → (List ℕ → Option (List ℕ)) → List (List ℕ) → Bool → List ℕ → Type 0
+AreSections settings trace held [] done octets = (done ≡ true) × (octets ≡ [])
+AreSections settings trace held (name ∷ names) done octets =
+    (first : Bool) × (others : Bool) × (front : List ℕ) × (rest : List ℕ)
+    × IsSection settings trace name (held name) first front × AreSections settings trace held names others rest
+    × (done ≡ (first && others)) × (octets ≡ front ++ rest)
+
+-- a fault that ends the recording of files
+abbrev pub EndsFiles : ServeFault → Type 0
+EndsFiles Read = Unit {0}
+EndsFiles Write = Unit {0}
+EndsFiles OutOfMemory = Unit {0}
+EndsFiles Differs = Unit {0}
+EndsFiles fault = ⊥
+
+-- that was written of all these files, and whether all their scripts were recorded; or at a fault some first octets of what is
+-- written of the first of them
+abbrev pub Writes : Settings → Bool → (List ℕ → Option (List ℕ)) → List (List ℕ) → Result Bool ServeFault → Option (List ℕ) → Option (List ℕ) → Type 0
+Writes settings trace held names (Ok done) before after =
+    (octets : List ℕ) × AreSections settings trace held names done octets × Appends before after octets
+Writes settings trace held names (Err fault) before after =
+    (first : List (List ℕ)) × (others : List (List ℕ)) × (done : Bool) × (octets : List ℕ) × (n : ℕ)
+    × EndsFiles fault × (names ≡ first ++ others) × AreSections settings trace held first done octets × Appends before after (take n octets)
+
+-- the status after files: 0 where all their scripts were recorded, else 1
+abbrev pub status_after : Bool → ℕ
+status_after done = if done then 0 else 1
+
+-- a run over files ends: with their status, or at a fault with 2 and its line on standard error
+abbrev pub EndsAfter : Result Bool ServeFault → Exit → Option (List ℕ) → Option (List ℕ) → Type 0
+EndsAfter (Ok done) exit before after = (exit.status ≡ status_after done) × (exit.told ≡ true) × Appends before after []
+EndsAfter (Err fault) exit before after = (exit.status ≡ 2) × Says exit.told before after (fault_line (Serving fault))
+
+-- a run over files of these names, under settings that were read, came to an end with what belongs to what the files hold;
+-- settings that are no good end it with their fault or for want of memory, and nothing is written of files
+abbrev pub FinishesFiles : Result Settings ProgramFault → Bool → (List ℕ → Option (List ℕ)) → List (List ℕ) → Exit → Option (List ℕ) → Option (List ℕ) → Option (List ℕ) → Option (List ℕ) → Type 0
+FinishesFiles (Ok settings) trace held names exit out_before out_after err_before err_after =
+    ((end : Result Bool ServeFault) × Writes settings trace held names end out_before out_after × EndsAfter end exit err_before err_after)
+FinishesFiles (Err fault) trace held names exit out_before out_after err_before err_after =
+    (exit.status ≡ 2) × Appends out_before out_after []
+    × (Says exit.told err_before err_after (fault_line fault) ⊎ Says exit.told err_before err_after (fault_line (Serving OutOfMemory)))

@@ -1,0 +1,109 @@
+//! Records the scripts of files: of each a title, and its recording or why there is none.
+ghost use Rattle.std.specs.Prelude.{◌≡◌, ◌++◌, ◌∷◌, [], IfOk, IfErr};
+ghost use Rattle.pd_words.specs.Chosen.{names_of};
+ghost use Rattle.pdrecord.specs.RecordProgram.{IsStop};
+ghost use Rattle.pdrecord.specs.FileSections.{IsSection, Writes, lines_in, title};
+
+use crate::outcomes::Outcome;
+use crate::record_program::outcome_of;
+use crate::script_input::ScriptInput;
+use crate::shelf::Shelf;
+use pd_settings::Settings;
+use pd_words::{ServeFault, put_all, put_number};
+use std::alloc::{AllocError, Global};
+use std::io::{Read, Write};
+
+/// What is written of a file.
+#[derive(Drop)]
+struct Section {
+    octets: Vec<u8>,
+    /// Whether its script was recorded.
+    is_recorded: bool,
+}
+
+/// Records the scripts of files one after the other, and writes what came of each as soon as it is known; whether all were
+/// recorded.
+///
+/// # Errors
+/// `Read` where a file can't be opened or read, `Write` where a write fails, `Differs` and `OutOfMemory`.
+pub fn put_sections<R: Read + Drop, F: Shelf<R>, W: Write>(
+    alloc: Global,
+    settings: &Settings,
+    with_trace: bool,
+    names: &[&str],
+    files: &F,
+    out: &mut W,
+) -> Result<bool, ServeFault>
+    ensures { Writes settings.now with_trace (F.held files.now) (names_of names.now) result (W.contents out.old) (W.contents out.new) }
+{
+    let mut is_all = true;
+    for name in names {
+        let is_recorded = put_section(alloc, settings, with_trace, name, files, out)?;
+        is_all &= is_recorded;
+    }
+    Ok(is_all)
+}
+
+/// Records the script of a file, and writes what came of it; whether it was recorded.
+fn put_section<R: Read + Drop, F: Shelf<R>, W: Write>(
+    alloc: Global,
+    settings: &Settings,
+    with_trace: bool,
+    name: &str,
+    files: &F,
+    out: &mut W,
+) -> Result<bool, ServeFault>
+    ensures { Writes settings.now with_trace (F.held files.now) (name.now ∷ []) result (W.contents out.old) (W.contents out.new) }
+{
+    let section = section_of(alloc, settings, with_trace, name, files)?;
+    put_all(out, section.octets.as_slice())?;
+    Ok(section.is_recorded)
+}
+
+/// What is written of the file of a name.
+///
+/// # Errors
+/// `Read` where it can't be opened or read, `Differs` and `OutOfMemory`.
+fn section_of<R: Read + Drop, F: Shelf<R>>(
+    alloc: Global,
+    settings: &Settings,
+    with_trace: bool,
+    name: &str,
+    files: &F,
+) -> Result<Section, ServeFault>
+    ensures section { IfOk result (λ section. IsSection settings.now with_trace name.now (F.held files.now name.now) section.is_recorded section.octets.items) }
+    ensures only { IfErr result IsStop }
+{
+    let mut file = files.open(name)?;
+    let input = ScriptInput::read(alloc, &mut file)?;
+    match outcome_of(alloc, &input, settings, with_trace)? {
+        Outcome::Recorded(octets) => Ok(Section {
+            octets: titled(alloc, b"recorded ", octets.as_slice(), name)?,
+            is_recorded: true,
+        }),
+        Outcome::Refused(said) => Ok(Section {
+            octets: titled(alloc, b"refused ", said.as_slice(), name)?,
+            is_recorded: false,
+        }),
+    }
+}
+
+/// Octets after their title.
+fn titled(alloc: Global, word: &[u8], octets: &[u8], name: &str) -> Result<Vec<u8>, AllocError>
+    ensures { IfOk result (λ section. section.items ≡ title word.now octets.now name.now ++ octets.now) }
+{
+    let mut section = Vec::new(alloc);
+    put_number(&mut section, word, lines_in(octets))?;
+    section.extend_from_slice(b" ")?;
+    section.extend_from_slice(name.as_bytes())?;
+    section.extend_from_slice(b"\n")?;
+    section.extend_from_slice(octets)?;
+    Ok(section)
+}
+
+/// How many lines octets have, each ended by a newline.
+fn lines_in(octets: &[u8]) -> usize
+    ensures { result ≡ lines_in octets.now }
+{
+    octets.iter().filter(|octet| **octet == b'\n').count()
+}

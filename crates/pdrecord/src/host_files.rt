@@ -1,0 +1,29 @@
+//! The files of this machine.
+use crate::shelf::Shelf;
+use pd_words::ServeFault;
+use std::fs::{self, File};
+
+/// The files of this machine, of which nothing is claimed.
+#[derive(Drop)]
+pub struct HostFiles<'a> {
+    rt: &'a HostRuntime,
+}
+
+impl<'a> HostFiles<'a> {
+    pub fn new(rt: &'a HostRuntime) -> HostFiles<'a> {
+        HostFiles { rt }
+    }
+}
+
+impl Shelf<File> for HostFiles<'_> {
+    ghost use Rattle.std.specs.Prelude.{None};
+
+    ghost held = { λ _ _. None };
+
+    fn open(&self, name: &str) -> Result<File, ServeFault> {
+        match fs::open(self.rt, name) {
+            Ok(file) => Ok(file),
+            Err(_) => Err(ServeFault::Read),
+        }
+    }
+}

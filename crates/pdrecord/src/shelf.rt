@@ -1,0 +1,33 @@
+//! Where files are opened by their names.
+ghost use Rattle.std.specs.Prelude.{◌≡◌, ℕ, List, Option, IfOk, IfErr};
+
+use pd_words::ServeFault;
+use std::fs::File;
+use std::io::Read;
+
+/// Opens files by their names.
+pub trait Shelf<R: Read> {
+    ghost held: { Self → List ℕ → Option (List ℕ) };
+
+    /// Opens a file, to be read from its first octet on.
+    ///
+    /// # Errors
+    /// `Read` where it can't be opened.
+    fn open(&self, name: &str) -> Result<R, ServeFault>
+        ensures held { IfOk result (λ file. R.remaining file ≡ held self.now name.now) }
+        ensures only { IfErr result (λ fault. fault ≡ ServeFault.Read) };
+}
+
+/// No files.
+#[derive(Drop)]
+pub struct NoFiles;
+
+impl Shelf<File> for NoFiles {
+    ghost use Rattle.std.specs.Prelude.{None};
+
+    ghost held = { λ _ _. None };
+
+    fn open(&self, _name: &str) -> Result<File, ServeFault> {
+        Err(ServeFault::Read)
+    }
+}
