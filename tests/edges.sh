@@ -12,9 +12,9 @@ passed=0
 failed=0
 . "$top/tests/edges/common.sh"
 case ${1:-} in
-    '') set -- adding links launching proving recording rows faults ;;
+    '') set -- adding links launching proving rows faults ;;
     --unproved)
-        set -- adding links launching proving recording rows
+        set -- adding links launching proving rows
         echo 'not told, needs a built program: tests/edges/faults.sh'
         ;;
 esac

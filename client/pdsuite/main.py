@@ -147,6 +147,23 @@ def expect_command(no_color: bool, **words: Any) -> int:
         return expect(ExpectOptions(**words), screen)
 
 
+@pdsuite.command(name="record")
+@choice_options
+@workers_option
+@click.option("--write", "writes", is_flag=True, help="Write the files, and show no diff.")
+def record_command(no_color: bool, **words: Any) -> int:
+    """Shows what recording scripts anew changes in them, or writes it.
+
+    A script that passes stays as it is, and so does one that is known not to. PATH is - for standard input; with
+    --write its recording goes to standard output.
+    """
+    # Only who records pays for what compares texts.
+    from pdsuite.commands.record import RecordOptions, record
+
+    with Screen(wants_color() and not no_color, progress=True) as screen:
+        return record(RecordOptions(**words), screen)
+
+
 @pdsuite.command(name="diff")
 @click.option("--no-color", is_flag=True, help="No colours on a terminal.")
 @click.argument("old", metavar="OLD", type=PlaceWord())

@@ -1,14 +1,48 @@
 #!/usr/bin/python3 -IS
-"""Stands in for pdrecord: it takes what stands below a script's first line for the recording, if anything does."""
+"""Stands in for pdrecord: it takes what stands below a script's first line for the recording, if anything does.
 
+Of files it does so one after the other, and ends itself on one whose first line says `crash`. In a recording SETTINGS
+stands for what it was given as such.
+"""
+
+import os
+import signal
 import sys
+
+REFUSED = b"pdrecord: nothing to record\n"
+
+
+def recorded(text: bytes, settings: str) -> bytes:
+    """The recording of a script; empty where there is none."""
+    return text.partition(b"\n")[2].replace(b"SETTINGS", settings.encode())
+
+
+def put(word: str, octets: bytes, name: str) -> None:
+    """Writes what came of a file after its title."""
+    sys.stdout.buffer.write(f"{word} {octets.count(10)} {name}\n".encode() + octets)
+    sys.stdout.buffer.flush()
 
 
 def main() -> int:
-    """Writes the recording, or refuses."""
-    recording = sys.stdin.buffer.read().partition(b"\n")[2]
+    """Writes the recordings, or refuses."""
+    words = [it for it in sys.argv[1:] if it != "--trace"]
+    settings = ""
+    if words[:1] == ["--settings"]:
+        settings, words = words[1], words[2:]
+    status = 0
+    for name in words:
+        with open(name, "rb") as file:
+            text = file.read()
+        if text.startswith(b"crash"):
+            os.kill(os.getpid(), signal.SIGSEGV)
+        recording = recorded(text, settings)
+        status = status if recording else 1
+        put("recorded" if recording else "refused", recording or REFUSED, name)
+    if words:
+        return status
+    recording = recorded(sys.stdin.buffer.read(), settings)
     if not recording:
-        print("pdrecord: nothing to record", file=sys.stderr)
+        sys.stderr.buffer.write(REFUSED)
         return 1
     sys.stdout.buffer.write(recording)
     return 0

@@ -14,7 +14,7 @@ from tests.helpers import HANGS, TOP, Called
 from tests.test_run import expected_rows
 
 PROVED = (TOP / "packaging/programs.txt").read_text().split()
-COMMANDS = ("compare", "diff", "expect", "import", "list", "lsp", "run", "search", "watch")
+COMMANDS = ("compare", "diff", "expect", "import", "list", "lsp", "record", "run", "search", "watch")
 # A root with apt alone that keeps the lists of packages, so that these are fetched once and without their translations.
 LEAN = ("--variant=apt", "--skip=cleanup/apt/lists", '--aptopt=Acquire::Languages "none"', "--dpkgopt=force-unsafe-io")
 # Where pages and texts for terminals differ: the ends of lines, blanks, and the prompt of an example.

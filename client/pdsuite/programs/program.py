@@ -8,7 +8,7 @@ import selectors
 import signal
 import subprocess
 import time
-from collections.abc import Sequence
+from collections.abc import Iterator, Sequence
 from pathlib import Path
 
 from pdsuite.faults import why
@@ -95,10 +95,32 @@ class Program:
         self._finish(text, longest)
         return bytes(self._got[1:]), shown(self._said.partition(b"\n")[0], _SHOWN)
 
-    def run(self, given: bytes, longest: int) -> Said:
-        """All that the program writes of this, which is all of its input, and its status."""
-        status = self._end_of(given, longest)
-        return Said(bytes(self._got[1:]), self._said, str(status))
+    def sections(self, count: int, longest: int) -> Iterator[tuple[bytes, bytes]]:
+        """What the program writes of so many files: of each the first word of its title, and the lines after that."""
+        self._is_last = True
+        self._send(b"")
+        for _ in range(count):
+            while (section := self._section()) is None:
+                if len(self._got) > longest:
+                    raise Ended(f"{self._name} wrote more than was asked")
+                if not self._is_open(self._out):
+                    raise Ended(self._last_words())
+                self._work(None)
+            yield section
+
+    def _section(self) -> tuple[bytes, bytes] | None:
+        """The next title, with the lines after it, once all of them are there."""
+        end = self._got.find(b"\n", 1)
+        if end < 0:
+            return None
+        words = bytes(self._got[1:end]).split(b" ", 2)
+        if len(words) < 3 or not words[1].isdigit():
+            raise Ended(f"{self._name} wrote no title")
+        lines = self._got.split(b"\n", int(words[1]) + 2)
+        if len(lines) < int(words[1]) + 3:
+            return None
+        self._take(len(self._got) - len(lines[-1]) - 1)
+        return words[0], b"".join(bytes(line) + b"\n" for line in lines[2:-1])
 
     def _finish(self, commands: bytes, longest: int) -> None:
         """The same, of a program that has to end regularly."""

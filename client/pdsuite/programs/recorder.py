@@ -1,6 +1,7 @@
-"""Has pdrecord record a script, with the sender's state after each event."""
+"""Has pdrecord record scripts: one with the sender's state after each event, or many in few processes."""
 
-from collections.abc import Callable, Iterable
+import tempfile
+from collections.abc import Callable, Iterable, Iterator, Sequence
 from dataclasses import dataclass
 from pathlib import Path
 
@@ -19,6 +20,9 @@ _TRACE = "--trace"
 # A recording is expected to have so many octets at most, and so many for each octet of its script.
 _ROOM = 2_048
 _WRITTEN = 6
+# So many files go to one process at most.
+_FILES = 1_024
+_RECORDED = b"recorded"
 
 
 @dataclass(frozen=True, slots=True)
@@ -60,6 +64,35 @@ class Recorder:
                 self._fault = str(fault)
                 self._note(f"pdsuite: {fault}; nothing is recorded")
         return self._program
+
+
+def record_all(program: Path, texts: Sequence[bytes], settings: Settings, stop: Stop) -> Iterator[Recording]:
+    """The recordings of texts under settings, without traces, or why there are none; a process records many.
+
+    Where the program ends on a text, a new process goes on after that.
+    """
+    with tempfile.TemporaryDirectory(prefix="pdsuite-") as folder:
+        paths = [Path(folder, str(number)) for number in range(len(texts))]
+        for path, text in zip(paths, texts):
+            path.write_bytes(text)
+        done = 0
+        while done < len(paths):
+            part = paths[done : done + _FILES]
+            try:
+                with Program([program, *_settings_words(settings), *part], stop) as started:
+                    for word, octets in started.sections(len(part), _LONGEST):
+                        done += 1
+                        yield _told(word, octets)
+            except Ended as end:
+                done += 1
+                yield Recording("", str(end))
+
+
+def _told(word: bytes, octets: bytes) -> Recording:
+    """A recording, or why there is none, as the lines after a title tell it."""
+    if word == _RECORDED:
+        return Recording(octets.decode("utf-8", "surrogateescape"))
+    return Recording("", shown(octets.partition(b"\n")[0].removeprefix(b"pdrecord: ")))
 
 
 def recording(tree: Path, scripts: Iterable[tuple[Settings, bytes]], is_alone: bool = False) -> Build:

@@ -1,0 +1,239 @@
+"""`pdsuite record`: records scripts anew, and shows what that changes, or writes it."""
+
+import os
+import sys
+from collections.abc import Iterable, Iterator, Sequence
+from dataclasses import dataclass
+from pathlib import Path
+
+from pdsuite.commands.options import threads_of
+from pdsuite.faults import Fault, why
+from pdsuite.files import write
+from pdsuite.programs.places import RECORD, REGRESS, locate
+from pdsuite.programs.program import Program
+from pdsuite.programs.recorder import Recording, record_all
+from pdsuite.programs.refusals import refusals
+from pdsuite.programs.rows import Verdict
+from pdsuite.run.choice import found_of, scripts_of
+from pdsuite.run.runs import Script, runs_of
+from pdsuite.run.settling import Restart, settle, start_with
+from pdsuite.scripts.rewriting import Rewriting, as_written, hunks_of
+from pdsuite.scripts.search import ScriptFile
+from pdsuite.scripts.settings import Settings
+from pdsuite.scripts.suite import Suite, option_of
+from pdsuite.scripts.text import LONGEST_FILE, Text, Unfit, read_file, text_of
+from pdsuite.scripts.unused_tables import unused_in
+from pdsuite.show.octets import shown_path, shown_text
+from pdsuite.show.screen import Screen, say
+from pdsuite.show.styled_text import StyledText, unstyled
+from pdsuite.signals import Stop, Stopped
+
+_FAULT = 2
+INPUT = Path("-")
+_STYLES = {"+": "green", "-": "red", "@": "cyan"}
+
+
+@dataclass(frozen=True)
+class RecordOptions:
+    """What a call asks for: which scripts, and whether they are written."""
+
+    paths: Sequence[Path]
+    only: Sequence[str]
+    settings: str
+    workers: int | None
+    writes: bool
+
+
+@dataclass(frozen=True, slots=True)
+class Recorded:
+    """What came of a script: what its file holds and would hold, or why it isn't recorded."""
+
+    script: Script
+    rewriting: Rewriting
+    fault: str = ""
+
+    @property
+    def is_changed(self) -> bool:
+        """Whether the file would hold something else."""
+        return not self.fault and self.rewriting.old != self.rewriting.new
+
+
+def record(options: RecordOptions, screen: Screen) -> int:
+    """Records scripts, shows or writes what changes, and answers the exit status."""
+    with Stop() as stop:
+        suite = Suite(option_of(options.settings))
+        try:
+            octets = _read_input() if INPUT in options.paths else None
+            scripts = _scripts(options, suite, stop)
+            program = locate(REGRESS)
+            asked = refusals(suite.claims(), lambda: Program([program], stop))
+            if lines := [*unused_in(suite), *asked]:
+                for line in lines:
+                    say(line)
+                return _FAULT
+            recorder = locate(RECORD)
+            texts = {it.index: _text(it, octets) for it in scripts}
+            kept = _passing(scripts, texts, program, options.workers, screen, stop)
+            each = _recorded(scripts, texts, kept, recorder, screen, stop)
+        except Stopped as stopped:
+            return stopped.status
+        finally:
+            screen.clear()
+    return _end(each, options.writes, screen)
+
+
+def _scripts(options: RecordOptions, suite: Suite, stop: Stop) -> list[Script]:
+    """The scripts that are meant; standard input has the settings of the working folder."""
+    if INPUT not in options.paths:
+        return scripts_of(found_of(options.paths, options.only, suite, stop), suite)
+    if len(options.paths) > 1:
+        raise Fault("-: standard input stands alone")
+    folder = os.path.realpath(os.curdir)
+    suite.look([folder])
+    return scripts_of([ScriptFile(str(INPUT), folder, str(INPUT))], suite)
+
+
+def _read_input() -> bytes:
+    try:
+        return sys.stdin.buffer.read(LONGEST_FILE + 1)
+    except OSError as error:
+        raise Fault(f"standard input: {why(error)}") from error
+
+
+def _text(script: Script, octets: bytes | None) -> bytes | str:
+    """The octets of a script's file, or why it can't be recorded."""
+    if script.fault:
+        return script.fault
+    try:
+        held = read_file(script.path, LONGEST_FILE + 1) if octets is None else octets
+        text_of(held)
+    except Unfit as unfit:
+        return str(unfit)
+    return held
+
+
+def _passing(
+    scripts: Sequence[Script],
+    texts: dict[int, bytes | str],
+    program: Path,
+    workers: int | None,
+    screen: Screen,
+    stop: Stop,
+) -> set[int]:
+    """The places of the scripts that stay as they are: they pass, or are known not to."""
+    kept: set[int] = set()
+    done = 0
+    start = start_with(program, threads_of(workers), 1, stop)
+
+    def load(script: Script) -> Text | str:
+        held = texts[script.index]
+        return held if isinstance(held, str) else text_of(held)
+
+    for run in runs_of(scripts):
+        for step in settle(run, start, load):
+            if isinstance(step, Restart):
+                screen.note(str(step))
+                continue
+            kept.update(it.index for it, outcome in step.outcomes if outcome.row.verdict is Verdict.PASS)
+            kept.update(it.index for it, outcome in step.outcomes if outcome.is_known)
+            done += len(step.outcomes)
+            screen.advance(done, len(scripts), "scripts run")
+    return kept
+
+
+def _recorded(
+    scripts: Sequence[Script],
+    texts: dict[int, bytes | str],
+    kept: set[int],
+    program: Path,
+    screen: Screen,
+    stop: Stop,
+) -> list[Recorded]:
+    """What comes of each script, in their order; those that stay aren't recorded."""
+    groups: dict[Settings, list[tuple[Script, bytes]]] = {}
+    each: dict[int, Recorded] = {}
+    for script in scripts:
+        held = texts[script.index]
+        if isinstance(held, str):
+            each[script.index] = Recorded(script, Rewriting(script.path, b"", b""), held)
+        elif script.index in kept:
+            each[script.index] = Recorded(script, Rewriting(script.path, held, held))
+        else:
+            groups.setdefault(script.settings, []).append((script, held))
+    for settings, group in groups.items():
+        made = record_all(program, [text for _, text in group], settings, stop)
+        for (script, text), it in zip(group, made):
+            each[script.index] = _rewritten(script, text, it)
+            screen.advance(len(each), len(scripts), "scripts recorded")
+    return [each[it.index] for it in scripts]
+
+
+def _rewritten(script: Script, text: bytes, it: Recording) -> Recorded:
+    if it.fault:
+        return Recorded(script, Rewriting(script.path, text, text), it.fault)
+    recording = it.text.encode("utf-8", "surrogateescape")
+    return Recorded(script, Rewriting(script.path, text, as_written(text, recording)))
+
+
+def _end(each: Sequence[Recorded], writes: bool, screen: Screen) -> int:
+    """Shows or writes what changes, and says what isn't recorded."""
+    changed = [it for it in each if it.is_changed]
+    is_input = [it.script.path for it in each] == [str(INPUT)]
+    if is_input and writes:
+        _write_output(each[0])
+    else:
+        for it in changed:
+            if writes:
+                write(Path(it.script.path), it.rewriting.new, keeps_rights=True)
+            else:
+                screen.show(diff_of(it.rewriting))
+        screen.show(unstyled("".join(f"{line}\n" for line in totals_of(each))))
+    for it in each:
+        if it.fault:
+            say(f"{shown_path(it.script.path)}: isn't recorded: {it.fault}")
+    if any(it.fault for it in each):
+        return _FAULT
+    return 1 if changed and not writes else 0
+
+
+def _write_output(it: Recorded) -> None:
+    """Writes the recording of standard input on standard output."""
+    if not it.fault:
+        sys.stdout.flush()
+        sys.stdout.buffer.write(it.rewriting.new)
+        sys.stdout.buffer.flush()
+
+
+def diff_of(it: Rewriting) -> StyledText:
+    """A unified diff of what a script's file holds and would hold."""
+    path = shown_path(it.path)
+    text = StyledText().append(f"--- {path}\n", "bold").append(f"+++ {path}\n", "bold")
+    for line in hunks_of(it.old, it.new):
+        text.append(f"{_safe(line)}\n", _STYLES.get(line[:1], ""))
+    return text
+
+
+def _safe(line: str) -> str:
+    """A line as it is, or as people see it where a character doesn't print; a tab does."""
+    return line if line.replace("\t", " ").isprintable() else shown_text(line)
+
+
+def totals_of(each: Sequence[Recorded]) -> Iterator[str]:
+    """A line for each folder with a script that changes, and one for all."""
+    folders: dict[str, list[Recorded]] = {}
+    for it in each:
+        folders.setdefault(os.path.dirname(it.script.path) or os.curdir, []).append(it)
+    if len(folders) > 1:
+        for folder, below in folders.items():
+            if any(it.is_changed for it in below):
+                yield f"{shown_path(folder)}: {_counted(below)}"
+    yield f"total {_counted(each)}"
+
+
+def _counted(each: Iterable[Recorded]) -> str:
+    scripts = list(each)
+    changed = [it for it in scripts if it.is_changed]
+    counts = [it.rewriting.counts for it in changed]
+    more, less = sum(it for it, _ in counts), sum(it for _, it in counts)
+    lost = sum(bool(it.fault) for it in scripts)
+    return f"{len(scripts)} changed {len(changed)} lines +{more} -{less} not recorded {lost}"
