@@ -57,7 +57,7 @@ class Toy:
 
 
 def hunt(change: str, lists: int = 1, seed: int = 1) -> Hunted:
-    """Searches so many lists of inputs for what tells the changed stand-in from the one as it is, for however long."""
+    """Searches so many lists of inputs for what tells the changed stand-in from the other, however long it takes."""
     after = Toy(change)
     return Hunt(Toy(), Fails(after), Differs(after), repeat(48, lists), seed, 300).run(lambda inputs: None)
 

@@ -15,6 +15,8 @@ PROGRAM = "pdregress"
 HEADING = re.compile(r"\[([^]]+)\] ([a-z ]+?)(?: of (\w+))?(?: after (\w+))?")
 # The kinds that may stand after an opening.
 OPENED = ("opening", "scripts", "explained")
+# A line that begins so stands before a row whose answer was taken from the program.
+MARK = "#?"
 SHORT = {b"n": b"\n", b"r": b"\r", b"t": b"\t", b"\\": b"\\"}
 
 

@@ -13,7 +13,7 @@ from pdsuite.compare.senders import Sender
 from pdsuite.faults import Fault
 from pdsuite.programs.places import RECORD, REGRESS
 from pdsuite.programs.program import Ended, Program
-from pdsuite.programs.starts import Answer, Case, Said, part, parts
+from pdsuite.programs.starts import Answer, Case, Said, part, parts_in
 from pdsuite.programs.tree import Build, try_all
 from pdsuite.show.octets import shown, shown_path
 from pdsuite.signals import Stop
@@ -87,7 +87,7 @@ def telling_of(sender: Sender, room: Path) -> Telling:
 
 def _starts(told: bytes) -> Iterator[tuple[str, Case]]:
     """The starts: words, an input, and how much is said at most."""
-    each = parts(told)
+    each = parts_in(bytearray(told))
     for joined, given, room in zip(each, each, each):
         program, *words = joined.decode().split("\0")
         yield program, Case(tuple(words), given, int(room))

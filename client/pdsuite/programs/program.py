@@ -95,6 +95,11 @@ class Program:
         self._finish(text, longest)
         return bytes(self._got[1:]), shown(self._said.partition(b"\n")[0], _SHOWN)
 
+    def run(self, given: bytes, longest: int) -> Said:
+        """All that the program writes of this, which is all of its input, and its status."""
+        status = self._end_of(given, longest)
+        return Said(bytes(self._got[1:]), self._said, str(status))
+
     def sections(self, count: int, longest: int) -> Iterator[tuple[bytes, bytes]]:
         """What the program writes of so many files: of each the first word of its title, and the lines after that."""
         self._is_last = True

@@ -72,9 +72,9 @@ def input_of(cases: Iterable[Case]) -> bytes:
 
 def answers_in(output: bytes, errors: bytes, status: str, count: int) -> list[Answer]:
     """The answers to the cases of a run, which has ended with this status, a number or why there is none."""
-    parts = list(parts_in(bytearray(output))) if status == "0" else []
-    if len(parts) == 3 * count:
-        return [answer_of(written, said, ended.decode().strip()) for written, said, ended in zip(*[iter(parts)] * 3)]
+    each = list(parts_in(bytearray(output))) if status == "0" else []
+    if len(each) == 3 * count:
+        return [answer_of(written, said, ended.decode().strip()) for written, said, ended in zip(*[iter(each)] * 3)]
     why = answer_of(output, errors, status).fault or f"ended with status {status}"
     return [Answer(b"", b"", why, count > 1)] * count
 

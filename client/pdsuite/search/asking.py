@@ -62,7 +62,7 @@ class SenderAsker(Protocol):
 def askers_of(senders: Sequence[Sender], stop: Stop) -> Iterator[list[SenderAsker]]:
     """What asks senders: proved programs, or those of a tree, which are built once for the block, side by side."""
     with ExitStack() as stack:
-        trees = {it.tree for it in senders if not it.is_proved}
+        trees = {it.top for it in senders if not it.is_proved}
         talks = {tree: stack.enter_context(Conversation(tree, stop)) for tree in trees}
         for talk in talks.values():
             talk.wait()
@@ -72,7 +72,7 @@ def askers_of(senders: Sequence[Sender], stop: Stop) -> Iterator[list[SenderAske
 def _asker(sender: Sender, stop: Stop, talks: Mapping[Path, Conversation]) -> SenderAsker:
     if sender.is_proved:
         return ProvedAsker(sender, stop)
-    return UnprovedAsker(sender, talks[sender.tree])
+    return UnprovedAsker(sender, talks[sender.top])
 
 
 def sizes() -> Iterator[int]:
@@ -129,7 +129,7 @@ class UnprovedAsker:
     """Asks the programs that were built of a tree as it stands."""
 
     def __init__(self, sender: Sender, talk: Conversation) -> None:
-        self._tree = sender.tree
+        self._tree = sender.top
         self._talk = talk
 
     def recordings(self, inputs: Sequence[Inputs]) -> list[Recording]:
