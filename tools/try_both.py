@@ -26,8 +26,6 @@ PROGRAM = "pdrecord"
 OTHER = "pdregress"
 MAIN = trying.TOP / "tools" / "both.rattle"
 MODULE = "mod record_program;"
-# What the main file calls of the program's other files, which keep it to themselves.
-CALLED = re.compile(r"^(?=fn run_chosen\b)", re.MULTILINE)
 # What of a crate is read: definitions and proofs are not.
 PART = "src"
 
@@ -42,8 +40,6 @@ def put_tree(tree: Path, room: Path) -> None:
     # On one line, so that each line keeps its number.
     declared = " ".join(f"mod {it};" for it in modules)
     (sources / "main.rt").write_text(MAIN.read_text().replace(MODULE, declared))
-    for file in sources.glob("*.rt"):
-        file.write_text(CALLED.sub("pub ", file.read_text()))
     (room / "crates.txt").write_text(with_both((tree / "crates.txt").read_text()))
     if (tree / "HANDLES").exists():
         shutil.copy(tree / "HANDLES", room)
