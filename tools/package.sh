@@ -73,7 +73,7 @@ client() {
     echo "$version $commit" >"$root/$share/version"
     ln -s "../share/$name/pdsuite" "$root/usr/bin/pdsuite"
     page pdsuite "$top/pdsuite"
-    for command in run watch lsp list import expect diff compare search; do
+    for command in run watch lsp list import expect diff compare search record; do
         page "pdsuite-$command" "$top/pdsuite" "$command"
     done
     mkdir -p "$root/$completions"
