@@ -8,6 +8,7 @@ from collections.abc import Callable, Iterator, Sequence
 from concurrent.futures import ThreadPoolExecutor
 from dataclasses import dataclass, replace
 from pathlib import Path
+from typing import Any
 
 from pdsuite.compare.senders import Sender
 from pdsuite.faults import Fault
@@ -161,6 +162,6 @@ def owed_of(telling: Telling, heard: Sequence[Sequence[Said]], before: Path | No
     )
 
 
-def _paragraph(it: dict[str, object]) -> Paragraph:
+def _paragraph(it: dict[str, Any]) -> Paragraph:
     texts = {key: tuple(value) if isinstance(value, list) else value for key, value in it.items()}
-    return Paragraph(**texts)  # type: ignore[arg-type]
+    return Paragraph(**texts)
