@@ -1,6 +1,6 @@
 //! Waiting for verdicts, and the workers that give them.
 ghost use Rattle.std.specs.Prelude.{◌≡◌, ◌≢◌, ◌+◌, ◌≤◌, ◌<◌, ◌^◌, ◌⊎◌, true, IfOk, IfErr, IfSome, IfNone, OnOk, OnErr};
-ghost use Rattle.pd_seat.specs.Seats.{with_act, IsShown};
+ghost use Rattle.pd_seat.specs.Seats.{with_act, is_unended, IsShown};
 ghost use Rattle.pd_desk.specs.Desk.{IsCurrent};
 ghost use Rattle.pd_desk.specs.Work.{Works};
 ghost use Rattle.pd_desk.specs.Inner.{IsWant, EndsJob, AbandonsJob};
@@ -120,7 +120,8 @@ impl Desk {
         gate: &G,
     ) -> Result<(), DeskFault>
         requires room { S.counted stepper.old + 4096 < 2 ^ 64 }
-        ensures finished { OnOk result (EndsJob job.task.number seat.old seat.new) }
+        requires started { is_unended seat.old.own job.task.number ≡ true }
+        ensures finished { OnOk result (EndsJob job.task seat.old seat.new) }
         ensures abandoned { IfErr result (λ fault. (fault ≡ DeskFault.OutOfMemory) × AbandonsJob job.task.number seat.old seat.new) }
         ensures few { OnOk result (S.counted stepper.new ≤ S.counted stepper.old + 4096) }
     {
