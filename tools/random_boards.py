@@ -41,7 +41,12 @@ NAMES = {
     "lost": "rule 1",
     "rescue": "rule 4",
     "hole": "rule 3",
+    "proportion": "PRR above ssthresh",
+    "bound": "PRR up to ssthresh",
 }
+
+# What paces recovery with SACK.
+RATES = ("pipe", "prr", "prr_crb")
 
 
 class Span(NamedTuple):
@@ -178,6 +183,7 @@ class Ack:
     """What an ACK tells."""
 
     acked: int  # how many octets are newly acknowledged
+    delivered: int  # how many octets reached the peer, as far as the ACK is the first to tell
     rwnd: int
     is_same_window: bool
     is_fresh: bool | None  # whether a block told a new octet, where SACK was agreed
@@ -198,6 +204,11 @@ class Window:
     has_expired: bool = False  # since the last ACK of new octets
     limit: int = 1  # L, in segments
     follows_expiry: bool = False  # whether slow start began at an expiry last
+    rate: str = "pipe"
+    prr_delivered: int = 0
+    prr_out: int = 0
+    recover_fs: int = 1
+    newly: int = 0  # what the last ACK in recovery told to be delivered
 
     def expire(self, board: Board) -> None:
         """The timer has expired."""
@@ -208,6 +219,7 @@ class Window:
         self.recovery_point = board.top
         self.duplicates = self.limited = 0
         self.has_expired = self.follows_expiry = True
+        self.prr_delivered = self.prr_out = 0
 
     def restart(self, board: Board) -> None:
         """Sending begins after an idle time."""
@@ -222,12 +234,47 @@ class Window:
         if ack.is_fresh is None:
             return self.take_number(board, ack)
         if self.is_recovering:
-            self.is_recovering = board.una < self.recovery_point
-            return ("step-c" if self.is_recovering else "ordinary"), None
+            return self.take_in_recovery(board, ack), None
         self.grow(board, ack)
-        return (self.take_fresh(board) if ack.is_fresh else "ordinary"), None
+        return (self.take_fresh(board, ack) if ack.is_fresh else "ordinary"), None
 
-    def take_fresh(self, board: Board) -> str:
+    def take_in_recovery(self, board: Board, ack: Ack) -> str:
+        """In recovery with SACK."""
+        if board.una >= self.recovery_point:
+            self.is_recovering = False
+            if self.rate != "pipe":
+                self.cwnd = self.ssthresh
+            self.duplicates = self.limited = self.prr_delivered = self.prr_out = 0
+            return "ordinary"
+        self.deliver(ack)
+        return "step-c"
+
+    def deliver(self, ack: Ack) -> None:
+        """PRR counts what an ACK tells."""
+        if self.rate != "pipe":
+            self.prr_delivered += ack.delivered
+            self.newly = ack.delivered
+
+    def send_out(self, segment: Span) -> None:
+        """PRR counts what is sent."""
+        if self.rate != "pipe":
+            self.prr_out += segment.octets()
+
+    def pace(self, board: Board, pipe: int) -> str | None:
+        """By PRR an ACK in recovery sets the window; which rule gave it."""
+        if self.rate == "pipe":
+            return None
+        if pipe > self.ssthresh:
+            sndcnt = -(-self.prr_delivered * self.ssthresh // self.recover_fs) - self.prr_out
+        elif self.rate == "prr":
+            most = max(self.prr_delivered - self.prr_out, self.newly) + board.smss
+            sndcnt = min(self.ssthresh - pipe, most)
+        else:
+            sndcnt = min(self.ssthresh - pipe, self.prr_delivered - self.prr_out)
+        self.cwnd = min(pipe + max(sndcnt, 0), MOST)
+        return "proportion" if pipe > self.ssthresh else "bound"
+
+    def take_fresh(self, board: Board, ack: Ack) -> str:
         """A duplicate with SACK, outside recovery."""
         self.duplicates += 1
         if board.una < self.recovery_point:
@@ -238,6 +285,9 @@ class Window:
         self.cwnd = self.ssthresh = self.half(board)
         self.is_recovering = True
         self.recovery_point = board.top
+        self.prr_delivered = self.prr_out = 0
+        self.recover_fs = board.flight()
+        self.deliver(ack)
         return "entry"
 
     def take_number(self, board: Board, ack: Ack) -> tuple[str, Span | None]:
@@ -304,6 +354,7 @@ class Window:
             self.high_rxt = segment.end
         elif rule == "rescue":
             self.rescue_rxt = self.recovery_point
+        self.send_out(segment)
 
 
 def said_one(answer: int | Span | None) -> str:
@@ -331,7 +382,8 @@ class Trial:
         self.has_sack = not self.is_once_in(3)
         first = 1 if self.is_resent else FIRST
         limit = self.between(1, 8)
-        self.window = Window(cwnd=first * self.board.smss, ssthresh=ssthresh, limit=limit)
+        rate = RATES[self.dice.below(len(RATES))]
+        self.window = Window(cwnd=first * self.board.smss, ssthresh=ssthresh, limit=limit, rate=rate)
 
     def between(self, first: int, last: int) -> int:
         """A number from the first one to the last one."""
@@ -343,7 +395,8 @@ class Trial:
 
     def rows(self) -> Iterator[str]:
         """The whole list: how it begins, and the calls, each with what is answered after it."""
-        yield f"list {said(self.board.smss, self.window.ssthresh, self.is_resent, self.window.limit)}"
+        window = self.window
+        yield f"list {said(self.board.smss, window.ssthresh, self.is_resent, window.limit)} {window.rate}"
         for _ in range(self.mix.calls):
             yield from self.call()
             yield self.answers()
@@ -403,6 +456,7 @@ class Trial:
         """An ACK arrives with up to three blocks, and what it leads to is sent."""
         board = self.board
         acked = self.dice.below(board.flight() + 1) if self.is_once_in(self.mix.acks) else 0
+        sacked = len(board.sacked)
         board.acknowledge(board.una + acked)
         yield f"ack {board.una}"
         is_fresh = False
@@ -413,7 +467,8 @@ class Trial:
             is_fresh |= is_new
             yield f"mark {said(start, end, is_new)}"
         rwnd = self.between(100, 2_000)
-        ack = Ack(acked, rwnd, not self.is_once_in(4), is_fresh if self.has_sack else None)
+        delivered = acked + len(board.sacked) - sacked
+        ack = Ack(acked, delivered, rwnd, not self.is_once_in(4), is_fresh if self.has_sack else None)
         then, segment = self.window.take(board, ack)
         self.counts[then] += 1
         yield f"hear {said(acked, rwnd, ack.is_same_window, ack.is_fresh)} {then} {said(segment)}"
@@ -428,14 +483,19 @@ class Trial:
         elif then == "entry":
             entry = self.board.segment_at(self.board.una)
             self.window.high_rxt = self.window.rescue_rxt = entry.end
+            self.window.send_out(entry)
             yield f"enter {said(entry)}"
         if then in ("entry", "step-c"):
             yield from self.recover(rwnd)
 
     def recover(self, rwnd: int) -> Iterator[str]:
         """Step C."""
-        pipe = self.board.pipe(self.window.high_rxt)
+        window = self.window
+        pipe = self.board.pipe(window.high_rxt)
         yield f"pipe {pipe}"
+        if branch := window.pace(self.board, pipe):
+            self.counts[branch] += 1
+        yield f"pace {said(pipe, window.cwnd, window.prr_delivered, window.prr_out)}"
         for _ in range(SEGMENTS):
             found = self.window.next(self.board, rwnd) if self.window.has_room(self.board, pipe) else None
             if not found:

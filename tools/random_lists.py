@@ -57,6 +57,7 @@ SETTINGS = {
     "limited_transmit": ("true", "false"),
     "byte_counting": ("1", "2"),
     "restart_after_idle": ("false", "true"),
+    "recovery_rate": ("pipe", "prr"),
     "tolerance_us": ("4000", "1"),
 }
 DEFAULTS = {key: values[0] for key, values in SETTINGS.items()}
@@ -64,7 +65,7 @@ DEFAULTS = {key: values[0] for key, values in SETTINGS.items()}
 # The settings in the order in which one is drawn.
 DRAWN = (
     "mss sack wscale rcv_wnd min_rto_us max_rto_us tolerance_us initial_ssthresh granularity_us nagle "
-    "initial_window sndbuf limited_transmit byte_counting restart_after_idle"
+    "initial_window sndbuf limited_transmit byte_counting restart_after_idle recovery_rate"
 ).split()
 
 # What a SYN that is answered consults, and the ACK that establishes the connection.
@@ -77,6 +78,7 @@ AT_ACK = {
     "limited_transmit",
     "byte_counting",
     "restart_after_idle",
+    "recovery_rate",
 }
 
 # How many octets a line of kind `n` writes.

@@ -22,7 +22,8 @@ ROW = re.compile(
     r'unit = (?:\[\]|codes "(\w+)"); unset = \w+ (\w+) \}$',
     re.MULTILINE,
 )
-WORD = re.compile(r'^word_for (\w+) = codes "(\w+)"$', re.MULTILINE)
+WORD = re.compile(r'^(word_for|rate_word) (\w+) = codes "(\w+)"$', re.MULTILINE)
+KIND = {"Windows": "word_for", "Rates": "rate_word"}
 HEAD = "| key | unit | range | default | the standards' name | what it changes |\n|---|---|---|---|---|---|\n"
 
 
@@ -51,10 +52,12 @@ class Setting:
 
 def settings(rows: str, words: str) -> Iterator[Setting]:
     """The settings, by the texts of the rows and of the words."""
-    named = dict(WORD.findall(words))
+    said = WORD.findall(words)
+    named = {rule: word for _, rule, word in said}
     for key, takes, least, greatest, unit, unset in ROW.findall(rows):
         ends = (int(least), int(greatest)) if least else None
-        choice = () if ends else ("true", "false") if takes == "Truths" else tuple(named.values())
+        of_kind = tuple(word for kind, _, word in said if kind == KIND.get(takes))
+        choice = () if ends else of_kind or ("true", "false")
         yield Setting(key, ends, unit, choice, named.get(unset, unset))
 
 

@@ -19,6 +19,10 @@ sacked_above x s = size_where (contains s.sacked) (x + 1) s.top
 abbrev pub runs_above : ℕ → BoardView → ℕ
 runs_above x s = size_where (begins_run s.sacked) (x + 1) s.top
 
+-- how many octets are SACKed (RFC 6937, section 3: SACKd)
+abbrev pub sacked_octets : BoardView → ℕ
+sacked_octets s = size_where (contains s.sacked) s.una s.top
+
 -- IsLost: the runs and the octets above x show it to be lost
 abbrev pub is_lost : ℕ → BoardView → Bool
 is_lost x s = shows_loss s.smss (runs_above x s) (sacked_above x s)

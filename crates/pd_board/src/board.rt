@@ -1,7 +1,7 @@
 //! The scoreboard of a sender.
 ghost use Rattle.std.specs.Prelude.{◌≡◌, ◌+◌, ◌≤◌, ◌<◌, ◌^◌, true, false, IfOk, OnOk, OnErr, IsErr, ◌↔◌};
 ghost use Rattle.pd_board.specs.Board.{IsBoardView, opened, written, sent_to, acknowledged, marked, has_new, unmarked, skipped, without_memory};
-ghost use Rattle.pd_board.specs.Loss.{is_lost, pipe};
+ghost use Rattle.pd_board.specs.Loss.{is_lost, pipe, sacked_octets};
 ghost use Rattle.pd_board.specs.Choice.{run_at, next_lost, next_hole, rescue};
 ghost use Rattle.pd_board.specs.Runs.{AreRuns};
 
@@ -221,6 +221,14 @@ impl Board {
         }
         let first = self.una.max(x + 1);
         count_above(&self.ranges, self.una, first, self.top).makes_lost(self.smss)
+    }
+
+    /// How many octets from `una` on and below `top` SACK blocks told (RFC 6937, section 3: SACKd).
+    pub fn sacked_octets(&self) -> u32
+        ensures value { result ≡ sacked_octets self.now }
+        ensures small { result ≤ 2 ^ 31 }
+    {
+        self.ranges.octets
     }
 
     /// Pipe (RFC 6675, section 4): of the octets sent that aren't SACKed, one for each that isn't lost and one for each

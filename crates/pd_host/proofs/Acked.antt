@@ -7,11 +7,15 @@ use Rattle.pd_settings.specs.declared.fields.Settings.{Settings}
 use Rattle.pd_seg.specs.declared.sack_blocks.Span.{Span}
 use Rattle.pd_seg.specs.declared.segments.Segment.{Segment}
 use Rattle.pd_board.specs.Board.{BoardView, acknowledged}
+use Rattle.pd_board.specs.Loss.{pipe}
 use Rattle.pd_timer.specs.Rto.{RtoView, stopped, restarted, sampled}
 use Rattle.pd_recover.specs.Acks.{IsNamed, acked}
-use Rattle.pd_recover.specs.Laws.{StaysWithin}
-use Rattle.pd_recover.specs.declared.responses.Then.TheVariants.{NewSegment, FastRetransmit}
-use Rattle.pd_host.specs.Acknowledgments.{newly_acked, with_number, blocks_of, told_blocks, scored, with_blocks, with_timing, is_current, with_new_window, with_ack, ack_of_segment, answering, taking}
+use Rattle.pd_recover.specs.Cong.{CongView}
+use Rattle.pd_recover.specs.Laws.{IsWithin, StaysWithin}
+use Rattle.pd_recover.specs.declared.feedback.Ack.{Ack}
+use Rattle.pd_recover.specs.declared.responses.Then.{Then}
+use Rattle.pd_recover.specs.declared.responses.Then.TheVariants.{Ordinary, StepC, Entry, LimitedTransmit, NewSegment, FastRetransmit, Nothing}
+use Rattle.pd_host.specs.Acknowledgments.{newly_acked, with_number, blocks_of, told_blocks, scored, with_blocks, with_timing, is_current, with_new_window, with_ack, ack_of_segment, answering, taking, delivered_data, window_after}
 use Rattle.pd_host.specs.Arrivals.{ruling_of}
 use Rattle.pd_host.specs.Connection.{ConnectionView}
 use Rattle.pd_host.specs.Handshake.{looked_at}
@@ -20,6 +24,7 @@ use Rattle.pd_host.specs.Sending.{sent_on}
 use Rattle.pd_host.specs.Timing.{is_measured, clocked, measured, with_timer_moved}
 use Rattle.pd_host.specs.declared.established.Established.{Established}
 use Rattle.pd_host.specs.declared.timings.Timing.{Timing}
+use Rattle.pd_recover.proofs.Windows.{paced-within}
 use Rattle.pd_host.proofs.Boards.{HasNumbersOf, acknowledged_ordered, blocks_keep}
 use Rattle.pd_host.proofs.Kept.{by_test}
 use Rattle.pd_host.proofs.Passed.{Passes, passes}
@@ -198,36 +203,51 @@ module _ (b : Settings) (now : ℕ) where
     some_segment : (c : ConnectionView) → IsReached b now c → 0 < c.board.smss
     some_segment c h = omega (arith, h.board.smss_low)
 
-    answered_live : (segment : Segment) (n : ℕ) (fresh : Bool) (e : Established) (c : ConnectionView) (o : Option Established)
-        → IsLive b now c → c.established ≡ o → IsLive b now (answering segment n fresh e c o).0
-    answered_live segment n fresh e c None h is = h
-    answered_live segment n fresh e c (Some after) h is =
+    -- the window that an ACK in recovery sets
+    window-within : (initial : ℕ) (next : Then) (c : ConnectionView) (w : CongView) → IsWithin c.board.smss initial w
+        → IsWithin c.board.smss initial (record w { cwnd = window_after next c w })
+    window-within initial StepC c w h = paced-within initial c.board.smss (pipe w.high_rxt c.board) w h
+    window-within initial Ordinary c w h = h
+    window-within initial Entry c w h = h
+    window-within initial LimitedTransmit c w h = h
+    window-within initial (NewSegment segment) c w h = h
+    window-within initial (FastRetransmit segment) c w h = h
+    window-within initial Nothing c w h = h
+
+    answered_live : (segment : Segment) (n delivered : ℕ) (fresh : Bool) (e : Established) (c : ConnectionView) (o : Option Established)
+        → IsLive b now c → c.established ≡ o → IsLive b now (answering segment n delivered fresh e c o).0
+    answered_live segment n delivered fresh e c None h is = h
+    answered_live segment n delivered fresh e c (Some after) h is =
         let k : IsInBounds b c.board.smss c.board.top c.widest after = at_some (IsInBounds b c.board.smss c.board.top c.widest) c.established after is h.reached.bounds in
-        congestion_live b now c after (acked (ack_of_segment segment n fresh e after c) after.congestion).0 h is
-        (windows.ack b.initial_ssthresh (ack_of_segment segment n fresh e after c) after.congestion h.reached.board.smss_high (few c h.reached) k.windows)
-        (acked_leads (ack_of_segment segment n fresh e after c) (some_segment c h.reached) (sent_above c h.reached) after.congestion (numbers b now c after h is)).below
+        let ack : Ack = ack_of_segment segment n delivered fresh e after c in
+        let step : CongView × Then = acked ack after.congestion in
+        let below = (acked_leads ack (some_segment c h.reached) (sent_above c h.reached) after.congestion (numbers b now c after h is)).below in
+        congestion_live b now c after (record step.0 { cwnd = window_after step.1 c step.0 }) h is
+        (window-within b.initial_ssthresh step.1 c step.0
+        (windows.ack b.initial_ssthresh ack after.congestion h.reached.board.smss_high (few c h.reached) k.windows))
+        (record { recovery_point = below.recovery_point; high_rxt = below.high_rxt; rescue_rxt = below.rescue_rxt })
 
-    named : (segment : Segment) (n : ℕ) (fresh : Bool) (e : Established) (c : ConnectionView) (after : Established) → IsLive b now c → c.established ≡ Some after
-        → IsNamed (ack_of_segment segment n fresh e after c) (answering segment n fresh e c (Some after)).1
-    named segment n fresh e c after h is =
-        (acked_leads (ack_of_segment segment n fresh e after c) (some_segment c h.reached) (sent_above c h.reached) after.congestion (numbers b now c after h is)).named
+    named : (segment : Segment) (n delivered : ℕ) (fresh : Bool) (e : Established) (c : ConnectionView) (after : Established) → IsLive b now c → c.established ≡ Some after
+        → IsNamed (ack_of_segment segment n delivered fresh e after c) (answering segment n delivered fresh e c (Some after)).1
+    named segment n delivered fresh e c after h is =
+        (acked_leads (ack_of_segment segment n delivered fresh e after c) (some_segment c h.reached) (sent_above c h.reached) after.congestion (numbers b now c after h is)).named
 
-    new_live : (segment : Segment) (n : ℕ) (fresh : Bool) (e : Established) (c : ConnectionView) (new : Span) (o : Option Established)
-        → IsLive b now c → c.established ≡ o → (answering segment n fresh e c o).1 ≡ NewSegment new → IsLive b now (sent_on now new (answering segment n fresh e c o).0)
-    new_live segment n fresh e c new None h is x = absurd cc
-    new_live segment n fresh e c new (Some after) h is x =
-        let k : IsNamed (ack_of_segment segment n fresh e after c) (NewSegment new) =
-        subst (IsNamed (ack_of_segment segment n fresh e after c)) x (named segment n fresh e c after h is) in
-        sent_live b now (answering segment n fresh e c (Some after)).0 _ new (answered_live segment n fresh e c (Some after) h is) refl
+    new_live : (segment : Segment) (n delivered : ℕ) (fresh : Bool) (e : Established) (c : ConnectionView) (new : Span) (o : Option Established)
+        → IsLive b now c → c.established ≡ o → (answering segment n delivered fresh e c o).1 ≡ NewSegment new → IsLive b now (sent_on now new (answering segment n delivered fresh e c o).0)
+    new_live segment n delivered fresh e c new None h is x = absurd cc
+    new_live segment n delivered fresh e c new (Some after) h is x =
+        let k : IsNamed (ack_of_segment segment n delivered fresh e after c) (NewSegment new) =
+        subst (IsNamed (ack_of_segment segment n delivered fresh e after c)) x (named segment n delivered fresh e c after h is) in
+        sent_live b now (answering segment n delivered fresh e c (Some after)).0 _ new (answered_live segment n delivered fresh e c (Some after) h is) refl
         (new_leaves c.board new h.reached.board (record { start = k.0; some = k.1; end = k.2 }))
 
-    again_live : (segment : Segment) (n : ℕ) (fresh : Bool) (e : Established) (c : ConnectionView) (first : Span) (o : Option Established)
-        → IsLive b now c → c.established ≡ o → (answering segment n fresh e c o).1 ≡ FastRetransmit first → IsLive b now (clocked now first (answering segment n fresh e c o).0)
-    again_live segment n fresh e c first None h is x = absurd cc
-    again_live segment n fresh e c first (Some after) h is x =
-        let k : IsNamed (ack_of_segment segment n fresh e after c) (FastRetransmit first) =
-        subst (IsNamed (ack_of_segment segment n fresh e after c)) x (named segment n fresh e c after h is) in
-        clocked_live b now (answering segment n fresh e c (Some after)).0 first (answered_live segment n fresh e c (Some after) h is)
+    again_live : (segment : Segment) (n delivered : ℕ) (fresh : Bool) (e : Established) (c : ConnectionView) (first : Span) (o : Option Established)
+        → IsLive b now c → c.established ≡ o → (answering segment n delivered fresh e c o).1 ≡ FastRetransmit first → IsLive b now (clocked now first (answering segment n delivered fresh e c o).0)
+    again_live segment n delivered fresh e c first None h is x = absurd cc
+    again_live segment n delivered fresh e c first (Some after) h is x =
+        let k : IsNamed (ack_of_segment segment n delivered fresh e after c) (FastRetransmit first) =
+        subst (IsNamed (ack_of_segment segment n delivered fresh e after c)) x (named segment n delivered fresh e c after h is) in
+        clocked_live b now (answering segment n delivered fresh e c (Some after)).0 first (answered_live segment n delivered fresh e c (Some after) h is)
         (omega (arith, k.0, k.1, k.2)) (omega (arith, k.1, k.2))
 
     -- a segment that passed all checks
@@ -235,19 +255,19 @@ module _ (b : Settings) (now : ℕ) where
         → IsLive b now (taking now segment c o).0
     taking_live segment c None h passed is = record { reached = h; live = (passes c segment passed).live }
     taking_live segment c (Some e) h passed is =
-        answered_live segment (newly_acked c segment) (with_ack now segment e c).1 e (with_ack now segment e c).0 (with_ack now segment e c).0.established
+        answered_live segment (newly_acked c segment) (delivered_data (newly_acked c segment) c.board (with_ack now segment e c).0.board) (with_ack now segment e c).1 e (with_ack now segment e c).0 (with_ack now segment e c).0.established
         (with_ack_live segment c e h (passes c segment passed) is) refl
 
     pub taking_new : (segment : Segment) (c : ConnectionView) (new : Span) (o : Option Established) → IsReached b now c → ruling_of c segment ≡ None → c.established ≡ o
         → (taking now segment c o).1 ≡ NewSegment new → IsLive b now (sent_on now new (taking now segment c o).0)
     taking_new segment c new None h passed is x = absurd cc
     taking_new segment c new (Some e) h passed is x =
-        new_live segment (newly_acked c segment) (with_ack now segment e c).1 e (with_ack now segment e c).0 new (with_ack now segment e c).0.established
+        new_live segment (newly_acked c segment) (delivered_data (newly_acked c segment) c.board (with_ack now segment e c).0.board) (with_ack now segment e c).1 e (with_ack now segment e c).0 new (with_ack now segment e c).0.established
         (with_ack_live segment c e h (passes c segment passed) is) refl x
 
     pub taking_again : (segment : Segment) (c : ConnectionView) (first : Span) (o : Option Established) → IsReached b now c → ruling_of c segment ≡ None → c.established ≡ o
         → (taking now segment c o).1 ≡ FastRetransmit first → IsLive b now (clocked now first (taking now segment c o).0)
     taking_again segment c first None h passed is x = absurd cc
     taking_again segment c first (Some e) h passed is x =
-        again_live segment (newly_acked c segment) (with_ack now segment e c).1 e (with_ack now segment e c).0 first (with_ack now segment e c).0.established
+        again_live segment (newly_acked c segment) (delivered_data (newly_acked c segment) c.board (with_ack now segment e c).0.board) (with_ack now segment e c).1 e (with_ack now segment e c).0 first (with_ack now segment e c).0.established
         (with_ack_live segment c e h (passes c segment passed) is) refl x

@@ -79,7 +79,7 @@ module _ (ack : Ack) (smss : 0 < ack.smss) (sent : ack.una ≤ ack.top) where
   sack_leads news w h =
       by_test Then_leads (w.recovering && nat_le w.recovery_point ack.una) _ _
       (λ _. record { below = kept ack.top w _ refl refl refl h; named = tt })
-      (λ _. by_test Then_leads w.recovering _ _ (λ _. record { below = h; named = tt })
+      (λ _. by_test Then_leads w.recovering _ _ (λ _. record { below = kept ack.top w _ refl refl refl h; named = tt })
       (λ _. by_test Then_leads news.fresh _ _
       (λ _. duplicate_leads news.lost (counted (grown_by ack w)) (kept ack.top (grown_by ack w) _ refl refl refl (grown_below w h)))
       (λ _. record { below = grown_below w h; named = tt })))

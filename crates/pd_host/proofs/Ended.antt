@@ -1,17 +1,16 @@
 -- What an RST ends, and in which range the numbers stay.
-use Rattle.std.proofs.Common.{◌≡◌, ℕ, zero, suc, ◌^◌, ◌<◌, ◌&&◌, ◌||◌, nat_lt, not, List, [], ◌∷◌, Bool, true, false, if◌then◌else◌, Option, Some, None, Ok, Err, refl, sym, ap, subst, ◌∙◌, arith}
+use Rattle.std.proofs.Common.{◌≡◌, ℕ, zero, suc, ◌&&◌, ◌||◌, nat_lt, not, List, [], ◌∷◌, Bool, true, false, if◌then◌else◌, Option, Some, None, Ok, Err, refl, sym, ap, subst, ◌∙◌, arith}
 use Rattle.std.specs.Prelude.{is_some, IfSome}
 use Rattle.pd_settings.specs.declared.fields.Settings.{Settings}
 use Rattle.pd_seg.specs.declared.segments.Segment.{Segment}
 use Rattle.pd_seg.specs.declared.segments.Sent.{Sent}
 use Rattle.pd_host.specs.Arrivals.{is_stray_fin, check_window, check_rst, check_ack_flag, check_handshake, check_ack, first_ruling, ruling_of, passed_on, arrived_on}
-use Rattle.pd_host.specs.Calls.{with_stream, with_fin, closed_stream}
+use Rattle.pd_host.specs.Calls.{with_stream, with_fin}
 use Rattle.pd_host.specs.ConnStates.{state_since, state_of, is_closed}
 use Rattle.pd_host.specs.Connection.{ConnectionView}
 use Rattle.pd_host.specs.Expiries.{due_by, deadline_of, expired}
 use Rattle.pd_host.specs.Handshake.{length_of}
 use Rattle.pd_host.specs.Invariants.{IsReached, BoardsAreLawful, CallsStayInRange, EndsForGood}
-use Rattle.pd_host.specs.Host.{queued_to}
 use Rattle.pd_host.specs.Sending.{repeated, on_found, places_left}
 use Rattle.pd_host.specs.declared.conn_states.ConnState.{ConnState}
 use Rattle.pd_host.specs.declared.conn_states.ConnState.TheVariants.{Closed}
@@ -19,7 +18,8 @@ use Rattle.pd_host.specs.declared.halts.Halt.TheVariants.{Limit}
 use Rattle.pd_host.specs.declared.rulings.Ruling.{Ruling}
 use Rattle.pd_host.specs.declared.rulings.Ruling.TheVariants.{NotRun}
 use Rattle.pd_host.specs.declared.streams.Stream.TheVariants as stream
-use Rattle.pd_host.proofs.CallsKept.{called_where, called_holds}
+use Rattle.pd_host.proofs.CallsKept.{called_where}
+use Rattle.pd_host.proofs.Growth.{calls_queue_what_they_ask}
 use Rattle.pd_host.proofs.Kept.{by_test, nothing_found}
 use Rattle.pd_host.proofs.Moments.{anything}
 use Rattle.pd_host.proofs.Queued.{clash}
@@ -42,47 +42,9 @@ boards_are_lawful now s c h is low =
 
 -- The range of the numbers
 
-abbrev IsLow : ConnectionView → Type 0
-IsLow c = c.board.end < 2 ^ 31
-
-abbrev MayQueue : ConnectionView → Type 0
-MayQueue c = c.board.end < 2 ^ 30
-
-closed_low : (c : ConnectionView) → MayQueue c → IsLow (closed_stream c)
-closed_low c h = by_test (λ (d : ConnectionView). IsLow (with_stream stream.Closed d)) c.reset c (with_fin c) (λ _. omega (arith, h)) (λ _. omega (arith, h))
-
-reset_low : (c : ConnectionView) → IsLow c → c.reset ≡ true → IsLow (closed_stream c)
-reset_low c h was =
-    by_test (λ (d : ConnectionView). IsLow (with_stream stream.Closed d)) c.reset c (with_fin c) (λ _. h) (λ still. absurd (clash c.reset was still))
-
-calls_low : (now : ℕ) (b : Settings) → KeptByCalls now b MayQueue IsLow IsLow
-calls_low now b = record {
-  sending = record { ready = λ c h. h; sent = λ c segment h e. h };
-  sent = λ c h. h;
-  accepted = λ c h e. h;
-  nagle = λ on c h. h;
-  queued = λ n c q h unclosed still. omega (arith, q, b.sndbuf_in_range.1);
-  finished = λ c q h unclosed still. closed_low c q;
-  abandoned = λ c h unclosed was. reset_low c h was;
-}
-
-may_queue : (o : Option ConnectionView) → queued_to o < 2 ^ 30 → IfSome o MayQueue
-may_queue None h = tt
-may_queue (Some c) h = h
-
-low_before : (o : Option ConnectionView) → queued_to o < 2 ^ 30 → IfSome o IsLow
-low_before None h = tt
-low_before (Some c) h = omega (arith, h)
-
-low_after : (o : Option ConnectionView) → IfSome o IsLow → queued_to o < 2 ^ 31
-low_after None h = omega arith
-low_after (Some c) h = h
-
 pub calls_stay_in_range : CallsStayInRange
-calls_stay_in_range call now s t answer short came =
-    low_after t.endpoint.connection
-    (called_holds now (λ _. Unit {0}) (λ b c. IsLow c) (λ b c. IsLow c) MayQueue (λ packets p e h. tt) (calls_low now) call s t answer
-    (may_queue s.endpoint.connection short) (record { packets = tt; connection = low_before s.endpoint.connection short }) came).connection
+calls_stay_in_range call now s t answer room came =
+    omega (arith, room, calls_queue_what_they_ask call now s t answer came)
 
 -- After an RST
 

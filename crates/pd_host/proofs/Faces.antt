@@ -2,7 +2,7 @@
 use Rattle.std.proofs.Common.{◌≡◌, ℕ, ◌==◌, max, Bool, if◌then◌else◌, Option, None, Some, refl, sym, ap, ◌∙◌}
 use Rattle.std.specs.Prelude.{option_map}
 use Rattle.pd_seg.specs.declared.segments.Segment.{Segment}
-use Rattle.pd_host.specs.Acknowledgments.{newly_acked, is_current, with_number, with_blocks, with_timing, with_ack, answering, taking}
+use Rattle.pd_host.specs.Acknowledgments.{newly_acked, is_current, with_number, with_blocks, with_timing, with_ack, answering, taking, delivered_data}
 use Rattle.pd_host.specs.Arrivals.{with_peer_fin}
 use Rattle.pd_host.specs.ConnStates.{synchronized, state_since, state_of, state_on}
 use Rattle.pd_host.specs.Connection.{ConnectionView}
@@ -93,17 +93,17 @@ ack_peer now segment e c has =
     (record d { widest = max d.widest (window_in d segment); established = Some (with_window (window_in d segment) segment e) }) d
     (Some e.peer_fin) refl (ap peer_of (same ∙ has))
 
-answer_peer : (segment : Segment) (n : ℕ) (fresh : Bool) (before : Established) (c : ConnectionView) (o : Option Established) → c.established ≡ o
-    → peer_of (answering segment n fresh before c o).0.established ≡ peer_of o
-answer_peer segment n fresh before c None e = ap peer_of e
-answer_peer segment n fresh before c (Some x) e = refl
+answer_peer : (segment : Segment) (n delivered : ℕ) (fresh : Bool) (before : Established) (c : ConnectionView) (o : Option Established) → c.established ≡ o
+    → peer_of (answering segment n delivered fresh before c o).0.established ≡ peer_of o
+answer_peer segment n delivered fresh before c None e = ap peer_of e
+answer_peer segment n delivered fresh before c (Some x) e = refl
 
 pub taking_peer : (now : ℕ) (segment : Segment) (c : ConnectionView) (o : Option Established) → c.established ≡ o
     → peer_of (taking now segment c o).0.established ≡ peer_of o
 taking_peer now segment c None e = ap peer_of e
 taking_peer now segment c (Some x) e =
     let after : ConnectionView × Bool = with_ack now segment x c in
-    answer_peer segment (newly_acked c segment) after.1 x after.0 after.0.established refl ∙ ack_peer now segment x c e
+    answer_peer segment (newly_acked c segment) (delivered_data (newly_acked c segment) c.board after.0.board) after.1 x after.0 after.0.established refl ∙ ack_peer now segment x c e
 
 -- the same face but for what is acknowledged
 

@@ -10,11 +10,11 @@ use Rattle.pd_seg.specs.declared.segments.Segment.{Segment}
 use Rattle.pd_board.specs.Board.{BoardView, marked, has_new}
 use Rattle.pd_recover.specs.declared.segments.NextSegment.{NextSegment}
 use Rattle.pd_recover.specs.declared.segments.NextSegment.TheVariants.{Lost, New, Hole, Rescue}
-use Rattle.pd_host.specs.Acknowledgments.{is_block_sent, told_block, told_blocks, blocks_of, scored, with_number, with_blocks, newly_acked, with_timing, with_new_window, is_current, noted_on, sent_as, entered_on, with_ack, answering, taking}
+use Rattle.pd_host.specs.Acknowledgments.{is_block_sent, told_block, told_blocks, blocks_of, scored, with_number, with_blocks, newly_acked, with_timing, with_new_window, is_current, noted_on, sent_as, entered_on, with_ack, answering, taking, delivered_data}
 use Rattle.pd_host.specs.Calls.{Reply, answered, with_listener, with_stored, with_stream, with_nagle, with_queued, with_fin, with_answer, socket_reply, bind_reply, listen_reply, accept_reply, handed_out, no_delay_reply, queued, free_of, write_uses, written_on, write_reply, closed_stream, closed_on, close_reply, operated, on_open, open_descriptor, requested, called, is_pending, is_waiting, stream_of}
 use Rattle.pd_host.specs.Connection.{ConnectionView}
 use Rattle.pd_host.specs.Expiries.{advanced, deadline_of, due_by, expired, expired_on}
-use Rattle.pd_host.specs.Growth.{asked_by, ExpiriesQueueNothing, ArrivalsQueueOurSyn, CallsQueueWhatTheyAsk}
+use Rattle.pd_host.specs.Growth.{asked_of, asked_by, ExpiriesQueueNothing, ArrivalsQueueOurSyn, CallsQueueWhatTheyAsk, CallsAskFew}
 use Rattle.pd_host.specs.Handshake.{syn_acked, looked_at}
 use Rattle.pd_host.specs.Requests.{request_of}
 use Rattle.pd_host.specs.Host.{queued_to}
@@ -79,16 +79,16 @@ with_ack_end now segment e c =
     window_end segment e (with_timing now e.granularity_us (newly_acked c segment) told)
     ∙ (timing_end now e.granularity_us (newly_acked c segment) told ∙ scored_end segment (with_number segment c))
 
-answering_end : (segment : Segment) (n : ℕ) (fresh : Bool) (before : Established) (c : ConnectionView) (o : Option Established)
-    → (answering segment n fresh before c o).0.board.end ≡ c.board.end
-answering_end segment n fresh before c None = refl
-answering_end segment n fresh before c (Some after) = refl
+answering_end : (segment : Segment) (n delivered : ℕ) (fresh : Bool) (before : Established) (c : ConnectionView) (o : Option Established)
+    → (answering segment n delivered fresh before c o).0.board.end ≡ c.board.end
+answering_end segment n delivered fresh before c None = refl
+answering_end segment n delivered fresh before c (Some after) = refl
 
 taking_end : (now : ℕ) (segment : Segment) (c : ConnectionView) (o : Option Established) → (taking now segment c o).0.board.end ≡ c.board.end
 taking_end now segment c None = refl
 taking_end now segment c (Some e) =
     let after : ConnectionView × Bool = with_ack now segment e c in
-    answering_end segment (newly_acked c segment) after.1 e after.0 after.0.established ∙ with_ack_end now segment e c
+    answering_end segment (newly_acked c segment) (delivered_data (newly_acked c segment) c.board after.0.board) after.1 e after.0 after.0.established ∙ with_ack_end now segment e c
 
 -- What is sent leaves the end
 
@@ -233,26 +233,27 @@ no_delay_ends : (n : ℕ) (s : State) (set : Bool) (d : Descriptor) → Ends n s
 no_delay_ends n s set Listening h = h
 no_delay_ends n s set Connected h = omega (arith, nagle_end (not set) s.endpoint.connection, h)
 
-queued_ends : (now octets free n : ℕ) (c : ConnectionView) (s : State) → c.board.end + octets ≤ n → Ends n s → AtMost n (queued now octets free c s)
+queued_ends : (now octets free n : ℕ) (c : ConnectionView) (s : State) → c.board.end + min octets free ≤ n → Ends n s → AtMost n (queued now octets free c s)
 queued_ends now octets free n c s le h =
     by_test (AtMost n) (free == 0) (answered s (Error Eagain)) _ (λ _. h)
     (λ _. answered_at_most n (Number (min octets free)) _
     (outside_recovery_ends n now c (with_stored (Some (with_queued (min octets free) c)) s) (omega (arith, le))))
 
 written_ends : (now octets : ℕ) (s : State) (o : Option ConnectionView) → s.endpoint.connection ≡ o
-    → AtMost (queued_to s.endpoint.connection + octets) (written_on now octets o s)
-written_ends now octets s None is = more (queued_to s.endpoint.connection) octets
+    → AtMost (queued_to s.endpoint.connection + min octets s.settings.sndbuf) (written_on now octets o s)
+written_ends now octets s None is = more (queued_to s.endpoint.connection) (min octets s.settings.sndbuf)
 written_ends now octets s (Some c) is =
-    let n : ℕ = queued_to s.endpoint.connection + octets in
-    let kept : Ends n s = more (queued_to s.endpoint.connection) octets in
+    let n : ℕ = queued_to s.endpoint.connection + min octets s.settings.sndbuf in
+    let kept : Ends n s = more (queued_to s.endpoint.connection) (min octets s.settings.sndbuf) in
     let same : queued_to s.endpoint.connection ≡ c.board.end = ap queued_to is in
     let after : State = record s { uses = write_uses s.uses } in
     by_test (AtMost n) c.reset (answered s (Error Epipe)) _ (λ _. kept)
     (λ _. by_test (AtMost n) (octets == 0) (answered s (Number 0)) (queued now octets (free_of s.settings.sndbuf c) c after) (λ _. kept)
     (λ _. queued_ends now octets (free_of s.settings.sndbuf c) n c after (omega (arith, same)) kept))
 
-write_ends : (now : ℕ) (s : State) (octets : ℕ) (d : Descriptor) → AtMost (queued_to s.endpoint.connection + octets) (write_reply now s octets d)
-write_ends now s octets Listening = more (queued_to s.endpoint.connection) octets
+write_ends : (now : ℕ) (s : State) (octets : ℕ) (d : Descriptor)
+    → AtMost (queued_to s.endpoint.connection + min octets s.settings.sndbuf) (write_reply now s octets d)
+write_ends now s octets Listening = more (queued_to s.endpoint.connection) (min octets s.settings.sndbuf)
 write_ends now s octets Connected = written_ends now octets s s.endpoint.connection refl
 
 closed_stream_end : (c : ConnectionView) → (closed_stream c).board.end ≤ c.board.end + 1
@@ -275,28 +276,40 @@ close_ends now s Listening =
     (λ _. tt) (λ _. more (queued_to s.endpoint.connection) 1)
 close_ends now s Connected = closed_ends now s s.endpoint.connection refl
 
-operated_ends : (now fd : ℕ) (s : State) (d : Descriptor) (o : Operation)
-    → AtMost (queued_to s.endpoint.connection + asked_by (Some (On fd o))) (operated now s d o)
-operated_ends now fd s d Bind = bind_ends (queued_to s.endpoint.connection + 0) s s.endpoint.listener d (more (queued_to s.endpoint.connection) 0)
-operated_ends now fd s d Listen = listen_ends (queued_to s.endpoint.connection + 0) s s.endpoint.listener d (more (queued_to s.endpoint.connection) 0)
-operated_ends now fd s d Accept = accept_ends (queued_to s.endpoint.connection + 0) s s.endpoint.listener d (more (queued_to s.endpoint.connection) 0)
-operated_ends now fd s d ReuseAddress = more (queued_to s.endpoint.connection) 0
-operated_ends now fd s d (NoDelay set) = no_delay_ends (queued_to s.endpoint.connection + 0) s set d (more (queued_to s.endpoint.connection) 0)
-operated_ends now fd s d SetFlags = more (queued_to s.endpoint.connection) 0
-operated_ends now fd s d (Write octets) = write_ends now s octets d
-operated_ends now fd s d Close = close_ends now s d
+operated_ends : (now : ℕ) (s : State) (d : Descriptor) (o : Operation)
+    → AtMost (queued_to s.endpoint.connection + asked_of s.settings.sndbuf o) (operated now s d o)
+operated_ends now s d Bind = bind_ends (queued_to s.endpoint.connection + 0) s s.endpoint.listener d (more (queued_to s.endpoint.connection) 0)
+operated_ends now s d Listen = listen_ends (queued_to s.endpoint.connection + 0) s s.endpoint.listener d (more (queued_to s.endpoint.connection) 0)
+operated_ends now s d Accept = accept_ends (queued_to s.endpoint.connection + 0) s s.endpoint.listener d (more (queued_to s.endpoint.connection) 0)
+operated_ends now s d ReuseAddress = more (queued_to s.endpoint.connection) 0
+operated_ends now s d (NoDelay set) = no_delay_ends (queued_to s.endpoint.connection + 0) s set d (more (queued_to s.endpoint.connection) 0)
+operated_ends now s d SetFlags = more (queued_to s.endpoint.connection) 0
+operated_ends now s d (Write octets) = write_ends now s octets d
+operated_ends now s d Close = close_ends now s d
 
-open_ends : (now fd : ℕ) (s : State) (o : Operation) (d : Option Descriptor)
-    → AtMost (queued_to s.endpoint.connection + asked_by (Some (On fd o))) (on_open now s o d)
-open_ends now fd s o None = more (queued_to s.endpoint.connection) (asked_by (Some (On fd o)))
-open_ends now fd s o (Some d) = operated_ends now fd s d o
+open_ends : (now : ℕ) (s : State) (o : Operation) (d : Option Descriptor)
+    → AtMost (queued_to s.endpoint.connection + asked_of s.settings.sndbuf o) (on_open now s o d)
+open_ends now s o None = more (queued_to s.endpoint.connection) (asked_of s.settings.sndbuf o)
+open_ends now s o (Some d) = operated_ends now s d o
 
-requested_ends : (now : ℕ) (s : State) (r : Option Request) → AtMost (queued_to s.endpoint.connection + asked_by r) (requested now s r)
+requested_ends : (now : ℕ) (s : State) (r : Option Request) → AtMost (queued_to s.endpoint.connection + asked_by s.settings.sndbuf r) (requested now s r)
 requested_ends now s None = tt
 requested_ends now s (Some Socket) = socket_ends (queued_to s.endpoint.connection + 0) s s.endpoint.listener (more (queued_to s.endpoint.connection) 0)
-requested_ends now s (Some (On fd o)) = open_ends now fd s o (open_descriptor s.endpoint fd)
+requested_ends now s (Some (On fd o)) = open_ends now s o (open_descriptor s.endpoint fd)
 
 pub calls_queue_what_they_ask : CallsQueueWhatTheyAsk
 calls_queue_what_they_ask call now s t answer is =
-    came (λ (r : State × Answer). Ends (queued_to s.endpoint.connection + asked_by (request_of call)) r.0) (called call now s) (t, answer)
+    came (λ (r : State × Answer). Ends (queued_to s.endpoint.connection + asked_by s.settings.sndbuf (request_of call)) r.0) (called call now s) (t, answer)
     (requested_ends now s (request_of call)) is
+
+operation_asks_few : (b : Settings) (o : Operation) → asked_of b.sndbuf o ≤ 1048576
+operation_asks_few b (Write n) = omega (arith, b.sndbuf_in_range.1)
+operation_asks_few b Close = omega arith
+operation_asks_few b _ = omega arith
+
+request_asks_few : (b : Settings) (r : Option Request) → asked_by b.sndbuf r ≤ 1048576
+request_asks_few b (Some (On fd o)) = operation_asks_few b o
+request_asks_few b _ = omega arith
+
+pub calls_ask_few : CallsAskFew
+calls_ask_few b call = request_asks_few b (request_of call)

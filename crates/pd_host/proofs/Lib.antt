@@ -37,6 +37,7 @@ pub mod OneByOne
 pub mod OptionLists
 pub mod Outcomes
 pub mod Passed
+pub mod Proportion
 pub mod PutOut
 pub mod Queued
 pub mod Reached

@@ -7,12 +7,13 @@ use Rattle.pd_settings.specs.declared.fields.Settings.{Settings}
 use Rattle.pd_seg.specs.declared.sack_blocks.Span.{Span}
 use Rattle.pd_timer.specs.Rto.{RtoView, started, restarted}
 use Rattle.pd_recover.specs.Choice.{segment_of}
-use Rattle.pd_recover.proofs.Windows.{restarted-within}
-use Rattle.pd_recover.specs.Cong.{CongView, entered_to, restarted as window_restarted}
+use Rattle.pd_recover.proofs.Windows.{restarted-within, paced-within}
+use Rattle.pd_recover.specs.Cong.{CongView, is_reducing, entered_to, restarted as window_restarted}
+use Rattle.pd_board.specs.Loss.{pipe}
 use Rattle.pd_recover.specs.Laws.{IsWithin}
 use Rattle.pd_recover.specs.declared.segments.NextSegment.{NextSegment}
 use Rattle.pd_recover.specs.declared.segments.NextSegment.TheVariants.{Lost, New, Hole, Rescue}
-use Rattle.pd_host.specs.Acknowledgments.{sent_as, noted_by, noted_on, entered_on}
+use Rattle.pd_host.specs.Acknowledgments.{sent_as, noted_by, noted_on, entered_on, paced_on}
 use Rattle.pd_host.specs.Connection.{ConnectionView}
 use Rattle.pd_host.specs.Invariants.{IsEnding, IsOfPhase, IsInBounds, IsTimed, IsReached}
 use Rattle.pd_host.specs.Sending.{is_idle, restarted_in, begun_again, past_sacked, sent_on}
@@ -158,12 +159,13 @@ module _ (b : Settings) (now : ℕ) where
 
   -- the window and the threshold stay, and what loss recovery names was sent
   renumbered : (c : ConnectionView) (e : Established) (w : CongView) → IsLive b now c → c.established ≡ Some e
-      → w.cwnd ≡ e.congestion.cwnd → w.ssthresh ≡ e.congestion.ssthresh → w.recovering ≡ e.congestion.recovering → IsBelow c.board.top w
+      → w.cwnd ≡ e.congestion.cwnd → w.ssthresh ≡ e.congestion.ssthresh → w.recovering ≡ e.congestion.recovering
+      → w.rate ≡ e.congestion.rate → IsBelow c.board.top w
       → IsLive b now (record c { established = Some (record e { congestion = w }) })
-  renumbered c e w h is cwnd ssthresh recovering below =
+  renumbered c e w h is cwnd ssthresh recovering rate below =
       let k : IsInBounds b c.board.smss c.board.top c.widest e = at_some (IsInBounds b c.board.smss c.board.top c.widest) c.established e is h.reached.bounds in
       congestion_live c e w h is (record {
-        cwnd_from = omega (arith, k.windows.cwnd_from, cwnd);
+        cwnd_from = λ calm. let low = k.windows.cwnd_from (sym (λ i. is_reducing (recovering i) (rate i)) ∙ calm) in omega (arith, low, cwnd);
         cwnd_to = omega (arith, k.windows.cwnd_to, cwnd);
         ssthresh_from = omega (arith, k.windows.ssthresh_from, ssthresh);
         ssthresh_to = omega (arith, k.windows.ssthresh_to, ssthresh);
@@ -206,7 +208,7 @@ module _ (b : Settings) (now : ℕ) where
   noted_numbers : (filling : Filling) (sent : NextSegment) (top : ℕ) (w : CongView) → IsBelow top w → (segment_of sent).end ≤ top
       → IsBelow top (noted_by filling sent w)
   noted_numbers NewData sent top w k to = record { recovery_point = k.recovery_point; high_rxt = k.high_rxt; rescue_rxt = k.rescue_rxt }
-  noted_numbers NextSeg (New segment) top w k to = k
+  noted_numbers NextSeg (New segment) top w k to = record { recovery_point = k.recovery_point; high_rxt = k.high_rxt; rescue_rxt = k.rescue_rxt }
   noted_numbers NextSeg (Lost segment) top w k to = record { recovery_point = k.recovery_point; high_rxt = to; rescue_rxt = k.rescue_rxt }
   noted_numbers NextSeg (Hole segment) top w k to = record { recovery_point = k.recovery_point; high_rxt = to; rescue_rxt = k.rescue_rxt }
   noted_numbers NextSeg (Rescue segment) top w k to =
@@ -214,18 +216,18 @@ module _ (b : Settings) (now : ℕ) where
 
   noted_windows : (filling : Filling) (sent : NextSegment) (w : CongView)
       → ((noted_by filling sent w).cwnd ≡ w.cwnd) × ((noted_by filling sent w).ssthresh ≡ w.ssthresh)
-      × ((noted_by filling sent w).recovering ≡ w.recovering)
-  noted_windows NewData sent w = (refl, refl, refl)
-  noted_windows NextSeg (New segment) w = (refl, refl, refl)
-  noted_windows NextSeg (Lost segment) w = (refl, refl, refl)
-  noted_windows NextSeg (Hole segment) w = (refl, refl, refl)
-  noted_windows NextSeg (Rescue segment) w = (refl, refl, refl)
+      × ((noted_by filling sent w).recovering ≡ w.recovering) × ((noted_by filling sent w).rate ≡ w.rate)
+  noted_windows NewData sent w = (refl, refl, refl, refl)
+  noted_windows NextSeg (New segment) w = (refl, refl, refl, refl)
+  noted_windows NextSeg (Lost segment) w = (refl, refl, refl, refl)
+  noted_windows NextSeg (Hole segment) w = (refl, refl, refl, refl)
+  noted_windows NextSeg (Rescue segment) w = (refl, refl, refl, refl)
 
   noted_too : (filling : Filling) (sent : NextSegment) (c : ConnectionView) (e : Established) → IsLive b now c → c.established ≡ Some e
       → (segment_of sent).end ≤ c.board.top → IsLive b now (noted_on filling sent c (Some e))
   noted_too filling sent c e h is to =
       let same = noted_windows filling sent e.congestion in
-      renumbered c e (noted_by filling sent e.congestion) h is same.0 same.1 same.2
+      renumbered c e (noted_by filling sent e.congestion) h is same.0 same.1 same.2 same.3
       (noted_numbers filling sent c.board.top e.congestion (numbers c e h is) to)
 
   -- one segment that fills the room of the window
@@ -253,8 +255,19 @@ module _ (b : Settings) (now : ℕ) where
   entered_live segment c None h is to = h
   entered_live segment c (Some est) h is to =
       let k = numbers c est h is in
-      renumbered c est (entered_to segment.end est.congestion) h is refl refl refl
-      (record { recovery_point = k.recovery_point; high_rxt = to; rescue_rxt = to })
+      let w : CongView = entered_to segment est.congestion in
+      let below : IsBelow c.board.top w = record { recovery_point = k.recovery_point; high_rxt = to; rescue_rxt = to } in
+      let bounds : IsInBounds b c.board.smss c.board.top c.widest est = at_some (IsInBounds b c.board.smss c.board.top c.widest) c.established est is h.reached.bounds in
+      congestion_live c est (paced_on c w) h is
+      (paced-within b.initial_ssthresh c.board.smss (pipe w.high_rxt c.board) w
+      (record {
+        cwnd_from = bounds.windows.cwnd_from;
+        cwnd_to = bounds.windows.cwnd_to;
+        ssthresh_from = bounds.windows.ssthresh_from;
+        ssthresh_to = bounds.windows.ssthresh_to;
+        recovering = bounds.windows.recovering;
+      }))
+      (record { recovery_point = below.recovery_point; high_rxt = below.high_rxt; rescue_rxt = below.rescue_rxt })
 
   first_to : (c : ConnectionView) → IsLive b now c → (first_run c).end ≤ c.board.top
   first_to c h = (run_within c.board.una c.board (omega (arith, h.reached.board.una_next, h.reached.board.next_top))).1

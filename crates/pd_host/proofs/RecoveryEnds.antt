@@ -7,7 +7,7 @@ use Rattle.pd_recover.specs.Laws.{EndsInTime}
 use Rattle.pd_recover.specs.declared.feedback.Ack.{Ack}
 use Rattle.pd_recover.specs.declared.feedback.News.{News}
 use Rattle.pd_seg.specs.declared.segments.Segment.{Segment}
-use Rattle.pd_host.specs.Acknowledgments.{newly_acked, news_of, ack_of_segment, answering, with_ack, taking, ack_taken}
+use Rattle.pd_host.specs.Acknowledgments.{newly_acked, news_of, ack_of_segment, answering, with_ack, taking, ack_taken, delivered_data}
 use Rattle.pd_host.specs.Connection.{ConnectionView}
 use Rattle.pd_host.specs.Sending.{with_block, is_recovering}
 use Rattle.pd_host.specs.SendingLaws.{recovers, EndsRecovery}
@@ -42,14 +42,14 @@ record Tells (ack : Ack) (una n : ℕ) (news : Option News) : Type 0 where
   pub octets : ack.acked ≡ n
   pub blocks : ack.sack ≡ news
 
-answer_ends : (segment : Segment) (n : ℕ) (fresh : Bool) (before : Established) (d : ConnectionView) (o : Option Established) (w : CongView) (X : Type 0)
+answer_ends : (segment : Segment) (n delivered : ℕ) (fresh : Bool) (before : Established) (d : ConnectionView) (o : Option Established) (w : CongView) (X : Type 0)
     → congestions o ≡ Some w
     → ((ack : Ack) → Tells ack d.board.una n (news_of fresh d) → Ends ack w X)
-    → (is_recovering (answering segment n fresh before d o).0.established ≡ false) ↔ X
-answer_ends segment n fresh before d None w X has ends = absurd cc
-answer_ends segment n fresh before d (Some e) w X has ends =
+    → (is_recovering (answering segment n delivered fresh before d o).0.established ≡ false) ↔ X
+answer_ends segment n delivered fresh before d None w X has ends = absurd cc
+answer_ends segment n delivered fresh before d (Some e) w X has ends =
     let same : e.congestion ≡ w = cc in
-    let ack : Ack = ack_of_segment segment n fresh before e d in
+    let ack : Ack = ack_of_segment segment n delivered fresh before e d in
     subst (λ (v : CongView). Ends ack v X) (sym same) (ends ack (record { number = refl; octets = refl; blocks = refl }))
 
 taken_ends : (now : ℕ) (segment : Segment) (c : ConnectionView) (s t : State) (e : Established) (X : Type 0)
@@ -64,7 +64,7 @@ taken_ends now segment c s t e X has ends h =
     let sent : IsSentOn now (with_block left s) t = came (IsSentOn now (with_block left s)) (ack_taken now segment c s (Some e)) t same (taken_sends now segment c s (Some e)) in
     let una : after.0.board.una ≡ segment.ack = ap (λ (x : ConnectionView). x.board.una) (ack_keeps now segment e c) in
     subst (λ (b : Bool). (b ≡ false) ↔ X) (sym (sent_recovers now (with_block left s) t sent))
-    (answer_ends segment (newly_acked c segment) after.1 e after.0 after.0.established e.congestion X (ack_leaves_congestion now segment e c has)
+    (answer_ends segment (newly_acked c segment) (delivered_data (newly_acked c segment) c.board after.0.board) after.1 e after.0 after.0.established e.congestion X (ack_leaves_congestion now segment e c has)
     (λ ack tells. ends ack after.1 (record { number = tells.number ∙ una; octets = tells.octets; blocks = tells.blocks })))
 
 -- whether SACK was agreed

@@ -1,6 +1,6 @@
 -- Step C and limited transmit put out no more octets than the congestion window has room for.
-use Rattle.std.proofs.Common.{◌≡◌, ℕ, ◌+◌, ◌-◌, ◌≤◌, ◌&&◌, min, max, nat_lt, nat_le, List, [], ◌∷◌, ◌++◌, Option, None, Some, refl, sym, subst, ap, ◌∙◌, append_assoc, append-nil, arith}
-use Rattle.std.specs.Prelude.{unwrap_or, option_map}
+use Rattle.std.proofs.Common.{◌≡◌, ℕ, ◌+◌, ◌-◌, ◌≤◌, ◌&&◌, ◌^◌, min, max, nat_lt, nat_le, if◌then◌else◌, List, [], ◌∷◌, ◌++◌, Option, None, Some, refl, sym, subst, ap, ◌∙◌, append_assoc, append-nil, arith}
+use Rattle.std.specs.Prelude.{Ok, unwrap_or, option_map}
 use Rattle.pd_board.specs.Choice.{run_at, most_from, next_lost, next_hole, rescue, segment_to, after}
 use Rattle.pd_board.specs.Loss.{is_free}
 use Rattle.pd_board.specs.Octets.{contains, least_where, greatest_where}
@@ -9,6 +9,10 @@ use Rattle.pd_recover.specs.Choice.{segment_of, has_room, lost_run, new_data, ho
 use Rattle.pd_recover.specs.Cong.{CongView}
 use Rattle.pd_recover.specs.declared.segments.NextSegment.{NextSegment}
 use Rattle.pd_recover.specs.declared.segments.NextSegment.TheVariants.{Lost, New, Hole, Rescue}
+use Rattle.pd_settings.specs.declared.recovery_rate.RecoveryRate.{RecoveryRate}
+use Rattle.pd_recover.specs.Prr.{is_proportional, sent_of}
+use Rattle.pd_recover.specs.declared.reductions.Reduction.{Reduction}
+use Rattle.pd_recover.proofs.Cases.{either}
 use Rattle.pd_recover.proofs.Chosen.{AllOf, one_of, either_of, map_of, allowed_of}
 use Rattle.pd_recover.proofs.Found.{least}
 use Rattle.pd_seg.specs.declared.sack_blocks.Span.{Span}
@@ -17,7 +21,7 @@ use Rattle.pd_host.specs.Acknowledgments.{OnTheWay, octets_of, next_by, next_fou
 use Rattle.pd_host.specs.Connection.{ConnectionView}
 use Rattle.pd_host.specs.Packets.{data_of}
 use Rattle.pd_host.specs.Sending.{value_on, places_left, with_segment}
-use Rattle.pd_host.specs.SendingLaws.{end_with_fin, octets_in, cwnd_in, FillsWindow, KeepsToWindow}
+use Rattle.pd_host.specs.SendingLaws.{end_with_fin, octets_in, cwnd_in, out_in, FillsWindow, KeepsToWindow}
 use Rattle.pd_host.specs.declared.established.Established.{Established}
 use Rattle.pd_host.specs.declared.fillings.Filling.{Filling}
 use Rattle.pd_host.specs.declared.fillings.Filling.TheVariants.{NextSeg, NewData}
@@ -110,6 +114,7 @@ record IsFilling (pipe cwnd : ℕ) (s : State) (t : OnTheWay) : Type 0 where
   pub counted : pipe + octets_in packets ≤ t.1
   pub full : t.1 ≤ max pipe cwnd
   pub window : cwnd_in t.0.endpoint.connection ≡ cwnd
+  pub out : out_in t.0.endpoint.connection + pipe ≤ out_in s.endpoint.connection + t.1
 
 one_more : (packets : List Sent) (p : Sent) → octets_in (packets ++ p ∷ []) ≡ octets_in packets + (end_with_fin p.segment - p.segment.start)
 one_more [] p = omega arith
@@ -119,6 +124,9 @@ one_more (q ∷ packets) p =
 
 counted_more : (pipe before last start end n whole : ℕ) → pipe + before ≤ n → last ≤ end → whole ≡ before + (last - start) → pipe + whole ≤ n + (end - start)
 counted_more pipe before last start end n whole h k e = omega (arith, h, k, e)
+
+out_more : (before after pipe first n octets : ℕ) → before + pipe ≤ first + n → after ≤ before + octets → after + pipe ≤ first + (n + octets)
+out_more before after pipe first n octets h k = omega (arith, h, k)
 
 fuller : (pipe cwnd n octets : ℕ) → n ≤ max pipe cwnd → octets ≤ cwnd - n → n + octets ≤ max pipe cwnd
 fuller pipe cwnd n octets h k = omega (arith, h, k)
@@ -130,15 +138,43 @@ noted_window NextSeg (New segment) w = refl
 noted_window NextSeg (Hole segment) w = refl
 noted_window NextSeg (Rescue segment) w = refl
 
+-- prr_out grows by what is sent at most
+sent_out : (rate : RecoveryRate) (octets : ℕ) (r : Reduction) → (if is_proportional rate then sent_of octets r else r).prr_out ≤ r.prr_out + octets
+sent_out rate octets r = either (λ (q : Reduction). q.prr_out ≤ r.prr_out + octets) (is_proportional rate) (sent_of octets r) r (lesser r.prr_out octets) (grown r.prr_out octets)
+  where
+    lesser : (out n : ℕ) → min (out + n) (2 ^ 31) ≤ out + n
+    lesser out n = omega arith
+
+    grown : (out n : ℕ) → out ≤ out + n
+    grown out n = omega arith
+
+noted_out : (filling : Filling) (sent : NextSegment) (w : CongView)
+    → (noted_by filling sent w).reduction.prr_out ≤ w.reduction.prr_out + octets_of (segment_of sent)
+noted_out NewData sent w = omega arith
+noted_out NextSeg (Lost segment) w = sent_out w.rate (octets_of segment) w.reduction
+noted_out NextSeg (New segment) w = sent_out w.rate (octets_of segment) w.reduction
+noted_out NextSeg (Hole segment) w = sent_out w.rate (octets_of segment) w.reduction
+noted_out NextSeg (Rescue segment) w = sent_out w.rate (octets_of segment) w.reduction
+
+-- prr_out of a connection
+abbrev out_on : ConnectionView → Option Established → ℕ
+out_on c o = value_on 0 (λ _ e. e.congestion.reduction.prr_out) c o
+
+more_out : (now : ℕ) (filling : Filling) (sent : NextSegment) (c : ConnectionView) (o : Option Established) → c.established ≡ o
+    → out_in (Some (noted_on filling sent (sent_as now sent c) o)) ≤ out_on c o + octets_of (segment_of sent)
+more_out now filling sent c None is = let none : out_in (Some (sent_as now sent c)) ≡ 0 = ap (out_on c) (sent_as_established now sent c ∙ is) in omega (arith, none)
+more_out now filling sent c (Some e) is = noted_out filling sent e.congestion
+
 same_window : (now : ℕ) (filling : Filling) (sent : NextSegment) (c : ConnectionView) (o : Option Established) → c.established ≡ o
     → cwnd_in (Some (noted_on filling sent (sent_as now sent c) o)) ≡ cwnd_on c o
 same_window now filling sent c None is = ap (cwnd_on c) (sent_as_established now sent c ∙ is)
 same_window now filling sent c (Some e) is = noted_window filling sent e.congestion
 
 one_filling : (pipe cwnd now : ℕ) (s : State) (t : OnTheWay) (segment : Span) (c d : ConnectionView) → t.0.endpoint.connection ≡ Some c
-    → HasRoom (cwnd_in (Some c)) t.1 segment → cwnd_in (Some d) ≡ cwnd_in (Some c) → IsFilling pipe cwnd s t
+    → HasRoom (cwnd_in (Some c)) t.1 segment → cwnd_in (Some d) ≡ cwnd_in (Some c)
+    → out_in (Some d) ≤ out_in (Some c) + octets_of segment → IsFilling pipe cwnd s t
     → IsFilling pipe cwnd s (with_segment now segment c d t.0, t.1 + octets_of segment)
-one_filling pipe cwnd now s t segment c d e room stays h =
+one_filling pipe cwnd now s t segment c d e room stays grows h =
     let packet : Sent = record { segment = data_of c segment; at = now } in
     let here : cwnd_in (Some c) ≡ cwnd = sym (ap cwnd_in e) ∙ h.window in
     record {
@@ -148,6 +184,8 @@ one_filling pipe cwnd now s t segment c d e room stays h =
           h.counted (packet_ends c segment) (one_more h.packets packet);
       full = fuller pipe cwnd t.1 (octets_of segment) h.full (subst (λ (n : ℕ). octets_of segment ≤ n - t.1) here room);
       window = stays ∙ here;
+      out = out_more (out_in t.0.endpoint.connection) (out_in (Some d)) pipe (out_in s.endpoint.connection) t.1 (octets_of segment) h.out
+          (subst (λ (n : ℕ). out_in (Some d) ≤ n + octets_of segment) (sym (ap out_in e)) grows);
     }
 
 fill_once : (filling : Filling) (pipe cwnd now : ℕ) (s : State) (t : OnTheWay) (sent : NextSegment) (o : Option ConnectionView)
@@ -156,13 +194,17 @@ fill_once : (filling : Filling) (pipe cwnd now : ℕ) (s : State) (t : OnTheWay)
 fill_once filling pipe cwnd now s t sent None e f h = h
 fill_once filling pipe cwnd now s t sent (Some c) e f h =
     one_filling pipe cwnd now s t (segment_of sent) c (noted_on filling sent (sent_as now sent c) c.established) e
-    (room_on filling t.1 c c.established sent f) (same_window now filling sent c c.established refl) h
+    (room_on filling t.1 c c.established sent f) (same_window now filling sent c c.established refl)
+    (more_out now filling sent c c.established refl) h
 
 most : (pipe cwnd : ℕ) → pipe ≤ max pipe cwnd
 most pipe cwnd = omega arith
 
 none_counted : (pipe : ℕ) → pipe + 0 ≤ pipe
 none_counted pipe = omega arith
+
+itself : (n : ℕ) → n ≤ n
+itself n = omega arith
 
 begun : (s : State) → IsFilling (pipe_of s.endpoint.connection) (cwnd_in s.endpoint.connection) s (s, pipe_of s.endpoint.connection)
 begun s = record {
@@ -171,6 +213,7 @@ begun s = record {
   counted = none_counted (pipe_of s.endpoint.connection);
   full = most (pipe_of s.endpoint.connection) (cwnd_in s.endpoint.connection);
   window = refl;
+  out = itself (out_in s.endpoint.connection + pipe_of s.endpoint.connection);
 }
 
 room_left : (pipe octets n cwnd : ℕ) → pipe + octets ≤ n → n ≤ max pipe cwnd → octets ≤ cwnd - pipe
@@ -182,6 +225,37 @@ ended s t h = (
   room_left (pipe_of s.endpoint.connection) (octets_in h.packets) t.1 (cwnd_in s.endpoint.connection) h.counted h.full,
   h.outbox,
 )
+
+-- the same, and prr_out has grown by no more than the window had room for
+abbrev FillsOut : State → State → Type 0
+FillsOut s t =
+    (packets : List Sent)
+    × (octets_in packets ≤ cwnd_in s.endpoint.connection - pipe_of s.endpoint.connection)
+    × (out_in t.endpoint.connection ≤ out_in s.endpoint.connection + (cwnd_in s.endpoint.connection - pipe_of s.endpoint.connection))
+    × (t.endpoint.outbox ≡ s.endpoint.outbox ++ packets)
+
+out_left : (after before pipe n cwnd : ℕ) → after + pipe ≤ before + n → n ≤ max pipe cwnd → after ≤ before + (cwnd - pipe)
+out_left after before pipe n cwnd h k = omega (arith, h, k)
+
+ended_out : (s : State) (t : OnTheWay) → IsFilling (pipe_of s.endpoint.connection) (cwnd_in s.endpoint.connection) s t → FillsOut s t.0
+ended_out s t h = (
+  h.packets,
+  room_left (pipe_of s.endpoint.connection) (octets_in h.packets) t.1 (cwnd_in s.endpoint.connection) h.counted h.full,
+  out_left (out_in t.0.endpoint.connection) (out_in s.endpoint.connection) (pipe_of s.endpoint.connection) t.1 (cwnd_in s.endpoint.connection) h.out h.full,
+  h.outbox,
+)
+
+fills_out : (now : ℕ) (filling : Filling) (s : State) → Leaves (FillsOut s) (filled now filling s)
+fills_out now filling s =
+    let pipe : ℕ = pipe_of s.endpoint.connection in
+    let cwnd : ℕ = cwnd_in s.endpoint.connection in
+    sender_leaves (FillsOut s) _
+    (leaves_too (IsFilling pipe cwnd s) (λ t. FillsOut s t.0) _ (ended_out s)
+    (kept (IsFilling pipe cwnd s) (fill_finds filling) (fill_sends now filling)
+    (λ sent t f h. fill_once filling pipe cwnd now s t sent t.0.endpoint.connection refl f h) (places_left s) (s, pipe) (begun s)))
+
+pub filled_out : (now : ℕ) (filling : Filling) (s t : State) → filled now filling s ≡ Ok t → FillsOut s t
+filled_out now filling s t h = came (FillsOut s) (filled now filling s) t h (fills_out now filling s)
 
 fills : (now : ℕ) (filling : Filling) (s : State) → Leaves (FillsWindow s) (filled now filling s)
 fills now filling s =

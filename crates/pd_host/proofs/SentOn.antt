@@ -6,6 +6,7 @@ use Rattle.pd_recover.specs.declared.responses.Then.{Then}
 use Rattle.pd_recover.specs.declared.responses.Then.TheVariants.{Ordinary, StepC, Entry, LimitedTransmit, NewSegment, FastRetransmit, Nothing}
 use Rattle.pd_recover.specs.declared.segments.NextSegment.{NextSegment}
 use Rattle.pd_recover.specs.declared.segments.NextSegment.TheVariants.{Lost, New, Hole, Rescue}
+use Rattle.pd_recover.specs.Prr.{no_reduction}
 use Rattle.pd_recover.specs.Choice.{segment_of}
 use Rattle.pd_seg.specs.declared.sack_blocks.Span.{Span}
 use Rattle.pd_seg.specs.declared.segments.Sent.{Sent}
@@ -27,7 +28,7 @@ use Rattle.pd_host.proofs.Outcomes.{Leaves, kept, either, then_leaves}
 -- what sending moves, at rest
 abbrev pub at_rest : Option Established → Option Established
 at_rest None = None
-at_rest (Some e) = Some (record e { congestion = record e.congestion { cwnd = 0; limited = 0; high_rxt = 0; rescue_rxt = 0; follows_expiry = false } })
+at_rest (Some e) = Some (record e { congestion = record e.congestion { cwnd = 0; limited = 0; high_rxt = 0; rescue_rxt = 0; follows_expiry = false; reduction = no_reduction } })
 
 abbrev resting : ConnectionView → Option Established → ConnectionView
 resting c e = record c {

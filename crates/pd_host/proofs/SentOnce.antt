@@ -9,7 +9,7 @@ use Rattle.pd_seg.specs.declared.sack_blocks.Span.{Span}
 use Rattle.pd_seg.specs.declared.segments.Segment.{Segment}
 use Rattle.pd_seg.specs.declared.segments.Sent.{Sent}
 use Rattle.pd_timer.specs.Rto.{sampled}
-use Rattle.pd_host.specs.Acknowledgments.{newly_acked, answering, with_blocks, with_number, with_ack, with_timing, is_current, taking, ack_taken}
+use Rattle.pd_host.specs.Acknowledgments.{newly_acked, answering, with_blocks, with_number, with_ack, with_timing, is_current, taking, ack_taken, delivered_data}
 use Rattle.pd_host.specs.Arrivals.{ruled, arrived_on, arrived, ruling_of, reset_of, with_peer_fin}
 use Rattle.pd_host.specs.Calls.{called}
 use Rattle.pd_host.specs.Connection.{ConnectionView}
@@ -318,16 +318,16 @@ ack_timed now segment e c x h =
     moved_so (nat_lt 0 n) now e.granularity_us told x
     (window_so (is_current e segment) segment e (with_timing now e.granularity_us n told) x h)
 
-answer_timed : (segment : Segment) (n : ℕ) (fresh : Bool) (before : Established) (c : ConnectionView) (o : Option Established)
-    → (answering segment n fresh before c o).0.timed ≡ c.timed
-answer_timed segment n fresh before c None = refl
-answer_timed segment n fresh before c (Some e) = refl
+answer_timed : (segment : Segment) (n delivered : ℕ) (fresh : Bool) (before : Established) (c : ConnectionView) (o : Option Established)
+    → (answering segment n delivered fresh before c o).0.timed ≡ c.timed
+answer_timed segment n delivered fresh before c None = refl
+answer_timed segment n delivered fresh before c (Some e) = refl
 
 taking_timed : (now : ℕ) (segment : Segment) (c : ConnectionView) (o : Option Established) (x : Timing) → (taking now segment c o).0.timed ≡ Some x → c.timed ≡ Some x
 taking_timed now segment c None x h = h
 taking_timed now segment c (Some e) x h =
     let after : ConnectionView × Bool = with_ack now segment e c in
-    ack_timed now segment e c x (sym (answer_timed segment (newly_acked c segment) after.1 e after.0 after.0.established) ∙ h)
+    ack_timed now segment e c x (sym (answer_timed segment (newly_acked c segment) (delivered_data (newly_acked c segment) c.board after.0.board) after.1 e after.0 after.0.established) ∙ h)
 
 taken_times_new : (now : ℕ) (segment : Segment) (c : ConnectionView) (s : State) (o : Option Established) → s.endpoint.connection ≡ Some c
     → Leaves (TimesNew s) (ack_taken now segment c s o)

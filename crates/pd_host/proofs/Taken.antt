@@ -6,7 +6,7 @@ use Rattle.pd_recover.specs.declared.responses.Then.{Then}
 use Rattle.pd_seg.specs.declared.sack_blocks.Span.{Span}
 use Rattle.pd_seg.specs.declared.segments.Segment.{Segment}
 use Rattle.pd_timer.specs.Rto.{initial, sampled}
-use Rattle.pd_host.specs.Acknowledgments.{newly_acked, with_number, blocks_of, is_block_sent, told_block, told_blocks, scored, with_timing, is_current, with_new_window, answering, with_blocks, with_ack, taking, ack_taken}
+use Rattle.pd_host.specs.Acknowledgments.{newly_acked, with_number, blocks_of, is_block_sent, told_block, told_blocks, scored, with_timing, is_current, with_new_window, answering, with_blocks, with_ack, taking, ack_taken, delivered_data}
 use Rattle.pd_host.specs.Connection.{ConnectionView}
 use Rattle.pd_host.specs.Handshake.{looked_at, window_in, with_window}
 use Rattle.pd_host.specs.Sending.{with_block}
@@ -101,17 +101,17 @@ ack_leaves_congestion now segment e c has =
     (record d { widest = max d.widest (window_in d segment); established = Some (with_window (window_in d segment) segment e) }) d
     (Some e.congestion) refl (ap congestions (same ∙ has))
 
-answer_keeps : (segment : Segment) (n : ℕ) (fresh : Bool) (before : Established) (c : ConnectionView) (o : Option Established)
-    → basic (answering segment n fresh before c o).0 ≡ basic c
-answer_keeps segment n fresh before c None = refl
-answer_keeps segment n fresh before c (Some e) = refl
+answer_keeps : (segment : Segment) (n delivered : ℕ) (fresh : Bool) (before : Established) (c : ConnectionView) (o : Option Established)
+    → basic (answering segment n delivered fresh before c o).0 ≡ basic c
+answer_keeps segment n delivered fresh before c None = refl
+answer_keeps segment n delivered fresh before c (Some e) = refl
 
 -- taking a segment on an established connection moves the number, and what isn't basic
 pub taking_keeps : (now : ℕ) (segment : Segment) (c : ConnectionView) (e : Established)
     → basic (taking now segment c (Some e)).0 ≡ basic (with_number segment c)
 taking_keeps now segment c e =
     let d : ConnectionView × Bool = with_ack now segment e c in
-    answer_keeps segment (newly_acked c segment) d.1 e d.0 d.0.established ∙ ack_keeps now segment e c
+    answer_keeps segment (newly_acked c segment) (delivered_data (newly_acked c segment) c.board d.0.board) d.1 e d.0 d.0.established ∙ ack_keeps now segment e c
 
 -- what is sent after a segment was taken follows the connection that it left
 pub taken_sends : (now : ℕ) (segment : Segment) (c : ConnectionView) (s : State) (o : Option Established)

@@ -5,11 +5,11 @@ use Rattle.pd_seg.specs.declared.option_list.SegOption.TheVariants.{Sack}
 use Rattle.pd_seg.specs.declared.sack_blocks.Span.{Span}
 use Rattle.pd_seg.specs.declared.segments.Segment.{Segment}
 use Rattle.pd_board.specs.Choice.{run_at}
-use Rattle.pd_board.specs.Loss.{is_lost, pipe}
+use Rattle.pd_board.specs.Loss.{is_lost, pipe, sacked_octets}
 use Rattle.pd_board.specs.Board.{BoardView, acknowledged, marked, has_new}
 use Rattle.pd_recover.specs.Acks.{acked}
 use Rattle.pd_recover.specs.Choice.{segment_of, step_c_segment, limited_segment, noted}
-use Rattle.pd_recover.specs.Cong.{CongView, entered_to, with_limited}
+use Rattle.pd_recover.specs.Cong.{CongView, entered_to, with_limited, paced}
 use Rattle.pd_recover.specs.declared.feedback.Ack.{Ack}
 use Rattle.pd_recover.specs.declared.feedback.News.{News}
 use Rattle.pd_recover.specs.declared.responses.Then.{Then}
@@ -94,30 +94,47 @@ with_new_window segment e c =
 abbrev pub news_of : Bool → ConnectionView → Option News
 news_of fresh c = if c.sack then Some (record { fresh = fresh; lost = fresh && is_lost c.board.una c.board }) else None
 
+-- DeliveredData of an ACK of n new octets: change_in(snd.una) + change_in(SACKd), by the boards before and after it (RFC 6937,
+-- section 3)
+abbrev pub delivered_data : ℕ → BoardView → BoardView → ℕ
+delivered_data n before after = n + sacked_octets after - sacked_octets before
+
 -- what the ACK tells congestion control: where the connection is after it
-abbrev pub ack_of_segment : Segment → ℕ → Bool → Established → Established → ConnectionView → Ack
-ack_of_segment segment n fresh before after c = record {
+abbrev pub ack_of_segment : Segment → ℕ → ℕ → Bool → Established → Established → ConnectionView → Ack
+ack_of_segment segment n delivered fresh before after c = record {
   smss = c.board.smss;
   una = c.board.una;
   top = c.board.top;
   end = c.board.end;
   rwnd = after.rwnd;
   acked = n;
+  delivered = delivered;
   same_window = window_in c segment == before.rwnd;
   fin = segment.flags.fin;
   sack = news_of fresh c;
 }
 
+-- congestion control on a connection at its pipe, by which PRR sets the window (RFC 6937, section 3)
+abbrev pub paced_on : ConnectionView → CongView → CongView
+paced_on c w = paced c.board.smss (pipe w.high_rxt c.board) w
+
+-- so it does at each ACK in recovery; other ACKs leave the window
+abbrev pub window_after : Then → ConnectionView → CongView → ℕ
+window_after StepC c w = (paced_on c w).cwnd
+window_after _ c w = w.cwnd
+
 -- congestion control takes the ACK: the connection afterwards, and what follows
 abbrev pub responding : ConnectionView → Established → Ack → ConnectionView × Then
 responding c e ack =
     let response = acked ack e.congestion in
-    (record c { established = Some (record e { congestion = response.0 }) }, response.1)
+    let after = record response.0 { cwnd = window_after response.1 c response.0 } in
+    (record c { established = Some (record e { congestion = after }) }, response.1)
 
 -- the same of a segment, on the connection after it: nothing follows before the end of the handshake
-abbrev pub answering : Segment → ℕ → Bool → Established → ConnectionView → Option Established → ConnectionView × Then
-answering segment n fresh before c None = (c, Nothing)
-answering segment n fresh before c (Some after) = responding c after (ack_of_segment segment n fresh before after c)
+abbrev pub answering : Segment → ℕ → ℕ → Bool → Established → ConnectionView → Option Established → ConnectionView × Then
+answering segment n delivered fresh before c None = (c, Nothing)
+answering segment n delivered fresh before c (Some after) =
+    responding c after (ack_of_segment segment n delivered fresh before after c)
 
 -- A segment that passed all checks, on a connection
 
@@ -137,7 +154,8 @@ abbrev pub taking : ℕ → Segment → ConnectionView → Option Established �
 taking now segment c None = (c, Nothing)
 taking now segment c (Some e) =
     let after = with_ack now segment e c in
-    answering segment (newly_acked c segment) after.1 e after.0 after.0.established
+    let n = newly_acked c segment in
+    answering segment n (delivered_data n c.board after.0.board) after.1 e after.0 after.0.established
 
 -- What follows
 
@@ -210,10 +228,11 @@ abbrev pub put_segment : ℕ → Span → ConnectionView → ConnectionView → 
 put_segment now segment before after s =
     if has_place s.endpoint.outbox then Ok (with_segment now segment before after s) else Err Limit
 
--- an entry into loss recovery has sent this segment again: HighRxt and RescueRxt are its end (RFC 6675, section 5, step 4.3)
+-- an entry into loss recovery has sent this segment again: HighRxt and RescueRxt are its end (RFC 6675, section 5, step 4.3),
+-- and the pipe, which it is part of, sets PRR's window (step 4.4; RFC 6937, section 3)
 abbrev pub entered_on : Span → ConnectionView → Option Established → ConnectionView
 entered_on segment c None = c
-entered_on segment c (Some e) = record c { established = Some (record e { congestion = entered_to segment.end e.congestion }) }
+entered_on segment c (Some e) = record c { established = Some (record e { congestion = paced_on c (entered_to segment e.congestion) }) }
 
 -- recovery begins: the segment at SND.UNA is sent again, unless its first octet is SACKed (RFC 6675, section 5, step 4.3)
 abbrev pub entry : ℕ → ConnectionView → State → Result State Halt

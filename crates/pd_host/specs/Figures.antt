@@ -1,7 +1,9 @@
 -- The numbers of a connection, as those who observe it see them.
-use Rattle.std.specs.Prelude.{Bool, true, false, ℕ, Option, option_map}
+use Rattle.std.specs.Prelude.{Bool, true, false, ℕ, Option, Some, None, option_map, if◌then◌else◌}
 use Rattle.pd_board.specs.Loss.{pipe}
 use Rattle.pd_recover.specs.Cong.{CongView}
+use Rattle.pd_recover.specs.Prr.{is_proportional}
+use Rattle.pd_recover.specs.declared.reductions.Reduction.{Reduction}
 use Rattle.pd_host.specs.Connection.{ConnectionView}
 use Rattle.pd_host.specs.Holds.{wanted}
 use Rattle.pd_host.specs.Sending.{past_sacked}
@@ -21,6 +23,10 @@ recovery_of c w = by w.recovering c.sack
     by true true = WithSack (pipe w.high_rxt c.board)
     by true false = WithoutSack
 
+-- what PRR keeps, where recovery goes by it
+abbrev pub reduction_of : CongView → Option Reduction
+reduction_of w = if is_proportional w.rate then Some w.reduction else None
+
 -- the windows, from the end of the handshake on
 abbrev pub windows_of : ConnectionView → Option Windows
 windows_of c = option_map {T = Established} windows c.established
@@ -32,6 +38,7 @@ windows_of c = option_map {T = Established} windows c.established
       rwnd = e.rwnd;
       dup_acks = e.congestion.dup_acks;
       recovery = recovery_of c e.congestion;
+      reduction = reduction_of e.congestion;
     }
 
 -- the numbers of a connection (RFC 9293, section 3.3.1; RFC 6298, section 2)

@@ -1,5 +1,5 @@
 -- The sender: what it holds between two inputs, and how a rule changes that or halts.
-use Rattle.std.specs.Prelude.{ℕ, ◌<◌, ◌^◌, List, [], ◌∷◌, ◌++◌, drop, Option, Some, None, unwrap_or, Result, Ok, Err, if◌then◌else◌}
+use Rattle.std.specs.Prelude.{ℕ, ◌+◌, ◌<◌, ◌^◌, List, [], ◌∷◌, ◌++◌, drop, Option, Some, None, unwrap_or, Result, Ok, Err, if◌then◌else◌}
 use Rattle.pd_settings.specs.Uses.{no_uses}
 use Rattle.pd_settings.specs.declared.fields.Settings.{Settings}
 use Rattle.pd_seg.specs.declared.segments.Segment.{Segment}
@@ -24,9 +24,9 @@ abbrev pub queued_to : Option ConnectionView → ℕ
 queued_to None = 0
 queued_to (Some c) = c.board.end
 
--- what is queued leaves room for all that one call queues
+-- what is queued leaves room below 2^31 for whatever one call may queue: at most the greatest `sndbuf`
 abbrev pub IsShort : State → Type 0
-IsShort s = queued_to s.endpoint.connection < 2 ^ 30
+IsShort s = queued_to s.endpoint.connection + 1048576 < 2 ^ 31
 
 -- an endpoint that nothing has happened to
 abbrev pub fresh_endpoint : Endpoint

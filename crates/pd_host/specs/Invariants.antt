@@ -11,8 +11,10 @@ use Rattle.pd_host.specs.Arrivals.{arrived}
 use Rattle.pd_host.specs.Calls.{called, stream_in}
 use Rattle.pd_host.specs.Connection.{ConnectionView, peer_fin_in}
 use Rattle.pd_host.specs.Expiries.{advanced}
+use Rattle.pd_host.specs.Growth.{asked_by, HasRoomFor}
 use Rattle.pd_host.specs.Laws.{IsUpTo}
-use Rattle.pd_host.specs.Host.{HostView, fresh_host, without_oldest, queued_to, IsShort}
+use Rattle.pd_host.specs.Requests.{request_of}
+use Rattle.pd_host.specs.Host.{HostView, fresh_host, without_oldest, queued_to}
 use Rattle.pd_host.specs.declared.established.Established.{Established}
 use Rattle.pd_host.specs.declared.halts.Halt.TheVariants.{Unsupported}
 use Rattle.pd_host.specs.declared.peer_fins.PeerFin.TheVariants.{AfterOurs}
@@ -126,11 +128,11 @@ BoardsAreLawful =
     (now : ℕ) (s : State) (c : ConnectionView) → IsLawful now s → s.endpoint.connection ≡ Some c → c.board.end < 2 ^ 31
     → IsBoardView c.board
 
--- and where a call may be made, they are so after it
+-- and where there is room for what a call asks for, they are so after it
 abbrev pub CallsStayInRange : Type 0
 CallsStayInRange =
-    (call : Call) (now : ℕ) (s t : State) (answer : Answer) → IsShort s → called call now s ≡ Ok (t, answer)
-    → queued_to t.endpoint.connection < 2 ^ 31
+    (call : Call) (now : ℕ) (s t : State) (answer : Answer) → HasRoomFor (asked_by s.settings.sndbuf (request_of call)) s
+    → called call now s ≡ Ok (t, answer) → queued_to t.endpoint.connection < 2 ^ 31
 
 -- an RST ends a connection for good: no segment is run any more, nothing expires, and no call puts a packet out (RFC 9293,
 -- section 3.10.7.4, second check)

@@ -3,30 +3,34 @@ use Rattle.std.specs.Prelude.{◌≡◌, ◌↔◌, ℕ, ◌+◌, ◌-◌, ◌<�
 use Rattle.std.specs.List.{AllByRecursion}
 use Rattle.pd_board.specs.Choice.{run_at}
 use Rattle.pd_board.specs.Board.{BoardView, IsBoardView}
+use Rattle.pd_board.specs.Loss.{pipe}
 use Rattle.pd_recover.specs.Acks.{acked}
 use Rattle.pd_recover.specs.Choice.{segment_of}
 use Rattle.pd_settings.specs.declared.initial_window.InitialWindow.{InitialWindow}
-use Rattle.pd_recover.specs.Cong.{CongView, window_by}
+use Rattle.pd_settings.specs.declared.recovery_rate.RecoveryRate.TheVariants.{PrrCrb}
+use Rattle.pd_recover.specs.Cong.{CongView, IsCongView, window_by, is_reducing, sndcnt}
+use Rattle.pd_recover.specs.Prr.{proportion}
 use Rattle.pd_recover.specs.Laws.{IsSpared}
 use Rattle.pd_recover.specs.declared.feedback.Ack.{Ack}
-use Rattle.pd_recover.specs.declared.responses.Then.TheVariants.{NewSegment}
+use Rattle.pd_recover.specs.declared.responses.Then.TheVariants.{StepC, NewSegment}
 use Rattle.pd_recover.specs.declared.segments.NextSegment.{NextSegment}
 use Rattle.pd_script.specs.declared.calls.Call.{Call}
 use Rattle.pd_seg.specs.declared.answers.Answer.{Answer}
 use Rattle.pd_seg.specs.declared.sack_blocks.Span.{Span}
 use Rattle.pd_seg.specs.declared.segments.Segment.{Segment}
 use Rattle.pd_seg.specs.declared.segments.Sent.{Sent}
-use Rattle.pd_host.specs.Acknowledgments.{OnTheWay, newly_acked, next_by, next_found, one_filled, pipe_of, filled_from, filled, ack_taken}
+use Rattle.pd_host.specs.Acknowledgments.{OnTheWay, newly_acked, next_by, next_found, one_filled, pipe_of, filled_from, filled, entry, taking, ack_taken}
 use Rattle.pd_host.specs.Arrivals.{arrived}
 use Rattle.pd_host.specs.Calls.{called, stream_of}
 use Rattle.pd_host.specs.Connection.{ConnectionView, data_end}
 use Rattle.pd_host.specs.Expiries.{deadline_of, due_by, block_expired, expired_by, expired, advanced}
 use Rattle.pd_host.specs.Packets.{data_of}
 use Rattle.pd_host.specs.Requests.{request_of}
-use Rattle.pd_host.specs.Sending.{value_in, window_edge, ordinary_segment, found, sent_ordinarily, is_idle, ordinary, is_recovering}
+use Rattle.pd_host.specs.Sending.{value_in, with_block, window_edge, ordinary_segment, found, sent_ordinarily, is_idle, ordinary, is_recovering}
 use Rattle.pd_host.specs.Timing.{overlaps, clocked}
 use Rattle.pd_host.specs.declared.established.Established.{Established}
 use Rattle.pd_host.specs.declared.fillings.Filling.{Filling}
+use Rattle.pd_host.specs.declared.fillings.Filling.TheVariants.{NextSeg}
 use Rattle.pd_host.specs.declared.requests.Operation.TheVariants.{Close}
 use Rattle.pd_host.specs.declared.requests.Request.TheVariants.{On}
 use Rattle.pd_host.specs.declared.sender_state.State.{State}
@@ -132,6 +136,49 @@ FillsWindow s t =
 -- so it is after step C and after limited transmit (RFC 6675, section 5)
 abbrev pub KeepsToWindow : Type 0
 KeepsToWindow = (now : ℕ) (filling : Filling) (s t : State) → filled now filling s ≡ Ok t → FillsWindow s t
+
+-- Proportional Rate Reduction (RFC 6937, section 3)
+
+-- whether recovery goes on by it
+abbrev pub reducing_in : Option ConnectionView → Bool
+reducing_in connection = value_in false (λ c e. is_reducing e.congestion.recovering e.congestion.rate) connection
+
+-- prr_out, and sndcnt at the pipe, 0 where there are none yet
+abbrev pub out_in : Option ConnectionView → ℕ
+out_in connection = value_in 0 (λ c e. e.congestion.reduction.prr_out) connection
+
+abbrev pub sndcnt_in : Option ConnectionView → ℕ
+sndcnt_in connection = value_in 0 (λ c e. sndcnt c.board.smss (pipe e.congestion.high_rxt c.board) e.congestion) connection
+
+-- what was put out has sndcnt octets at most, and prr_out has grown by no more
+abbrev pub LetsOut : State → State → Type 0
+LetsOut s t =
+    (packets : List Sent)
+    × (octets_in packets ≤ sndcnt_in s.endpoint.connection)
+    × (out_in t.endpoint.connection ≤ out_in s.endpoint.connection + sndcnt_in s.endpoint.connection)
+    × (t.endpoint.outbox ≡ s.endpoint.outbox ++ packets)
+
+-- so it is after each ACK in recovery by PRR, and after an entry, the segment apart that it sends first. So where the pipe is
+-- above ssthresh, prr_out is then at most what it was, or the part of ssthresh that was delivered; and by the conservative
+-- bound at most what it was, or prr_delivered (where the pipe is above ssthresh, if ssthresh isn't above RecoverFS)
+pub record RecoversInProportion : Type 0 where
+  pub acks :
+      (now : ℕ) (segment : Segment) (c : ConnectionView) (s t : State) (o : Option Established)
+      → (taking now segment c o).1 ≡ StepC → reducing_in (Some (taking now segment c o).0) ≡ true
+      → ack_taken now segment c s o ≡ Ok t → LetsOut (with_block (taking now segment c o).0 s) t
+  pub entries :
+      (now : ℕ) (c : ConnectionView) (s u t : State) → entry now c s ≡ Ok u → reducing_in u.endpoint.connection ≡ true
+      → filled now NextSeg u ≡ Ok t → LetsOut u t
+  pub proportional :
+      (s t : State) (c : ConnectionView) (e : Established) → s.endpoint.connection ≡ Some c → c.established ≡ Some e
+      → LetsOut s t → e.congestion.ssthresh < pipe e.congestion.high_rxt c.board
+      → out_in t.endpoint.connection
+      ≤ max e.congestion.reduction.prr_out (proportion e.congestion.ssthresh e.congestion.reduction)
+  pub conservative :
+      (s t : State) (c : ConnectionView) (e : Established) → s.endpoint.connection ≡ Some c → c.established ≡ Some e
+      → LetsOut s t → e.congestion.rate ≡ PrrCrb → IsCongView e.congestion
+      → (pipe e.congestion.high_rxt c.board ≤ e.congestion.ssthresh) ⊎ (e.congestion.ssthresh ≤ e.congestion.reduction.recover_fs)
+      → out_in t.endpoint.connection ≤ max e.congestion.reduction.prr_out e.congestion.reduction.prr_delivered
 
 -- All that may leave does
 

@@ -1,8 +1,8 @@
 //! The table of calls.
-ghost use Rattle.std.specs.Prelude.{◌≡◌, ◌<◌, ◌^◌, Ok};
+ghost use Rattle.std.specs.Prelude.{◌≡◌, ◌<◌, ◌^◌, min, Ok, Some};
 ghost use Rattle.pd_host.specs.Calls.{open_descriptor, is_stream_open, is_pending, socket_reply, bind_reply, listen_reply, accept_reply, handed_out, no_delay_reply, write_reply, close_reply, closed_on, operated, reply_to};
 ghost use Rattle.pd_host.specs.Outcome.{GivesAnswer};
-ghost use Rattle.pd_host.specs.Host.{IsShort};
+ghost use Rattle.pd_host.specs.Growth.{asked_by, asked_of, HasRoomFor};
 
 use crate::descriptors::Descriptor;
 use crate::endpoint::Endpoint;
@@ -67,7 +67,7 @@ impl State {
     #[inline(always)]
     pub fn call(&mut self, request: Request, now: u64) -> Result<Answer, Ending>
         requires early { now < 2 ^ 62 }
-        requires short { IsShort self.old }
+        requires room { HasRoomFor (asked_by self.old.settings.sndbuf (Some request)) self.old }
         ensures { GivesAnswer (reply_to now self.old request) result self.new }
     {
         match request {
@@ -87,7 +87,7 @@ impl State {
         now: u64,
     ) -> Result<Answer, Ending>
         requires early { now < 2 ^ 62 }
-        requires short { IsShort self.old }
+        requires room { HasRoomFor (asked_of self.old.settings.sndbuf operation) self.old }
         ensures { GivesAnswer (operated now self.old descriptor operation) result self.new }
     {
         match operation {
@@ -175,7 +175,7 @@ impl State {
 
     fn write(&mut self, descriptor: Descriptor, n: u64, now: u64) -> Result<Answer, Ending>
         requires early { now < 2 ^ 62 }
-        requires short { IsShort self.old }
+        requires room { HasRoomFor (min n self.old.settings.sndbuf) self.old }
         ensures { GivesAnswer (write_reply now self.old n descriptor) result self.new }
     {
         let Descriptor::Connected = descriptor else {
@@ -205,7 +205,7 @@ impl State {
 
     fn close(&mut self, descriptor: Descriptor, now: u64) -> Result<Answer, Ending>
         requires early { now < 2 ^ 62 }
-        requires short { IsShort self.old }
+        requires room { HasRoomFor 1 self.old }
         ensures { GivesAnswer (close_reply now self.old descriptor) result self.new }
     {
         match descriptor {
@@ -224,7 +224,7 @@ impl State {
     /// Descriptor 4 is closed, and a FIN queued and sent unless the connection was reset.
     fn close_stream(&mut self, now: u64) -> Result<Answer, Ending>
         requires early { now < 2 ^ 62 }
-        requires short { IsShort self.old }
+        requires room { HasRoomFor 1 self.old }
         ensures { GivesAnswer (closed_on now self.old.endpoint.connection self.old) result self.new }
     {
         let Some(connection) = &mut self.endpoint.connection else {

@@ -1,4 +1,5 @@
 //! The numbers of a connection, as those who observe it see them.
+use pd_recover::Reduction;
 
 /// The numbers of a connection once a SYN has begun it. Octet numbers are relative, both initial ones at 0 (RFC 9293, section
 /// 3.3.1).
@@ -35,6 +36,8 @@ pub struct Windows {
     pub dup_acks: u32,
     /// Which loss recovery goes on.
     pub recovery: Recovery,
+    /// What PRR keeps of a recovery with SACK, where the setting `recovery_rate` isn't `pipe` (RFC 6937, section 3).
+    pub reduction: Option<Reduction>,
 }
 
 /// Which loss recovery goes on.

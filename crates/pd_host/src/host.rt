@@ -7,9 +7,11 @@ ghost use Rattle.pd_host.specs.ConnStates.{conn_state};
 ghost use Rattle.pd_host.specs.Outcome.{Goes, Answers};
 ghost use Rattle.pd_host.specs.Expiries.{advanced, deadline_of};
 ghost use Rattle.pd_host.specs.Figures.{figures_in, wanted_in};
+ghost use Rattle.pd_host.specs.Growth.{asked_by, HasRoomFor};
 ghost use Rattle.pd_host.specs.Holds.{hold_in};
 ghost use Rattle.pd_host.specs.InputLaws.{rebound_host};
-ghost use Rattle.pd_host.specs.Host.{IsShort, fresh_host, without_oldest, exhausted, end_of};
+ghost use Rattle.pd_host.specs.Requests.{request_of};
+ghost use Rattle.pd_host.specs.Host.{fresh_host, without_oldest, exhausted, end_of};
 ghost use Rattle.pd_host.specs.declared.halts.Ending.TheVariants.{OutOfMemory};
 
 use crate::conn_states::ConnState;
@@ -69,7 +71,7 @@ impl Host {
     #[inline(always)]
     pub fn call(&mut self, call: &Call, now: u64) -> Result<Answer, Ending>
         requires early { now < 2 ^ 62 }
-        requires short { IsShort self.old.state }
+        requires room { HasRoomFor (asked_by self.old.state.settings.sndbuf (request_of call.now)) self.old.state }
         ensures { Answers self.old (called call.now now) result self.new }
     {
         if let Some(ending) = self.ended {

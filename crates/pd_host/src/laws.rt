@@ -1,11 +1,11 @@
 //! Laws of the rules: functions without code, whose contracts are the laws.
-ghost use Rattle.pd_host.specs.Growth.{ExpiriesQueueNothing, ArrivalsQueueOurSyn, CallsQueueWhatTheyAsk};
+ghost use Rattle.pd_host.specs.Growth.{ExpiriesQueueNothing, ArrivalsQueueOurSyn, CallsQueueWhatTheyAsk, CallsAskFew};
 ghost use Rattle.pd_host.specs.Figure.{FollowsFigure};
 ghost use Rattle.pd_host.specs.Holds.{OpenHoldsSend};
 ghost use Rattle.pd_host.specs.Laws.{StartsUpToDate, AdvancesKeepUp, ArrivalsKeepUp, CallsKeepUp, TakingKeepsUp};
 ghost use Rattle.pd_host.specs.Invariants.{StartsLawful, AdvancesStayLawful, ArrivalsStayLawful, CallsStayLawful, TakingStaysLawful, BoardsAreLawful, CallsStayInRange, EndsForGood};
 ghost use Rattle.pd_host.specs.InputLaws.{OutsideIsHarmless, OnlyAnExactRstResets, PutsOutAfter, OnlyUsesMatter, RebindingKeepsUp, CallsPutOutAfter, CallsOnlyUse, AdvancesPutOutAfter, AdvancesUseNone, ArrivalsNote, CallsNote, AdvancesNote};
-ghost use Rattle.pd_host.specs.SendingLaws.{ControlsFlow, StaysInWindow, ControlsCongestion, KeepsToWindow, SendsOneByOne, SendsAllThatMay, TimesOnce, MeasuresWhatIsSentOnce, EndsWithFin, SparesWhatArrived, EndsRecovery};
+ghost use Rattle.pd_host.specs.SendingLaws.{ControlsFlow, StaysInWindow, ControlsCongestion, KeepsToWindow, RecoversInProportion, SendsOneByOne, SendsAllThatMay, TimesOnce, MeasuresWhatIsSentOnce, EndsWithFin, SparesWhatArrived, EndsRecovery};
 
 use pd_recover::recovery_is_lawful;
 use pd_timer::timers_are_lawful;
@@ -39,6 +39,7 @@ pub fn sending_is_lawful()
     ensures window { StaysInWindow }
     ensures congestion { ControlsCongestion }
     ensures room { KeepsToWindow }
+    ensures proportion { RecoversInProportion }
     ensures all { SendsAllThatMay }
     ensures timing { TimesOnce }
     ensures measured { MeasuresWhatIsSentOnce }
@@ -92,4 +93,5 @@ pub fn growth_is_lawful()
     ensures expiries { ExpiriesQueueNothing }
     ensures arrivals { ArrivalsQueueOurSyn }
     ensures calls { CallsQueueWhatTheyAsk }
+    ensures few { CallsAskFew }
 {}

@@ -5,7 +5,7 @@ use Rattle.pd_recover.specs.declared.feedback.Ack.{Ack}
 use Rattle.pd_recover.specs.declared.feedback.News.{News}
 use Rattle.pd_recover.specs.declared.responses.Then.{Then}
 use Rattle.pd_recover.specs.declared.responses.Then.TheVariants.{Ordinary, StepC, Entry, LimitedTransmit, NewSegment, FastRetransmit, Nothing}
-use Rattle.pd_recover.specs.Acks.{told_by_sack, told_by_number, advanced, counted, grown_by, recovered, selective_duplicate, plain_duplicate, sent_limited, entered, retransmitted, new_segment, first_outstanding}
+use Rattle.pd_recover.specs.Acks.{told_by_sack, told_by_number, advanced, counted, grown_by, recovered, with_delivered, selective_duplicate, plain_duplicate, sent_limited, entered, retransmitted, new_segment, first_outstanding}
 use Rattle.pd_recover.specs.Cong.{CongView, widened, with_limited}
 
 pub either : {A : Type 0} (P : A → Type 0) (b : Bool) (x y : A) → P x → P y → P (if b then x else y)
@@ -40,7 +40,7 @@ module _ (P : CongView × Then → Type 0) (ack : Ack) where
 
   -- an ACK with SACK: recovery ends or goes on, a duplicate, or any other
   pub sack_cases : (news : News) (w : CongView)
-      → P (recovered w, Ordinary) → P (w, StepC) → P (selective_duplicate ack news.lost (counted (grown_by ack w)))
+      → P (recovered w, Ordinary) → P (with_delivered ack w, StepC) → P (selective_duplicate ack news.lost (counted (grown_by ack w)))
       → P (grown_by ack w, Ordinary)
       → P (told_by_sack ack news w)
   sack_cases news w ended rests duplicate other = either P _ _ _ ended (either P _ _ _ rests (either P _ _ _ duplicate other))

@@ -3,6 +3,7 @@ pub mod Begun
 pub mod Cases
 pub mod Chosen
 pub mod Found
+pub mod Proportion
 pub mod Sendable
 pub mod SlowStart
 pub mod Spared

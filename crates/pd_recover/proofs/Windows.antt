@@ -1,12 +1,13 @@
 -- The window and the threshold stay within their bounds.
-use Rattle.std.proofs.Common.{◌≡◌, ℕ, ◌+◌, ◌-◌, ◌*◌, ◌/◌, ◌^◌, ◌≤◌, ◌&&◌, min, max, nat_lt, nat_le, Bool, true, false, if◌then◌else◌, Option, Some, None, refl, subst, ◌∙◌, arith}
+use Rattle.std.proofs.Common.{◌≡◌, sym, ℕ, ◌+◌, ◌-◌, ◌*◌, ◌/◌, ◌^◌, ◌≤◌, ◌&&◌, min, max, nat_lt, nat_le, Bool, true, false, if◌then◌else◌, Option, Some, None, refl, subst, ◌∙◌, arith}
 use Rattle.pd_recover.specs.declared.feedback.Ack.{Ack}
 use Rattle.pd_recover.specs.declared.feedback.News.{News}
 use Rattle.pd_recover.specs.declared.responses.Then.{Then}
 use Rattle.pd_settings.specs.declared.initial_window.InitialWindow.{InitialWindow}
 use Rattle.pd_settings.specs.declared.initial_window.InitialWindow.TheVariants.{Rfc5681, Rfc6928}
-use Rattle.pd_recover.specs.Acks.{acked, renewed, told, told_by_sack, told_by_number, selective_duplicate, plain_duplicate, counted, grown_by, advanced, entered, recovered, retransmitted, is_duplicate}
-use Rattle.pd_recover.specs.Cong.{CongView, window_by, first_window, widened, growth, restart_window, restarted}
+use Rattle.pd_recover.specs.Acks.{acked, renewed, told, told_by_sack, told_by_number, selective_duplicate, plain_duplicate, counted, grown_by, advanced, entered, recovered, with_delivered, retransmitted, is_duplicate}
+use Rattle.pd_recover.specs.Cong.{CongView, is_reducing, window_by, first_window, widened, growth, restart_window, restarted, sndcnt, paced}
+use Rattle.pd_recover.specs.Prr.{is_proportional}
 use Rattle.pd_recover.specs.Laws.{IsWithin, StaysWithin}
 use Rattle.pd_recover.proofs.Cases.{selective_cases, plain_cases}
 
@@ -14,6 +15,14 @@ use Rattle.pd_recover.proofs.Cases.{selective_cases, plain_cases}
 chosen : {A : Type 0} (P : A → Type 0) (b : Bool) (x y : A) → (b ≡ true → P x) → (b ≡ false → P y) → P (if b then x else y)
 chosen P true x y then_holds else_holds = then_holds refl
 chosen P false x y then_holds else_holds = else_holds refl
+
+first_of_two : (a b : Bool) → (a && b) ≡ true → a ≡ true
+first_of_two true b h = refl
+first_of_two false b h = h
+
+-- whether recovery goes on by PRR, by both
+abbrev is_reducing_by : Bool → Bool → Bool
+is_reducing_by recovering proportional = recovering && proportional
 
 -- 2 segments at least, and half of what is outstanding otherwise
 abbrev half : ℕ → ℕ → ℕ
@@ -48,7 +57,7 @@ first_in_range rule smss false small = in_range rule smss small
 module _ (initial smss : ℕ) (small : smss ≤ 65495) where
   widened-within : (octets : ℕ) (w : CongView) → IsWithin smss initial w → IsWithin smss initial (widened octets w)
   widened-within octets w h = record {
-    cwnd_from = omega (arith, small, h.cwnd_from);
+    cwnd_from = λ calm. omega (arith, small, h.cwnd_from calm);
     cwnd_to = omega arith;
     ssthresh_from = h.ssthresh_from;
     ssthresh_to = h.ssthresh_to;
@@ -65,9 +74,9 @@ module _ (initial : ℕ) (ack : Ack) (small : ack.smss ≤ 65495) (few : ack.top
   fewer : (limited : ℕ) → ack.top - ack.una - limited ≤ 2 ^ 20 + 1
   fewer limited = omega (arith, few)
 
-  same : (v w : CongView) → v.cwnd ≡ w.cwnd → v.ssthresh ≡ w.ssthresh → v.recovering ≡ w.recovering → Within v → Within w
-  same v w c s r h = record {
-    cwnd_from = subst (λ n. ack.smss ≤ n) c h.cwnd_from;
+  same : (v w : CongView) → v.cwnd ≡ w.cwnd → v.ssthresh ≡ w.ssthresh → v.recovering ≡ w.recovering → v.rate ≡ w.rate → Within v → Within w
+  same v w c s r q h = record {
+    cwnd_from = λ calm. subst (λ n. ack.smss ≤ n) c (h.cwnd_from ((λ i. is_reducing (r i) (q i)) ∙ calm));
     cwnd_to = subst (λ n. n ≤ 2 ^ 30) c h.cwnd_to;
     ssthresh_from = subst (λ n. min (2 * ack.smss) initial ≤ n) s h.ssthresh_from;
     ssthresh_to = subst (λ n. n ≤ 2 ^ 30) s h.ssthresh_to;
@@ -76,16 +85,17 @@ module _ (initial : ℕ) (ack : Ack) (small : ack.smss ≤ 65495) (few : ack.top
 
   renewed-within : (w : CongView) → Within w → Within (renewed ack w)
   renewed-within w h =
-      chosen Within (nat_lt 0 ack.acked) _ w (λ _. same w _ refl refl refl h) (λ _. h)
+      chosen Within (nat_lt 0 ack.acked) _ w (λ _. same w _ refl refl refl refl h) (λ _. h)
 
   grown_by-within : (w : CongView) → Within w → Within (grown_by ack w)
   grown_by-within w h =
       chosen Within (nat_lt 0 ack.acked) _ w (λ _. widened-within initial ack.smss small (growth ack.smss ack.acked w) w h) (λ _. h)
 
-  recovered-within : (w : CongView) → Within w → Within (recovered w)
-  recovered-within w h = record {
-    cwnd_from = h.cwnd_from;
-    cwnd_to = h.cwnd_to;
+  recovered-within : (w : CongView) → w.recovering ≡ true → Within w → Within (recovered w)
+  recovered-within w r h = record {
+    cwnd_from = λ _. chosen (λ n. ack.smss ≤ n) (is_proportional w.rate) w.ssthresh w.cwnd (λ _. omega (arith, h.recovering r))
+        (λ pipe. h.cwnd_from (λ i. is_reducing_by (r i) (pipe i)));
+    cwnd_to = chosen (λ n. n ≤ 2 ^ 30) (is_proportional w.rate) w.ssthresh w.cwnd (λ _. h.ssthresh_to) (λ _. h.cwnd_to);
     ssthresh_from = h.ssthresh_from;
     ssthresh_to = h.ssthresh_to;
     recovering = λ e. cc;
@@ -97,7 +107,7 @@ module _ (initial : ℕ) (ack : Ack) (small : ack.smss ≤ 65495) (few : ack.top
       let to = half_to flight ack.smss small (fewer w.limited) in
       let from = half_from flight ack.smss in
       record {
-        cwnd_from = omega (arith, from);
+        cwnd_from = λ _. omega (arith, from);
         cwnd_to = omega (arith, to);
         ssthresh_from = half_initial initial flight ack.smss;
         ssthresh_to = omega (arith, to);
@@ -110,7 +120,7 @@ module _ (initial : ℕ) (ack : Ack) (small : ack.smss ≤ 65495) (few : ack.top
       let to = half_to flight ack.smss small (fewer w.limited) in
       let from = half_from flight ack.smss in
       record {
-        cwnd_from = omega (arith, from);
+        cwnd_from = λ _. omega (arith, from);
         cwnd_to = omega (arith, to, small);
         ssthresh_from = half_initial initial flight ack.smss;
         ssthresh_to = omega (arith, to);
@@ -119,21 +129,21 @@ module _ (initial : ℕ) (ack : Ack) (small : ack.smss ≤ 65495) (few : ack.top
 
   selective_duplicate-within : (lost : Bool) (w : CongView) → Within w → LeadsWithin (selective_duplicate ack lost w)
   selective_duplicate-within lost w h =
-      selective_cases LeadsWithin ack lost w h (entered-within w) (same w _ refl refl refl h)
+      selective_cases LeadsWithin ack lost w h (entered-within w) (same w _ refl refl refl refl h)
 
   told_by_sack-within : (news : News) (w : CongView) → Within w → LeadsWithin (told_by_sack ack news w)
   told_by_sack-within news w h =
-      chosen LeadsWithin (w.recovering && nat_le w.recovery_point ack.una) _ _ (λ _. recovered-within w h)
-      (λ _. chosen LeadsWithin w.recovering _ _ (λ _. h)
+      chosen LeadsWithin (w.recovering && nat_le w.recovery_point ack.una) _ _ (λ both. recovered-within w (first_of_two w.recovering _ both) h)
+      (λ _. chosen LeadsWithin w.recovering _ _ (λ _. same w (with_delivered ack w) refl refl refl refl h)
       (λ _. chosen LeadsWithin news.fresh _ _
-      (λ _. selective_duplicate-within news.lost _ (same (grown_by ack w) _ refl refl refl (grown_by-within w h)))
+      (λ _. selective_duplicate-within news.lost _ (same (grown_by ack w) _ refl refl refl refl (grown_by-within w h)))
       (λ _. grown_by-within w h)))
 
   advanced-within : (w : CongView) → Within w → Within (advanced ack w)
   advanced-within w h =
       chosen Within w.recovering _ _
       (λ recovering. record {
-        cwnd_from = omega (arith, h.recovering recovering);
+        cwnd_from = λ _. omega (arith, h.recovering recovering);
         cwnd_to = h.ssthresh_to;
         ssthresh_from = h.ssthresh_from;
         ssthresh_to = h.ssthresh_to;
@@ -143,13 +153,13 @@ module _ (initial : ℕ) (ack : Ack) (small : ack.smss ≤ 65495) (few : ack.top
 
   plain_duplicate-within : (w : CongView) → Within w → LeadsWithin (plain_duplicate ack w)
   plain_duplicate-within w h =
-      plain_cases LeadsWithin ack w h (λ _ _. same w _ refl refl refl h) (retransmitted-within w) (widened-within initial ack.smss small ack.smss w h)
+      plain_cases LeadsWithin ack w h (λ _ _. same w _ refl refl refl refl h) (retransmitted-within w) (widened-within initial ack.smss small ack.smss w h)
 
   told_by_number-within : (w : CongView) → Within w → LeadsWithin (told_by_number ack w)
   told_by_number-within w h =
       chosen LeadsWithin (nat_lt 0 ack.acked) _ _ (λ _. advanced-within w h)
       (λ _. chosen LeadsWithin (is_duplicate ack && nat_le w.recovery_point ack.una) _ _
-      (λ _. plain_duplicate-within (counted w) (same w _ refl refl refl h))
+      (λ _. plain_duplicate-within (counted w) (same w _ refl refl refl refl h))
       (λ _. h))
 
   told-within : (sack : Option News) (w : CongView) → Within w → LeadsWithin (told ack sack w)
@@ -162,6 +172,14 @@ module _ (initial : ℕ) (ack : Ack) (small : ack.smss ≤ 65495) (few : ack.top
 lesser : (smss a b : ℕ) → smss ≤ a → smss ≤ b → b ≤ 2 ^ 30 → IsInRange smss (min a b)
 lesser smss a b h k l = (omega (arith, h, k), omega (arith, l))
 
+-- no wider than it was
+no_wider : (o : Option InitialWindow) (smss cwnd : ℕ) → cwnd ≤ 2 ^ 30 → restart_window o smss cwnd ≤ 2 ^ 30
+no_wider None smss cwnd h = h
+no_wider (Some rule) smss cwnd h = lowered (window_by rule smss) cwnd h
+  where
+    lowered : (a b : ℕ) → b ≤ 2 ^ 30 → min a b ≤ 2 ^ 30
+    lowered a b l = omega (arith, l)
+
 -- the window after an idle time
 after_idle : (o : Option InitialWindow) (smss cwnd : ℕ) → smss ≤ 65495 → IsInRange smss cwnd → IsInRange smss (restart_window o smss cwnd)
 after_idle None smss cwnd small h = h
@@ -169,16 +187,23 @@ after_idle (Some rule) smss cwnd small h = lesser smss (window_by rule smss) cwn
 
 pub restarted-within : (initial smss : ℕ) (idle : Bool) (w : CongView) → smss ≤ 65495 → IsWithin smss initial w
     → IsWithin smss initial (restarted smss idle w)
-restarted-within initial smss idle w small h =
-    let k : IsInRange smss (if idle then restart_window w.restarts_by smss w.cwnd else w.cwnd) =
-    chosen (IsInRange smss) idle _ _ (λ _. after_idle w.restarts_by smss w.cwnd small (h.cwnd_from, h.cwnd_to)) (λ _. (h.cwnd_from, h.cwnd_to)) in
-    record {
-      cwnd_from = k.0;
-      cwnd_to = k.1;
-      ssthresh_from = h.ssthresh_from;
-      ssthresh_to = h.ssthresh_to;
-      recovering = h.recovering;
-    }
+restarted-within initial smss idle w small h = record {
+  cwnd_from = λ calm. chosen (λ n. smss ≤ n) idle _ _ (λ _. (after_idle w.restarts_by smss w.cwnd small (h.cwnd_from calm, h.cwnd_to)).0) (λ _. h.cwnd_from calm);
+  cwnd_to = chosen (λ n. n ≤ 2 ^ 30) idle _ _ (λ _. no_wider w.restarts_by smss w.cwnd h.cwnd_to) (λ _. h.cwnd_to);
+  ssthresh_from = h.ssthresh_from;
+  ssthresh_to = h.ssthresh_to;
+  recovering = h.recovering;
+}
+
+-- the window of an ACK in recovery by PRR
+pub paced-within : (initial smss pipe : ℕ) (w : CongView) → IsWithin smss initial w → IsWithin smss initial (paced smss pipe w)
+paced-within initial smss pipe w h = record {
+  cwnd_from = λ calm. subst (λ (b : Bool). smss ≤ (if b then min (pipe + sndcnt smss pipe w) (2 ^ 30) else w.cwnd)) (sym calm) (h.cwnd_from calm);
+  cwnd_to = chosen (λ n. n ≤ 2 ^ 30) (is_reducing w.recovering w.rate) _ _ (λ _. omega arith) (λ _. h.cwnd_to);
+  ssthresh_from = h.ssthresh_from;
+  ssthresh_to = h.ssthresh_to;
+  recovering = h.recovering;
+}
 
 -- the threshold after an expiry
 after_expiry : (initial smss flight : ℕ) (w : CongView) (expired : Bool) → smss ≤ 65495 → flight ≤ 2 ^ 20 + 1 → IsWithin smss initial w
@@ -190,7 +215,7 @@ after_expiry initial smss flight w false small few h =
 pub stays_within : StaysWithin
 stays_within = record {
   first = λ settings smss resent small. record {
-    cwnd_from = (first_in_range settings.initial_window smss resent small).0;
+    cwnd_from = λ _. (first_in_range settings.initial_window smss resent small).0;
     cwnd_to = (first_in_range settings.initial_window smss resent small).1;
     ssthresh_from = omega arith;
     ssthresh_to = settings.initial_ssthresh_in_range.1;
@@ -198,11 +223,12 @@ stays_within = record {
   };
   ack = λ initial ack w small few h. acked-within initial ack small few w h;
   expiry = λ initial smss una top w small few h. record {
-    cwnd_from = omega arith;
+    cwnd_from = λ _. omega arith;
     cwnd_to = omega (arith, small);
     ssthresh_from = (after_expiry initial smss (top - una) w w.expired small few h).0;
     ssthresh_to = (after_expiry initial smss (top - una) w w.expired small few h).1;
     recovering = λ e. cc;
   };
   restart = λ initial smss idle w small h. restarted-within initial smss idle w small h;
+  pace = λ initial smss pipe w h. paced-within initial smss pipe w h;
 }

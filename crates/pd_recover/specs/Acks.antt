@@ -7,6 +7,8 @@ use Rattle.pd_recover.specs.declared.feedback.News.{News}
 use Rattle.pd_recover.specs.declared.responses.Then.{Then}
 use Rattle.pd_recover.specs.declared.responses.Then.TheVariants.{Ordinary, StepC, Entry, LimitedTransmit, NewSegment, FastRetransmit, Nothing}
 use Rattle.pd_recover.specs.Cong.{CongView, widened, grown, halved, with_limited}
+use Rattle.pd_recover.specs.Prr.{is_proportional, no_reduction, begun_with, told_of}
+use Rattle.pd_recover.specs.declared.reductions.Reduction.{Reduction}
 
 -- an ACK's numbers are in order and in their ranges
 pub record IsAck (ack : Ack) : Type 0 where
@@ -43,9 +45,24 @@ new_segment smss una top end rwnd =
 
 -- With SACK (RFC 6675, section 5)
 
--- una has reached RecoveryPoint: recovery ends
+-- una has reached RecoveryPoint: recovery ends, by PRR with ssthresh as the window (own; RFC 6937, section 3, has it as the
+-- target)
 abbrev pub recovered : CongView → CongView
-recovered w = record w { dup_acks = 0; limited = 0; recovering = false }
+recovered w = record w {
+  cwnd = if is_proportional w.rate then w.ssthresh else w.cwnd;
+  dup_acks = 0;
+  limited = 0;
+  recovering = false;
+  reduction = no_reduction;
+}
+
+-- what PRR keeps where recovery begins, whose ACK is the first that is counted (own), and after each ACK in it
+abbrev pub reduction_begun : Ack → CongView → Reduction
+reduction_begun ack w =
+    if is_proportional w.rate then told_of ack.delivered (begun_with (ack.top - ack.una)) else w.reduction
+
+abbrev pub with_delivered : Ack → CongView → CongView
+with_delivered ack w = record w { reduction = if is_proportional w.rate then told_of ack.delivered w.reduction else w.reduction }
 
 -- recovery begins: RecoveryPoint is what was sent, and the window is halved (steps 4.1 and 4.2)
 abbrev pub entered : Ack → CongView → CongView
@@ -54,6 +71,7 @@ entered ack w = record w {
   ssthresh = half_of ack w;
   recovering = true;
   recovery_point = ack.top;
+  reduction = reduction_begun ack w;
 }
 
 -- a duplicate that told a new octet: below RecoveryPoint it begins nothing; DupThresh of them, or one that shows una to be lost,
@@ -69,7 +87,7 @@ selective_duplicate ack lost w =
 abbrev pub told_by_sack : Ack → News → CongView → CongView × Then
 told_by_sack ack news w =
     if w.recovering && nat_le w.recovery_point ack.una then (recovered w, Ordinary)
-    else if w.recovering then (w, StepC)
+    else if w.recovering then (with_delivered ack w, StepC)
     else if news.fresh then selective_duplicate ack news.lost (counted (grown_by ack w))
     else (grown_by ack w, Ordinary)
 

@@ -7,7 +7,7 @@ use Rattle.pd_board.specs.Board.{BoardView}
 use Rattle.pd_recover.specs.declared.segments.NextSegment.{NextSegment}
 use Rattle.pd_recover.specs.declared.segments.NextSegment.TheVariants.{Lost, New, Hole, Rescue}
 use Rattle.pd_recover.specs.Acks.{new_segment}
-use Rattle.pd_recover.specs.Cong.{CongView}
+use Rattle.pd_recover.specs.Cong.{CongView, with_out}
 
 -- the octets of a segment
 abbrev pub segment_of : NextSegment → Span
@@ -64,8 +64,12 @@ abbrev pub limited_segment : ℕ → ℕ → BoardView → CongView → Option S
 limited_segment rwnd pipe s w = if has_room pipe s w then new_data rwnd s else None
 
 -- what a segment sent by these rules moves: rules 1 and 3 HighRxt, rule 4 RescueRxt
+abbrev pub moved : NextSegment → CongView → CongView
+moved (Lost segment) w = record w { high_rxt = segment.end }
+moved (New segment) w = w
+moved (Hole segment) w = record w { high_rxt = segment.end }
+moved (Rescue segment) w = record w { rescue_rxt = w.recovery_point }
+
+-- the same, and its octets count as sent in recovery (RFC 6937, section 3)
 abbrev pub noted : NextSegment → CongView → CongView
-noted (Lost segment) w = record w { high_rxt = segment.end }
-noted (New segment) w = w
-noted (Hole segment) w = record w { high_rxt = segment.end }
-noted (Rescue segment) w = record w { rescue_rxt = w.recovery_point }
+noted sent w = with_out ((segment_of sent).end - (segment_of sent).start) (moved sent w)

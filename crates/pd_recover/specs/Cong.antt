@@ -1,10 +1,14 @@
--- The congestion window (RFC 5681; RFC 3465), and what loss recovery keeps (RFC 6675). All sizes are in octets.
-use Rattle.std.specs.Prelude.{ℕ, ◌+◌, ◌-◌, ◌*◌, ◌/◌, ◌^◌, ◌≤◌, nat_lt, min, max, Bool, true, false, ◌&&◌, Option, None, Some, is_some, if◌then◌else◌}
+-- The congestion window (RFC 5681; RFC 3465), and what loss recovery keeps (RFC 6675; RFC 6937). All sizes are in octets.
+use Rattle.std.specs.Prelude.{◌≡◌, ℕ, ◌+◌, ◌-◌, ◌*◌, ◌/◌, ◌^◌, ◌≤◌, nat_lt, min, max, Bool, true, false, ◌&&◌, Option, None, Some, is_some, if◌then◌else◌}
 use Rattle.pd_board.specs.Loss.{dup_thresh}
 use Rattle.pd_settings.specs.declared.fields.Settings.{Settings}
 use Rattle.pd_settings.specs.declared.initial_window.InitialWindow.{InitialWindow}
 use Rattle.pd_settings.specs.declared.initial_window.InitialWindow.TheVariants.{Rfc5681, Rfc6928}
+use Rattle.pd_settings.specs.declared.recovery_rate.RecoveryRate.{RecoveryRate}
 use Rattle.pd_settings.specs.declared.use_set.UseSet.{UseSet}
+use Rattle.pd_seg.specs.declared.sack_blocks.Span.{Span}
+use Rattle.pd_recover.specs.declared.reductions.Reduction.{Reduction}
+use Rattle.pd_recover.specs.Prr.{IsReduction, is_proportional, no_reduction, told_of, sent_of, proportion, bound_by}
 
 -- the state of congestion control (RFC 5681, section 3.1) and of loss recovery (RFC 6675, section 2)
 pub record CongView : Type 0 where
@@ -32,19 +36,27 @@ pub record CongView : Type 0 where
   pub follows_expiry : Bool
   -- the rule for IW, where the window restarts by it after an idle time (RFC 5681, section 4.1)
   pub restarts_by : Option InitialWindow
+  -- what paces recovery with SACK, and what PRR keeps of it (RFC 6937, section 3)
+  pub rate : RecoveryRate
+  pub reduction : Reduction
+
+-- whether recovery goes on by PRR, which alone makes the window smaller than a segment
+abbrev pub is_reducing : Bool → RecoveryRate → Bool
+is_reducing recovering rate = recovering && is_proportional rate
 
 -- the ranges of the window, the threshold and the counts
-pub record IsRanged (cwnd ssthresh dup_acks limited : ℕ) : Type 0 where
-  pub cwnd_from : 1 ≤ cwnd
+pub record IsRanged (cwnd ssthresh dup_acks limited : ℕ) (reducing : Bool) (reduction : Reduction) : Type 0 where
+  pub cwnd_from : reducing ≡ false → 1 ≤ cwnd
   pub cwnd_to : cwnd ≤ 2 ^ 31
   pub ssthresh_from : 1 ≤ ssthresh
   pub ssthresh_to : ssthresh ≤ 2 ^ 30
   pub dup_acks_to : dup_acks ≤ dup_thresh + 1
   pub limited_to : limited ≤ 2 ^ 31
+  pub counts : IsReduction reduction
 
 -- the facts of every state
 abbrev pub IsCongView : CongView → Type 0
-IsCongView w = IsRanged w.cwnd w.ssthresh w.dup_acks w.limited
+IsCongView w = IsRanged w.cwnd w.ssthresh w.dup_acks w.limited (is_reducing w.recovering w.rate) w.reduction
 
 -- how many segments the initial window of RFC 5681 holds (section 3.1)
 abbrev pub first_segments : ℕ → ℕ
@@ -67,8 +79,9 @@ first_window rule smss resent = if resent then smss else window_by rule smss
 abbrev pub restart_rule : Bool → InitialWindow → Option InitialWindow
 restart_rule on rule = if on then Some rule else None
 
--- the state at establishment, by the settings' rule for the initial window, their first threshold, their L, and whether they
--- have limited transmit and the restart after an idle time; whether the SYN/ACK was sent again counts
+-- the state at establishment, by the settings' rule for the initial window, their first threshold, their L, whether they
+-- have limited transmit and the restart after an idle time, and their rate of recovery; whether the SYN/ACK was sent again
+-- counts
 abbrev pub begun : Settings → ℕ → Bool → CongView
 begun settings smss resent = record {
   cwnd = first_window settings.initial_window smss resent;
@@ -84,6 +97,8 @@ begun settings smss resent = record {
   byte_limit = settings.byte_counting;
   follows_expiry = false;
   restarts_by = restart_rule settings.restart_after_idle settings.initial_window;
+  rate = settings.recovery_rate;
+  reduction = no_reduction;
 }
 
 -- the settings that it consults
@@ -94,6 +109,7 @@ begun_uses uses = record uses {
   limited_transmit = true;
   byte_counting = true;
   restart_after_idle = true;
+  recovery_rate = true;
 }
 
 -- a window that grows stays at or below 2^30
@@ -123,7 +139,7 @@ halved smss una top w = max ((top - una - w.limited) / 2) (2 * smss)
 abbrev pub ssthresh_after_expiry : ℕ → ℕ → ℕ → CongView → ℕ
 ssthresh_after_expiry smss una top w = if w.expired then w.ssthresh else max ((top - una) / 2) (2 * smss)
 
--- the timer expires: one segment is the window, and recovery ends (RFC 5681, section 3.1; RFC 6675, section 5.1)
+-- the timer expires: one segment is the window, and recovery ends, by PRR too (RFC 5681, section 3.1; RFC 6675, section 5.1)
 abbrev pub timed_out : ℕ → ℕ → ℕ → CongView → CongView
 timed_out smss una top w = record w {
   cwnd = smss;
@@ -134,6 +150,7 @@ timed_out smss una top w = record w {
   recovery_point = top;
   expired = true;
   follows_expiry = true;
+  reduction = no_reduction;
 }
 
 -- RW, the restart window: min(IW, cwnd) (RFC 5681, section 4.1); without a rule for IW the window stays
@@ -149,9 +166,29 @@ restarted smss idle w = record w {
   follows_expiry = if idle && is_some w.restarts_by then false else w.follows_expiry;
 }
 
--- an entry has sent the segment at una again, up to this number (RFC 6675, section 5, step 4.3)
-abbrev pub entered_to : ℕ → CongView → CongView
-entered_to end w = record w { high_rxt = end; rescue_rxt = end }
+-- By PRR (RFC 6937, section 3)
+
+-- octets were sent in recovery, which counts where it goes by PRR
+abbrev pub with_out : ℕ → CongView → CongView
+with_out octets w = record w { reduction = if is_proportional w.rate then sent_of octets w.reduction else w.reduction }
+
+-- sndcnt, 0 where it would be less: where the pipe is above ssthresh, in proportion to what was delivered; else what ssthresh
+-- leaves, within the reduction bound
+abbrev pub sndcnt : ℕ → ℕ → CongView → ℕ
+sndcnt smss pipe w =
+    if nat_lt w.ssthresh pipe
+    then proportion w.ssthresh w.reduction - w.reduction.prr_out
+    else min (w.ssthresh - pipe) (bound_by w.rate smss w.reduction)
+
+-- an ACK in recovery lets sndcnt octets out: cwnd = pipe + sndcnt, up to 2^30 (own)
+abbrev pub paced : ℕ → ℕ → CongView → CongView
+paced smss pipe w = record w {
+  cwnd = if is_reducing w.recovering w.rate then min (pipe + sndcnt smss pipe w) (2 ^ 30) else w.cwnd;
+}
+
+-- an entry has sent the segment at una again (RFC 6675, section 5, step 4.3), which counts whatever sndcnt is
+abbrev pub entered_to : Span → CongView → CongView
+entered_to segment w = with_out (segment.end - segment.start) (record w { high_rxt = segment.end; rescue_rxt = segment.end })
 
 -- limited transmit has sent this many octets; no connection has more than 2^31
 abbrev pub with_limited : ℕ → CongView → CongView

@@ -1,8 +1,9 @@
 -- What holds of every state that the rules reach.
-use Rattle.std.specs.Prelude.{◌≡◌, ◌≢◌, ◌↔◌, Some, ℕ, ◌+◌, ◌-◌, ◌*◌, ◌^◌, ◌<◌, ◌≤◌, min, Bool, true, false, Option, None, IsSome}
+use Rattle.std.specs.Prelude.{◌≡◌, ◌≢◌, ◌↔◌, ◌⊎◌, Some, ℕ, ◌+◌, ◌-◌, ◌*◌, ◌^◌, ◌<◌, ◌≤◌, min, max, Bool, true, false, Option, None, IsSome}
 use Rattle.pd_seg.specs.declared.sack_blocks.Span.{Span}
 use Rattle.pd_settings.specs.declared.fields.Settings.{Settings}
 use Rattle.pd_settings.specs.declared.initial_window.InitialWindow.{InitialWindow}
+use Rattle.pd_settings.specs.declared.recovery_rate.RecoveryRate.TheVariants.{Pipe, PrrCrb}
 use Rattle.pd_settings.specs.declared.use_set.UseSet.{UseSet}
 use Rattle.pd_settings.specs.Uses.{Agree}
 use Rattle.pd_board.specs.Choice.{run_at}
@@ -11,14 +12,16 @@ use Rattle.pd_board.specs.Board.{BoardView, IsBoardView}
 use Rattle.pd_recover.specs.declared.segments.NextSegment.{NextSegment}
 use Rattle.pd_recover.specs.declared.segments.NextSegment.TheVariants.{Rescue}
 use Rattle.pd_recover.specs.declared.feedback.Ack.{Ack}
+use Rattle.pd_recover.specs.declared.responses.Then.TheVariants.{StepC, Entry}
+use Rattle.pd_recover.specs.Prr.{is_proportional, no_reduction, begun_with, told_of, sent_of, proportion}
 use Rattle.pd_recover.specs.Acks.{acked}
 use Rattle.pd_recover.specs.Choice.{IsSendable, segment_of, new_data, next_send, step_c_segment, noted}
-use Rattle.pd_recover.specs.Cong.{CongView, window_by, begun, begun_uses, limit_of, growth, timed_out, restarted}
+use Rattle.pd_recover.specs.Cong.{CongView, IsCongView, window_by, begun, begun_uses, is_reducing, limit_of, growth, timed_out, restarted, with_out, sndcnt, paced}
 
--- the window lies between one segment and 2^30, the threshold between 2 segments, or its initial value where that is lower,
+-- the window lies between one segment, in recovery by PRR 0, and 2^30, the threshold between 2 segments, or its initial value where that is lower,
 -- and 2^30; in recovery it is at least 2 segments
 pub record IsWithin (smss initial_ssthresh : ℕ) (w : CongView) : Type 0 where
-  pub cwnd_from : smss ≤ w.cwnd
+  pub cwnd_from : is_reducing w.recovering w.rate ≡ false → smss ≤ w.cwnd
   pub cwnd_to : w.cwnd ≤ 2 ^ 30
   pub ssthresh_from : min (2 * smss) initial_ssthresh ≤ w.ssthresh
   pub ssthresh_to : w.ssthresh ≤ 2 ^ 30
@@ -45,6 +48,10 @@ pub record StaysWithin : Type 0 where
       → smss ≤ 65495
       → IsWithin smss initial_ssthresh w
       → IsWithin smss initial_ssthresh (restarted smss idle w)
+  pub pace :
+      (initial_ssthresh smss pipe : ℕ) (w : CongView)
+      → IsWithin smss initial_ssthresh w
+      → IsWithin smss initial_ssthresh (paced smss pipe w)
 
 -- a connection begins alike by settings that agree on those that are consulted
 abbrev pub BeginsByUses : Type 0
@@ -90,6 +97,51 @@ pub record IsAsBefore : Type 0 where
   pub restart :
       (settings : Settings) (smss : ℕ) (resent : Bool) → settings.restart_after_idle ≡ false
       → (begun settings smss resent).restarts_by ≡ None
+
+-- Proportional Rate Reduction (RFC 6937, section 3)
+
+-- in recovery by PRR an ACK lets sndcnt octets out at most. Where the pipe is above ssthresh, they keep prr_out at or below the
+-- part of ssthresh that was delivered; else they fill the window up to ssthresh at most. By the conservative bound they keep
+-- prr_out at or below prr_delivered (where the pipe is above ssthresh too, if ssthresh isn't above RecoverFS)
+pub record LetsOutInProportion : Type 0 where
+  pub window :
+      (smss pipe : ℕ) (w : CongView) → is_reducing w.recovering w.rate ≡ true
+      → (paced smss pipe w).cwnd - pipe ≤ sndcnt smss pipe w
+  pub proportional :
+      (smss pipe : ℕ) (w : CongView) → w.ssthresh < pipe
+      → w.reduction.prr_out + sndcnt smss pipe w ≤ max w.reduction.prr_out (proportion w.ssthresh w.reduction)
+  pub target : (smss pipe : ℕ) (w : CongView) → pipe ≤ w.ssthresh → pipe + sndcnt smss pipe w ≤ w.ssthresh
+  pub conservative :
+      (smss pipe : ℕ) (w : CongView) → w.rate ≡ PrrCrb → IsCongView w
+      → (pipe ≤ w.ssthresh) ⊎ (w.ssthresh ≤ w.reduction.recover_fs)
+      → w.reduction.prr_out + sndcnt smss pipe w ≤ max w.reduction.prr_out w.reduction.prr_delivered
+
+-- recovery by PRR counts from its entry on: DeliveredData of the ACK that enters, and no octet that was sent before; at its
+-- end ssthresh is the window (own), and there and at an expiry nothing of it is left
+pub record CountsRecovery : Type 0 where
+  pub entry :
+      (ack : Ack) (w : CongView) → (acked ack w).1 ≡ Entry → is_proportional w.rate ≡ true
+      → (acked ack w).0.reduction ≡ told_of ack.delivered (begun_with (ack.top - ack.una))
+  pub each :
+      (ack : Ack) (w : CongView) → (acked ack w).1 ≡ StepC → is_proportional w.rate ≡ true
+      → (acked ack w).0.reduction ≡ told_of ack.delivered w.reduction
+  pub sent :
+      (octets : ℕ) (w : CongView) → is_proportional w.rate ≡ true
+      → (with_out octets w).reduction ≡ sent_of octets w.reduction
+  pub ended :
+      (ack : Ack) (w : CongView) → IsSome ack.sack → is_reducing w.recovering w.rate ≡ true → w.recovery_point ≤ ack.una
+      → ((acked ack w).0.cwnd ≡ w.ssthresh) × ((acked ack w).0.reduction ≡ no_reduction)
+  pub expired : (smss una top : ℕ) (w : CongView) → (timed_out smss una top w).reduction ≡ no_reduction
+
+-- where the setting is `pipe`, nothing is paced or counted, and no ACK does other than without DeliveredData
+pub record IsByPipe : Type 0 where
+  pub begun : (settings : Settings) (smss : ℕ) (resent : Bool) → (begun settings smss resent).rate ≡ settings.recovery_rate
+  pub kept : (ack : Ack) (w : CongView) → (acked ack w).0.rate ≡ w.rate
+  pub paced : (smss pipe : ℕ) (w : CongView) → w.rate ≡ Pipe → paced smss pipe w ≡ w
+  pub sent : (octets : ℕ) (w : CongView) → w.rate ≡ Pipe → with_out octets w ≡ w
+  pub told :
+      (ack : Ack) (octets : ℕ) (w : CongView) → w.rate ≡ Pipe
+      → acked (record ack { delivered = octets }) w ≡ acked ack w
 
 -- an ACK ends recovery exactly where una reaches RecoveryPoint, if SACK was agreed, and else exactly where it
 -- acknowledges new octets; an expiry always ends it (RFC 6675, section 5; RFC 5681, section 3.2)

@@ -3,3 +3,4 @@ pub mod Acks
 pub mod Choice
 pub mod Cong
 pub mod Laws
+pub mod Prr

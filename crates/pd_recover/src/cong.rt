@@ -1,13 +1,19 @@
 //! The congestion window and what loss recovery keeps.
-ghost use Rattle.std.specs.Prelude.{◌≡◌, ◌<◌, ◌≤◌, ◌^◌};
-ghost use Rattle.pd_recover.specs.Cong.{IsCongView, first_segments, window_by, first_window, restart_rule, begun, begun_uses, timed_out, restarted, entered_to, with_limited};
+ghost use Rattle.std.specs.Prelude.{◌≡◌, ◌-◌, ◌<◌, ◌≤◌, ◌^◌};
+ghost use Rattle.pd_recover.specs.Cong.{IsCongView, first_segments, window_by, first_window, restart_rule, begun, begun_uses, timed_out, restarted, entered_to, with_limited, is_reducing, with_out, sndcnt, paced};
+ghost use Rattle.pd_recover.specs.Prr.{is_proportional};
 
 mod acks;
 mod choice;
 
-use pd_settings::{InitialWindow, Settings, UseSet};
+use crate::reductions::Reduction;
+use pd_seg::Span;
+use pd_settings::{InitialWindow, RecoveryRate, Settings, UseSet};
 use std::alloc::AllocError;
 use std::marker::Model;
+
+/// The greatest window that growth leads to, in octets.
+const MAX_WINDOW: u32 = 0x4000_0000;
 
 /// No connection has more octets than this.
 const MAX_OCTETS: u32 = 0x8000_0000;
@@ -16,7 +22,8 @@ const MAX_OCTETS: u32 = 0x8000_0000;
 ///
 /// No call takes memory.
 pub struct Cong {
-    /// cwnd, the congestion window, in octets: 1 to 2^31 (RFC 5681, section 3.1).
+    /// cwnd, the congestion window, in octets: 1 to 2^31 (RFC 5681, section 3.1), from 0 on where recovery goes on by PRR
+    /// (RFC 6937, section 3).
     cwnd: u32,
     /// ssthresh, the slow start threshold, in octets: 1 to 2^30 (RFC 5681, section 3.1).
     ssthresh: u32,
@@ -43,18 +50,22 @@ pub struct Cong {
     follows_expiry: bool,
     /// The rule for IW, where the window restarts by it after an idle time (RFC 5681, section 4.1).
     restarts_by: Option<InitialWindow>,
+    /// What paces recovery with SACK (RFC 6675, section 5; RFC 6937, section 3).
+    rate: RecoveryRate,
+    /// What PRR keeps of a recovery with SACK (RFC 6937, section 3).
+    reduction: Reduction,
 }
 
 impl Model for Cong {
-    ghost use Rattle.pd_recover.specs.Cong.{CongView, IsRanged};
+    ghost use Rattle.pd_recover.specs.Cong.{CongView, IsRanged, is_reducing};
 
     ghost Value = { CongView };
 
-    ghost view = { λ c. record { cwnd = c.cwnd; ssthresh = c.ssthresh; dup_acks = c.dup_acks; sends_early = c.sends_early; limited = c.limited; recovering = c.recovering; recovery_point = c.recovery_point; high_rxt = c.high_rxt; rescue_rxt = c.rescue_rxt; expired = c.expired; byte_limit = c.byte_limit; follows_expiry = c.follows_expiry; restarts_by = c.restarts_by } };
+    ghost view = { λ c. record { cwnd = c.cwnd; ssthresh = c.ssthresh; dup_acks = c.dup_acks; sends_early = c.sends_early; limited = c.limited; recovering = c.recovering; recovery_point = c.recovery_point; high_rxt = c.high_rxt; rescue_rxt = c.rescue_rxt; expired = c.expired; byte_limit = c.byte_limit; follows_expiry = c.follows_expiry; restarts_by = c.restarts_by; rate = c.rate; reduction = c.reduction } };
 
-    ghost invariant = { λ c. IsRanged c.cwnd c.ssthresh c.dup_acks c.limited };
+    ghost invariant = { λ c. IsRanged c.cwnd c.ssthresh c.dup_acks c.limited (is_reducing c.recovering c.rate) c.reduction };
 
-    ghost inverse = { λ c. record { cwnd = c.cwnd; ssthresh = c.ssthresh; dup_acks = c.dup_acks; sends_early = c.sends_early; limited = c.limited; recovering = c.recovering; recovery_point = c.recovery_point; high_rxt = c.high_rxt; rescue_rxt = c.rescue_rxt; expired = c.expired; byte_limit = c.byte_limit; follows_expiry = c.follows_expiry; restarts_by = c.restarts_by } };
+    ghost inverse = { λ c. record { cwnd = c.cwnd; ssthresh = c.ssthresh; dup_acks = c.dup_acks; sends_early = c.sends_early; limited = c.limited; recovering = c.recovering; recovery_point = c.recovery_point; high_rxt = c.high_rxt; rescue_rxt = c.rescue_rxt; expired = c.expired; byte_limit = c.byte_limit; follows_expiry = c.follows_expiry; restarts_by = c.restarts_by; rate = c.rate; reduction = c.reduction } };
 }
 
 impl Clone for Cong {
@@ -135,6 +146,8 @@ impl Cong {
             byte_limit: settings.byte_counting,
             follows_expiry: false,
             restarts_by: restart_rule(settings.restart_after_idle, settings.initial_window),
+            rate: settings.recovery_rate,
+            reduction: Reduction::NONE,
         }
     }
 
@@ -148,6 +161,7 @@ impl Cong {
             limited_transmit: true,
             byte_counting: true,
             restart_after_idle: true,
+            recovery_rate: true,
             ..uses
         }
     }
@@ -217,6 +231,7 @@ impl Cong {
         self.recovery_point = top;
         self.expired = true;
         self.follows_expiry = true;
+        self.reduction = Reduction::NONE;
     }
 
     /// Sending begins, with this SMSS in octets. After an idle time cwnd is RW, the restart window, at most, where the
@@ -235,12 +250,78 @@ impl Cong {
         }
     }
 
-    /// An entry has sent the segment at SND.UNA again, up to this number (RFC 6675, section 5, step 4.3).
-    pub fn enter(&mut self, end: u32)
-        ensures { self.new ≡ entered_to end self.old }
+    /// What paces recovery with SACK.
+    pub fn rate(&self) -> RecoveryRate
+        ensures { result ≡ self.now.rate }
     {
-        self.high_rxt = end;
-        self.rescue_rxt = end;
+        self.rate
+    }
+
+    /// What PRR keeps of a recovery with SACK.
+    pub fn reduction(&self) -> Reduction
+        ensures { result ≡ self.now.reduction }
+    {
+        self.reduction
+    }
+
+    /// Whether recovery with SACK goes by PRR.
+    pub fn is_proportional(&self) -> bool
+        ensures { result ≡ is_proportional self.now.rate }
+    {
+        match self.rate {
+            RecoveryRate::Pipe => false,
+            RecoveryRate::Prr | RecoveryRate::PrrCrb => true,
+        }
+    }
+
+    /// An entry has sent the segment at SND.UNA again (RFC 6675, section 5, step 4.3).
+    pub fn enter(&mut self, segment: Span)
+        ensures { self.new ≡ entered_to segment self.old }
+    {
+        self.high_rxt = segment.end;
+        self.rescue_rxt = segment.end;
+        self.count_out(segment);
+    }
+
+    /// The octets of a segment were sent in recovery.
+    fn count_out(&mut self, segment: Span)
+        ensures { self.new ≡ with_out (segment.end - segment.start) self.old }
+    {
+        if self.is_proportional() {
+            self.reduction = self
+                .reduction
+                .send(segment.end.saturating_sub(segment.start));
+        }
+    }
+
+    /// How many octets an ACK in recovery lets out, with this SMSS and pipe, in octets (RFC 6937, section 3).
+    fn sndcnt(&self, smss: u16, pipe: u32) -> u64
+        ensures { result ≡ sndcnt smss pipe self.now }
+    {
+        if pipe > self.ssthresh {
+            return self
+                .reduction
+                .proportion(self.ssthresh)
+                .saturating_sub(u64::from(self.reduction.prr_out));
+        }
+        u64::from(self.ssthresh - pipe).min(self.reduction.bound(self.rate, smss))
+    }
+
+    /// Whether recovery goes on by PRR, where `pace` sets the window. Without SACK nothing calls it.
+    pub fn is_reducing(&self) -> bool
+        ensures { result ≡ is_reducing self.now.recovering self.now.rate }
+    {
+        self.recovering && self.is_proportional()
+    }
+
+    /// An ACK in recovery with SACK, with this SMSS and pipe in octets: by PRR it sets the window (RFC 6937, section 3).
+    pub fn pace(&mut self, smss: u16, pipe: u32)
+        ensures { self.new ≡ paced smss pipe self.old }
+    {
+        if self.is_reducing() {
+            let octets = u64::from(pipe).saturating_add(self.sndcnt(smss, pipe));
+            self.cwnd = octets.min(u64::from(MAX_WINDOW)) as u32;
+        }
     }
 
     /// Limited transmit has sent this many octets; without SACK `on_ack` counts them itself.

@@ -16,6 +16,8 @@ pub struct Ack {
     pub rwnd: u32,
     /// How many octets the ACK acknowledges that weren't acknowledged.
     pub acked: u32,
+    /// DeliveredData: how many octets it tells to have reached the peer, acknowledged or SACKed (RFC 6937, section 3).
+    pub delivered: u32,
     /// Whether its window is the one before it.
     pub same_window: bool,
     /// Whether a FIN came with it.

@@ -4,11 +4,13 @@
 mod cong;
 mod feedback;
 mod laws;
+mod reductions;
 mod responses;
 mod segments;
 
 pub use cong::Cong;
 pub use feedback::{Ack, News};
 pub use laws::recovery_is_lawful;
+pub use reductions::Reduction;
 pub use responses::Then;
 pub use segments::NextSegment;

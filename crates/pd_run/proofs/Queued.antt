@@ -16,9 +16,11 @@ use Rattle.pd_seg.specs.declared.segments.Sent.{Sent}
 use Rattle.pd_host.specs.Arrivals.{arrived}
 use Rattle.pd_host.specs.Calls.{called}
 use Rattle.pd_host.specs.Expiries.{advanced, deadline_of}
-use Rattle.pd_host.specs.Growth.{asked_by}
+use Rattle.pd_host.specs.Growth.{asked_by, HasRoomFor, ExpiriesQueueNothing, CallsAskFew}
 use Rattle.pd_host.specs.Requests.{is_tcp, is_tcp_level, no_delay, socket_request, option_request, flags_request, address_request, listen_request, write_request, close_request, request_in, request_of}
-use Rattle.pd_host.specs.Host.{queued_to, without_oldest}
+use Rattle.pd_host.specs.Host.{HostView, IsShort, queued_to, without_oldest}
+use Rattle.pd_host.specs.Outcome.{GoesFrom, Goes}
+use Rattle.pd_host.specs.declared.halts.Ending.{Ending}
 use Rattle.pd_host.specs.declared.halts.Halt.{Halt}
 use Rattle.pd_host.specs.declared.requests.Operation.TheVariants.{Bind, Accept, NoDelay}
 use Rattle.pd_host.specs.declared.requests.Request.TheVariants.{Socket, On}
@@ -45,67 +47,76 @@ nothing = omega arith
 one : IsSmall 1
 one = omega arith
 
-socket_asks : (arguments : List Argument) → IsSmall (asked_by (socket_request arguments))
-socket_asks (_ ∷ Word SockStream ∷ protocol ∷ []) = by_protocol (is_tcp protocol)
+socket_asks : (sndbuf : ℕ) (arguments : List Argument) → IsSmall (asked_by sndbuf (socket_request arguments))
+socket_asks sndbuf (_ ∷ Word SockStream ∷ protocol ∷ []) = by_protocol (is_tcp protocol)
   where
-    by_protocol : (b : Bool) → IsSmall (asked_by (if b then Some Socket else None))
+    by_protocol : (b : Bool) → IsSmall (asked_by sndbuf (if b then Some Socket else None))
     by_protocol true = nothing
     by_protocol false = nothing
-socket_asks _ = nothing
+socket_asks sndbuf _ = nothing
 
-no_delay_asks : (fd n : ℕ) → IsSmall (asked_by (no_delay fd n))
-no_delay_asks fd n = by_value (n == 1) (n == 0)
+no_delay_asks : (sndbuf fd n : ℕ) → IsSmall (asked_by sndbuf (no_delay fd n))
+no_delay_asks sndbuf fd n = by_value (n == 1) (n == 0)
   where
-    by_value : (a b : Bool) → IsSmall (asked_by (if a then Some (On fd (NoDelay true)) else if b then Some (On fd (NoDelay false)) else None))
+    by_value : (a b : Bool) → IsSmall (asked_by sndbuf (if a then Some (On fd (NoDelay true)) else if b then Some (On fd (NoDelay false)) else None))
     by_value true b = nothing
     by_value false true = nothing
     by_value false false = nothing
 
-option_asks : (arguments : List Argument) → IsSmall (asked_by (option_request arguments))
-option_asks (Int fd ∷ Word SolSocket ∷ Word SoReuseaddr ∷ _ ∷ _ ∷ []) = nothing
-option_asks (Int fd ∷ Word level ∷ Word TcpNodelay ∷ Element n ∷ _ ∷ []) = by_level (is_tcp_level level)
+option_asks : (sndbuf : ℕ) (arguments : List Argument) → IsSmall (asked_by sndbuf (option_request arguments))
+option_asks sndbuf (Int fd ∷ Word SolSocket ∷ Word SoReuseaddr ∷ _ ∷ _ ∷ []) = nothing
+option_asks sndbuf (Int fd ∷ Word level ∷ Word TcpNodelay ∷ Element n ∷ _ ∷ []) = by_level (is_tcp_level level)
   where
-    by_level : (b : Bool) → IsSmall (asked_by (if b then no_delay fd n else None))
-    by_level true = no_delay_asks fd n
+    by_level : (b : Bool) → IsSmall (asked_by sndbuf (if b then no_delay fd n else None))
+    by_level true = no_delay_asks sndbuf fd n
     by_level false = nothing
-option_asks _ = nothing
+option_asks sndbuf _ = nothing
 
-flags_ask : (arguments : List Argument) → IsSmall (asked_by (flags_request arguments))
-flags_ask (Int fd ∷ Word FSetfl ∷ _ ∷ []) = nothing
-flags_ask _ = nothing
+flags_ask : (sndbuf : ℕ) (arguments : List Argument) → IsSmall (asked_by sndbuf (flags_request arguments))
+flags_ask sndbuf (Int fd ∷ Word FSetfl ∷ _ ∷ []) = nothing
+flags_ask sndbuf _ = nothing
 
-bind_asks : (arguments : List Argument) → IsSmall (asked_by (address_request Bind arguments))
-bind_asks (Int fd ∷ _ ∷ _ ∷ []) = nothing
-bind_asks _ = nothing
+bind_asks : (sndbuf : ℕ) (arguments : List Argument) → IsSmall (asked_by sndbuf (address_request Bind arguments))
+bind_asks sndbuf (Int fd ∷ _ ∷ _ ∷ []) = nothing
+bind_asks sndbuf _ = nothing
 
-accept_asks : (arguments : List Argument) → IsSmall (asked_by (address_request Accept arguments))
-accept_asks (Int fd ∷ _ ∷ _ ∷ []) = nothing
-accept_asks _ = nothing
+accept_asks : (sndbuf : ℕ) (arguments : List Argument) → IsSmall (asked_by sndbuf (address_request Accept arguments))
+accept_asks sndbuf (Int fd ∷ _ ∷ _ ∷ []) = nothing
+accept_asks sndbuf _ = nothing
 
-listen_asks : (arguments : List Argument) → IsSmall (asked_by (listen_request arguments))
-listen_asks (Int fd ∷ _ ∷ []) = nothing
-listen_asks _ = nothing
+listen_asks : (sndbuf : ℕ) (arguments : List Argument) → IsSmall (asked_by sndbuf (listen_request arguments))
+listen_asks sndbuf (Int fd ∷ _ ∷ []) = nothing
+listen_asks sndbuf _ = nothing
 
-close_asks : (arguments : List Argument) → IsSmall (asked_by (close_request arguments))
-close_asks (Int fd ∷ []) = one
-close_asks _ = nothing
+close_asks : (sndbuf : ℕ) (arguments : List Argument) → IsSmall (asked_by sndbuf (close_request arguments))
+close_asks sndbuf (Int fd ∷ []) = one
+close_asks sndbuf _ = nothing
 
-write_asks : (arguments : List Argument) → is_count_over (slice_get arguments 2) ≡ false → IsSmall (asked_by (write_request arguments))
-write_asks (Int fd ∷ _ ∷ Int n ∷ []) h = grind (arith, nat_tests)
-write_asks _ h = nothing
+write_asks : (sndbuf : ℕ) (arguments : List Argument) → is_count_over (slice_get arguments 2) ≡ false → IsSmall (asked_by sndbuf (write_request arguments))
+write_asks sndbuf (Int fd ∷ _ ∷ Int n ∷ []) h = grind (arith, nat_tests)
+write_asks sndbuf _ h = nothing
 
-asks : (f : Function) (arguments : List Argument) → (is_write f && is_count_over (slice_get arguments 2)) ≡ false → IsSmall (asked_by (request_in f arguments))
-asks SocketCall arguments h = socket_asks arguments
-asks BindCall arguments h = bind_asks arguments
-asks ListenCall arguments h = listen_asks arguments
-asks AcceptCall arguments h = accept_asks arguments
-asks SetsockoptCall arguments h = option_asks arguments
-asks FcntlCall arguments h = flags_ask arguments
-asks WriteCall arguments h = write_asks arguments h
-asks CloseCall arguments h = close_asks arguments
-asks UnknownCall arguments h = nothing
+asks : (sndbuf : ℕ) (f : Function) (arguments : List Argument) → (is_write f && is_count_over (slice_get arguments 2)) ≡ false → IsSmall (asked_by sndbuf (request_in f arguments))
+asks sndbuf SocketCall arguments h = socket_asks sndbuf arguments
+asks sndbuf BindCall arguments h = bind_asks sndbuf arguments
+asks sndbuf ListenCall arguments h = listen_asks sndbuf arguments
+asks sndbuf AcceptCall arguments h = accept_asks sndbuf arguments
+asks sndbuf SetsockoptCall arguments h = option_asks sndbuf arguments
+asks sndbuf FcntlCall arguments h = flags_ask sndbuf arguments
+asks sndbuf WriteCall arguments h = write_asks sndbuf arguments h
+asks sndbuf CloseCall arguments h = close_asks sndbuf arguments
+asks sndbuf UnknownCall arguments h = nothing
 
 -- What a step queues
+
+-- after the expiries up to a moment there is room for what a call asks for
+pub room_for : ExpiriesQueueNothing → CallsAskFew → (until : ℕ) (call : Call) (old new : HostView) (u : Unit {0}) → Goes old (advanced until) (Ok u) new
+    → IsShort old.state → HasRoomFor (asked_by new.state.settings.sndbuf (request_of call)) new.state
+room_for still few until call old new u h short = go old.ended h
+  where
+    go : (o : Option Ending) → GoesFrom o old (advanced until) (Ok u) new → HasRoomFor (asked_by new.state.settings.sndbuf (request_of call)) new.state
+    go None told = omega (arith, short, still until old.state new.state told.0, few new.state.settings call)
+    go (Some ending) told = absurd cc
 
 -- the number after the last octet that a run has queued
 abbrev pub end_of : RunStateView → ℕ
@@ -130,8 +141,8 @@ after_call laws r s e call (Ok (t, a)) is within h =
     let came = both (called call (acts_at r e)) (advanced (acts_at r e) r.host.state) (t, a) is in
     let same : end_of s ≡ state_end t = ap end_of (sym (agreed e.line (acted r e t) s (result_mismatch call.result a) h)) in
     let before : state_end came.0 ≡ end_of r = laws.queued_by_expiries (acts_at r e) r.host.state came.0 came.1 in
-    let more : state_end t ≤ state_end came.0 + asked_by (request_of call) = laws.queued_by_calls call (acts_at r e) came.0 t a came.2 in
-    let few : asked_by (request_of call) ≤ 262144 = asks call.function call.arguments within in
+    let more : state_end t ≤ state_end came.0 + asked_by came.0.settings.sndbuf (request_of call) = laws.queued_by_calls call (acts_at r e) came.0 t a came.2 in
+    let few : asked_by came.0.settings.sndbuf (request_of call) ≤ 262144 = asks came.0.settings.sndbuf call.function call.arguments within in
     omega (arith, same, before, more, few)
 after_call laws r s e call (Err halt) is within h = absurd cc
 

@@ -7,7 +7,7 @@ use Rattle.pd_host.specs.declared.halts.Ending.TheVariants.{Halted, OutOfMemory}
 use Rattle.pd_run.specs.declared.stepping.StepEnd.{StepEnd}
 use Rattle.pd_run.specs.declared.stepping.StepEnd.TheVariants.{Stop}
 use Rattle.pd_run.specs.Step.{KeepsTime, verdict_by}
-use Rattle.pd_host.specs.Growth.{ExpiriesQueueNothing, ArrivalsQueueOurSyn, CallsQueueWhatTheyAsk}
+use Rattle.pd_host.specs.Growth.{ExpiriesQueueNothing, ArrivalsQueueOurSyn, CallsQueueWhatTheyAsk, CallsAskFew}
 use Rattle.pd_host.specs.InputLaws.{RebindingKeepsUp, OnlyUsesMatter, CallsOnlyUse, AdvancesUseNone, ArrivalsNote, CallsNote, AdvancesNote}
 use Rattle.pd_host.specs.Laws.{StartsUpToDate, AdvancesKeepUp, ArrivalsKeepUp, CallsKeepUp, TakingKeepsUp}
 
@@ -31,6 +31,7 @@ pub record SenderIsLawful : Type 0 where
   pub queued_by_expiries : ExpiriesQueueNothing
   pub queued_by_arrivals : ArrivalsQueueOurSyn
   pub queued_by_calls : CallsQueueWhatTheyAsk
+  pub asked_by_calls : CallsAskFew
 
 -- what the sender says of its settings
 pub record InputsOnlyUse : Type 0 where

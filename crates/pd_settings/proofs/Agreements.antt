@@ -9,13 +9,15 @@ use Rattle.std.proofs.lemmas.Bool.{and_parts, and_from}
 use Rattle.pd_settings.specs.declared.fields.Settings.{Settings}
 use Rattle.pd_settings.specs.declared.initial_window.InitialWindow.{InitialWindow}
 use Rattle.pd_settings.specs.declared.initial_window.InitialWindow.TheVariants.{Rfc5681, Rfc6928}
+use Rattle.pd_settings.specs.declared.recovery_rate.RecoveryRate.{RecoveryRate}
+use Rattle.pd_settings.specs.declared.recovery_rate.RecoveryRate.TheVariants.{Pipe, Prr, PrrCrb}
 use Rattle.pd_settings.specs.declared.use_set.UseSet.{UseSet}
 use Rattle.pd_settings.specs.declared.values.Value.{Value}
-use Rattle.pd_settings.specs.declared.values.Value.TheVariants.{Number, Truth, Word, Other}
+use Rattle.pd_settings.specs.declared.values.Value.TheVariants.{Number, Truth, Word, Rate, Other}
 use Rattle.pd_settings.specs.Keys.{name_of}
 use Rattle.pd_settings.specs.Rows.{all_keys}
 use Rattle.pd_settings.specs.Settings.{value_at}
-use Rattle.pd_settings.specs.Uses.{Agree, agrees, agrees_at, has, is_same, is_same_at, is_same_value, is_same_window}
+use Rattle.pd_settings.specs.Uses.{Agree, agrees, agrees_at, has, is_same, is_same_at, is_same_value, is_same_window, is_same_rate}
 use Rattle.pd_settings.proofs.Changes.{determined}
 use Rattle.pd_settings.proofs.Names.{named-name_of}
 
@@ -27,10 +29,17 @@ same_window Rfc6928 Rfc6928 e = refl
 same_window Rfc5681 Rfc6928 e = absurd cc
 same_window Rfc6928 Rfc5681 e = absurd cc
 
+same_rate : (a b : RecoveryRate) → is_same_rate a b ≡ true → a ≡ b
+same_rate Pipe Pipe e = refl
+same_rate Prr Prr e = refl
+same_rate PrrCrb PrrCrb e = refl
+same_rate _ _ e = absurd cc
+
 same_value : (a b : Value) → is_same_value a b ≡ true → a ≡ b
 same_value (Number a) (Number b) e = ap Number ((Decides-eqb a b).0 e)
 same_value (Truth a) (Truth b) e = ap Truth ((booleans_Decides a b).0 e)
 same_value (Word a) (Word b) e = ap Word (same_window a b e)
+same_value (Rate a) (Rate b) e = ap Rate (same_rate a b e)
 same_value Other Other e = refl
 same_value _ _ e = absurd cc
 
@@ -38,10 +47,16 @@ window_same : (a : InitialWindow) → is_same_window a a ≡ true
 window_same Rfc5681 = refl
 window_same Rfc6928 = refl
 
+rate_same : (a : RecoveryRate) → is_same_rate a a ≡ true
+rate_same Pipe = refl
+rate_same Prr = refl
+rate_same PrrCrb = refl
+
 value_same : (a : Value) → is_same_value a a ≡ true
 value_same (Number a) = (Decides-eqb a a).1 refl
 value_same (Truth a) = (booleans_Decides a a).1 refl
 value_same (Word a) = window_same a
+value_same (Rate a) = rate_same a
 value_same Other = refl
 
 -- Lists

@@ -6,15 +6,15 @@ use Rattle.std.specs.Str.{bytes_eq}
 use Rattle.std.proofs.lemmas.Slice.Eq.{bytes_eq-Decides}
 use mathlib.Core.HLevel.{is_prop→PathP}
 use Rattle.pd_settings.specs.declared.domains.Domain.{Domain}
-use Rattle.pd_settings.specs.declared.domains.Domain.TheVariants.{Numbers, Truths, Windows}
+use Rattle.pd_settings.specs.declared.domains.Domain.TheVariants.{Numbers, Truths, Windows, Rates}
 use Rattle.pd_settings.specs.declared.fields.Settings.{Settings}
 use Rattle.pd_settings.specs.declared.keys.Key.{Key}
 use Rattle.pd_settings.specs.declared.keys.Key.TheVariants.{Mss}
 use Rattle.pd_settings.specs.declared.values.Value.{Value}
-use Rattle.pd_settings.specs.declared.values.Value.TheVariants.{Number, Truth, Word}
+use Rattle.pd_settings.specs.declared.values.Value.TheVariants.{Number, Truth, Word, Rate}
 use Rattle.pd_settings.specs.Keys.{Takes, domain_of, name_of}
 use Rattle.pd_settings.specs.Rows.{all_keys}
-use Rattle.pd_settings.specs.Settings.{ChangesOnly, held, number_in, put, replaced, truth_in, value_at, word_in}
+use Rattle.pd_settings.specs.Settings.{ChangesOnly, held, number_in, put, replaced, rate_in, truth_in, value_at, word_in}
 use Rattle.pd_settings.proofs.Names.{named-name_of, same_key}
 use Rattle.pd_settings.proofs.Taken.{if_taken, taken_accepted, taken_inside, takes_prop}
 
@@ -25,6 +25,7 @@ abbrev rebuilt : Domain → Value → Value
 rebuilt (Numbers least greatest) v = Number (number_in v)
 rebuilt Truths v = Truth (truth_in v)
 rebuilt Windows v = Word (word_in v)
+rebuilt Rates v = Rate (rate_in v)
 
 back : (d : Domain) (v : Value) → Takes d v → rebuilt d v ≡ v
 back (Numbers least greatest) (Number n) h = refl
@@ -33,6 +34,8 @@ back Truths (Truth b) h = refl
 back Truths _ h = absurd h
 back Windows (Word w) h = refl
 back Windows _ h = absurd h
+back Rates (Rate r) h = refl
+back Rates _ h = absurd h
 
 -- the value at each key after one was replaced
 abbrev pub value_after : Settings → Key → Value → Key → Value

@@ -5,9 +5,9 @@ use Rattle.std.specs.Coded.{×_prop, le_prop}
 use mathlib.Core.HLevel.{⊥_prop, Unit-prop}
 use mathlib.Core.Logic.{dite, dif_pos, dif_neg}
 use Rattle.pd_settings.specs.declared.domains.Domain.{Domain}
-use Rattle.pd_settings.specs.declared.domains.Domain.TheVariants.{Numbers, Truths, Windows}
+use Rattle.pd_settings.specs.declared.domains.Domain.TheVariants.{Numbers, Truths, Windows, Rates}
 use Rattle.pd_settings.specs.declared.values.Value.{Value}
-use Rattle.pd_settings.specs.declared.values.Value.TheVariants.{Number, Truth, Word, Other}
+use Rattle.pd_settings.specs.declared.values.Value.TheVariants.{Number, Truth, Word, Rate, Other}
 use Rattle.pd_settings.specs.Keys.{Takes, value_taken, decided}
 
 -- a domain has one fact of each value at most
@@ -18,6 +18,8 @@ takes_prop Truths (Truth b) = Unit-prop
 takes_prop Truths _ = ⊥_prop
 takes_prop Windows (Word w) = Unit-prop
 takes_prop Windows _ = ⊥_prop
+takes_prop Rates (Rate r) = Unit-prop
+takes_prop Rates _ = ⊥_prop
 
 pub taken_inside : {A : Type 0} (d : Domain) (v : Value) (made : Takes d v → A) (h : Takes d v) → Some (made h) ≡ value_taken d v made
 taken_inside d v made h = sym (dif_pos (decided d v) (takes_prop d v) h _ _)
@@ -30,6 +32,7 @@ pub never_other : (d : Domain) → ¬ Takes d Other
 never_other (Numbers least greatest) h = h
 never_other Truths h = h
 never_other Windows h = h
+never_other Rates h = h
 
 -- an answer comes exactly where the domain takes the value
 pub taken_accepted : {A : Type 0} (d : Domain) (v : Value) (made : Takes d v → A) → IsSome (value_taken d v made) ↔ Takes d v

@@ -8,12 +8,14 @@ use Rattle.pd_settings.specs.declared.fields.Settings.{Settings}
 use Rattle.pd_settings.specs.declared.initial_window.InitialWindow.{InitialWindow as Window}
 use Rattle.pd_settings.specs.declared.initial_window.InitialWindow.TheVariants.{Rfc5681}
 use Rattle.pd_settings.specs.declared.keys.Key.{Key}
-use Rattle.pd_settings.specs.declared.keys.Key.TheVariants.{Mss, Sack, Wscale, Sndbuf, RcvWnd, InitialSsthresh, InitialWindow, MinRtoUs, MaxRtoUs, GranularityUs, Nagle, LimitedTransmit, ByteCounting, RestartAfterIdle, ToleranceUs}
+use Rattle.pd_settings.specs.declared.keys.Key.TheVariants.{Mss, Sack, Wscale, Sndbuf, RcvWnd, InitialSsthresh, InitialWindow, MinRtoUs, MaxRtoUs, GranularityUs, Nagle, LimitedTransmit, ByteCounting, RestartAfterIdle, RecoveryRate, ToleranceUs}
+use Rattle.pd_settings.specs.declared.recovery_rate.RecoveryRate.{RecoveryRate as Pace}
+use Rattle.pd_settings.specs.declared.recovery_rate.RecoveryRate.TheVariants.{Pipe}
 use Rattle.pd_settings.specs.declared.values.Value.{Value}
-use Rattle.pd_settings.specs.declared.values.Value.TheVariants.{Number, Truth, Word}
+use Rattle.pd_settings.specs.declared.values.Value.TheVariants.{Number, Truth, Word, Rate}
 use Rattle.pd_settings.specs.Keys.{Takes, key_named, domain_of, default_of, value_taken}
 
--- the number, the truth value or the rule that a value is; another where it is of another kind
+-- the number, the truth value or the rules that a value is; another where it is of another kind
 abbrev pub number_in : Value → ℕ
 number_in (Number n) = n
 number_in _ = 0
@@ -25,6 +27,10 @@ truth_in _ = false
 abbrev pub word_in : Value → Window
 word_in (Word w) = w
 word_in _ = Rfc5681
+
+abbrev pub rate_in : Value → Pace
+rate_in (Rate r) = r
+rate_in _ = Pipe
 
 -- a value that a range takes is one of its numbers
 abbrev pub in_range : (least greatest : ℕ) (v : Value) → Takes (Numbers least greatest) v → Takes (Numbers least greatest) (Number (number_in v))
@@ -48,6 +54,7 @@ defaults = record {
   limited_transmit = truth_in (default_of LimitedTransmit);
   byte_counting = number_in (default_of ByteCounting);
   restart_after_idle = truth_in (default_of RestartAfterIdle);
+  recovery_rate = rate_in (default_of RecoveryRate);
   tolerance_us = number_in (default_of ToleranceUs);
   mss_in_range = (lit≤ tt, lit≤ tt);
   wscale_in_range = (lit≤ tt, lit≤ tt);
@@ -77,6 +84,7 @@ value_at s Nagle = Truth s.nagle
 value_at s LimitedTransmit = Truth s.limited_transmit
 value_at s ByteCounting = Number s.byte_counting
 value_at s RestartAfterIdle = Truth s.restart_after_idle
+value_at s RecoveryRate = Rate s.recovery_rate
 value_at s ToleranceUs = Number s.tolerance_us
 
 -- it is a value that the key takes
@@ -114,6 +122,7 @@ put s Nagle v h = record s { nagle = truth_in v }
 put s LimitedTransmit v h = record s { limited_transmit = truth_in v }
 put s ByteCounting v h = record s { byte_counting = number_in v; byte_counting_in_range = in_range _ _ v h }
 put s RestartAfterIdle v h = record s { restart_after_idle = truth_in v }
+put s RecoveryRate v h = record s { recovery_rate = rate_in v }
 put s ToleranceUs v h = record s { tolerance_us = number_in v; tolerance_us_in_range = in_range _ _ v h }
 
 -- the same where the key takes the value; else None

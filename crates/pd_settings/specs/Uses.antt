@@ -6,10 +6,12 @@ use Rattle.pd_settings.specs.declared.fields.Settings.{Settings}
 use Rattle.pd_settings.specs.declared.initial_window.InitialWindow.{InitialWindow as Window}
 use Rattle.pd_settings.specs.declared.initial_window.InitialWindow.TheVariants.{Rfc5681, Rfc6928}
 use Rattle.pd_settings.specs.declared.keys.Key.{Key}
-use Rattle.pd_settings.specs.declared.keys.Key.TheVariants.{Mss, Sack, Wscale, Sndbuf, RcvWnd, InitialSsthresh, InitialWindow, MinRtoUs, MaxRtoUs, GranularityUs, Nagle, LimitedTransmit, ByteCounting, RestartAfterIdle, ToleranceUs}
+use Rattle.pd_settings.specs.declared.keys.Key.TheVariants.{Mss, Sack, Wscale, Sndbuf, RcvWnd, InitialSsthresh, InitialWindow, MinRtoUs, MaxRtoUs, GranularityUs, Nagle, LimitedTransmit, ByteCounting, RestartAfterIdle, RecoveryRate, ToleranceUs}
+use Rattle.pd_settings.specs.declared.recovery_rate.RecoveryRate.{RecoveryRate as Pace}
+use Rattle.pd_settings.specs.declared.recovery_rate.RecoveryRate.TheVariants.{Pipe, Prr, PrrCrb}
 use Rattle.pd_settings.specs.declared.use_set.UseSet.{UseSet}
 use Rattle.pd_settings.specs.declared.values.Value.{Value}
-use Rattle.pd_settings.specs.declared.values.Value.TheVariants.{Number, Truth, Word, Other}
+use Rattle.pd_settings.specs.declared.values.Value.TheVariants.{Number, Truth, Word, Rate, Other}
 use Rattle.pd_settings.specs.Rows.{all_keys}
 use Rattle.pd_settings.specs.Settings.{value_at}
 
@@ -29,6 +31,7 @@ has uses Nagle = uses.nagle
 has uses LimitedTransmit = uses.limited_transmit
 has uses ByteCounting = uses.byte_counting
 has uses RestartAfterIdle = uses.restart_after_idle
+has uses RecoveryRate = uses.recovery_rate
 has uses ToleranceUs = uses.tolerance_us
 
 -- no setting was consulted
@@ -48,6 +51,7 @@ no_uses = record {
   limited_transmit = false;
   byte_counting = false;
   restart_after_idle = false;
+  recovery_rate = false;
   tolerance_us = false;
 }
 
@@ -65,11 +69,19 @@ is_same_window Rfc5681 Rfc5681 = true
 is_same_window Rfc6928 Rfc6928 = true
 is_same_window _ _ = false
 
+-- two rules for the rate of loss recovery are
+abbrev pub is_same_rate : Pace → Pace → Bool
+is_same_rate Pipe Pipe = true
+is_same_rate Prr Prr = true
+is_same_rate PrrCrb PrrCrb = true
+is_same_rate _ _ = false
+
 -- two values are
 abbrev pub is_same_value : Value → Value → Bool
 is_same_value (Number a) (Number b) = a == b
 is_same_value (Truth a) (Truth b) = beq a b
 is_same_value (Word a) (Word b) = is_same_window a b
+is_same_value (Rate a) (Rate b) = is_same_rate a b
 is_same_value Other Other = true
 is_same_value _ _ = false
 

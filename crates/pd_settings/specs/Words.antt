@@ -3,8 +3,10 @@ use Rattle.std.specs.Prelude.{codes, ℕ, List, [], ◌∷◌, Option, Some, Non
 use Rattle.std.specs.Str.{bytes_eq}
 use Rattle.pd_settings.specs.declared.initial_window.InitialWindow.{InitialWindow}
 use Rattle.pd_settings.specs.declared.initial_window.InitialWindow.TheVariants.{Rfc5681, Rfc6928}
+use Rattle.pd_settings.specs.declared.recovery_rate.RecoveryRate.{RecoveryRate}
+use Rattle.pd_settings.specs.declared.recovery_rate.RecoveryRate.TheVariants.{Pipe, Prr, PrrCrb}
 use Rattle.pd_settings.specs.declared.values.Value.{Value}
-use Rattle.pd_settings.specs.declared.values.Value.TheVariants.{Word, Other}
+use Rattle.pd_settings.specs.declared.values.Value.TheVariants.{Word, Rate, Other}
 
 -- the word that a rule for the initial window is written by
 abbrev pub word_for : InitialWindow → List ℕ
@@ -15,11 +17,30 @@ word_for Rfc6928 = codes "rfc6928"
 abbrev pub window_named : List ℕ → Option InitialWindow
 window_named word = find (λ window. bytes_eq (word_for window) word) (Rfc5681 ∷ Rfc6928 ∷ [])
 
--- what a rule says as a value
-abbrev pub value_for : Option InitialWindow → Value
-value_for None = Other
-value_for (Some window) = Word window
+-- the word that a rule for the rate of loss recovery is written by
+abbrev pub rate_word : RecoveryRate → List ℕ
+rate_word Pipe = codes "pipe"
+rate_word Prr = codes "prr"
+rate_word PrrCrb = codes "prr_crb"
 
--- what a word says as a value: a word that no setting takes is neither
+-- the rule of a word
+abbrev pub rate_named : List ℕ → Option RecoveryRate
+rate_named word = find (λ rate. bytes_eq (rate_word rate) word) (Pipe ∷ Prr ∷ PrrCrb ∷ [])
+
+-- what such a rule says as a value; a word that no setting takes is neither
+abbrev pub rate_for : Option RecoveryRate → Value
+rate_for None = Other
+rate_for (Some rate) = Rate rate
+
+-- what a word says as a value that is no rule for the initial window
+abbrev pub rate_value : List ℕ → Value
+rate_value word = rate_for (rate_named word)
+
+-- what a rule for the initial window says as a value, and what another word does
+abbrev pub value_for : Value → Option InitialWindow → Value
+value_for otherwise None = otherwise
+value_for otherwise (Some window) = Word window
+
+-- what a word says as a value
 abbrev pub word_value : List ℕ → Value
-word_value word = value_for (window_named word)
+word_value word = value_for (rate_value word) (window_named word)

@@ -60,6 +60,7 @@ fn is_same_value(one: Value, other: Value) -> bool
         (Value::Number(one), Value::Number(other)) => one == other,
         (Value::Truth(one), Value::Truth(other)) => one == other,
         (Value::Word(one), Value::Word(other)) => one == other,
+        (Value::Rate(one), Value::Rate(other)) => one == other,
         (Value::Other, Value::Other) => true,
         _ => false,
     }

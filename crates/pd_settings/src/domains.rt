@@ -12,6 +12,8 @@ pub enum Domain {
     Truths,
     /// The rules for the initial window.
     Windows,
+    /// The rules for the rate of loss recovery.
+    Rates,
 }
 
 impl Domain {
@@ -21,7 +23,7 @@ impl Domain {
     {
         match self {
             Domain::Numbers(least, greatest) => *least <= number && number <= *greatest,
-            Domain::Truths | Domain::Windows => false,
+            Domain::Truths | Domain::Windows | Domain::Rates => false,
         }
     }
 }

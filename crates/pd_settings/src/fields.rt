@@ -2,11 +2,12 @@
 ghost use Rattle.std.specs.Prelude.{◌≡◌, ◌↔◌, IsSome, IfSome, MatchResult};
 ghost use Rattle.pd_settings.specs.Keys.{Takes, domain_of};
 ghost use Rattle.pd_settings.specs.declared.keys.Key.TheVariants.{Mss, Wscale, Sndbuf, RcvWnd, InitialSsthresh, MinRtoUs, MaxRtoUs, GranularityUs, ByteCounting, ToleranceUs};
-ghost use Rattle.pd_settings.specs.declared.values.Value.TheVariants.{Number, Truth, Word};
+ghost use Rattle.pd_settings.specs.declared.values.Value.TheVariants.{Number, Truth, Word, Rate};
 
 use crate::faults::SettingsFault;
 use crate::initial_window::InitialWindow;
 use crate::keys::Key;
+use crate::recovery_rate::RecoveryRate;
 use crate::values::Value;
 use toml::Table;
 
@@ -42,6 +43,8 @@ pub struct Settings {
     pub byte_counting: u8,
     /// Whether an idle connection begins again with the restart window (RFC 5681, section 4.1).
     pub restart_after_idle: bool,
+    /// What paces loss recovery with SACK (RFC 6675, section 5; RFC 6937, section 3).
+    pub recovery_rate: RecoveryRate,
     /// How far a packet's time may lie outside the written one, in microseconds, where the script's header
     /// doesn't say (packetdrill's `--tolerance_usecs`): 0 to 1,000,000.
     pub tolerance_us: u64,
@@ -91,6 +94,7 @@ impl Settings {
             limited_transmit: true,
             byte_counting: 1,
             restart_after_idle: false,
+            recovery_rate: RecoveryRate::Pipe,
             tolerance_us: 4_000,
         }
     }
@@ -123,6 +127,7 @@ impl Settings {
             Key::LimitedTransmit => Value::Truth(self.limited_transmit),
             Key::ByteCounting => Value::Number(u64::from(self.byte_counting)),
             Key::RestartAfterIdle => Value::Truth(self.restart_after_idle),
+            Key::RecoveryRate => Value::Rate(self.recovery_rate),
             Key::ToleranceUs => Value::Number(self.tolerance_us),
         }
     }
@@ -145,6 +150,7 @@ impl Settings {
             Value::Number(number) => self.change_number(key, number),
             Value::Truth(truth) => self.replace_truth(key, truth),
             Value::Word(window) => self.replace_word(key, window),
+            Value::Rate(rate) => self.replace_rate(key, rate),
             Value::Other => None,
         }
     }
@@ -178,6 +184,7 @@ impl Settings {
             | Key::Nagle
             | Key::LimitedTransmit
             | Key::RestartAfterIdle
+            | Key::RecoveryRate
             | Key::InitialWindow => None,
         }
     }
@@ -199,6 +206,15 @@ impl Settings {
     {
         match key {
             Key::InitialWindow => with_field!(self, initial_window, window),
+            _ => None,
+        }
+    }
+
+    fn replace_rate(&self, key: Key, rate: RecoveryRate) -> Option<Settings>
+        ensures { result ≡ replaced self.now key (Rate rate) }
+    {
+        match key {
+            Key::RecoveryRate => with_field!(self, recovery_rate, rate),
             _ => None,
         }
     }

@@ -21,12 +21,13 @@ pub enum Key {
     LimitedTransmit,
     ByteCounting,
     RestartAfterIdle,
+    RecoveryRate,
     ToleranceUs,
 }
 
 impl Key {
     /// All settings, in the order of the fields of `Settings`.
-    pub const ALL: [Key; 15] = [
+    pub const ALL: [Key; 16] = [
         Key::Mss,
         Key::Sack,
         Key::Wscale,
@@ -41,6 +42,7 @@ impl Key {
         Key::LimitedTransmit,
         Key::ByteCounting,
         Key::RestartAfterIdle,
+        Key::RecoveryRate,
         Key::ToleranceUs,
     ];
 
@@ -70,6 +72,7 @@ impl Key {
             Key::LimitedTransmit => b"limited_transmit",
             Key::ByteCounting => b"byte_counting",
             Key::RestartAfterIdle => b"restart_after_idle",
+            Key::RecoveryRate => b"recovery_rate",
             Key::ToleranceUs => b"tolerance_us",
         }
     }
@@ -93,6 +96,7 @@ impl Key {
             Key::LimitedTransmit => Domain::Truths,
             Key::ByteCounting => Domain::Numbers(1, 8),
             Key::RestartAfterIdle => Domain::Truths,
+            Key::RecoveryRate => Domain::Rates,
             Key::ToleranceUs => Domain::Numbers(0, 1_000_000),
         }
     }

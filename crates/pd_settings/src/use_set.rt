@@ -35,6 +35,8 @@ pub struct UseSet {
     pub byte_counting: bool,
     /// `restart_after_idle`, which the establishment consults.
     pub restart_after_idle: bool,
+    /// `recovery_rate`, which the establishment consults.
+    pub recovery_rate: bool,
     /// `tolerance_us`, which a packet that is expected consults, unless the header sets a tolerance.
     pub tolerance_us: bool,
 }
@@ -59,6 +61,7 @@ impl UseSet {
             limited_transmit: false,
             byte_counting: false,
             restart_after_idle: false,
+            recovery_rate: false,
             tolerance_us: false,
         }
     }
@@ -82,6 +85,7 @@ impl UseSet {
             Key::LimitedTransmit => self.limited_transmit,
             Key::ByteCounting => self.byte_counting,
             Key::RestartAfterIdle => self.restart_after_idle,
+            Key::RecoveryRate => self.recovery_rate,
             Key::ToleranceUs => self.tolerance_us,
         }
     }

@@ -1,10 +1,11 @@
 //! What a setting can be set to.
 ghost use Rattle.std.specs.Prelude.{◌≡◌};
 ghost use Rattle.pd_settings.specs.Table.{value_of};
-ghost use Rattle.pd_settings.specs.Words.{word_value};
+ghost use Rattle.pd_settings.specs.Words.{rate_value, word_value};
 ghost use Rattle.toml.specs.View.{view};
 
 use crate::initial_window::InitialWindow;
+use crate::recovery_rate::RecoveryRate;
 
 /// A value for a setting, as written.
 #[derive(Clone, Copy, PartialEq, Eq)]
@@ -15,6 +16,8 @@ pub enum Value {
     Truth(bool),
     /// The word of a rule for the initial window.
     Word(InitialWindow),
+    /// The word of a rule for the rate of loss recovery.
+    Rate(RecoveryRate),
     /// Anything else, which each setting refuses.
     Other,
 }
@@ -26,6 +29,16 @@ impl Value {
     {
         match InitialWindow::named(word) {
             Some(window) => Value::Word(window),
+            None => Value::from_rate(word),
+        }
+    }
+
+    /// What a word that names no rule for the initial window says.
+    fn from_rate(word: &[u8]) -> Value
+        ensures { result ≡ rate_value word.now }
+    {
+        match RecoveryRate::named(word) {
+            Some(rate) => Value::Rate(rate),
             None => Value::Other,
         }
     }

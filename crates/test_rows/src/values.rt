@@ -17,6 +17,7 @@ pub fn say_value(said: &mut Said, value: Value) {
         Value::Truth(true) => said.say("true"),
         Value::Truth(false) => said.say("false"),
         Value::Word(window) => said.say_octets(window.word()),
+        Value::Rate(rate) => said.say_octets(rate.word()),
         Value::Other => said.say("other"),
     }
 }

@@ -17,6 +17,8 @@ pub struct Trial {
     smss: u16,
     board: Board,
     window: Cong,
+    /// How many octets were SACKed before the last ACK.
+    sacked: u32,
 }
 
 /// The settings with another value, if the key takes it.
@@ -24,15 +26,21 @@ fn with(settings: Settings, key: &[u8], value: Value) -> Settings {
     settings.with(key, value).unwrap_or(settings)
 }
 
-/// The settings with a threshold of slow start, the L of byte counting, and the restart after an idle time.
-fn settings(ssthresh: u64, limit: u64) -> Settings {
+/// The settings with a threshold of slow start, the L of byte counting, the restart after an idle time, and the rate of
+/// recovery of a word.
+fn settings(ssthresh: u64, limit: u64, rate: &str) -> Settings {
     let begun = with(
         Settings::new(),
         b"initial_ssthresh",
         Value::Number(ssthresh),
     );
     let counting = with(begun, b"byte_counting", Value::Number(limit));
-    with(counting, b"restart_after_idle", Value::Truth(true))
+    let restarting = with(counting, b"restart_after_idle", Value::Truth(true));
+    with(
+        restarting,
+        b"recovery_rate",
+        Value::from_word(rate.as_bytes()),
+    )
 }
 
 /// What an ACK leads to in a word, and its segment if it has one.
@@ -65,6 +73,7 @@ impl Trial {
             smss: 1_000,
             board: Board::new(alloc, 1_000),
             window: Cong::new(&Settings::new(), 1_000, false),
+            sacked: 0,
         }
     }
 
@@ -90,6 +99,7 @@ impl Trial {
             "hear" => self.hear(row),
             "enter" => self.enter(row),
             "pipe" => row.expect("the pipe", self.board.pipe(self.window.high_rxt())),
+            "pace" => self.pace(row),
             "next" => self.recover(row),
             "limited" => self.transmit_limited(row),
             "restart" => self.window.restart(self.board.smss(), row.is_set()),
@@ -111,7 +121,9 @@ impl Trial {
         self.smss = smss;
         self.board = Board::new(self.alloc, smss);
         let is_resent = row.is_set();
-        self.window = Cong::new(&settings(ssthresh, row.number()), smss, is_resent);
+        let limit = row.number();
+        self.window = Cong::new(&settings(ssthresh, limit, row.word()), smss, is_resent);
+        self.sacked = 0;
     }
 
     /// Octets are queued, up to a limit.
@@ -138,6 +150,7 @@ impl Trial {
     /// Octets are acknowledged.
     fn acknowledge(&mut self, row: &mut Row<'_>) {
         let number = row.octets().clamp(self.board.una(), self.board.top());
+        self.sacked = self.board.sacked_octets();
         self.board.take_ack(number);
     }
 
@@ -171,6 +184,9 @@ impl Trial {
             end: self.board.end(),
             rwnd,
             acked,
+            delivered: acked
+                .saturating_add(self.board.sacked_octets())
+                .saturating_sub(self.sacked),
             same_window,
             fin: false,
             sack: self.news(row.word()),
@@ -192,7 +208,16 @@ impl Trial {
     fn enter(&mut self, row: &mut Row<'_>) {
         let segment = self.board.run_at(self.board.una());
         row.expect_segment("the segment of an entry", Some(segment));
-        self.window.enter(segment.end);
+        self.window.enter(segment);
+    }
+
+    /// An ACK in recovery sets the window by PRR.
+    fn pace(&mut self, row: &mut Row<'_>) {
+        self.window.pace(self.board.smss(), row.octets());
+        row.expect("the window by PRR", self.window.cwnd());
+        let reduction = self.window.reduction();
+        row.expect("prr_delivered", reduction.prr_delivered);
+        row.expect("prr_out", reduction.prr_out);
     }
 
     /// Step C finds its next segment.

@@ -1,8 +1,9 @@
 //! What an acceptable ACK changes on a connection.
-ghost use Rattle.std.specs.Prelude.{◌≡◌, ◌+◌, ◌≤◌, ◌<◌, ◌^◌, false, Some, IfOk, OnOk, IfSome};
+ghost use Rattle.std.specs.Prelude.{◌≡◌, ◌+◌, ◌-◌, ◌≤◌, ◌<◌, ◌^◌, false, Some, IfOk, OnOk, IfSome};
 ghost use Rattle.pd_board.specs.Choice.{run_at};
+ghost use Rattle.pd_board.specs.Loss.{sacked_octets};
 ghost use Rattle.pd_recover.specs.Choice.{IsSendable, segment_of};
-ghost use Rattle.pd_host.specs.Acknowledgments.{told_block, told_blocks, blocks_in, blocks_of, with_blocks, scored, with_timing, with_new_window, news_of, answering, taking, next_found, sent_as, noted_by, noted_on, octets_of, pipe_of, entered_on};
+ghost use Rattle.pd_host.specs.Acknowledgments.{told_block, told_blocks, blocks_in, blocks_of, with_blocks, scored, with_timing, with_new_window, news_of, paced_on, with_ack, answering, taking, next_found, sent_as, noted_by, noted_on, octets_of, pipe_of, entered_on};
 ghost use Rattle.pd_host.specs.Handshake.{looked_at};
 ghost use Rattle.pd_host.specs.Steps.{FollowsQueued};
 
@@ -96,11 +97,40 @@ impl Connection {
             return Ok(Then::Nothing);
         };
         let acked = segment.ack - self.board.una();
+        let sacked = self.board.sacked_octets();
+        let fresh = self.take_ack(segment, &before, now)?;
+        let delivered = self.delivered(acked, sacked);
+        Ok(self.answer(segment, acked, delivered, fresh, &before))
+    }
+
+    /// The number, the blocks, the timer and the window of a segment are taken: whether the blocks told a new octet.
+    fn take_ack(
+        &mut self,
+        segment: &Segment,
+        before: &Established,
+        now: u64,
+    ) -> Result<bool, AllocError>
+        requires early { now < 2 ^ 62 }
+        requires established { self.old.established ≡ Some before.now }
+        requires known { self.old.board.una ≤ segment.now.ack }
+        requires sent { segment.now.ack ≤ self.old.board.top }
+        ensures taken { OnOk result (self.new ≡ (with_ack now segment.now before.now self.old).0) }
+        ensures fresh { IfOk result (λ fresh. fresh ≡ (with_ack now segment.now before.now self.old).1) }
+    {
+        let acked = segment.ack - self.board.una();
         self.board.take_ack(segment.ack);
         let fresh = self.score(segment)?;
         self.time(acked, before.granularity_us, now);
-        self.renew_window(segment, &before);
-        Ok(self.answer(segment, acked, fresh, &before))
+        self.renew_window(segment, before);
+        Ok(fresh)
+    }
+
+    /// DeliveredData of an ACK of so many new octets, before which so many were SACKed (RFC 6937, section 3).
+    fn delivered(&self, acked: u32, sacked: u32) -> u32
+        requires { acked < 2 ^ 31 }
+        ensures { result ≡ acked + sacked_octets self.now.board - sacked }
+    {
+        (acked + self.board.sacked_octets()).saturating_sub(sacked)
     }
 
     /// Marks the octets of the blocks, where SACK was agreed: whether they told a new octet.
@@ -154,9 +184,16 @@ impl Connection {
     }
 
     /// Congestion control learns what the segment acknowledged: what follows.
-    fn answer(&mut self, segment: &Segment, acked: u32, fresh: bool, before: &Established) -> Then
-        ensures told { self.new ≡ (answering segment.now acked fresh before.now self.old self.old.established).0 }
-        ensures next { result ≡ (answering segment.now acked fresh before.now self.old self.old.established).1 }
+    fn answer(
+        &mut self,
+        segment: &Segment,
+        acked: u32,
+        delivered: u32,
+        fresh: bool,
+        before: &Established,
+    ) -> Then
+        ensures told { self.new ≡ (answering segment.now acked delivered fresh before.now self.old self.old.established).0 }
+        ensures next { result ≡ (answering segment.now acked delivered fresh before.now self.old self.old.established).1 }
         ensures queued { FollowsQueued result self.new }
     {
         let Some(mut after) = self.established else {
@@ -169,13 +206,27 @@ impl Connection {
             end: self.board.end(),
             rwnd: after.rwnd,
             acked,
+            delivered,
             same_window: self.window_in(segment) == before.rwnd,
             fin: segment.flags.fin,
             sack: self.news(fresh),
         };
         let next = after.congestion.on_ack(ack);
+        if let Then::StepC = next {
+            self.pace(&mut after.congestion);
+        }
         self.established = Some(after);
         next
+    }
+
+    /// By PRR the pipe sets the window (RFC 6937, section 3).
+    fn pace(&self, congestion: &mut Cong)
+        ensures { congestion.new ≡ paced_on self.now congestion.old }
+    {
+        if congestion.is_reducing() {
+            let pipe = self.board.pipe(congestion.high_rxt());
+            congestion.pace(self.board.smss(), pipe);
+        }
     }
 
     /// How many octets count as on the way (RFC 6675, section 4).
@@ -195,13 +246,16 @@ impl Connection {
         self.board.run_at(self.board.una())
     }
 
-    /// Recovery has begun with this segment: HighRxt and RescueRxt.
+    /// Recovery has begun with this segment: HighRxt and RescueRxt, and PRR's window.
     pub fn enter(&mut self, segment: Span)
         ensures { self.new ≡ entered_on segment self.old self.old.established }
     {
-        if let Some(established) = &mut self.established {
-            established.congestion.enter(segment.end);
-        }
+        let Some(mut established) = self.established else {
+            return;
+        };
+        established.congestion.enter(segment);
+        self.pace(&mut established.congestion);
+        self.established = Some(established);
     }
 
     /// The segment that is sent next while the congestion window has room.

@@ -1,6 +1,6 @@
 //! What those who observe a connection see: its numbers, and why it sends nothing by itself.
 ghost use Rattle.std.specs.Prelude.{◌≡◌, ◌+◌, nat_le, IfOk};
-ghost use Rattle.pd_host.specs.Figures.{recovery_of, windows_of, figures_of};
+ghost use Rattle.pd_host.specs.Figures.{recovery_of, reduction_of, windows_of, figures_of};
 ghost use Rattle.pd_host.specs.Holds.{wanted, is_enough, hold_of_new, hold_at, hold_in_recovery, hold_since, hold_of};
 ghost use Rattle.pd_host.specs.Sending.{past_sacked};
 
@@ -8,7 +8,19 @@ use super::Connection;
 use crate::established::Established;
 use crate::figures::{Figures, Recovery, Windows};
 use crate::holds::Hold;
+use pd_recover::{Cong, Reduction};
 use std::alloc::AllocError;
+
+/// What PRR keeps, where recovery goes by it.
+fn reduction(congestion: &Cong) -> Option<Reduction>
+    ensures { result ≡ reduction_of congestion.now }
+{
+    if congestion.is_proportional() {
+        Some(congestion.reduction())
+    } else {
+        None
+    }
+}
 
 impl Connection {
     /// Its numbers.
@@ -38,6 +50,7 @@ impl Connection {
                 rwnd: established.rwnd,
                 dup_acks: established.congestion.dup_acks(),
                 recovery: self.recovery(established),
+                reduction: reduction(&established.congestion),
             }),
         }
     }

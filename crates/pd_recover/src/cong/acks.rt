@@ -1,17 +1,16 @@
 //! What an ACK does to the congestion window and to loss recovery, and what it leads to.
-ghost use Rattle.std.specs.Prelude.{◌≡◌, ◌+◌, ◌<◌, ◌≤◌, ◌^◌, IfSome};
+ghost use Rattle.std.specs.Prelude.{◌≡◌, false, ◌+◌, ◌<◌, ◌≤◌, ◌^◌, IfSome};
 ghost use Rattle.std.specs.Bool.{OnTrue};
-ghost use Rattle.pd_recover.specs.Acks.{IsAck, IsNamed, acked, is_duplicate, grown_by, half_of, counted, new_segment, first_outstanding, told_by_sack, told_by_number, selective_duplicate, plain_duplicate, limited_transmit, advanced};
+ghost use Rattle.pd_recover.specs.Acks.{IsAck, IsNamed, acked, is_duplicate, grown_by, half_of, counted, recovered, reduction_begun, with_delivered, new_segment, first_outstanding, told_by_sack, told_by_number, selective_duplicate, plain_duplicate, limited_transmit, advanced};
 ghost use Rattle.pd_recover.specs.Cong.{growth, limit_of, widened};
+ghost use Rattle.pd_recover.specs.Prr.{IsReduction};
 
-use super::Cong;
+use super::{Cong, MAX_WINDOW};
 use crate::feedback::{Ack, News};
+use crate::reductions::Reduction;
 use crate::responses::Then;
 use pd_board::DUP_THRESH;
 use pd_seg::Span;
-
-/// The greatest window that growth leads to, in octets.
-const MAX_WINDOW: u32 = 0x4000_0000;
 
 /// The new segment at `top`, where data is queued and the peer's window takes it.
 pub fn new_segment(smss: u16, una: u32, top: u32, end: u32, rwnd: u32) -> Option<Span>
@@ -81,12 +80,11 @@ impl Cong {
         ensures named { IsNamed ack result }
     {
         if self.recovering && self.recovery_point <= ack.una {
-            self.dup_acks = 0;
-            self.limited = 0;
-            self.recovering = false;
+            self.recover();
             return Then::Ordinary;
         }
         if self.recovering {
+            self.count_delivered(ack);
             return Then::StepC;
         }
         self.grow(ack);
@@ -95,6 +93,41 @@ impl Cong {
         }
         self.count();
         self.take_selective_duplicate(ack, news.lost)
+    }
+
+    /// Recovery with SACK ends.
+    fn recover(&mut self)
+        ensures { self.new ≡ recovered self.old }
+    {
+        if self.is_proportional() {
+            self.cwnd = self.ssthresh;
+        }
+        self.dup_acks = 0;
+        self.limited = 0;
+        self.recovering = false;
+        self.reduction = Reduction::NONE;
+    }
+
+    /// An ACK in recovery with SACK has told what reached the peer.
+    fn count_delivered(&mut self, ack: Ack)
+        ensures { self.new ≡ with_delivered ack self.old }
+    {
+        if self.is_proportional() {
+            self.reduction = self.reduction.tell(ack.delivered);
+        }
+    }
+
+    /// What PRR keeps where recovery with SACK begins.
+    fn begun_reduction(&self, ack: Ack) -> Reduction
+        requires { IsAck ack }
+        ensures value { result ≡ reduction_begun ack self.now }
+        ensures known { IsReduction result }
+    {
+        if self.is_proportional() {
+            Reduction::begin(ack.top - ack.una).tell(ack.delivered)
+        } else {
+            self.reduction
+        }
     }
 
     /// A duplicate with SACK, which is counted already (RFC 6675, section 5, steps 1 to 4).
@@ -115,6 +148,7 @@ impl Cong {
             return Then::LimitedTransmit;
         }
         let half = self.half(ack);
+        self.reduction = self.begun_reduction(ack);
         self.cwnd = half;
         self.ssthresh = half;
         self.recovering = true;
@@ -197,7 +231,8 @@ impl Cong {
 
     /// Outside recovery new octets widen the window (RFC 5681, section 3.1, equations 2 and 3; RFC 3465, section 2.2).
     fn grow(&mut self, ack: Ack)
-        requires { IsAck ack }
+        requires ack { IsAck ack }
+        requires outside { self.old.recovering ≡ false }
         ensures { self.new ≡ grown_by ack self.old }
     {
         if ack.acked > 0 {
@@ -219,7 +254,8 @@ impl Cong {
     }
 
     fn growth(&self, smss: u16, acked: u32) -> u32
-        requires { smss ≤ 65495 }
+        requires to { smss ≤ 65495 }
+        requires outside { self.now.recovering ≡ false }
         ensures { result ≡ growth smss acked self.now }
     {
         let smss = u32::from(smss);

@@ -92,5 +92,6 @@ impl Cong {
             NextSegment::Hole(segment) => self.high_rxt = segment.end,
             NextSegment::Rescue(_) => self.rescue_rxt = self.recovery_point,
         }
+        self.count_out(sent.segment());
     }
 }

@@ -1,5 +1,5 @@
 -- The laws hold.
-use Rattle.pd_host.proofs.Growth.{expiries_queue_nothing, arrivals_queue_our_syn, calls_queue_what_they_ask}
+use Rattle.pd_host.proofs.Growth.{expiries_queue_nothing, arrivals_queue_our_syn, calls_queue_what_they_ask, calls_ask_few}
 use Rattle.pd_host.proofs.laws.growth_is_lawful.Goals as goal
 
 pub returns : goal.returns
@@ -7,4 +7,5 @@ returns c = record {
   expiries = expiries_queue_nothing;
   arrivals = arrivals_queue_our_syn;
   calls = calls_queue_what_they_ask;
+  few = calls_ask_few;
 }

@@ -6,6 +6,7 @@ use Rattle.pd_host.proofs.InWindow.{stays_in_window}
 use Rattle.pd_host.proofs.Karn.{times_once}
 use Rattle.pd_host.proofs.LastOctet.{fin_covered, ends_before, only_close_queues, closed_stays}
 use Rattle.pd_host.proofs.Tails.{arrivals_queue_nothing, expiries_queue_nothing}
+use Rattle.pd_host.proofs.Proportion.{recovers_in_proportion}
 use Rattle.pd_host.proofs.RecoveryEnds.{ends_recovery}
 use Rattle.pd_host.proofs.Room.{keeps_to_window}
 use Rattle.pd_host.proofs.SentOnce.{measures_what_is_sent_once}
@@ -33,6 +34,9 @@ returns-clause-congestion c = record {
 
 pub returns-clause-room : goal.returns-clause-room
 returns-clause-room c = keeps_to_window
+
+pub returns-clause-proportion : goal.returns-clause-proportion
+returns-clause-proportion c = recovers_in_proportion c.recovery_is_lawful.ensures.proportion
 
 pub returns-clause-all : goal.returns-clause-all
 returns-clause-all c = sends_all_that_may

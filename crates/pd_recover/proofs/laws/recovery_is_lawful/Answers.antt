@@ -1,5 +1,6 @@
 -- The laws hold.
 use Rattle.pd_recover.proofs.Begun.{begins_by_uses}
+use Rattle.pd_recover.proofs.Proportion.{lets_out_in_proportion, counts_recovery, is_by_pipe}
 use Rattle.pd_recover.proofs.Sendable.{data_sendable, next_sendable}
 use Rattle.pd_recover.proofs.SlowStart.{counts_octets, keeps_slow_start, restarts_when_idle, is_as_before}
 use Rattle.pd_recover.proofs.Spared.{spares_sacked}
@@ -23,6 +24,15 @@ returns-clause-idle c = restarts_when_idle
 
 pub returns-clause-defaults : goal.returns-clause-defaults
 returns-clause-defaults c = is_as_before
+
+pub returns-clause-proportion : goal.returns-clause-proportion
+returns-clause-proportion c = lets_out_in_proportion
+
+pub returns-clause-counts : goal.returns-clause-counts
+returns-clause-counts c = counts_recovery
+
+pub returns-clause-pipe : goal.returns-clause-pipe
+returns-clause-pipe c = is_by_pipe
 
 pub returns-clause-sacked : goal.returns-clause-sacked
 returns-clause-sacked c = spares_sacked

@@ -12,4 +12,5 @@ returns c = record {
   queued_by_expiries = c.growth_is_lawful.ensures.expiries;
   queued_by_arrivals = c.growth_is_lawful.ensures.arrivals;
   queued_by_calls = c.growth_is_lawful.ensures.calls;
+  asked_by_calls = c.growth_is_lawful.ensures.few;
 }

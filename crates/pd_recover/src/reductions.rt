@@ -1,0 +1,89 @@
+//! What Proportional Rate Reduction keeps of a recovery.
+ghost use Rattle.std.specs.Prelude.{◌≡◌, ◌<◌, ◌≤◌, ◌^◌};
+ghost use Rattle.pd_recover.specs.Prr.{IsReduction, no_reduction, begun_with, told_of, sent_of, proportion, bound_by};
+
+use pd_settings::RecoveryRate;
+
+/// No connection has more octets than this.
+const MAX_OCTETS: u32 = 0x8000_0000;
+
+/// The variables of Proportional Rate Reduction, in octets (RFC 6937, section 3).
+#[derive(Clone, Copy)]
+pub struct Reduction {
+    /// prr_delivered: how many octets reached the peer in this recovery.
+    pub prr_delivered: u32,
+    /// prr_out: how many octets were sent in it, new ones and again.
+    pub prr_out: u32,
+    /// RecoverFS: FlightSize where it began.
+    pub recover_fs: u32,
+    /// DeliveredData: how many octets the last ACK told to have reached the peer.
+    pub delivered_data: u32,
+}
+
+impl Reduction {
+    /// No recovery.
+    pub const NONE: Reduction = Reduction {
+        prr_delivered: 0,
+        prr_out: 0,
+        recover_fs: 1,
+        delivered_data: 0,
+    };
+
+    /// Recovery begins with this FlightSize, in octets.
+    pub fn begin(flight: u32) -> Reduction
+        ensures value { result ≡ begun_with flight }
+        ensures known { IsReduction result }
+    {
+        Reduction {
+            recover_fs: flight.max(1),
+            ..Reduction::NONE
+        }
+    }
+
+    /// An ACK tells that so many octets have reached the peer.
+    pub fn tell(self, octets: u32) -> Reduction
+        requires { IsReduction self }
+        ensures value { result ≡ told_of octets self }
+        ensures known { IsReduction result }
+    {
+        Reduction {
+            prr_delivered: self.prr_delivered.saturating_add(octets).min(MAX_OCTETS),
+            delivered_data: octets,
+            ..self
+        }
+    }
+
+    /// So many octets were sent.
+    pub fn send(self, octets: u32) -> Reduction
+        requires { IsReduction self }
+        ensures value { result ≡ sent_of octets self }
+        ensures known { IsReduction result }
+    {
+        Reduction {
+            prr_out: self.prr_out.saturating_add(octets).min(MAX_OCTETS),
+            ..self
+        }
+    }
+
+    /// The part of ssthresh that is as large as the part of RecoverFS that was delivered, rounded up. ssthresh is in octets.
+    pub fn proportion(self, ssthresh: u32) -> u64
+        requires { IsReduction self }
+        ensures { result ≡ proportion ssthresh self }
+    {
+        let delivered = u64::from(self.prr_delivered);
+        let recover_fs = u64::from(self.recover_fs);
+        (delivered * u64::from(ssthresh) + (recover_fs - 1)) / recover_fs
+    }
+
+    /// The limit of the reduction bound, with this SMSS in octets.
+    pub fn bound(self, rate: RecoveryRate, smss: u16) -> u64
+        requires { IsReduction self }
+        ensures { result ≡ bound_by rate smss self }
+    {
+        let unsent = self.prr_delivered.saturating_sub(self.prr_out);
+        match rate {
+            RecoveryRate::Prr => u64::from(unsent.max(self.delivered_data)) + u64::from(smss),
+            RecoveryRate::Pipe | RecoveryRate::PrrCrb => u64::from(unsent),
+        }
+    }
+}
