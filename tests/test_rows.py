@@ -8,12 +8,14 @@ from typing import Optional
 
 import pytest
 
+from model.scenarios import Transfer
 from rows.accepting import accept_all
 from rows.asking import Call, Said, run
 from rows.comparing import Finding, report_of
 from rows.kinds import groups_of
 from rows.random_scripts import Script
 from rows.recordings import tell_recordings
+from rows.recoveries import Draw
 
 Program = Callable[[Call], Optional[Said]]
 EMPTY = report_of({})
@@ -178,6 +180,53 @@ def test_what_holds_of_each_recording(change: Callable[[bytes], bytes], fault: s
         assert found.fault.split("\n")[0] == wanted
 
 
+def trace_of(transfer: Transfer) -> str:
+    """A transfer as the recorder is to play it, after one event of its opening."""
+    events = [f"+0.1 {it.line}\n//= at {it.at / 1_000_000:.6f} {it.state}\n" for it in transfer.expected]
+    return "".join(["+0 accept(3, ..., ...) = 4\n//= at 0.000000 CLOSED\n", *events])
+
+
+@pytest.mark.parametrize(
+    "change, fault",
+    [
+        (lambda trace: trace, ""),
+        (lambda trace: re.sub(r"ssthresh:\d+", "ssthresh:9", trace, count=1), "after 0.000000 accept(3"),
+        (lambda trace: trace.rpartition("+0.1")[0], "  played   nothing more"),
+        (lambda trace: trace.replace(" > P. ", " > . ", 1), "  expected"),
+        (lambda trace: trace.replace("at 0.", "at 1."), "after 1.000000 accept(3"),
+        (lambda trace: trace + "+0 more\n//= at 9.000000 CLOSED\n", "  expected nothing more"),
+    ],
+)
+def test_recoveries_are_played_as_the_second_reading_has_it(
+    change: Callable[[str], str], fault: str, teller: Teller
+) -> None:
+    traces = {it.script.encode(): trace_of(it) for it in Draw(5, "pipe", 3).transfers()}
+    found = teller.faults(
+        "[a] recoveries\n5 by pipe from 3\n", lambda it: Said(change(traces[it.given]).encode(), b"", 0)
+    )
+    assert len(teller.calls) == len(traces) > 1
+    assert [it.partition("under")[0] for it in found] == (["5-by-pipe-from-3"] if fault else [])
+    assert fault in "".join(found.values())
+    refused = teller.faults("[a] recoveries\n5 by pipe from 3\n", lambda it: Said(b"", b"17 Read\n", 2))
+    assert "status 2: 17 Read" in refused["5-by-pipe-from-3"]
+
+
+def test_a_seed_draws_the_same_recoveries_under_many_settings() -> None:
+    first, again, other = (list(Draw(200, "pipe", seed).transfers()) for seed in (7, 7, 8))
+    assert first == again != other and 200 <= sum(it.recoveries for it in first) < 210
+    told = "\n".join(it.settings for it in first)
+    keys = (
+        "byte_counting",
+        "initial_ssthresh",
+        "initial_window",
+        "limited_transmit",
+        "min_rto_us",
+        "restart_after_idle",
+    )
+    assert all(f"{key} = " in told for key in keys) and "recovery_rate" not in told
+    assert any("sackOK" not in it.script for it in first) and any("wscale" not in it.script for it in first)
+
+
 @pytest.mark.parametrize(
     "text, why",
     [
@@ -187,6 +236,7 @@ def test_what_holds_of_each_recording(change: Callable[[bytes], bytes], fault: s
         ("[a] scripts after b\npass 0:\n", "1: [a] scripts after b: there is no such opening"),
         ("[a] scripts\n# b\n", "1: [a] scripts: a table has a row at least"),
         ("[a] stories\n# b\n> c\n", "3: > c: the last story has no status"),
+        ("[a] recoveries\n3 by reno\n", "2: 3 by reno: a row is `COUNT by RATE`, and perhaps ` from SEED`"),
         ("[a] stories\n= 3\n", "2: = 3: a status is 0, 1 or 2"),
         ("pass 0:\n", "1: pass 0:: a row stands in a table"),
         ("", "a file has a table at least"),

@@ -8,6 +8,7 @@ from typing import Any
 from rows.comparing import Case, Kind
 from rows.explained import BEGINNINGS, EXPLAINED
 from rows.recordings import RECORDINGS
+from rows.recoveries import RECOVERIES
 from rows.runs import BAD_COMMANDS, BAD_WORDS, ENDS, SETTINGS
 from rows.scripts import CUTS, PLACES, SCRIPTS
 from rows.stories import STORIES, TITLED_STORIES
@@ -26,6 +27,7 @@ KINDS: dict[str, Kind[Any]] = {
     "explained": EXPLAINED,
     "beginnings": BEGINNINGS,
     "recordings": RECORDINGS,
+    "recoveries": RECOVERIES,
 }
 
 

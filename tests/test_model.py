@@ -1,0 +1,25 @@
+"""The second reading in model/ plays the scripts of examples/suite, worked out by hand, as they are written."""
+
+from collections.abc import Iterator
+from pathlib import Path
+
+from model.scripts import Unplayed, fault_of
+
+SUITE = Path(__file__).resolve().parents[1] / "examples" / "suite"
+# So many scripts are of a sender of data alone.
+LEAST = 120
+
+
+def faults() -> Iterator[str]:
+    """What is wrong about each script that is played, empty where nothing is."""
+    for path in sorted(SUITE.rglob("*.pkt")):
+        try:
+            yield fault_of(path)
+        except Unplayed:
+            pass
+
+
+def test_the_scripts_of_the_suite_are_met() -> None:
+    found = list(faults())
+    assert len(found) >= LEAST
+    assert not any(found), "\n".join(it for it in found if it)
