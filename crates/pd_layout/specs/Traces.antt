@@ -44,7 +44,9 @@ is_octets word =
 
 -- the name of a count, a colon and a value
 abbrev pub is_count : List ℕ → Bool
-is_count word = is_told word (codes "FlightSize:") || is_told word (codes "pipe:") || is_told word (codes "DupAcks:")
+is_count word =
+    is_told word (codes "FlightSize:") || is_told word (codes "pipe:") || is_told word (codes "prr_delivered:")
+    || is_told word (codes "prr_out:") || is_told word (codes "DupAcks:")
 
 -- the name of another fact, a colon and a value
 abbrev pub is_course : List ℕ → Bool

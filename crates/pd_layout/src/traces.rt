@@ -121,7 +121,11 @@ fn is_octets(word: &[u8]) -> bool
 fn is_count(word: &[u8]) -> bool
     ensures { result ≡ is_count word.now }
 {
-    is_told(word, b"FlightSize:") || is_told(word, b"pipe:") || is_told(word, b"DupAcks:")
+    is_told(word, b"FlightSize:")
+        || is_told(word, b"pipe:")
+        || is_told(word, b"prr_delivered:")
+        || is_told(word, b"prr_out:")
+        || is_told(word, b"DupAcks:")
 }
 
 /// Whether a word is the name of another fact, a colon and a value.

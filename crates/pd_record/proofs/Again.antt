@@ -30,7 +30,7 @@ use Rattle.pd_record.specs.Following.{RecordingsFollowRuns}
 use Rattle.pd_record.specs.Recording.{Tracked, records, closed, tracks_of, recording_in, events_in, events_taken, events_of_all, events_of}
 use Rattle.pd_record.specs.Answered.{IsRecording}
 use Rattle.pd_layout.specs.Sameness.{unplaced, AreTheSame, kinds_of, IsReadAs}
-use Rattle.pd_record.specs.Recorder.{RecorderView, Took, Answers, then_do, unless, blank_from, gone_to, stepped, recorded_as, event_at, refusal_at, taken, leaves_next, departs, with_unmet, comes, comes_on, left_by, with_base, acts_at, inputs, arrives, answered, answer_at, with_answer, calls, based_after, meets, meets_oldest, ruling_at, performed, recorded}
+use Rattle.pd_record.specs.Recorder.{RecorderView, Took, Answers, then_do, unless, blank_from, gone_to, stepped, recorded_as, event_at, refusal_at, happened, leaves_next, departs, with_unmet, comes, comes_on, left_by, with_base, acts_at, inputs, arrives, answered, answer_at, with_answer, calls, based_after, meets, meets_oldest, ruling_at, performed, recorded}
 use Rattle.pd_record.specs.declared.refusals.NotRecorded.TheVariants.{Stopped}
 use Rattle.pd_record.specs.declared.tape.Own.{Own}
 use Rattle.pd_record.specs.declared.tape.Recorded.{Recorded}
@@ -62,8 +62,8 @@ stepped_to : (t u : RecorderView) (came : Result RunStateView Verdict) → gone_
 stepped_to t u (Ok s) h = (s, refl, sym (given (gone t s) u h))
 stepped_to t u (Err v) h = absurd cc
 
-pub was_taken : (t : RecorderView) (line at : ℕ) (action : Action) (y : RecorderView × Recorded) → taken t line at action ≡ Ok y → (s : RunStateView) × IsTaken t line at action y s
-was_taken t line at action y h =
+pub has_happened : (t : RecorderView) (line at : ℕ) (action : Action) (y : RecorderView × Recorded) → happened t line at action ≡ Ok y → (s : RunStateView) × IsTaken t line at action y s
+has_happened t line at action y h =
     let e = event_at t line at action in
     let free = no_refusal (then_do (λ (u : RecorderView). ok (u, recorded_as at e)) (stepped t e)) (refusal_at t at) y h in
     let b = both (λ (u : RecorderView). ok (u, recorded_as at e)) (stepped t e) y free.1 in
@@ -71,9 +71,9 @@ was_taken t line at action y h =
     let is : y ≡ (gone t went.0, recorded_as at e) = sym (given (b.0, recorded_as at e) y b.2) ∙ ap (λ (u : RecorderView). (u, recorded_as at e)) went.2 in
     (went.0, (went.1, free.0, is))
 
-pub take_it : (t : RecorderView) (line at : ℕ) (action : Action) (s : RunStateView) → step t.run (event_at t line at action) ≡ Ok s → refusal_at t at ≡ None
-    → taken t line at action ≡ Ok (gone t s, recorded_as at (event_at t line at action))
-take_it t line at action s h free =
+pub happens_next : (t : RecorderView) (line at : ℕ) (action : Action) (s : RunStateView) → step t.run (event_at t line at action) ≡ Ok s → refusal_at t at ≡ None
+    → happened t line at action ≡ Ok (gone t s, recorded_as at (event_at t line at action))
+happens_next t line at action s h free =
     let e = event_at t line at action in
     ap (unless (then_do (λ (u : RecorderView). ok (u, recorded_as at e)) (stepped t e))) free
     ∙ ap (λ (came : Result RunStateView Verdict). then_do (λ (u : RecorderView). ok (u, recorded_as at e)) (gone_to t came)) h
@@ -121,7 +121,7 @@ arrival_again n at line r s p base clock h free none e same =
     let ruled : recorded c x ≡ inputs (arrives e.line (acts_at c x) p) c x = ap (unless (performed c x (Inbound p))) (no_ruling n r s x goes) in
     let moment : inputs (arrives e.line (acts_at c x) p) c x ≡ inputs_at at (arrives e.line at p) c x =
     ap (λ (m : ℕ). inputs_at m (arrives e.line m p) c x) (acts_then n at e.line r (Inbound p) base clock) in
-    let arrived : arrives e.line at p c ≡ Ok (gone c s, own) = ap (then_do (λ (y : RecorderView × Recorded). ok (y.0, own_of y.1))) (take_it c e.line at (Inbound p) s goes free) in
+    let arrived : arrives e.line at p c ≡ Ok (gone c s, own) = ap (then_do (λ (y : RecorderView × Recorded). ok (y.0, own_of y.1))) (happens_next c e.line at (Inbound p) s goes free) in
     let again : recorded c x ≡ Ok (calm (n + 1) s, took [] (Some own)) =
     ruled ∙ (moment ∙ input_again n at r s x (arrives e.line at p) own (after_arrival r s x p refl goes).0 none arrived) in
     subst (λ (y : Event). (took : Took) × (recorded c y ≡ Ok (calm (n + 1) s, took)) × (events_taken took ≡ y ∷ [])) (same_event (event_at c line at (Inbound p)) e same)
@@ -152,9 +152,9 @@ call_again n at line r s call answer base clock answers h free none e same =
     let ruled : recorded c x ≡ inputs (calls e.line (acts_at c x) made) c x = ap (unless (performed c x (Calls made))) (no_ruling n r s x goes) in
     let moment : inputs (calls e.line (acts_at c x) made) c x ≡ inputs_at at (calls e.line at made) c x =
     ap (λ (m : ℕ). inputs_at m (calls e.line m made) c x) (acts_then n at e.line r (Calls made) base clock) in
-    let recorded_call : Answer → Answers (RecorderView × Own) = λ a. then_do (λ (y : RecorderView × Recorded). ok (y.0, answer_own made a y.1)) (taken c e.line at (Calls (with_answer made a))) in
+    let recorded_call : Answer → Answers (RecorderView × Own) = λ a. then_do (λ (y : RecorderView × Recorded). ok (y.0, answer_own made a y.1)) (happened c e.line at (Calls (with_answer made a))) in
     let called_so : calls e.line at made c ≡ Ok (gone c s, own) =
-    ap (then_do recorded_call) (answers e.line) ∙ ap (then_do (λ (y : RecorderView × Recorded). ok (y.0, answer_own made answer y.1))) (take_it c e.line at (Calls made) s goes free) in
+    ap (then_do recorded_call) (answers e.line) ∙ ap (then_do (λ (y : RecorderView × Recorded). ok (y.0, answer_own made answer y.1))) (happens_next c e.line at (Calls made) s goes free) in
     let again : recorded c x ≡ Ok (calm (n + 1) s, took [] (Some own)) =
     ruled ∙ (moment ∙ input_again n at r s x (calls e.line at made) own (after_call r s x made refl goes).0 none called_so) in
     subst (λ (y : Event). (took : Took) × (recorded c y ≡ Ok (calm (n + 1) s, took)) × (events_taken took ≡ y ∷ [])) (same_event (event_at c line at (Calls made)) e same)
@@ -174,7 +174,7 @@ packet_again puts_after n line r s may sent next base h free e same =
     let own : Own = own_of (recorded_as sent.at x) in
     let ruled : recorded c x ≡ meets c x (leaves_next (is_in_reach (moments_of r.base x.time) (tolerance_of r)) r) = ap (unless (performed c x action)) (no_ruling n r s x goes) in
     let after : RecorderView × Recorded → Answers (RecorderView × Took) = λ y. ok (based_after x.time (Some sent.at) y.0, took [] (Some (own_of y.1))) in
-    let left : departs c e.line sent ≡ Ok (gone c s, recorded_as sent.at x) = take_it c e.line sent.at action s goes free in
+    let left : departs c e.line sent ≡ Ok (gone c s, recorded_as sent.at x) = happens_next c e.line sent.at action s goes free in
     let again : recorded c x ≡ Ok (calm (n + 1) s, took [] (Some own)) =
     ruled ∙ (ap (meets c x) (met_again puts_after may r sent (tolerance_of r) next)
     ∙ (ap (then_do after) left
@@ -240,7 +240,7 @@ module _ (laws : Bases) where
   packet_went t line may sent y ready next h =
       let packet : Packet = packet_of sent.segment in
       let x : Event = event_at t line sent.at (Outbound packet) in
-      let was = was_taken t line sent.at (Outbound packet) y h in
+      let was = has_happened t line sent.at (Outbound packet) y h in
       let s : RunStateView = was.0 in
       let move : IsMoved may t.run s x.time sent = moved laws.after may t.run s x packet sent refl refl ready.underway.up_to next was.1.0 in
       let base : s.base ≡ t.run.base + (sent.at - t.run.base) = move.base in
@@ -301,8 +301,8 @@ module _ (laws : Bases) where
 
   arrival_went : (line at : ℕ) (p : Packet) → Acts at (arrives line at p)
   arrival_went line at p t y ready early none h =
-      let b = both (λ (x : RecorderView × Recorded). ok (x.0, own_of x.1)) (taken t line at (Inbound p)) y h in
-      let was = was_taken t line at (Inbound p) b.0 b.1 in
+      let b = both (λ (x : RecorderView × Recorded). ok (x.0, own_of x.1)) (happened t line at (Inbound p)) y h in
+      let was = has_happened t line at (Inbound p) b.0 b.1 in
       let x : Event = event_at t line at (Inbound p) in
       let acted = after_arrival t.run was.0 x p refl was.1.0 in
       let base : t.run.base ≤ at = omega (arith, early, ready.timely) in
@@ -315,10 +315,10 @@ module _ (laws : Bases) where
   call_went : (line at : ℕ) (call : Call) → Acts at (calls line at call)
   call_went line at call t y ready early none h =
       let seen : Answer → RecorderView × Recorded → RecorderView × Own = λ answer x. (x.0, answer_own call answer x.1) in
-      let a = both (λ (answer : Answer). then_do (λ (x : RecorderView × Recorded). ok (seen answer x)) (taken t line at (Calls (with_answer call answer)))) (answer_at t line at call) y h in
+      let a = both (λ (answer : Answer). then_do (λ (x : RecorderView × Recorded). ok (seen answer x)) (happened t line at (Calls (with_answer call answer)))) (answer_at t line at call) y h in
       let made : Call = with_answer call a.0 in
-      let b = both (λ (x : RecorderView × Recorded). ok (seen a.0 x)) (taken t line at (Calls made)) y a.2 in
-      let was = was_taken t line at (Calls made) b.0 b.1 in
+      let b = both (λ (x : RecorderView × Recorded). ok (seen a.0 x)) (happened t line at (Calls made)) y a.2 in
+      let was = has_happened t line at (Calls made) b.0 b.1 in
       let x : Event = event_at t line at (Calls made) in
       let acted = after_call t.run was.0 x made refl was.1.0 in
       let base : t.run.base ≤ at = omega (arith, early, ready.timely) in

@@ -35,12 +35,12 @@ use Rattle.pd_run.specs.declared.whys.Why.{Why}
 use Rattle.pd_run.specs.declared.whys.Why.TheVariants.{OverLimit, NotRun, Backwards, Halted, Missing, Differs, Answered}
 use Rattle.pd_record.specs.Following.{Input, input_at, inputs_from, inputs_of, taken_at, taken_from, taken_of, own_in, all_taken, inputs_in, departure_at, departures_in, departed, FollowsRun, RecordingsFollowRuns}
 use Rattle.pd_record.specs.Recording.{Tracked, records, closed, tracks_of, recording_in, events_in, event_in, events_of_all}
-use Rattle.pd_record.specs.Recorder.{RecorderView, Took, Answers, then_do, blank_from, recorded_as, event_at, taken, leaves_next, departs, left_by, with_base, acts_at, inputs, arrives, answer_at, with_answer, calls, based_after, meets, meets_oldest, ruling_at, performed, recorded}
+use Rattle.pd_record.specs.Recorder.{RecorderView, Took, Answers, then_do, blank_from, recorded_as, event_at, happened, leaves_next, departs, left_by, with_base, acts_at, inputs, arrives, answer_at, with_answer, calls, based_after, meets, meets_oldest, ruling_at, performed, recorded}
 use Rattle.pd_record.specs.declared.refusals.NotRecorded.TheVariants.{Stopped}
 use Rattle.pd_record.specs.declared.tape.Own.{Own}
 use Rattle.pd_record.specs.declared.tape.Recorded.{Recorded}
 use Rattle.pd_run.specs.Laws.{IsUnderway}
-use Rattle.pd_record.proofs.Again.{Bases, IsReady, gone, was_taken, packet_went, event_went, events_went}
+use Rattle.pd_record.proofs.Again.{Bases, IsReady, gone, has_happened, packet_went, event_went, events_went}
 use Rattle.pd_record.proofs.Freed.{came_by, in_front, both_in_front, find_due, advanced_freed, none_due}
 use Rattle.pd_record.proofs.FreedArrivals.{arrived_freed}
 use Rattle.pd_record.proofs.FreedCalls.{beside_answer, called_freed}
@@ -115,7 +115,7 @@ oldest_met r s t x ws e p y f h k = go m.1.waits
             ready = f.ready;
           };
           inputs = refl;
-          packets = append-nil (map departed (x ∷ ws)) ∙ (ap (λ (z : Sent). departed z ∷ map departed ws) (sym same) ∙ ap (λ (l : List Sent). map departed l ++ map departed ws) (sym m.1.taken));
+          packets = append-nil (map departed (x ∷ ws)) ∙ (ap (λ (z : Sent). departed z ∷ map departed ws) (sym same) ∙ ap (λ (l : List Sent). map departed l ++ map departed ws) (sym m.1.happened));
         })
     go (inr b) =
         let full : suc (length (ws ++ t.run.host.state.endpoint.outbox)) ≡ 0 = ap (λ (z : State). length z.endpoint.outbox) (sym f.state) ∙ b.0 in
@@ -157,7 +157,7 @@ module _ (laws : Bases) where
       let b = both (λ (z : RecorderView × Recorded). ok (after z)) (departs t e.line sent) y k2 in
       let packet : Packet = packet_of sent.segment in
       let x : Event = event_at t e.line sent.at (Outbound packet) in
-      let was = was_taken t e.line sent.at (Outbound packet) b.0 b.1 in
+      let was = has_happened t e.line sent.at (Outbound packet) b.0 b.1 in
       let u : RunStateView = was.0 in
       let n = met t.run u x packet (step_passes t.run u x was.1.0).3 in
       let alike = same_before r s t.run u e x sent n.0 (sym f.state) f.clock m.1 n.1 in
@@ -175,7 +175,7 @@ module _ (laws : Bases) where
           ready = subst (λ (z : RecorderView × Recorded). IsReady z.0.count z.0.run) was.1.2 went.0.ready;
         };
         inputs = refl;
-        packets = ap (λ (l : List Sent). map departed l ++ []) (sym m.1.taken);
+        packets = ap (λ (l : List Sent). map departed l ++ []) (sym m.1.happened);
       })
 
   expected_goes : (r s : RunStateView) (t : RecorderView) (w : List Sent) (e : Event) (p : Packet) (y : RecorderView × Took) → Follows r t w
@@ -280,8 +280,8 @@ acts_then q line at action base clock = omega (arith, base, clock)
 arrival_own : (line at : ℕ) (p : Packet) (q : RecorderView) (z : RecorderView × Own) → IsReady q.count q.run → q.run.clock ≤ at → find_due at q.run.host.state ≡ None
     → arrives line at p q ≡ Ok z → OwnActs (ArrivesAt p) at (Inbound p) q z
 arrival_own line at p q z ready early none h =
-    let b = both (λ (x : RecorderView × Recorded). ok (x.0, own_of x.1)) (taken q line at (Inbound p)) z h in
-    let was = was_taken q line at (Inbound p) b.0 b.1 in
+    let b = both (λ (x : RecorderView × Recorded). ok (x.0, own_of x.1)) (happened q line at (Inbound p)) z h in
+    let was = has_happened q line at (Inbound p) b.0 b.1 in
     let x : Event = event_at q line at (Inbound p) in
     let base : q.run.base ≤ at = omega (arith, early, ready.timely) in
     let so = acts_now (ArrivesAt p) q.run was.0 x at (acts_then q line at (Inbound p) base early) none (arrival_in q.run was.0 x p (step_passes q.run was.0 x was.1.0).3) in
@@ -293,10 +293,10 @@ call_own : (line at : ℕ) (call : Call) (q : RecorderView) (z : RecorderView ×
     → calls line at call q ≡ Ok z → OwnActs (CalledAt call) at (Calls call) q z
 call_own line at call q z ready early none h =
     let seen : Answer → RecorderView × Recorded → RecorderView × Own = λ answer x. (x.0, answer_own call answer x.1) in
-    let a = both (λ (answer : Answer). then_do (λ (x : RecorderView × Recorded). ok (seen answer x)) (taken q line at (Calls (with_answer call answer)))) (answer_at q line at call) z h in
+    let a = both (λ (answer : Answer). then_do (λ (x : RecorderView × Recorded). ok (seen answer x)) (happened q line at (Calls (with_answer call answer)))) (answer_at q line at call) z h in
     let made : Call = with_answer call a.0 in
-    let b = both (λ (x : RecorderView × Recorded). ok (seen a.0 x)) (taken q line at (Calls made)) z a.2 in
-    let was = was_taken q line at (Calls made) b.0 b.1 in
+    let b = both (λ (x : RecorderView × Recorded). ok (seen a.0 x)) (happened q line at (Calls made)) z a.2 in
+    let was = has_happened q line at (Calls made) b.0 b.1 in
     let x : Event = event_at q line at (Calls made) in
     let base : q.run.base ≤ at = omega (arith, early, ready.timely) in
     let so = acts_now (CalledAt made) q.run was.0 x at (acts_then q line at (Calls made) base early) none (call_in q.run was.0 x made (step_passes q.run was.0 x was.1.0).3) in

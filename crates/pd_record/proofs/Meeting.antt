@@ -17,7 +17,7 @@ use Rattle.pd_run.specs.declared.verdicts.Verdict.{Verdict}
 use Rattle.pd_record.specs.Following.{input_at, inputs_in, departure_at, departures_in, departed}
 use Rattle.pd_record.specs.Recorder.{RecorderView, Answers, recorded_as, event_at, leaves_next, or_expired, due_where, oldest_of, departs, with_unmet, comes, comes_on}
 use Rattle.pd_record.specs.declared.tape.Recorded.{Recorded}
-use Rattle.pd_record.proofs.Again.{Bases, IsReady, was_taken, packet_went}
+use Rattle.pd_record.proofs.Again.{Bases, IsReady, has_happened, packet_went}
 use Rattle.pd_record.proofs.Freed.{came_by, in_front, find_due, advanced_freed, advanced_on, none_due}
 use Rattle.pd_record.proofs.Leaves.{Awaited, Stands, Expires, step_passes, agreed, both as stepped_both, which_awaited, what_leaves, no_items, none_in, first_sent}
 use Rattle.pd_record.proofs.Passing.{given, both}
@@ -66,7 +66,7 @@ pub record Met (r s : RunStateView) (e : Event) (sent : Sent) : Type 0 where
   pub state : s.host.state ≡ without_first before
   pub base : s.base ≡ base_after r.base e.time sent.at
   pub written : s.written ≡ r.written
-  pub taken : on_step (λ q. take 1 q.host.state.endpoint.outbox) (λ v. []) (awaited (noted r) e) ≡ sent ∷ []
+  pub happened : on_step (λ q. take 1 q.host.state.endpoint.outbox) (λ v. []) (awaited (noted r) e) ≡ sent ∷ []
 
 -- a run after the oldest packet was taken
 abbrev taken_by : RunStateView → Event → Sent → RunStateView
@@ -103,7 +103,7 @@ met r s e p h =
           state = sym (ap (λ (x : RunStateView). x.host.state) its);
           base = sym (ap (λ (x : RunStateView). x.base) its);
           written = sym (ap (λ (x : RunStateView). x.written) its);
-          taken = took_one r q e sent is first;
+          happened = took_one r q e sent is first;
         }
     go q sent is first same (inr wait) =
         let after : RunStateView = record (with_state (noted r) wait.2) { clock = wait.1 } in
@@ -115,7 +115,7 @@ met r s e p h =
           state = sym (ap (λ (x : RunStateView). x.host.state) its);
           base = sym (ap (λ (x : RunStateView). x.base) its);
           written = sym (ap (λ (x : RunStateView). x.written) its);
-          taken = took_one r q e sent is first;
+          happened = took_one r q e sent is first;
         }
 
 -- the packet that leaves next is the one that it took
@@ -254,7 +254,7 @@ module _ (laws : Bases) where
       let packet : Packet = packet_of sent.segment in
       let b = both (λ (x : RecorderView × Recorded). further (before ++ x.1 ∷ []) (with_unmet x.0 sent.at)) (departs t line sent) y h in
       let x : Event = event_at t line sent.at (Outbound packet) in
-      let was = was_taken t line sent.at (Outbound packet) b.0 b.1 in
+      let was = has_happened t line sent.at (Outbound packet) b.0 b.1 in
       let s : RunStateView = was.0 in
       let m = met t.run s x packet (step_passes t.run s x was.1.0).3 in
       let its = takes_next may t.run s x sent m.0 is m.1 in

@@ -17,7 +17,7 @@ use Rattle.pd_run.specs.Step.{tolerance_of}
 use Rattle.pd_run.specs.declared.verdicts.Verdict.{Verdict}
 use Rattle.pd_run.specs.declared.verdicts.Verdict.TheVariants.{Pass}
 use Rattle.pd_record.specs.Recording.{Tracked, records, closed, tracks_of, events_in, events_taken, events_of_all, events_of}
-use Rattle.pd_record.specs.Recorder.{RecorderView, Took, Answers, then_do, unless, blank_from, gone_to, stepped, recorded_as, event_at, refusal_at, taken, leaves_next, departs, with_unmet, comes, comes_on, left_by, with_base, acts_at, inputs, arrives, answer_at, with_answer, reply_of, calls, based_after, meets, meets_oldest, ruling_at, performed, recorded}
+use Rattle.pd_record.specs.Recorder.{RecorderView, Took, Answers, then_do, unless, blank_from, gone_to, stepped, recorded_as, event_at, refusal_at, happened, leaves_next, departs, with_unmet, comes, comes_on, left_by, with_base, acts_at, inputs, arrives, answer_at, with_answer, reply_of, calls, based_after, meets, meets_oldest, ruling_at, performed, recorded}
 use Rattle.pd_record.specs.declared.refusals.NotRecorded.{NotRecorded}
 use Rattle.pd_record.specs.declared.refusals.NotRecorded.TheVariants.{Stopped}
 use Rattle.pd_record.specs.declared.tape.Own.{Own}
@@ -74,8 +74,8 @@ step_goes : (t u : RecorderView) (e : Event) (came : Result RunStateView Verdict
 step_goes t u e (Ok r) is h = is ∙ ap (λ (x : RecorderView). ran x.run) (given (record t { run = r; count = t.count + 1 }) u h)
 step_goes t u e (Err v) is h = absurd cc
 
-pub taken_goes : (t : RecorderView) (line at : ℕ) (action : Action) (y : RecorderView × Recorded) → taken t line at action ≡ Ok y → Went alone t y
-taken_goes t line at action y h =
+pub happened_goes : (t : RecorderView) (line at : ℕ) (action : Action) (y : RecorderView × Recorded) → happened t line at action ≡ Ok y → Went alone t y
+happened_goes t line at action y h =
     let e = event_at t line at action in
     let free = no_refusal (then_do (λ (u : RecorderView). ok (u, recorded_as at e)) (stepped t e)) (refusal_at t at) y h in
     let b = both (λ (u : RecorderView). ok (u, recorded_as at e)) (stepped t e) y free.1 in
@@ -94,7 +94,7 @@ one_leaves : (further : List Recorded → RecorderView → Answers (RecorderView
 one_leaves further goes line before t y None h = subst (Leaves t before) (given (t, before) y h) ([], sym (append-nil before), refl)
 one_leaves further goes line before t y (Some sent) h =
     let b = both (λ (x : RecorderView × Recorded). further (before ++ x.1 ∷ []) (with_unmet x.0 sent.at)) (departs t line sent) y h in
-    let first = taken_goes t line sent.at (Outbound (packet_of sent.segment)) b.0 b.1 in
+    let first = happened_goes t line sent.at (Outbound (packet_of sent.segment)) b.0 b.1 in
     let rest = goes (before ++ b.0.1 ∷ []) (with_unmet b.0.0 sent.at) y b.2 in (
       b.0.1 ∷ rest.0,
       rest.1 ∙ append_assoc before (b.0.1 ∷ []) rest.0,
@@ -136,15 +136,15 @@ input_goes act goes t e y h =
 
 arrival_goes : (line at : ℕ) (packet : Packet) → Acts (arrives line at packet)
 arrival_goes line at packet t y h =
-    let b = both (λ (x : RecorderView × Recorded). ok (x.0, own_of x.1)) (taken t line at (Inbound packet)) y h in
-    subst (Went owned t) (given (b.0.0, own_of b.0.1) y b.2) (taken_goes t line at (Inbound packet) b.0 b.1)
+    let b = both (λ (x : RecorderView × Recorded). ok (x.0, own_of x.1)) (happened t line at (Inbound packet)) y h in
+    subst (Went owned t) (given (b.0.0, own_of b.0.1) y b.2) (happened_goes t line at (Inbound packet) b.0 b.1)
 
 call_goes : (line at : ℕ) (call : Call) → Acts (calls line at call)
 call_goes line at call t y h =
     let seen : Answer → RecorderView × Recorded → RecorderView × Own = λ answer x. (x.0, answer_own call answer x.1) in
-    let a = both (λ (answer : Answer). then_do (λ (x : RecorderView × Recorded). ok (seen answer x)) (taken t line at (Calls (with_answer call answer)))) (answer_at t line at call) y h in
-    let b = both (λ (x : RecorderView × Recorded). ok (seen a.0 x)) (taken t line at (Calls (with_answer call a.0))) y a.2 in
-    subst (Went owned t) (given (seen a.0 b.0) y b.2) (taken_goes t line at (Calls (with_answer call a.0)) b.0 b.1)
+    let a = both (λ (answer : Answer). then_do (λ (x : RecorderView × Recorded). ok (seen answer x)) (happened t line at (Calls (with_answer call answer)))) (answer_at t line at call) y h in
+    let b = both (λ (x : RecorderView × Recorded). ok (seen a.0 x)) (happened t line at (Calls (with_answer call a.0))) y a.2 in
+    subst (Went owned t) (given (seen a.0 b.0) y b.2) (happened_goes t line at (Calls (with_answer call a.0)) b.0 b.1)
 
 -- ---- expected packets
 
@@ -153,7 +153,7 @@ meeting_goes t e y None h = subst (Went events_taken t) (given (based_after e.ti
 meeting_goes t e y (Some sent) h =
     let after : RecorderView × Recorded → RecorderView × Took = λ x. (based_after e.time (Some sent.at) x.0, took [] (Some (own_of x.1))) in
     let b = both (λ (x : RecorderView × Recorded). ok (after x)) (departs t e.line sent) y h in
-    subst (Went events_taken t) (given (after b.0) y b.2) (taken_goes t e.line sent.at (Outbound (packet_of sent.segment)) b.0 b.1)
+    subst (Went events_taken t) (given (after b.0) y b.2) (happened_goes t e.line sent.at (Outbound (packet_of sent.segment)) b.0 b.1)
 
 expected_goes : (t : RecorderView) (e : Event) (y : RecorderView × Took) (unmet : List ℕ) → meets_oldest t e unmet ≡ Ok y → Went events_taken t y
 expected_goes t e y [] h = meeting_goes t e y (leaves_next (is_in_reach (moments_of t.base e.time) (tolerance_of t.run)) t.run) h

@@ -96,8 +96,8 @@ abbrev pub recorded_as : ℕ → Event → Recorded
 recorded_as at e = record { event = e; at = at }
 
 -- what happens at a moment is recorded; halts are reported at a line of the script
-abbrev pub taken : RecorderView → ℕ → ℕ → Action → Answers (RecorderView × Recorded)
-taken t line at action =
+abbrev pub happened : RecorderView → ℕ → ℕ → Action → Answers (RecorderView × Recorded)
+happened t line at action =
     unless (then_do (λ u. Ok (u, recorded_as at (event_at t line at action))) (stepped t (event_at t line at action))) (refusal_at t at)
 
 -- ---- packets that leave
@@ -128,7 +128,7 @@ leaves_next may_come r = next_packet r.host.state (due_where may_come (deadline_
 
 -- a packet is recorded as it left, at its own moment
 abbrev pub departs : RecorderView → ℕ → Sent → Answers (RecorderView × Recorded)
-departs t line sent = taken t line sent.at (Outbound (packet_of sent.segment))
+departs t line sent = happened t line sent.at (Outbound (packet_of sent.segment))
 
 -- a packet was recorded that no expected packet has met
 abbrev pub with_unmet : RecorderView → ℕ → RecorderView
@@ -169,7 +169,7 @@ inputs act t e =
 
 -- a packet arrives
 abbrev pub arrives : ℕ → ℕ → Packet → RecorderView → Answers (RecorderView × Own)
-arrives line at packet t = then_do (λ x. Ok (x.0, record { recorded = x.1; reply = None })) (taken t line at (Inbound packet))
+arrives line at packet t = then_do (λ x. Ok (x.0, record { recorded = x.1; reply = None })) (happened t line at (Inbound packet))
 
 -- what the sender answers, or the halt at a line
 abbrev pub answered : ℕ → Result (State × Answer) Halt → Answers Answer
@@ -193,7 +193,7 @@ abbrev pub calls : ℕ → ℕ → Call → RecorderView → Answers (RecorderVi
 calls line at call t =
     then_do
     (λ answer. then_do (λ x. Ok (x.0, record { recorded = x.1; reply = Some (reply_of call answer) }))
-    (taken t line at (Calls (with_answer call answer))))
+    (happened t line at (Calls (with_answer call answer))))
     (answer_at t line at call)
 
 -- ---- expected packets

@@ -4,7 +4,7 @@ ghost use Rattle.std.specs.List.{list_any};
 ghost use Rattle.pd_run.specs.Limits.{is_long, written_times};
 ghost use Rattle.pd_run.specs.Step.{tolerance_of};
 ghost use Rattle.pd_run.specs.Times.{moment_of, moments_of, is_in_reach};
-ghost use Rattle.pd_record.specs.Recorder.{acts_at, answer_at, arrives, begun, calls, departs, event_at, expects, inputs, leaves_next, left_by, recorded, refusal_at, ruling_at, stepped, taken, with_base, with_unmet};
+ghost use Rattle.pd_record.specs.Recorder.{acts_at, answer_at, arrives, begun, calls, departs, event_at, expects, inputs, leaves_next, left_by, recorded, refusal_at, ruling_at, stepped, happened, with_base, with_unmet};
 ghost use Rattle.pd_record.specs.Inner.{Finds, Gives, Goes, IsReached, Sound};
 
 use crate::outcomes::outcome_of;
@@ -180,7 +180,7 @@ impl Recorder {
     {
         let at = self.acts_at(event);
         let before = self.record_left(alloc, event.line, at)?;
-        let recorded = self.take(event.line, at, Action::Inbound(packet.copy()?))?;
+        let recorded = self.happen(event.line, at, Action::Inbound(packet.copy()?))?;
         self.base = moment_of(self.base, event.time);
         Ok(Take {
             before,
@@ -284,7 +284,7 @@ impl Recorder {
         let answer = self.answer_at(line, at, call)?;
         let mut answered = call.copy()?;
         answered.result = outcome_of(answer);
-        let recorded = self.take(line, at, Action::Call(answered))?;
+        let recorded = self.happen(line, at, Action::Call(answered))?;
         Ok(Own {
             recorded,
             reply: Some(Reply {
@@ -344,13 +344,13 @@ impl Recorder {
         ensures base { OnOk result (self.new.base ≡ self.old.base) }
     {
         let packet = sent_packet(alloc, &sent.segment)?;
-        self.take(line, sent.at, Action::Outbound(packet))
+        self.happen(line, sent.at, Action::Outbound(packet))
     }
 
     /// Records what happens at a moment, and takes its step.
-    fn take(&mut self, line: usize, at: u64, action: Action) -> Result<Recorded, NotRecorded>
+    fn happen(&mut self, line: usize, at: u64, action: Action) -> Result<Recorded, NotRecorded>
         requires sound { Sound self.old }
-        ensures event { Gives (λ recorded. recorded) (taken self.old line at action) result self.new }
+        ensures event { Gives (λ recorded. recorded) (happened self.old line at action) result self.new }
         ensures sound { OnOk result (Sound self.new) }
         ensures reached { OnOk result (IsReached at) }
         ensures same { OnOk result (self.new.unmet ≡ self.old.unmet) }

@@ -20,7 +20,7 @@ use Rattle.pd_script.specs.declared.drafts.Draft.TheVariants as drafts
 use Rattle.pd_script.proofs.Laws.{Laws, Laws-one, Laws-done, Laws-bind, Laws-when, Full, Stops, any, ok}
 use Rattle.pd_script.proofs.Machines.{Laws-machine}
 use Rattle.pd_script.proofs.Apart.{not-true, not-false}
-use Rattle.pd_script.specs.Drafts.{fresh, argument_move, longer_draft, drafted, is_empty}
+use Rattle.pd_script.specs.Drafts.{at_start, argument_move, longer_draft, drafted, is_empty}
 
 abbrev pub a_token : TokenKind → List ℕ → Item
 a_token kind text = lexeme (record { kind = kind; text = text; from = first_place })
@@ -88,7 +88,7 @@ full_within s =
     }
 
 -- arguments don't begin with the bracket that ends them
-begins_within : (ts : List Item) (v : List Argument) (rest : List Item) → machine_at argument_move fresh ts ≡ ok v rest → Stops (λ t. not (is_symbol 41 t)) ts
+begins_within : (ts : List Item) (v : List Argument) (rest : List Item) → machine_at argument_move at_start ts ≡ ok v rest → Stops (λ t. not (is_symbol 41 t)) ts
 unfolding machine_at
 begins_within [] v rest e = tt
 begins_within (t ∷ ts) v rest e = by_test (is_symbol 41 t) refl
@@ -100,8 +100,8 @@ begins_within (t ∷ ts) v rest e = by_test (is_symbol 41 t) refl
 pub Laws-arguments : Laws arguments_at any any
 unfolding arguments_at
 Laws-arguments =
-    let within : Laws (machine_at argument_move fresh) (λ t. not (is_symbol 41 t)) any = (let l = Laws-machine argument_move full_within fresh in record { took = l.took; failed = l.failed; full = l.full; begins = λ ts v rest e h. begins_within ts v rest e }) in
-    Laws-when (is_symbol 41) no_arguments_at (machine_at argument_move fresh) (is_symbol 41) (λ t. not (is_symbol 41 t)) any any
+    let within : Laws (machine_at argument_move at_start) (λ t. not (is_symbol 41 t)) any = (let l = Laws-machine argument_move full_within at_start in record { took = l.took; failed = l.failed; full = l.full; begins = λ ts v rest e h. begins_within ts v rest e }) in
+    Laws-when (is_symbol 41) no_arguments_at (machine_at argument_move at_start) (is_symbol 41) (λ t. not (is_symbol 41 t)) any any
     (Laws-bind (symbol_at 41) (λ line. done []) (is_symbol 41) any any any
     (Laws-bind (one (is_symbol 41)) (λ t. done (line_of t)) (is_symbol 41) any any any (Laws-one (is_symbol 41) (closer brackets.Round) refl refl) (λ t. Laws-done (line_of t) any) (λ t h. refl))
     (λ line. Laws-done [] any)

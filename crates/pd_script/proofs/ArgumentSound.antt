@@ -19,7 +19,7 @@ use Rattle.pd_script.proofs.ArgumentLaws.{is_empty-longer_draft}
 use Rattle.pd_script.proofs.ArgumentSteps.{onto-nil}
 use Rattle.pd_script.proofs.Machines.{onto_ok}
 use Rattle.pd_script.proofs.Apart.{is_lexeme, lexical, symbol_kind, symbol_apart, symbol_no_int, symbol_no_word}
-use Rattle.pd_script.specs.Drafts.{fresh, argument_move, move_within, led, single_draft, longer_draft, drafted, is_empty}
+use Rattle.pd_script.specs.Drafts.{at_start, argument_move, move_within, led, single_draft, longer_draft, drafted, is_empty}
 
 -- ---- drafts and arguments
 
@@ -127,7 +127,7 @@ led_run pairs d t ts vs rest (Some next) is parting e ih =
     let R = ih next (longer_draft d t) (sym (onto-nil (within next (longer_draft d t) ts)) ∙ e) in
     record { front = t ∷ R.front; c = R.c; after = R.after; more = R.more; items = ap (λ (x : List Item). t ∷ x) R.items; balanced = (parting, next, is, R.balanced); some = R.some; value = R.value; follows = R.follows }
 
-outside_run : (d : Draft) (t : Item) (ts : List Item) (vs : List Argument) (rest : List Item) (a b em : Bool) → is_symbol 41 t ≡ a → is_symbol 44 t ≡ b → is_empty d ≡ em → moved (λ j. machine_at argument_move j ts) t ts (cond a (cond em stuck (ends (drafted d ∷ []))) (cond b (cond em stuck (goes fresh (drafted d ∷ []))) (led d t (pairs_after 16 [] t)))) ≡ ok vs rest → ((p : List Bracket) (e : Draft) (ws : List Argument) → within p e ts ≡ ok ws rest → Run p e ws ts rest) → Run [] d vs (t ∷ ts) rest
+outside_run : (d : Draft) (t : Item) (ts : List Item) (vs : List Argument) (rest : List Item) (a b em : Bool) → is_symbol 41 t ≡ a → is_symbol 44 t ≡ b → is_empty d ≡ em → moved (λ j. machine_at argument_move j ts) t ts (cond a (cond em stuck (ends (drafted d ∷ []))) (cond b (cond em stuck (goes at_start (drafted d ∷ []))) (led d t (pairs_after 16 [] t)))) ≡ ok vs rest → ((p : List Bracket) (e : Draft) (ws : List Argument) → within p e ts ≡ ok ws rest → Run p e ws ts rest) → Run [] d vs (t ∷ ts) rest
 unfolding draft_after
 outside_run d t ts vs rest true b true ha hb hem e ih = absurd cc
 outside_run d t ts vs rest true b false ha hb hem e ih =

@@ -12,7 +12,7 @@ use Rattle.pd_script.specs.declared.calls.Argument.{Argument}
 use Rattle.pd_script.specs.Brackets.{pairs_after}
 use Rattle.pd_script.specs.EventReading.{arguments_at}
 use Rattle.pd_script.proofs.Apart.{and-left, and-right, or-no}
-use Rattle.pd_script.specs.Drafts.{fresh, argument_move, move_within, led, longer_draft, drafted, is_empty, part_at, part_by, after_token, is_between}
+use Rattle.pd_script.specs.Drafts.{at_start, argument_move, move_within, led, longer_draft, drafted, is_empty, part_at, part_by, after_token, is_between}
 
 pub onto-nil : {A : Type 0} (r : Read (List A)) → onto [] r ≡ r
 onto-nil (Ok x) = refl
@@ -96,7 +96,7 @@ empty_stuck i xs h e =
 last_move : (d : Draft) (t : Item) → is_empty d ≡ false → is_symbol 41 t ≡ true → move_within [] d t ≡ ends (drafted d ∷ [])
 last_move d t e s = rw (s, e) refl
 
-comma_move : (d : Draft) (t : Item) → is_empty d ≡ false → is_symbol 41 t ≡ false → (is_symbol 41 t || is_symbol 44 t) ≡ true → move_within [] d t ≡ goes fresh (drafted d ∷ [])
+comma_move : (d : Draft) (t : Item) → is_empty d ≡ false → is_symbol 41 t ≡ false → (is_symbol 41 t || is_symbol 44 t) ≡ true → move_within [] d t ≡ goes at_start (drafted d ∷ [])
 comma_move d t e s h = let comma : is_symbol 44 t ≡ true = rw s at h in rw (s, comma, e) refl
 
 pub last_ends : (i : Inside) (xs : List Item) → is_between i xs ≡ true → is_empty i.draft ≡ false → next_is (is_symbol 41) xs ≡ true → within i xs ≡ Ok (drafted i.draft ∷ [], after_token xs)
@@ -108,15 +108,15 @@ last_ends i xs h e s =
     let here : within i (B.t ∷ B.ts) ≡ Ok (drafted i.draft ∷ [], B.ts) = rw move refl in
     subst (λ (ys : List Item). within i ys ≡ Ok (drafted i.draft ∷ [], B.ts)) (sym B.items) here ∙ ap (λ (ys : List Item). Ok (drafted i.draft ∷ [], ys)) (sym B.after)
 
-pub comma_parts : (i : Inside) (xs : List Item) → is_between i xs ≡ true → is_empty i.draft ≡ false → next_is (is_symbol 41) xs ≡ false → (within i xs ≡ onto (drafted i.draft ∷ []) (within fresh (after_token xs))) × (length (after_token xs) < length xs)
+pub comma_parts : (i : Inside) (xs : List Item) → is_between i xs ≡ true → is_empty i.draft ≡ false → next_is (is_symbol 41) xs ≡ false → (within i xs ≡ onto (drafted i.draft ∷ []) (within at_start (after_token xs))) × (length (after_token xs) < length xs)
 unfolding machine_at
 comma_parts i xs h e s =
     let B = between i xs h in
     let open_bracket : is_symbol 41 B.t ≡ false = subst (λ (ys : List Item). next_is (is_symbol 41) ys ≡ false) B.items s in
-    let move : argument_move i B.t ≡ goes fresh (drafted i.draft ∷ []) = move_outside i B.t B.outside ∙ comma_move i.draft B.t e open_bracket B.stop in
-    let here : within i (B.t ∷ B.ts) ≡ onto (drafted i.draft ∷ []) (within fresh B.ts) = rw move refl in
+    let move : argument_move i B.t ≡ goes at_start (drafted i.draft ∷ []) = move_outside i B.t B.outside ∙ comma_move i.draft B.t e open_bracket B.stop in
+    let here : within i (B.t ∷ B.ts) ≡ onto (drafted i.draft ∷ []) (within at_start B.ts) = rw move refl in
     let less : length B.ts < length xs = omega (arith, ap length B.items) in
-    (subst (λ (ys : List Item). within i ys ≡ onto (drafted i.draft ∷ []) (within fresh B.ts)) (sym B.items) here ∙ ap (λ (ys : List Item). onto (drafted i.draft ∷ []) (within fresh ys)) (sym B.after), subst (λ (ys : List Item). length ys < length xs) (sym B.after) less)
+    (subst (λ (ys : List Item). within i ys ≡ onto (drafted i.draft ∷ []) (within at_start B.ts)) (sym B.items) here ∙ ap (λ (ys : List Item). onto (drafted i.draft ∷ []) (within at_start ys)) (sym B.after), subst (λ (ys : List Item). length ys < length xs) (sym B.after) less)
 
 -- ---- all arguments
 
@@ -127,6 +127,6 @@ no_arguments (lexeme x ∷ ts) h = rw h refl
 no_arguments (ending line ∷ ts) h = absurd cc
 no_arguments (bad line ∷ ts) h = absurd cc
 
-pub some_arguments : (xs : List Item) → next_is (is_symbol 41) xs ≡ false → arguments_at xs ≡ within fresh xs
+pub some_arguments : (xs : List Item) → next_is (is_symbol 41) xs ≡ false → arguments_at xs ≡ within at_start xs
 unfolding arguments_at
 some_arguments xs h = rw h refl

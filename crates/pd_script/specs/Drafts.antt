@@ -36,8 +36,8 @@ is_empty drafts.Empty = true
 is_empty _ = false
 
 -- where an argument begins
-abbrev pub fresh : Inside
-fresh = record { pairs = []; draft = drafts.Empty }
+abbrev pub at_start : Inside
+at_start = record { pairs = []; draft = drafts.Empty }
 
 -- a token goes on with an argument, where its brackets fit the pairs that are open
 abbrev pub led : Draft → Item → Option (List Bracket) → Move Inside Argument
@@ -52,7 +52,7 @@ parted draft move = if is_empty draft then stuck else move
 abbrev pub move_within : List Bracket → Draft → Item → Move Inside Argument
 move_within [] draft t =
     if is_symbol (sign ")") t then parted draft (ends (drafted draft ∷ []))
-    else (if is_symbol (sign ",") t then parted draft (goes fresh (drafted draft ∷ []))
+    else (if is_symbol (sign ",") t then parted draft (goes at_start (drafted draft ∷ []))
     else led draft t (pairs_after 16 [] t))
 move_within (b ∷ open_pairs) draft t = led draft t (pairs_after 16 (b ∷ open_pairs) t)
 

@@ -6,7 +6,7 @@ use Rattle.pd_script.specs.Values.{sign, hex_number, microseconds, function_name
 use Rattle.pd_script.specs.Reader.{Reader, ◌>>=◌, done, one, when, machine_at}
 use Rattle.pd_script.specs.TokenReading.{symbol_at, int_at, dots_at}
 use Rattle.pd_script.specs.PacketReading.{packet_at}
-use Rattle.pd_script.specs.Drafts.{fresh, argument_move, note_move}
+use Rattle.pd_script.specs.Drafts.{at_start, argument_move, note_move}
 use Rattle.pd_script.specs.declared.timing.Time.{Time}
 use Rattle.pd_script.specs.declared.timing.Time.TheVariants as times
 use Rattle.pd_script.specs.declared.timing.Until.{Until}
@@ -160,7 +160,7 @@ no_arguments_at = do
 
 -- the arguments of a call and the bracket that ends them
 unfoldable pub arguments_at : Reader (List Argument)
-arguments_at = when (is_symbol (sign ")")) no_arguments_at (machine_at argument_move fresh)
+arguments_at = when (is_symbol (sign ")")) no_arguments_at (machine_at argument_move at_start)
 
 -- a note in brackets
 unfoldable pub note_at : Reader ⊤

@@ -95,11 +95,11 @@ pub struct Inside {
 }
 
 impl Inside {
-    ghost use Rattle.pd_script.specs.Drafts.{fresh};
+    ghost use Rattle.pd_script.specs.Drafts.{at_start};
 
     /// Where an argument begins.
-    pub fn fresh() -> Inside
-        ensures { result ≡ fresh }
+    pub fn at_start() -> Inside
+        ensures { result ≡ at_start }
     {
         Inside {
             pairs: OpenPairs::new(),

@@ -34,7 +34,7 @@ impl<'a> Cursor<'a> {
             self.take();
             return Ok(arguments);
         }
-        let mut inside = Inside::fresh();
+        let mut inside = Inside::at_start();
         'tokens: loop {
             if !self.is_between(&inside) {
                 self.part(&mut inside)?;
@@ -49,7 +49,7 @@ impl<'a> Cursor<'a> {
                 return Ok(arguments);
             }
             self.take();
-            inside = Inside::fresh();
+            inside = Inside::at_start();
         }
     }
 
