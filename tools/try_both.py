@@ -2,8 +2,8 @@
 
 try_both.py [--seconds N] [--tree FOLDER] STARTS ANSWERS
 
-The tree is this one, or FOLDER. What is built is both.rattle, which starts the programs in memory, as often as its
-input says, or what comes through a named pipe. The folder STARTS has such inputs, which are run one after the other,
+The tree is this one, or FOLDER. What is built is its both.rattle, or else this tree's, which starts the programs in
+memory, as often as its input says, or what comes through a named pipe. The folder STARTS has such inputs, which are run one after the other,
 and the folder ANSWERS gets for each file NAME.output, NAME.errors and NAME.status, as try_cases.py puts them. Where
 nothing was run, a line on standard error says why, with what was said, and the status is 2; else it is 0.
 """
@@ -39,10 +39,16 @@ def put_tree(tree: Path, room: Path) -> None:
     modules = sorted(it.stem for it in sources.glob("*.rt") if it.stem != "main")
     # On one line, so that each line keeps its number.
     declared = " ".join(f"mod {it};" for it in modules)
-    (sources / "main.rt").write_text(MAIN.read_text().replace(MODULE, declared))
+    (sources / "main.rt").write_text(main_of(tree).read_text().replace(MODULE, declared))
     (room / "crates.txt").write_text(with_both((tree / "crates.txt").read_text()))
     if (tree / "HANDLES").exists():
         shutil.copy(tree / "HANDLES", room)
+
+
+def main_of(tree: Path) -> Path:
+    """The main file that fits a tree's crates: its own, or where it has none this tree's."""
+    own = tree / MAIN.relative_to(trying.TOP)
+    return own if own.is_file() else MAIN
 
 
 def with_both(table: str) -> str:
@@ -58,7 +64,7 @@ def with_both(table: str) -> str:
 def placed(said: bytes, room: Path, tree: Path) -> bytes:
     """What is said, with the places in the tree."""
     said = trying.placed(PROGRAM, said, room)
-    said = said.replace(os.fsencode(room / "crates" / PROGRAM / "src" / "main.rt"), os.fsencode(MAIN))
+    said = said.replace(os.fsencode(room / "crates" / PROGRAM / "src" / "main.rt"), os.fsencode(main_of(tree)))
     return said.replace(os.fsencode(room / "crates"), os.fsencode(tree / "crates"))
 
 

@@ -1,17 +1,20 @@
-//! Why a job came to another verdict than pass, as a block of lines.
-ghost use Rattle.std.specs.Prelude.{◌≡◌, bytes_eq, false, [], IfOk};
+//! Why a job came to another verdict than pass, or what one that passes leaves, as a block of lines.
+ghost use Rattle.std.specs.Prelude.{◌≡◌, bytes_eq, true, false, [], IfOk};
 ghost use Rattle.std.specs.List.{list_any};
+ghost use Rattle.pd_explain.specs.Ends.{is_pass};
+ghost use Rattle.pd_run.specs.Run.{verdict_of};
 ghost use Rattle.pd_words.specs.Chosen.{names_of};
 ghost use Rattle.pd_cli.specs.Blocks.{is_looked_into};
 
-use crate::rendering::Class;
 use pd_book::Done;
-use pd_explain::{block_json, block_text, explain};
+use pd_explain::{block_json, block_text, ending_json, ending_text, explain, find_ending};
+use pd_run::Verdict;
 use pd_text::Name;
 use pd_words::Explaining;
 use std::alloc::{AllocError, Global};
 
-/// What is written of a job: nothing where it passes, or where its script isn't among those that are looked into.
+/// What is written of a job: nothing where its script isn't among those that are looked into, or where it passes and ends
+/// aren't asked for.
 ///
 /// # Errors
 /// `AllocError` where a growth is refused.
@@ -20,17 +23,51 @@ pub(crate) fn block_of(
     explaining: &Explaining<'_>,
     done: &Done,
 ) -> Result<Vec<u8>, AllocError>
-    ensures { IfOk result (λ block. is_looked_into (names_of explaining.now.only.items) done.now.name ≡ false → block.items ≡ []) }
+    ensures names { IfOk result (λ block. is_looked_into (names_of explaining.now.only.items) done.now.name ≡ false → block.items ≡ []) }
+    ensures ends { IfOk result (λ block. explaining.now.ends ≡ false → is_pass (verdict_of done.now.text done.now.settings) ≡ true → block.items ≡ []) }
 {
-    let verdict = done.verdict();
-    if Class::Pass.holds(Some(verdict))
-        || !is_looked_into(explaining.only.as_slice(), done.name())
-    {
+    if !is_looked_into(explaining.only.as_slice(), done.name()) {
         return Ok(Vec::new(alloc));
     }
+    let verdict = done.verdict();
+    if is_pass(verdict) {
+        return end_of(alloc, explaining, done);
+    }
+    reason_of(alloc, explaining.json, done, verdict)
+}
+
+fn is_pass(verdict: Verdict) -> bool
+    ensures { result ≡ is_pass verdict }
+{
+    matches!(verdict, Verdict::Pass(_))
+}
+
+/// Why a job doesn't pass.
+fn reason_of(
+    alloc: Global,
+    json: bool,
+    done: &Done,
+    verdict: Verdict,
+) -> Result<Vec<u8>, AllocError>
+    requires { verdict ≡ verdict_of done.now.text done.now.settings }
+{
     match explain(alloc, done.text().lines(), &done.settings(), verdict)? {
-        Some(explanation) if explaining.json => block_json(alloc, done.name(), &explanation),
+        Some(explanation) if json => block_json(alloc, done.name(), &explanation),
         Some(explanation) => block_text(alloc, done.name(), &explanation),
+        None => Ok(Vec::new(alloc)),
+    }
+}
+
+/// What a job that passes leaves at its end, where that is asked for.
+fn end_of(alloc: Global, explaining: &Explaining<'_>, done: &Done) -> Result<Vec<u8>, AllocError>
+    ensures { IfOk result (λ block. explaining.now.ends ≡ false → block.items ≡ []) }
+{
+    if !explaining.ends {
+        return Ok(Vec::new(alloc));
+    }
+    match find_ending(alloc, done.text().lines(), &done.settings())? {
+        Some(ending) if explaining.json => ending_json(alloc, done.name(), &ending),
+        Some(ending) => ending_text(alloc, done.name(), &ending),
         None => Ok(Vec::new(alloc)),
     }
 }

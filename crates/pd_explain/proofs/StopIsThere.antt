@@ -49,7 +49,7 @@ within line n (e ∷ es) r =
     (here n (length es) r (reason_on line r e) _ (onwards line n es (step r e) (λ s. within line (n + 1) es s)))
 
 -- the run of a header that is run begins
-starts : (settings : Settings) (items : List HeaderItem) → not_run items ≡ None → (r : RunStateView) × (start_of items settings ≡ Ok r)
+pub starts : (settings : Settings) (items : List HeaderItem) → not_run items ≡ None → (r : RunStateView) × (start_of items settings ≡ Ok r)
 starts settings items h = (
   record {
     host = fresh_host settings;

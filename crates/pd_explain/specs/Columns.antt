@@ -5,7 +5,9 @@ use Rattle.pd_script.specs.declared.timing.Time.{Time}
 use Rattle.pd_script.specs.declared.timing.Time.TheVariants.{Any, Relative}
 use Rattle.pd_print.specs.Numbers.{moment_text}
 use Rattle.pd_print.specs.Options.{options_text}
-use Rattle.pd_print.specs.Packets.{arrow, flags_text, octets_text, numbered}
+use Rattle.pd_seg.specs.declared.segments.Sent.{Sent}
+use Rattle.pd_print.specs.Sent.{packet_of}
+use Rattle.pd_print.specs.Packets.{arrow, event_text, flags_text, octets_text, numbered}
 use Rattle.pd_print.specs.declared.packet_texts.Direction.TheVariants.{Outbound}
 
 -- the time of a moment from the base; `*` where it lies before that, which no written time can say
@@ -15,6 +17,10 @@ time_since base at = if nat_le base at then Relative (at - base) else Any
 -- a moment as a comment
 abbrev pub comment_of : ℕ → List ℕ
 comment_of at = codes " // " ++ moment_text at
+
+-- a packet that was sent as an event that happened, with its moment in a comment
+abbrev pub sent_text : ℕ → Sent → List ℕ
+sent_text base sent = event_text (time_since base sent.at) Outbound (packet_of sent.segment) ++ comment_of sent.at
 
 -- a part and what follows it: with blanks between them where another part is wider, up to 40 octets, and something follows
 abbrev pub followed : List ℕ → List ℕ → List ℕ → List ℕ

@@ -1,20 +1,14 @@
 -- Definitions that contracts of private functions cite and no public one does.
 use Rattle.std.specs.Prelude.{◌≡◌, ℕ, List, ◌++◌, Option, option_map}
-use Rattle.pd_seg.specs.declared.segments.Sent.{Sent}
-use Rattle.pd_print.specs.Packets.{arrow, event_text}
-use Rattle.pd_print.specs.Sent.{packet_of}
+use Rattle.pd_print.specs.Packets.{arrow}
 use Rattle.pd_print.specs.declared.packet_texts.Direction.TheVariants.{Outbound}
 use Rattle.pd_print.specs.declared.parts.Parts.{Parts}
-use Rattle.pd_explain.specs.Columns.{time_since, comment_of, followed}
+use Rattle.pd_explain.specs.Columns.{followed}
 use Rattle.pd_explain.specs.BlockLines.{AreIndented}
 use Rattle.pd_script.specs.declared.timing.Time.{Time}
 use Rattle.pd_run.specs.Step.{RunStateView, tolerance_of}
 use Rattle.pd_run.specs.Times.{moments_of}
 use Rattle.pd_explain.specs.declared.causes.failures.Awaited.{Awaited}
-
--- a packet that was sent as an event that happened, with its moment in a comment
-abbrev pub sent_text : ℕ → Sent → List ℕ
-sent_text base sent = event_text (time_since base sent.at) Outbound (packet_of sent.segment) ++ comment_of sent.at
 
 -- the event of a packet that leaves, by its parts, each as wide as that of another one
 abbrev pub laid : List ℕ → Parts → List ℕ → Parts → List ℕ

@@ -9,6 +9,7 @@ pub mod Shown
 pub mod Windows
 pub mod Rules
 pub mod Explained
+pub mod Ends
 pub mod BlockLines
 pub mod States
 pub mod Inner

@@ -4,5 +4,5 @@ mod headings;
 mod json_blocks;
 mod text_blocks;
 
-pub use self::json_blocks::block_json;
-pub use self::text_blocks::{block_text, cause_text, write_standing};
+pub use self::json_blocks::{block_json, ending_json};
+pub use self::text_blocks::{block_text, cause_text, ending_text, write_standing};

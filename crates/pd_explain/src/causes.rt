@@ -7,15 +7,18 @@ mod failing;
 mod failures;
 mod pasted_laws;
 mod reasons;
+mod untaken;
 mod window_laws;
 mod writings;
 
 use self::failing::failure_of;
+pub(crate) use self::failing::standing;
 pub use self::failures::{
     Awaited, Comparison, Failed, Failure, Reply, SenderSnapshot, Setback, Untaken, Wait,
 };
 pub use self::pasted_laws::actual_packets_pass;
 pub use self::reasons::Reason;
+pub(crate) use self::untaken::list_untaken;
 pub use self::window_laws::named_windows_hold;
 use self::writings::written_at;
 use crate::refusals::Refusal;

@@ -6,6 +6,7 @@
 
 mod blocks;
 mod causes;
+mod endings;
 mod event_ends;
 mod explaining;
 mod explanations;
@@ -14,11 +15,12 @@ mod rules;
 mod shown;
 mod shown_laws;
 
-pub use blocks::{block_json, block_text, cause_text, write_standing};
+pub use blocks::{block_json, block_text, cause_text, ending_json, ending_text, write_standing};
 pub use causes::{
     Awaited, Cause, Comparison, Failed, Failure, Reason, Reply, SenderSnapshot, Setback, Untaken,
     Wait, actual_packets_pass, cause_at, named_windows_hold,
 };
+pub use endings::{Ending, find_ending, passes_have_ends};
 pub use explaining::explain;
 pub use explanations::Explanation;
 pub use refusals::{Refusal, find_refusal};

@@ -22,4 +22,6 @@ pub struct Explaining<'a> {
     pub only: Vec<&'a str>,
     /// Whether explanations are JSON.
     pub json: bool,
+    /// Whether it is also told what scripts that pass leave at their ends.
+    pub ends: bool,
 }

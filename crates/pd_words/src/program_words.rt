@@ -1,7 +1,7 @@
 //! What the words of the program may be, and what `--help` says of them.
 ghost use Rattle.std.specs.Prelude.{false, codes, ◌≡◌, IfOk, IfErr};
 ghost use Rattle.clap.specs.Words.{app_of, kind_of, new_app, rule_of, with_rule};
-ghost use Rattle.pd_words.specs.ProgramWords.{pdregress, settings_rule, cache_rule, workers_rule, steps_rule, explain_rule, only_rule, json_rule};
+ghost use Rattle.pd_words.specs.ProgramWords.{pdregress, settings_rule, cache_rule, workers_rule, steps_rule, explain_rule, only_rule, json_rule, ends_rule};
 
 use clap::error::ErrorKind;
 use clap::{Arg, ArgAction, Command, Error, value_parser};
@@ -45,7 +45,8 @@ pub(crate) fn free_command<'a>(alloc: Global) -> Result<Command<'a>, Error>
             .arg(steps_option(alloc))?
             .arg(explain_option(alloc))?
             .arg(only_option(alloc))?
-            .arg(json_option(alloc))?,
+            .arg(json_option(alloc))?
+            .arg(ends_option(alloc))?,
     )
 }
 
@@ -66,7 +67,8 @@ pub(crate) fn ruled_command<'a>(
             .arg(steps_option(alloc))?
             .arg(explain_option(alloc))?
             .arg(only_option(alloc).requires_arg("explain")?)?
-            .arg(json_option(alloc).requires_arg("explain")?)?,
+            .arg(json_option(alloc).requires_arg("explain")?)?
+            .arg(ends_option(alloc).requires_arg("explain")?)?,
     )
 }
 
@@ -164,5 +166,17 @@ fn json_option<'a>(alloc: Global) -> Arg<'a>
     Arg::new(alloc, "json")
         .long("json")
         .help("Writes each explanation as one JSON object in a line")
+        .action(ArgAction::SetTrue)
+}
+
+fn ends_option<'a>(alloc: Global) -> Arg<'a>
+    ensures rule { rule_of result ≡ ends_rule }
+    ensures local { result.global ≡ false }
+{
+    Arg::new(alloc, "ends")
+        .long("ends")
+        .help(
+            "Also tells of a script that passes what it leaves at its end, or that it awaits no packet",
+        )
         .action(ArgAction::SetTrue)
 }

@@ -215,6 +215,12 @@ fn put_acks<'a>(facts: &mut Facts<'a>, windows: Windows) -> Result<(), AllocErro
     if let Recovery::WithSack(pipe) = windows.recovery {
         facts.extend_from_slice(&[figure("pipe", "pipe", pipe)])?;
     }
+    if let Some(reduction) = windows.reduction {
+        facts.extend_from_slice(&[
+            figure("prr_delivered", "prr_delivered", reduction.prr_delivered),
+            figure("prr_out", "prr_out", reduction.prr_out),
+        ])?;
+    }
     facts.extend_from_slice(&[figure("DupAcks", "dup_acks", windows.dup_acks)])
 }
 

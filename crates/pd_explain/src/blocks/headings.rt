@@ -1,6 +1,8 @@
 //! What a row came to, in words.
+use crate::endings::Ending;
 use pd_match::Kind;
 use pd_run::Verdict;
+use std::alloc::{AllocError, Global};
 
 /// The name of a verdict, as in a report.
 pub fn verdict_name(verdict: Verdict) -> &'static str {
@@ -36,4 +38,28 @@ fn kind_words(kind: Kind) -> &'static str {
         Kind::Missing => "no packet was sent in time",
         Kind::Backwards => "the event's time lies before that of the event before it",
     }
+}
+
+/// What a script that passes leaves at its end.
+///
+/// # Errors
+/// `AllocError` where a growth is refused.
+pub fn ending_words(alloc: Global, ending: &Ending) -> Result<Vec<u8>, AllocError> {
+    let count = ending.untaken.count();
+    let mut words = Vec::new(alloc);
+    if !ending.awaits {
+        words.extend_from_slice(b"it awaits no packet")?;
+        if count == 0 {
+            return Ok(words);
+        }
+        words.extend_from_slice(b", and ")?;
+    }
+    words.extend_from_slice(count.to_string(alloc)?.as_bytes())?;
+    words.extend_from_slice(if count == 1 {
+        b" packet stands".as_slice()
+    } else {
+        b" packets stand".as_slice()
+    })?;
+    words.extend_from_slice(b" untaken at its end")?;
+    Ok(words)
 }

@@ -1,7 +1,8 @@
 //! The block of an explanation as a JSON object.
 use crate::blocks::facts::{Fact, Told, facts_of, facts_of_sender, named, state_name};
-use crate::blocks::headings::{verdict_name, verdict_words};
-use crate::causes::{Cause, Failure, SenderSnapshot};
+use crate::blocks::headings::{ending_words, verdict_name, verdict_words};
+use crate::causes::{Cause, SenderSnapshot, Untaken};
+use crate::endings::Ending;
 use crate::explanations::Explanation;
 use crate::refusals::Refusal;
 use crate::shown::as_shown;
@@ -25,6 +26,38 @@ pub fn block_json(
     let mut object = Map::new(alloc);
     put_heading(alloc, &mut object, name, explanation)?;
     put_cause(alloc, &mut object, &explanation.cause)?;
+    line_of(alloc, object)
+}
+
+/// What a script that passes leaves at its end, as one JSON object, ended by a newline.
+///
+/// # Errors
+/// `AllocError` where a growth is refused.
+pub fn ending_json(alloc: Global, name: &Name, ending: &Ending) -> Result<Vec<u8>, AllocError> {
+    let words = ending_words(alloc, ending)?;
+    let mut object = Map::new(alloc);
+    put_facts(
+        alloc,
+        &mut object,
+        &[
+            named("", "name", Told::Octets(name.as_slice())),
+            named("", "line", Told::Number(ending.line as u64)),
+            named("", "verdict", Told::Words("pass")),
+        ],
+    )?;
+    put(
+        &mut object,
+        alloc,
+        "what",
+        letters(alloc, words.as_slice())?,
+    )?;
+    put(
+        &mut object,
+        alloc,
+        "awaits_packet",
+        Value::Bool(ending.awaits),
+    )?;
+    put_left(alloc, &mut object, &ending.untaken, &ending.standing)?;
     line_of(alloc, object)
 }
 
@@ -69,7 +102,7 @@ fn put_cause(alloc: Global, object: &mut Members, cause: &Cause) -> Result<(), A
     match cause {
         Cause::Syntax(refusal) => put_refusal(alloc, object, refusal),
         Cause::Rule(_) => Ok(()),
-        Cause::Failed(failure) => put_failure(alloc, object, failure),
+        Cause::Failed(failure) => put_left(alloc, object, &failure.untaken, &failure.standing),
     }
 }
 
@@ -104,12 +137,17 @@ fn letters(alloc: Global, text: &[u8]) -> Result<Value, AllocError> {
 }
 
 /// Adds the packets that were put out and not taken, and how the sender stands.
-fn put_failure(alloc: Global, object: &mut Members, failure: &Failure) -> Result<(), AllocError> {
-    let packets = packets_of(alloc, &failure.untaken.packets)?;
+fn put_left(
+    alloc: Global,
+    object: &mut Members,
+    untaken: &Untaken,
+    standing: &SenderSnapshot,
+) -> Result<(), AllocError> {
+    let packets = packets_of(alloc, &untaken.packets)?;
     put(object, alloc, "untaken_packets", packets)?;
-    let more = Told::Number(failure.untaken.more as u64);
+    let more = Told::Number(untaken.more as u64);
     put_facts(alloc, object, &[named("", "more_untaken_packets", more)])?;
-    put(object, alloc, "state", state_of(alloc, &failure.standing)?)
+    put(object, alloc, "state", state_of(alloc, standing)?)
 }
 
 /// Packets as a list.

@@ -5,8 +5,9 @@ ghost use Rattle.pd_explain.specs.BlockLines.{AreIndented, IsBlock};
 ghost use Rattle.pd_explain.specs.Inner.{AddsLines};
 
 use crate::blocks::facts::{Fact, Told, facts_of, facts_of_sender, state_name};
-use crate::blocks::headings::{verdict_name, verdict_words};
-use crate::causes::{Cause, Failure, SenderSnapshot, Untaken};
+use crate::blocks::headings::{ending_words, verdict_name, verdict_words};
+use crate::causes::{Cause, SenderSnapshot, Untaken};
+use crate::endings::Ending;
 use crate::explanations::Explanation;
 use crate::refusals::Refusal;
 use crate::shown::{as_shown, cut_around, cut_line};
@@ -32,6 +33,30 @@ pub fn block_text(
     block.extend_from_slice(b"\n")?;
     block.extend_from_slice(&cause_text(alloc, &explanation.cause)?)?;
     Ok(block)
+}
+
+/// The lines of a block on what a script that passes leaves at its end, as those of an explanation.
+///
+/// # Errors
+/// `AllocError` where a growth is refused.
+#[tactic(auto, using(crate::proofs::BlockLemmas::is_block))]
+pub fn ending_text(alloc: Global, name: &Name, ending: &Ending) -> Result<Vec<u8>, AllocError>
+    ensures { IfOk result (λ block. IsBlock block.items) }
+{
+    let mut block = ending_heading(alloc, name, ending)?;
+    block.extend_from_slice(b"\n")?;
+    block.extend_from_slice(&ending_lines(alloc, ending)?)?;
+    Ok(block)
+}
+
+/// The lines of such a block below its first one.
+#[tactic(auto, using(crate::proofs::BlockLemmas::all_added))]
+fn ending_lines(alloc: Global, ending: &Ending) -> Result<Vec<u8>, AllocError>
+    ensures { IfOk result (λ lines. AreIndented lines.items) }
+{
+    let mut out = Vec::new(alloc);
+    put_left(alloc, &mut out, &ending.untaken, &ending.standing)?;
+    Ok(out)
 }
 
 /// The lines of a block below its first one, which tell the cause.
@@ -66,6 +91,19 @@ fn heading(alloc: Global, name: &Name, explanation: &Explanation) -> Result<Vec<
     as_shown(alloc, &line)
 }
 
+/// The first line of a block on a script that passes.
+fn ending_heading(alloc: Global, name: &Name, ending: &Ending) -> Result<Vec<u8>, AllocError>
+    ensures { IfOk result (λ line. are_printable line.items ≡ true) }
+{
+    shown_is_printable();
+    let mut line = Vec::from_slice(alloc, name.as_slice())?;
+    put_words(&mut line, ":")?;
+    put_number(alloc, &mut line, ending.line as u64)?;
+    put_words(&mut line, ": pass: ")?;
+    line.extend_from_slice(&ending_words(alloc, ending)?)?;
+    as_shown(alloc, &line)
+}
+
 /// Adds what is reported of a cause.
 #[tactic(auto, using(crate::proofs::BlockLemmas::then_lines))]
 fn put_cause(alloc: Global, out: &mut Vec<u8>, cause: &Cause) -> Result<(), AllocError>
@@ -75,7 +113,7 @@ fn put_cause(alloc: Global, out: &mut Vec<u8>, cause: &Cause) -> Result<(), Allo
     match cause {
         Cause::Syntax(refusal) => put_refusal(alloc, out, refusal),
         Cause::Rule(_) => Ok(()),
-        Cause::Failed(failure) => put_failure(alloc, out, failure),
+        Cause::Failed(failure) => put_left(alloc, out, &failure.untaken, &failure.standing),
     }
 }
 
@@ -93,6 +131,15 @@ fn put_line(alloc: Global, out: &mut Vec<u8>, line: &[u8]) -> Result<(), AllocEr
 {
     shown_is_printable();
     let line = cut_line(alloc, &as_shown(alloc, line)?)?;
+    add_line(out, &line)
+}
+
+/// Adds a line as it is shown, indented and not cut.
+fn put_whole_line(alloc: Global, out: &mut Vec<u8>, line: &[u8]) -> Result<(), AllocError>
+    ensures { OnOk result (AddsLines out.old.items out.new.items) }
+{
+    shown_is_printable();
+    let line = as_shown(alloc, line)?;
     add_line(out, &line)
 }
 
@@ -143,11 +190,16 @@ fn put_told(alloc: Global, out: &mut Vec<u8>, told: Told<'_>) -> Result<(), Allo
 
 /// Adds the packets that were put out and not taken, and how the sender stands.
 #[tactic(auto, using(crate::proofs::BlockLemmas::then_lines))]
-fn put_failure(alloc: Global, out: &mut Vec<u8>, failure: &Failure) -> Result<(), AllocError>
+fn put_left(
+    alloc: Global,
+    out: &mut Vec<u8>,
+    untaken: &Untaken,
+    standing: &SenderSnapshot,
+) -> Result<(), AllocError>
     ensures { OnOk result (AddsLines out.old.items out.new.items) }
 {
-    put_untaken(alloc, out, &failure.untaken)?;
-    put_standing(alloc, out, &failure.standing)
+    put_untaken(alloc, out, untaken)?;
+    put_standing(alloc, out, standing)
 }
 
 /// Adds the packets that were put out and not taken.
@@ -165,7 +217,18 @@ fn put_untaken(alloc: Global, out: &mut Vec<u8>, untaken: &Untaken) -> Result<()
     Ok(())
 }
 
-/// Adds how the sender stands, in one line.
+/// Whether PRR's counts are among what is told of a sender.
+fn has_reduction(standing: &SenderSnapshot) -> bool {
+    match standing.figures {
+        Some(figures) => match figures.windows {
+            Some(windows) => windows.reduction.is_some(),
+            None => false,
+        },
+        None => false,
+    }
+}
+
+/// Adds how the sender stands, in one line, which isn't cut where it has PRR's counts too.
 fn put_standing(
     alloc: Global,
     out: &mut Vec<u8>,
@@ -176,6 +239,9 @@ fn put_standing(
     let mut line = Vec::new(alloc);
     put_words(&mut line, "state: ")?;
     put_state(alloc, &mut line, standing)?;
+    if has_reduction(standing) {
+        return put_whole_line(alloc, out, &line);
+    }
     put_line(alloc, out, &line)
 }
 

@@ -2,8 +2,8 @@
 ghost use Rattle.std.specs.Prelude.{◌≡◌, ◌++◌, IfOk, OnOk};
 ghost use Rattle.pd_print.specs.Sent.{packet_of};
 ghost use Rattle.pd_print.specs.Numbers.{time_text};
-ghost use Rattle.pd_explain.specs.Columns.{time_since, comment_of, followed, lined_up};
-ghost use Rattle.pd_explain.specs.Inner.{sent_text, laid};
+ghost use Rattle.pd_explain.specs.Columns.{time_since, comment_of, sent_text, followed, lined_up};
+ghost use Rattle.pd_explain.specs.Inner.{laid};
 
 use pd_print::{Parts, sent_packet, write_moment, write_parts, write_sent, write_time};
 use pd_script::{Packet, Time};

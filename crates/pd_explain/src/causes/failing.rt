@@ -13,9 +13,10 @@ ghost use Rattle.pd_explain.specs.Shown.{shown};
 
 use crate::causes::columns::{Pair, event_of, event_sent, pair_of};
 use crate::causes::failures::{
-    Awaited, Comparison, Failed, Failure, Reply, SenderSnapshot, Setback, Untaken, Wait,
+    Awaited, Comparison, Failed, Failure, Reply, SenderSnapshot, Setback, Wait,
 };
 use crate::causes::reasons::Reason;
+use crate::causes::untaken::list_untaken;
 use crate::causes::writings::Writing;
 use crate::shown::as_shown;
 use pd_host::Host;
@@ -25,9 +26,6 @@ use pd_run::{RunState, Stopped, Why};
 use pd_script::{Action, Event, Packet, Time};
 use pd_seg::{Answer, Sent};
 use std::alloc::{AllocError, Global};
-
-/// The most untaken packets that are listed one by one.
-const MAX_UNTAKEN: usize = 10;
 
 /// What of an event that stopped a run, and is written so, didn't happen as written; nothing where a rule stopped it.
 ///
@@ -94,12 +92,13 @@ fn failure(alloc: Global, stop: &Stopped, failed: Failed) -> Result<Failure, All
     let compared = usize::from(matches!(stop.why, Why::Differs(_, _, _)));
     Ok(Failure {
         failed,
-        untaken: untaken(alloc, run, compared)?,
+        untaken: list_untaken(alloc, run, compared)?,
         standing: standing(run),
     })
 }
 
-fn standing(run: &RunState) -> SenderSnapshot
+/// How the sender of a run stands.
+pub fn standing(run: &RunState) -> SenderSnapshot
     ensures { result ≡ standing_of run.now.host }
 {
     let host = run.host();
@@ -108,21 +107,6 @@ fn standing(run: &RunState) -> SenderSnapshot
         figures: host.figures(),
         expiry: host.deadline(),
     }
-}
-
-fn untaken(alloc: Global, run: &RunState, compared: usize) -> Result<Untaken, AllocError>
-    requires { compared ≤ 1 }
-{
-    let outbox = run.host().outbox();
-    let mut packets = Vec::new(alloc);
-    for place in compared..compared + MAX_UNTAKEN {
-        match outbox.get(place) {
-            Some(sent) => packets.push(event_sent(alloc, sent, run.base())?)?,
-            None => return Ok(Untaken { packets, more: 0 }),
-        }
-    }
-    let more = outbox.len().saturating_sub(compared + MAX_UNTAKEN);
-    Ok(Untaken { packets, more })
 }
 
 fn setback(event: &Event, before: &RunState, writing: Writing) -> Setback

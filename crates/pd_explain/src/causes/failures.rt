@@ -99,6 +99,13 @@ pub struct Untaken {
     pub more: usize,
 }
 
+impl Untaken {
+    /// How many packets were put out and not taken.
+    pub fn count(&self) -> usize {
+        self.packets.len().saturating_add(self.more)
+    }
+}
+
 /// How a sender stands.
 #[derive(Clone, Copy)]
 pub struct SenderSnapshot {

@@ -212,8 +212,12 @@ fn said_of_segment(alloc: Global, hold: Hold, numbers: Numbers) -> Result<Vec<u8
             alloc,
             &[
                 Words("Nagle's algorithm holds "),
-                Number(numbers.unsent.min(numbers.usable)),
-                Words(" octets, less than SMSS "),
+                Number(numbers.held()),
+                Words(if numbers.held() == 1 {
+                    " octet, less than SMSS "
+                } else {
+                    " octets, less than SMSS "
+                }),
                 Number(numbers.smss),
                 Words(", while "),
                 Number(numbers.flight),
@@ -261,6 +265,11 @@ impl Numbers {
             }
         }
         numbers
+    }
+
+    /// How many octets may leave by the windows.
+    fn held(self) -> u32 {
+        self.unsent.min(self.usable)
     }
 
     fn none() -> Numbers {

@@ -15,5 +15,5 @@ returns-clause-chosen c = λ words matched.
       c.workers_in.ensures.count ∙ ap workers_in (c.as_bytes.ensures.value ∙ workers),
       c.cache_in.ensures.size ∙ ap cache_in (c.as_bytes-2.ensures.value ∙ cache),
       rw (c.has_flag.ensures words matched, c.in_ok-explain.ensures.only words matched) refl,
-      c.in_ok-explain.ensures.json words matched,
+      c.in_ok-explain.ensures.how words matched,
     )

@@ -1,0 +1,10 @@
+-- So many packets are listed.
+use Rattle.std.proofs.Common.{◌≡◌, ℕ, map, take, drop}
+use Rattle.pd_run.specs.Laws.{untaken}
+use Rattle.pd_explain.proofs.EndLemmas.{texts}
+use Rattle.pd_explain.proofs.causes.untaken.list_untaken.Given as goal
+
+abbrev pub invariant-loop-count : goal.invariant-loop-count
+invariant-loop-count l = record {
+  listed : map (λ packet. packet.items) l.packets.items ≡ texts l.run.base (take l.count (drop l.skipped (untaken l.run)));
+}

@@ -1,0 +1,72 @@
+-- What a script that passes leaves at its end.
+use Rattle.std.specs.Prelude.{◌≡◌, ℕ, ◌-◌, ◌==◌, Bool, true, false, ◌&&◌, is_some, List, [], ◌∷◌, map, take, length, slice_get, option_map, unwrap_or, Option, Some, None}
+use Rattle.std.specs.List.{list_any}
+use Rattle.pd_settings.specs.declared.fields.Settings.{Settings}
+use Rattle.pd_script.specs.Script.{script_of}
+use Rattle.pd_script.specs.declared.parsing.Parsed.{Parsed}
+use Rattle.pd_script.specs.declared.script_events.Action.{Action}
+use Rattle.pd_script.specs.declared.script_events.Action.TheVariants.{Outbound}
+use Rattle.pd_script.specs.declared.script_events.Event.{Event}
+use Rattle.pd_seg.specs.declared.segments.Sent.{Sent}
+use Rattle.pd_run.specs.Laws.{untaken}
+use Rattle.pd_run.specs.Run.{on_script, verdict_in}
+use Rattle.pd_run.specs.Step.{RunStateView, on_step, step}
+use Rattle.pd_run.specs.declared.verdicts.Verdict.{Verdict}
+use Rattle.pd_run.specs.declared.verdicts.Verdict.TheVariants.{Pass}
+use Rattle.pd_explain.specs.Columns.{sent_text}
+use Rattle.pd_explain.specs.Senders.{standing_of}
+use Rattle.pd_explain.specs.declared.causes.failures.Untaken.{Untaken}
+use Rattle.pd_explain.specs.declared.endings.Ending.{Ending}
+
+-- the run after the last of some events, where each passes
+abbrev pub end_from : List Event → RunStateView → Option RunStateView
+end_from [] r = Some r
+end_from (e ∷ es) r = on_step (end_from es) (λ v. None) (step r e)
+
+-- the run at the end of a script that was read, on a fresh host; nothing where it stops before
+abbrev pub end_in : Settings → Parsed → Option RunStateView
+end_in settings parsed = on_script (λ line. None) (λ v. None) (end_from parsed.events) settings parsed
+
+-- all events passed
+abbrev pub is_pass : Verdict → Bool
+is_pass (Pass n) = true
+is_pass _ = false
+
+-- a law: a script passes exactly where its run comes to its end
+abbrev pub PassesHaveEnds : Type 0
+PassesHaveEnds = (settings : Settings) (parsed : Parsed) → is_some (end_in settings parsed) ≡ is_pass (verdict_in settings parsed)
+
+-- an action awaits a packet
+abbrev pub is_awaited : Action → Bool
+is_awaited (Outbound p) = true
+is_awaited _ = false
+
+-- some event awaits a packet
+abbrev pub awaits_any : List Event → Bool
+awaits_any events = list_any (λ (e : Event). is_awaited e.action) events
+
+-- the line of the last event; 1 where there is none
+abbrev pub last_line : List Event → ℕ
+last_line events = unwrap_or (option_map (λ (e : Event). e.line) (slice_get events (length events - 1))) 1
+
+-- the oldest ten packets are listed, and the others counted
+abbrev pub Lists : ℕ → List Sent → Untaken → Type 0
+Lists base packets told = (map (λ packet. packet.items) told.packets.items ≡ map (sent_text base) (take 10 packets)) × (told.more ≡ length packets - 10)
+
+-- what is reported of a run at its end: nothing where a packet was awaited and none is left
+abbrev pub IsEndOf : List Event → RunStateView → Option Ending → Type 0
+IsEndOf events r None = (awaits_any events ≡ true) × (untaken r ≡ [])
+IsEndOf events r (Some told) =
+    ((awaits_any events && length (untaken r) == 0) ≡ false)
+    × (told.line ≡ last_line events)
+    × (told.awaits ≡ awaits_any events)
+    × Lists r.base (untaken r) told.untaken
+    × (told.standing ≡ standing_of r.host)
+
+-- what is reported of the end of a text's run: nothing where the run stops before
+abbrev pub IsEnd : List (List ℕ) → Settings → Option Ending → Type 0
+IsEnd text settings told = by (end_in settings (script_of text))
+  where
+    by : Option RunStateView → Type 0
+    by None = told ≡ None
+    by (Some r) = IsEndOf (script_of text).events r told
