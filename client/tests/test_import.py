@@ -8,6 +8,7 @@ from pathlib import Path
 import pytest
 
 from tests.helpers import PASSES, TOP, Call, write
+from tests.schemas import held
 from tests.test_import_conversion import LEFT, OPEN, REPLACED
 
 SUITE = TOP / "examples/suite"
@@ -51,6 +52,8 @@ def test_a_folder_is_imported_with_settings_and_a_list(programs: Path, tmp_path:
         "from/net/slow.pkt: imported, changed to this profile: 2 packets",
         "not imported, scripts:",
         "      1 connect",
+        "not imported for this alone, scripts:",
+        "      1 connect",
         "dropped from set-up:",
         "      1 metrics of earlier connections",
         "      1 no ECN",
@@ -65,6 +68,7 @@ def test_a_folder_is_imported_with_settings_and_a_list(programs: Path, tmp_path:
         "      2 byte_counting = 8",
         '      2 initial_window = "rfc6928"',
         "      2 min_rto_us = 200000",
+        '      2 recovery_rate = "prr"',
         "      1 restart_after_idle = false",
         "      1 restart_after_idle = true",
         "      1 wscale = 7",
@@ -76,10 +80,94 @@ def test_a_folder_is_imported_with_settings_and_a_list(programs: Path, tmp_path:
     assert files == ["net/idle.pkt", "net/pdsuite.toml", "net/slow.pkt", "pdsuite.toml"]
     assert (tmp_path / "to/net/idle.pkt").read_text() == OPEN
     assert (tmp_path / "to/net/slow.pkt").read_text().startswith("// SPDX-License-Identifier: GPL-2.0\n")
-    before = 'byte_counting = 8, initial_window = "rfc6928", min_rto_us = 200000, restart_after_idle'
-    listed = f"to/net/idle.pkt: {before} = true, wscale = 7\nto/net/slow.pkt: {before} = false, wscale = 8\n"
-    assert call(None, "list", "to").out == listed
+    before = 'byte_counting = 8, initial_window = "rfc6928", min_rto_us = 200000, recovery_rate = "prr"'
+    listed = [
+        f"to/net/idle.pkt: {before}, restart_after_idle = true, wscale = 7",
+        f"to/net/slow.pkt: {before}, restart_after_idle = false, wscale = 8",
+    ]
+    assert call(None, "list", "to").out.splitlines() == listed
     assert call(programs, "run", "-v", "to").rows == ["to/net/idle.pkt: pass 7", "to/net/slow.pkt: pass 21"]
+
+
+def test_what_blocks_scripts_alone_is_counted(tmp_path: Path, call: Call) -> None:
+    reads = "0 read(3, ..., 9) = 9\n"
+    texts = {"a": CONNECTS, "b": CONNECTS * 2, "c": CONNECTS + reads, "d": reads + "--mtu=9\n", "e": "0 f() = ?"}
+    write(tmp_path / "from", **{name: text.encode() for name, text in texts.items()})
+    lines = call(None, "import", "from", "to").out.splitlines()
+    begin = lines.index("not imported for this alone, scripts:")
+    assert lines[begin + 1 :] == [
+        "      2 connect",
+        "      1 the result ?",
+        "total 5 imported 0 packets kept 0 changed to this profile 0 not imported 5 error 0",
+    ]
+    found = held("import", call(None, "import", "--json", "from", "to").out)
+    assert [(it["words"], it["scripts"], it["alone"]) for it in found["reasons"]] == [
+        ("connect", 3, 2),
+        ("the call read", 2, 0),
+        ("no script of this language", 1, 0),
+        ("the result ?", 1, 1),
+    ]
+
+
+def test_the_object_tells_what_the_text_tells(tmp_path: Path, call: Call) -> None:
+    kernel(tmp_path / "from")
+    (tmp_path / "from/net/dangling.pkt").symlink_to("nowhere")
+    called = call(None, "import", "--json", "from", "to")
+    assert (called.status, called.err) == (2, "")
+    assert held("import", called.out) == {
+        "scripts": [
+            {
+                "path": "from/net/connects.pkt",
+                "came": "not imported",
+                "reasons": [{"line": 1, "words": "connect", "what": "connect(3, ..., ...)"}],
+            },
+            {"path": "from/net/dangling.pkt", "came": "error", "reason": "No such file or directory"},
+            {
+                "path": "from/net/idle.pkt",
+                "came": "imported",
+                "changed": 0,
+                "settings": {
+                    "byte_counting": 8,
+                    "initial_window": "rfc6928",
+                    "min_rto_us": 200_000,
+                    "recovery_rate": "prr",
+                    "restart_after_idle": True,
+                    "wscale": 7,
+                },
+            },
+            {
+                "path": "from/net/slow.pkt",
+                "came": "imported",
+                "changed": 2,
+                "settings": {
+                    "byte_counting": 8,
+                    "initial_window": "rfc6928",
+                    "min_rto_us": 200_000,
+                    "recovery_rate": "prr",
+                    "restart_after_idle": False,
+                    "wscale": 8,
+                },
+            },
+        ],
+        "reasons": [{"words": "connect", "scripts": 1, "alone": 1}],
+        "findings": [
+            {"heading": "dropped from set-up", "words": "metrics of earlier connections", "count": 1},
+            {"heading": "dropped from set-up", "words": "no ECN", "count": 1},
+            {"heading": "dropped from set-up", "words": "offload", "count": 1},
+            {"heading": "dropped from set-up", "words": "queues of the device", "count": 1},
+            {"heading": "changed to this profile", "words": "packets longer than SMSS are cut at it", "count": 2},
+            {"heading": "changed to this profile", "words": "flag P as this sender sets it", "count": 1},
+            {"heading": "assertions for pdsuite run", "words": "tcpi_snd_cwnd", "count": 2},
+        ],
+        "total": {
+            "scripts": 4,
+            "imported": 2,
+            "packets kept": 1,
+            "changed to this profile": 1,
+            "not imported": 1,
+            "error": 1,
+        },
+    }
 
 
 def test_with_keep_no_packet_is_changed(programs: Path, tmp_path: Path, call: Call) -> None:

@@ -55,6 +55,7 @@ def test_a_script_of_this_language_stays_as_it_is(text: str) -> None:
         ("byte_counting", 8),
         ("initial_window", "rfc6928"),
         ("min_rto_us", 200_000),
+        ("recovery_rate", "prr"),
         ("restart_after_idle", True),
         ("wscale", 7),
     )
@@ -107,6 +108,29 @@ REPLACED = [
         "+0.1 write(4, ..., 262144) = 262144\n// changed: +0 write(4, ..., 262144) = 262144\n"
         "// why: the time of what was dropped before it\n",
     ),
+    # Calls that others stand for.
+    (
+        "+.1 send(4, ..., 1000, 0) = -1 EAGAIN (Resource temporarily unavailable) // a\n",
+        "+.1 write(4, ..., 1000) = -1 EAGAIN (Resource temporarily unavailable)\n"
+        "// changed: +.1 send(4, ..., 1000, 0) = -1 EAGAIN (Resource temporarily unavailable)\n"
+        "// why: send without flags is written as write\n // a\n",
+    ),
+    (
+        "\t+0 `a`\n\t+.5 sendto(4, ..., 7, 0, ..., ...)=7\n",
+        "\t// dropped: +0 `a`\n\t// why: commands, which are never run\n"
+        "\t+.5 write(4, ..., 7)=7\n\t// changed: +.5 sendto(4, ..., 7, 0, ..., ...)=7\n"
+        "\t// why: sendto without flags is written as write\n",
+    ),
+    (
+        "+1 `a`\n+.5 sendmsg(4, {msg_name(...)=...,\n    msg_iov(1)=[{..., 2500}], msg_flags=0}, 0) = 2500\n"
+        "+0 > P. 1:2501(2500) ack 1\n",
+        "// dropped: +1 `a`\n// why: commands, which are never run\n"
+        "+1.5 write(4, ..., 2500) = 2500\n// changed: +.5 sendmsg(4, {msg_name(...)=...,\n"
+        "// changed:     msg_iov(1)=[{..., 2500}], msg_flags=0}, 0) = 2500\n"
+        "// why: sendmsg without flags is written as write; the time of what was dropped before it\n"
+        "+0 > . 1:1001(1000) ack 1\n+0 > . 1001:2001(1000) ack 1\n+0 > P. 2001:2501(500) ack 1\n"
+        "// changed: +0 > P. 1:2501(2500) ack 1\n// why: packets longer than SMSS are cut at it\n",
+    ),
     # Packets.
     (
         "+0 write(4, ..., 2500) = 2500\n +.01 > P. 1:2001(2000) ack 1 win 9 // b\n",
@@ -138,6 +162,26 @@ def test_a_packet_within_other_lines_leaves_all_else_where_it_was() -> None:
         "// why: the value of the window isn't compared; the time of what was dropped before it\n"
         " +1 close(4) = 0"
     )
+
+
+def test_no_call_blocks_so_sockets_that_do_not_are_as_others() -> None:
+    for kind in ("SOCK_STREAM|SOCK_NONBLOCK", "SOCK_NONBLOCK | SOCK_STREAM"):
+        script = imported(OPEN.replace("SOCK_STREAM", kind))
+        assert script.text == (
+            f"0 socket(..., SOCK_STREAM, IPPROTO_TCP) = 3\n// changed: 0 socket(..., {kind}, IPPROTO_TCP) = 3\n"
+            f"// why: SOCK_NONBLOCK is dropped: no call blocks here\n{OPEN.partition(chr(10))[2]}"
+        )
+        assert counted(script) == [(Heading.CALLS, "SOCK_NONBLOCK is dropped: no call blocks here")]
+        assert script.changed == 0
+
+
+def test_calls_are_changed_where_packets_are_kept() -> None:
+    text = OPEN + "+0 send(4, ..., 2000, 0) = 2000\n+0 > P. 1:2001(2000) ack 1\n"
+    expected = OPEN + (
+        "+0 write(4, ..., 2000) = 2000\n// changed: +0 send(4, ..., 2000, 0) = 2000\n"
+        "// why: send without flags is written as write\n+0 > P. 1:2001(2000) ack 1\n"
+    )
+    assert imported(text, keep=True).text == imported(text, {"mss": 900}).text == expected
 
 
 def test_what_was_done_is_counted() -> None:
@@ -199,6 +243,15 @@ LEFT = [
     (OPEN + "+0 setsockopt(4, SOL_SOCKET, SO_SNDBUF, [1], 4) = -1", 8, "setsockopt SO_SNDBUF"),
     (OPEN + "+0 fcntl(4, F_GETFL) = 2", 8, "fcntl F_GETFL"),
     (OPEN + "+0 read(4, ..., 9) = 9", 8, "the call read"),
+    (OPEN + "+0 send(4, ..., 9, MSG_MORE) = 9", 8, "the call send"),
+    (OPEN + "+0 send(4, ..., n, 0) = 9", 8, "the call write"),
+    (OPEN + "+0 send(4, ..., 262145, 0) = 262145", 8, "a number over its limit"),
+    (OPEN + "+0...1 send(4, ..., 1, 0) = 1", 8, "a blocking call"),
+    (OPEN + "+0 sendto(4, ..., 9, MSG_FASTOPEN, ..., ...) = 9", 8, "Fast Open"),
+    (OPEN + "+0 sendto(4, ..., 9, 0, {sa_family=AF_INET}, 16) = 9", 8, "the call sendto"),
+    (OPEN + "+0 sendmsg(4, {msg_name(...)=..., msg_iov(2)=[{..., 1}, {..., 1}]}, 0) = 2", 8, "the call sendmsg"),
+    (OPEN + "+0 sendmsg(4, {msg_name(...)=..., msg_iov(1)=[{..., 1}]}, MSG_MORE) = 1", 8, "the call sendmsg"),
+    ("0 socket(..., SOCK_STREAM|SOCK_CLOEXEC, IPPROTO_TCP) = 3", 1, "the call socket"),
     ("0 connect(3, ..., ...) = 0\n0 < S. 0:0(0) ack 1 win 9", 1, "connect"),
     ("0 < . 1:1(0) win 9", 1, "a connection that doesn't begin with the peer's SYN"),
     ("0 < S 0:0(0) win 9 <TS val 1 ecr 0>", 1, "timestamps"),

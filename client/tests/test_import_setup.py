@@ -107,6 +107,7 @@ def came_of(text: str, own: dict[str, Value] | None = None, smss: int = 1000, fi
 KERNEL = {
     "initial_window": "rfc6928",
     "byte_counting": 8,
+    "recovery_rate": "prr",
     "restart_after_idle": True,
     "min_rto_us": 200_000,
     "wscale": 7,

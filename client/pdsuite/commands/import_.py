@@ -7,6 +7,7 @@ from pathlib import Path
 
 from pdsuite.faults import Fault
 from pdsuite.files import new_folder, write_folder
+from pdsuite.imports.as_json import as_json
 from pdsuite.imports.conversion import Imported, Left, Source, convert
 from pdsuite.imports.findings import Reason
 from pdsuite.imports.listing import Listed, lines_of, status, summary
@@ -24,7 +25,7 @@ from pdsuite.signals import Stop
 _NO_WORD = "?"
 
 
-def import_scripts(source: Path, target: Path, keep: bool, screen: Screen) -> int:
+def import_scripts(source: Path, target: Path, keep: bool, is_json: bool, screen: Screen) -> int:
     """Imports the scripts of a folder into another one, and answers the exit status."""
     with Stop() as stop:
         if not source.is_dir():
@@ -40,9 +41,14 @@ def import_scripts(source: Path, target: Path, keep: bool, screen: Screen) -> in
         _refuse(suite)
         if any(isinstance(it.came, Imported) for it in scripts):
             write_folder(place, _files(source, scripts, stop))
-    lines = [line for it in scripts for line in lines_of(it)]
-    screen.show(unstyled("".join(f"{line}\n" for line in [*lines, *summary(scripts)])))
+    screen.show(unstyled(as_json(scripts) if is_json else _text_of(scripts)))
     return status(scripts)
+
+
+def _text_of(scripts: Sequence[Listed]) -> str:
+    """What people see."""
+    lines = [line for it in scripts for line in lines_of(it)]
+    return "".join(f"{line}\n" for line in [*lines, *summary(scripts)])
 
 
 def _imported(found: Sequence[ScriptFile], suite: Suite, keep: bool, stop: Stop) -> Iterator[Listed]:

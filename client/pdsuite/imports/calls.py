@@ -1,17 +1,70 @@
-"""Which calls this profile runs, by docs/SENDER.md, and what the others are about."""
+"""Which calls this profile runs, by docs/SENDER.md, which others stand for them, and what the rest are about."""
 
 import re
+from dataclasses import dataclass, replace
 
 from pdsuite.packetdrill.items import Call
+from pdsuite.packetdrill.tokens import tokens_of
 
 _WHOLE = re.compile(r"[0-9]+")
 _SWITCH = re.compile(r"\[ ?0*[01] ?\]")
+_NO_FLAGS = re.compile(r"0+")
+# A message of one buffer, without blanks.
+_ONE_BUFFER = re.compile(r"\{msg_name\(\.\.\.\)=\.\.\.,msg_iov\(1\)=\[\{(\.\.\.),([0-9]+)\}\](?:,msg_flags=0+)?\}")
+_OPENING = frozenset("([{")
+_CLOSING = frozenset(")]}")
+_NONBLOCKING = "SOCK_NONBLOCK"
+_STREAM = "SOCK_STREAM"
 
 # Words in arguments of calls that aren't run, and what they are about.
 _ABOUT = (
     (re.compile(r"\b(?:MSG|TCP)_FASTOPEN"), "Fast Open"),
     (re.compile(r"\bTCP_MD5SIG"), "MD5"),
 )
+
+
+@dataclass(frozen=True, slots=True)
+class Spelling:
+    """A call of this profile that stands for another one, and what that changes, in words that are counted."""
+
+    call: Call
+    words: str
+
+
+def spelling_of(call: Call) -> Spelling | None:
+    """The call of this profile that stands for one which it hasn't, if one does."""
+    match call.name, call.arguments:
+        case "socket", (domain, kind, protocol):
+            words = [it.strip() for it in kind.split("|")]
+            if sorted(words) == [_NONBLOCKING, _STREAM]:
+                arguments = (domain, _STREAM, protocol)
+                return Spelling(replace(call, arguments=arguments), f"{_NONBLOCKING} is dropped: no call blocks here")
+        case "send", (descriptor, buffer, count, flags):
+            return _write(call, descriptor, buffer, count, flags)
+        case "sendto", (descriptor, buffer, count, flags, "..." | "NULL", "..." | "0"):
+            return _write(call, descriptor, buffer, count, flags)
+        case "sendmsg", (descriptor, message, flags):
+            if found := _ONE_BUFFER.fullmatch(re.sub(r"\s", "", message)):
+                return _write(call, descriptor, found[1], found[2], flags)
+    return None
+
+
+def _write(call: Call, descriptor: str, buffer: str, count: str, flags: str) -> Spelling | None:
+    """A call that sends one buffer, as `write` where it has no flags."""
+    if not _NO_FLAGS.fullmatch(flags):
+        return None
+    arguments = (descriptor, buffer, count)
+    return Spelling(replace(call, name="write", arguments=arguments), f"{call.name} without flags is written as write")
+
+
+def spelled(text: str, call: Call) -> str:
+    """The text of a call with the name and the arguments of another one; its result stays as it is written."""
+    depth = 0
+    for token in tokens_of(text):
+        depth += (token.text in _OPENING) - (token.text in _CLOSING)
+        if depth == 0 and token.text in _CLOSING:
+            return f"{call.name}({', '.join(call.arguments)}){text[token.end:]}"
+    return text
 
 
 def is_run(call: Call) -> bool:

@@ -2,10 +2,10 @@
 
 import re
 from collections.abc import Iterator, Mapping, Sequence
-from dataclasses import dataclass
+from dataclasses import dataclass, replace
 
 from pdsuite.imports.assertions import asserted, comment
-from pdsuite.imports.calls import is_buffer, written
+from pdsuite.imports.calls import Spelling, is_buffer, spelled, spelling_of, written
 from pdsuite.imports.findings import Finding, Heading, Reason
 from pdsuite.imports.packets import Sending, as_sent, count_of_pieces, moments_of, smss_of, writes_of
 from pdsuite.imports.profile import is_place, tolerance_of, unrun
@@ -52,7 +52,8 @@ class Left:
 def convert(source: Source, keep: bool) -> Imported | Left:
     """Imports a script. With `keep`, and where a pdsuite.toml has settings for it, packets stay as they are."""
     reading = read(source.text)
-    items = reading.items
+    spellings = _spellings(reading.items)
+    items = [replace(it, what=spellings[n].call) if n in spellings else it for n, it in enumerate(reading.items)]
     looked = _looked(items, source.load)
     mss = _number({**DEFAULTS, **(source.own or {})}, "mss")
     smss = smss_of(items, mss)
@@ -73,7 +74,8 @@ def convert(source: Source, keep: bool) -> Imported | Left:
     tolerance = tolerance_of(items)
     if tolerance is None:
         tolerance = _number({**DEFAULTS, **setup.settings}, "tolerance_us")
-    rewrites = list(_rewrites(source.text, items, looked, None if keeps else smss, tolerance))
+    known = _Known(looked, spellings, None if keeps else smss, tolerance)
+    rewrites = list(_rewrites(source.text, items, known))
     text = rewritten(source.text, [it for it, _ in rewrites])
     findings = tuple(finding for _, them in rewrites for finding in them)
     changed = sum(any(it.heading is Heading.CHANGED for it in them) for _, them in rewrites)
@@ -91,6 +93,12 @@ def _first_act(items: Sequence[Item]) -> int:
     """The place of the first packet or call: what stands before it is set-up."""
     acts = (number for number, it in enumerate(items) if isinstance(it.what, Packet | Call))
     return next(acts, len(items))
+
+
+def _spellings(items: Sequence[Item]) -> dict[int, Spelling]:
+    """The calls that others stand for, by the places of the items."""
+    found = {number: spelling_of(it.what) for number, it in enumerate(items) if isinstance(it.what, Call)}
+    return {number: it for number, it in found.items() if it is not None}
 
 
 def _looked(items: Sequence[Item], load: Load) -> dict[int, Looked]:
@@ -176,10 +184,21 @@ def _unshifted(items: Sequence[Item]) -> Iterator[Reason]:
 Rewritten = tuple[Rewrite, tuple[Finding, ...]]
 
 
-def _rewrites(
-    text: str, items: Sequence[Item], looked: Mapping[int, Looked], smss: int | None, tolerance: int
-) -> Iterator[Rewritten]:
-    """What comes in the place of the items that don't stay as they are; packets stay where there is no SMSS."""
+@dataclass(frozen=True, slots=True)
+class _Known:
+    """What is known of items by their places: of commands, and of calls that others stand for.
+
+    Packets stay where there is no SMSS.
+    """
+
+    looked: Mapping[int, Looked]
+    spellings: Mapping[int, Spelling]
+    smss: int | None
+    tolerance: int
+
+
+def _rewrites(text: str, items: Sequence[Item], known: _Known) -> Iterator[Rewritten]:
+    """What comes in the place of the items that don't stay as they are."""
     moments = moments_of(items)
     writes = writes_of(items, moments)
     first = _first_act(items)
@@ -193,14 +212,16 @@ def _rewrites(
                     words = "where packets are sent"
                     yield _dropped(item, old, [words], [Finding(Heading.DROPPED, words)])
             case Command():
-                yield _command(item, old, looked[number], number < first)
+                yield _command(item, old, known.looked[number], number < first)
             case Code():
                 yield _code(item, old, item.what)
             case Call() if is_buffer(item.what):
                 words = "SO_SNDBUF: the default holds all that is written"
                 yield _dropped(item, old, [words], [Finding(Heading.DROPPED, "SO_SNDBUF")])
-            case Packet() if not item.what.is_inbound and smss is not None:
-                sending = Sending(smss, moments[number], writes[number], tolerance)
+            case Call() if number in known.spellings:
+                yield _spelled(text, item, old, time or _NOW, known.spellings[number])
+            case Packet() if not item.what.is_inbound and known.smss is not None:
+                sending = Sending(known.smss, moments[number], writes[number], known.tolerance)
                 if found := _packet(item, old, item.what, time or _NOW, sending):
                     yield found
             case Packet() | Call() if time is not None and time != item.time:
@@ -247,13 +268,26 @@ def _packet(item: Item, old: str, packet: Packet, time: Time, sending: Sending) 
     reasons = [*changes, *([_MOVED] if time != item.time else [])]
     if not reasons:
         return None
-    as_written = old[: item.action - item.start].rstrip()
-    begin = as_written if time == item.time and _TIME.fullmatch(as_written) else str(time)
+    begin = _begin(item, old, time)
     # After a moment the others leave at once; at any time each leaves at any.
     after = "*" if time.first is None else "+0".rjust(len(begin))
     lines = [f"{begin} {sent[0]}", *(f"{after} {it}" for it in sent[1:])]
     findings = tuple(Finding(Heading.CHANGED, it) for it in changes)
     return Rewrite(item.start, item.end, tuple(lines), kept("changed", old, ["; ".join(reasons)])), findings
+
+
+def _spelled(text: str, item: Item, old: str, time: Time, spelling: Spelling) -> Rewritten:
+    """A call in the place of one that this profile hasn't."""
+    reasons = [spelling.words, *([_MOVED] if time != item.time else [])]
+    line = f"{_begin(item, old, time)} {spelled(text[item.action:item.end], spelling.call)}"
+    finding = Finding(Heading.CALLS, spelling.words)
+    return Rewrite(item.start, item.end, (line,), kept("changed", old, ["; ".join(reasons)])), (finding,)
+
+
+def _begin(item: Item, old: str, time: Time) -> str:
+    """The time of an event, as it is written where it stays."""
+    as_written = old[: item.action - item.start].rstrip()
+    return as_written if time == item.time and _TIME.fullmatch(as_written) else str(time)
 
 
 def _moved(text: str, item: Item, old: str, time: Time) -> Rewritten:

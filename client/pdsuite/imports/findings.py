@@ -18,6 +18,7 @@ class Heading(Enum):
 
     SETUP = "dropped from set-up"
     DROPPED = "dropped"
+    CALLS = "calls changed to this profile"
     CHANGED = "changed to this profile"
     ASSERTED = "assertions for pdsuite run"
     NOT_COMPARED = "assertions not compared"

@@ -42,6 +42,7 @@ def summary(scripts: Sequence[Listed]) -> Iterator[str]:
     left = [it.came for it in scripts if isinstance(it.came, Left)]
     findings = [finding for it in imported for finding in it.findings]
     yield from _table("not imported, scripts", (reason.words for it in left for reason in it.reasons))
+    yield from _table("not imported for this alone, scripts", alone_in(left))
     for heading in Heading:
         yield from _table(heading.value, _words(findings, heading))
     settings = (f"{key} = {shown_value(value)}" for script in imported for key, value in script.settings)
@@ -54,6 +55,11 @@ def summary(scripts: Sequence[Listed]) -> Iterator[str]:
         f"total {len(scripts)} imported {len(imported)} packets kept {kept} "
         f"changed to this profile {len(imported) - kept} not imported {len(left)} error {errors}"
     )
+
+
+def alone_in(left: Iterable[Left]) -> Iterator[str]:
+    """The reason of each script that has no other."""
+    return (it.reasons[0].words for it in left if len(it.reasons) == 1)
 
 
 def status(scripts: Sequence[Listed]) -> int:

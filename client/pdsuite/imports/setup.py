@@ -21,6 +21,7 @@ MOST_WSCALE = 14
 KERNEL: Mapping[str, Value] = {
     "initial_window": "rfc6928",
     "byte_counting": 8,
+    "recovery_rate": "prr",
     "restart_after_idle": True,
     "min_rto_us": 200_000,
 }

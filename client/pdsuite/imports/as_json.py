@@ -1,0 +1,65 @@
+"""What an import tells, as one JSON object."""
+
+import json
+from collections import Counter
+from collections.abc import Iterable, Iterator, Sequence
+
+from pdsuite.imports.conversion import Imported, Left
+from pdsuite.imports.findings import Heading
+from pdsuite.imports.listing import Listed, alone_in
+from pdsuite.show.octets import shown_path, shown_text
+
+_encoded = json.JSONEncoder(ensure_ascii=False).encode
+
+
+def as_json(scripts: Sequence[Listed]) -> str:
+    """The object of an import, with a line for each script."""
+    lines = ",".join(f"\n{_encoded(_script(it))}" for it in scripts)
+    imported = [it.came for it in scripts if isinstance(it.came, Imported)]
+    left = [it.came for it in scripts if isinstance(it.came, Left)]
+    kept = sum(not it.changed for it in imported)
+    rest = {
+        "reasons": list(_reasons(left)),
+        "findings": list(_findings(imported)),
+        "total": {
+            "scripts": len(scripts),
+            "imported": len(imported),
+            "packets kept": kept,
+            "changed to this profile": len(imported) - kept,
+            "not imported": len(left),
+            "error": len(scripts) - len(imported) - len(left),
+        },
+    }
+    return f'{{"scripts": [{lines}\n], {_encoded(rest)[1:]}\n'
+
+
+def _script(listed: Listed) -> dict[str, object]:
+    path = shown_path(listed.path)
+    match listed.came:
+        case str(reason):
+            return {"path": path, "came": "error", "reason": shown_text(reason)}
+        case Imported(changed=changed, settings=settings):
+            return {"path": path, "came": "imported", "changed": changed, "settings": dict(settings)}
+        case Left(reasons):
+            told = [{"line": it.line, "words": shown_text(it.words), "what": shown_text(it.what)} for it in reasons]
+            return {"path": path, "came": "not imported", "reasons": told}
+
+
+def _reasons(left: Sequence[Left]) -> Iterator[dict[str, object]]:
+    """Each reason: how many scripts have it, and how many no other."""
+    alone = Counter(alone_in(left))
+    for words, count in _counted(reason.words for it in left for reason in it.reasons):
+        yield {"words": shown_text(words), "scripts": count, "alone": alone[words]}
+
+
+def _findings(imported: Sequence[Imported]) -> Iterator[dict[str, object]]:
+    """What was done to scripts, below the headings that people see."""
+    for heading in Heading:
+        words = (it.words for script in imported for it in script.findings if it.heading is heading)
+        for word, count in _counted(words):
+            yield {"heading": heading.value, "words": shown_text(word), "count": count}
+
+
+def _counted(words: Iterable[str]) -> list[tuple[str, int]]:
+    """Words with their counts, the most frequent first."""
+    return sorted(Counter(words).items(), key=lambda it: (-it[1], it[0]))
