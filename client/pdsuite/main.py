@@ -74,6 +74,7 @@ def pdsuite() -> None:
 )
 @click.option("--json", "form", cls=FormOption, flag_value="json", help="Print JSON, or write it into FILE, too.")
 @click.option("--github", "form", flag_value="github", help="Print annotations.")
+@click.option("--all-differences", is_flag=True, help="Show what each line of a script that fails was met by.")
 @click.option("-v", "--verbose", is_flag=True, help="A line for each script.")
 def run_command(no_color: bool, **words: Any) -> int:
     """Runs scripts in files and folders, and reports what came of them."""
@@ -278,16 +279,17 @@ def lsp_command(settings: str, stdio: bool) -> int:
 
 @pdsuite.command(name="import")
 @click.option("--keep", is_flag=True, help="Change nothing of packets.")
+@click.option("--json", "is_json", is_flag=True, help="Print JSON.")
 @click.option("--no-color", is_flag=True, help="No colours on a terminal.")
 @click.argument("source", metavar="FROM", type=PlaceWord())
 @click.argument("target", metavar="TO", type=PlaceWord())
-def import_command(source: Path, target: Path, keep: bool, no_color: bool) -> int:
+def import_command(source: Path, target: Path, keep: bool, is_json: bool, no_color: bool) -> int:
     """Brings scripts of the kernel's self-tests over into a new folder, and runs nothing."""
     # Only who imports pays for what reads the kernel's scripts.
     from pdsuite.commands.import_ import import_scripts
 
     with Screen(wants_color() and not no_color, progress=False) as screen:
-        return import_scripts(source, target, keep, screen)
+        return import_scripts(source, target, keep, is_json, screen)
 
 
 def main() -> int:

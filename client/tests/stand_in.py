@@ -1,7 +1,8 @@
 #!/usr/bin/python3 -IS
 """Stands in for pdregress: it passes each script, unless the script's first line says what it is to do in its place.
 
-With --explain it takes a script's first line for its row, and what stands below that for its block.
+With --explain it takes a script's first line for its row, and what stands below that for its block. With --ends a line
+`ends WORDS` below the row of a script that passes is what is said of its end.
 
 It is started a thousand times, so it imports no more than it needs.
 """
@@ -195,6 +196,9 @@ def explain() -> int:
         match first.decode("latin-1").split():
             case ["row", verdict, *row] if verdict != "pass":
                 said += block(words[1], [verdict, *row], text)
+            case ["row", "pass", _] if "--ends" in sys.argv:
+                ends = [it.removeprefix(b"ends ") for it in text[:1] if it.startswith(b"ends ")]
+                said += b"".join(f"{words[1]}:1: pass: ".encode() + it for it in ends)
         count += 1
     sys.stderr.buffer.write(said)
     print(f"total {count} pass 0 fail {count} syntax 0 unsupported 0 limit 0 pending 0")

@@ -71,7 +71,7 @@ def _range(unit: str, words: str) -> str:
     """What a row of the page says, in the words of the client."""
     if unit:
         return f"{words} {unit}"
-    return " or ".join(it if it in ("true", "false") else f'"{it}"' for it in re.findall("`([a-z0-9]+)`", words))
+    return " or ".join(it if it in ("true", "false") else f'"{it}"' for it in re.findall("`([a-z0-9_]+)`", words))
 
 
 def _value(word: str) -> Value:

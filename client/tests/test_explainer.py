@@ -124,7 +124,8 @@ def test_each_row_of_the_examples_is_explained_by_the_built_program(programs: Pa
 
 
 def test_only_scripts_that_do_not_pass_are_given_to_it(tmp_path: Path, stand_in: Path, call: Call) -> None:
-    folder = wrapped(tmp_path / "programs", stand_in, explains='tee -a asked | "$0.py" "$@"\nexit')
+    teed = 'case "$*" in *--ends*) ;; *)\ntee -a asked | "$0.py" "$@"\nexit ;;\nesac'
+    folder = wrapped(tmp_path / "programs", stand_in, explains=teed)
     for number in range(130):
         write(tmp_path / "suite", **{f"s{number:03}": b"row limit 1\nwhy\n" if number in (70, 90) else PASSES})
     called = call(folder, "run", "suite")

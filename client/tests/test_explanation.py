@@ -129,7 +129,8 @@ def test_what_the_program_tells_has_the_schema() -> None:
     schema = {**schema_of("run"), "$ref": "#/$defs/explanation"}
     for key in ("type", "required", "properties", "additionalProperties"):
         del schema[key]
-    rows = [json.loads(it) for it in rows_of_the_programs()]
+    told = [json.loads(it) for it in rows_of_the_programs()]
+    rows = [it for it in told if it["verdict"] != "pass"]
     assert len({it.get("kind", it["verdict"]) for it in rows}) >= 5
     for row in rows:
         del row["name"]

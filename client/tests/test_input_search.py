@@ -100,6 +100,24 @@ def test_the_same_seed_makes_the_same_inputs() -> None:
     assert made[0] == made[1] != made[2]
 
 
+def test_inputs_come_under_each_rule_of_the_sender_that_settings_turn_on_or_off() -> None:
+    made = [it for plan in plans(5, [400]) for it in plan]
+    chosen = {it for plan in made for it in plan.settings}
+    rules: dict[str, set[object]] = {
+        "byte_counting": {2, 3, 8},
+        "initial_window": {"rfc6928"},
+        "limited_transmit": {False},
+        "nagle": {False},
+        "recovery_rate": {"prr", "prr_crb"},
+        "restart_after_idle": {True},
+        "sack": {False},
+    }
+    assert {key: {value for other, value in chosen if other == key} for key in rules} == rules
+    # After an idle time more is written.
+    idle = [plan for plan in made if "restart_after_idle" in dict(plan.settings)]
+    assert idle and all(any(act.after >= 2_000_000 and act.call.name == "write" for act in it.acts) for it in idle)
+
+
 def test_what_is_recorded_is_saved_without_states() -> None:
     (recording,) = Toy().recordings([Inputs((), (Input(0, call("listen", 3, 1)),))])
     assert without_trace(recording.text) == b"--tolerance_usecs=0\n+0 listen(3, 1) = 0\n"

@@ -11,7 +11,7 @@ from pdsuite.lsp.documents import Document
 from pdsuite.lsp.hover import hover_of, plain
 from pdsuite.lsp.packets_sent import as_lines, sent_in, sent_of
 from pdsuite.lsp.positions import Lines
-from pdsuite.lsp.recorded import lines_of_untaken, met_by, recorded_in, tolerance_of, without_trace
+from pdsuite.packetdrill.recorded import lines_of_untaken, met_by, recorded_in, tolerance_of, without_trace
 from pdsuite.packetdrill.layout import layout_of
 from pdsuite.programs.rows import Row, Verdict
 from pdsuite.run.outcomes import Outcome

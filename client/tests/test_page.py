@@ -8,10 +8,12 @@ import pytest
 
 from pdsuite.page.diagrams import undrawn
 from pdsuite.page.links import file_of, is_file
-from pdsuite.page.packets import Mark, Packet, columns
+from pdsuite.packetdrill.columns import Mark, Packet, Part, columns
+from pdsuite.page.render import script_page
 from pdsuite.page.sheets import Entry, Fact, Refused, Sheet, row_of, sheet_of
 from pdsuite.programs.protocol import Cause, Unexpected, causes_in
 from pdsuite.programs.rows import Row, Verdict
+from pdsuite.run.met_lines import Differences, MetLine
 from pdsuite.run.outcomes import Outcome
 from pdsuite.scripts.text import text_of
 from tests.helpers import FAILS, PASSES, Call, write
@@ -123,6 +125,29 @@ def test_where_nothing_is_told_the_line_stands() -> None:
     told = sheet(Verdict.FAIL, b"a\xff\tb\r\n", {}, 1, "seq")
     assert told.below == (r"a\xff\x09b",)
     assert told.lines[0].text == r"a\xff      b"
+
+
+def test_what_each_line_was_met_by_stands_on_the_page_of_a_script_that_fails() -> None:
+    row = Row(Verdict.FAIL, 2, "seq")
+    wanted, came = columns("+0 > P. 1:2(1)", "+0 > P. 1:3(2) win 5 // 0.100000", "")
+    met = Differences(
+        (
+            MetLine(1, (Part("0 close(3) = 0"),)),
+            MetLine(2, wanted, came, True),
+            MetLine(3, (Part("+0 > . 3:3(0)"),), (), True),
+            MetLine(None, (), (Part("+1 > . 1:3(2) // 1.100000"),), True),
+        )
+    )
+    told = sheet_of(Entry(Outcome("a.pkt", (), row)), None, undrawn(row), met)
+    page = script_page(told, False).decode()
+    section = page[page.index("<h2>Line by line</h2>") :]
+    assert '<a href="#L1">1</a></th><td><code>0 close(3) = 0</code>' in section
+    assert '<mark class="differs">1:3(2)</mark>' in section and "nothing was sent" in section
+    assert section.count('<tr class="came">') == 3 and '">too</th>' in section
+    assert (
+        "Line by line"
+        not in script_page(sheet_of(Entry(Outcome("a.pkt", (), row)), None, undrawn(row)), False).decode()
+    )
 
 
 def test_the_table_names_the_rule_and_the_reason_of_an_error() -> None:

@@ -129,6 +129,52 @@ def test_while_scripts_are_watched_it_comes_and_goes(stand_in: Path, tmp_path: P
         watching.await_out("b.pkt: pass 0\n", 3)
 
 
+UNTAKEN = "3 packets stand untaken at its end"
+ENDS = b"row pass 2\nends it awaits no packet, and 3 packets stand untaken at its end\n"
+BOTH = f"awaits no packet, and {UNTAKEN}"
+ENDS_LINE = f"a.pkt: passes, but {BOTH}"
+
+
+def test_what_stands_untaken_at_an_end_and_that_no_packet_is_awaited_are_warned_of(
+    stand_in: Path, tmp_path: Path, call: Call
+) -> None:
+    write(tmp_path, a=ENDS, b=b"row pass 2\nends 1 packet stands untaken at its end\n", c=b"row pass 3\n")
+    called = call(stand_in, "run", ".")
+    lines = [ENDS_LINE, "b.pkt: passes, but 1 packet stands untaken at its end"]
+    assert (called.status, called.warnings) == (0, lines)
+    assert f"total 3 pass 3 {TOTALS} warnings 2 in " in called.out
+    called = call(stand_in, "run", "--strict", ".")
+    assert (called.status, called.warnings) == (1, [f"{it} (strict)" for it in lines])
+
+
+def test_every_report_has_what_is_warned_of_at_an_end(stand_in: Path, tmp_path: Path, call: Call) -> None:
+    write(tmp_path, a=ENDS)
+    assert json.loads(call(stand_in, "run", "--json", ".").out)["scripts"][0]["warnings"] == [BOTH]
+    assert call(stand_in, "run", "--tap", ".").out.splitlines()[2:4] == [f"# {ENDS_LINE}", "ok 1 a.pkt"]
+    tests, _ = parse_tap(tmp_path, call(stand_in, "run", "--tap", "--strict", ".").out)
+    assert [it[0] for it in tests] == ["0"]
+    call(stand_in, "run", "--junit", "out.xml", "--strict", ".")
+    (suite,) = JUnitXml.fromfile(str(tmp_path / "out.xml"))
+    assert suite.failures == 1
+    annotations = call(stand_in, "run", "--github", ".").out.splitlines()
+    assert annotations[0] == f"::warning file=a.pkt,title=passes%2C but {BOTH.replace(',', '%2C')}::{ENDS_LINE}"
+
+
+def test_while_scripts_are_watched_an_end_comes_and_goes(stand_in: Path, tmp_path: Path) -> None:
+    write(tmp_path, a=ENDS, b=b"row pass 2\n")
+    with Watching(tmp_path, stand_in, ".") as watching:
+        assert watching.out.startswith(f"{ENDS_LINE}\ntotal 2 pass 2 {TOTALS} warnings 1 in ")
+        write(tmp_path, b=b"row pass 2\nends it awaits no packet\n")
+        watching.await_out(
+            f"b.pkt: pass 2\nb.pkt: passes, but awaits no packet\ntotal 2 pass 2 {TOTALS} warnings 2 in "
+        )
+        write(tmp_path, a=b"row pass 2\n")
+        watching.await_out(f"a.pkt: pass 2\ntotal 2 pass 2 {TOTALS} warnings 1 in ")
+        (tmp_path / "pdsuite.toml").write_text("root = true\nstrict = true\n")
+        watching.await_out("b.pkt: pass 2\nb.pkt: passes, but awaits no packet (strict)\n")
+        assert watching.ends(signal.SIGINT).status == 1
+
+
 @pytest.mark.parametrize(("words", "status"), [([], 0), (["--strict"], 1)])
 def test_the_status_of_a_watch_is_that_of_a_run(words: list[str], status: int, stand_in: Path, tmp_path: Path) -> None:
     make(tmp_path)
@@ -141,6 +187,24 @@ def test_by_the_program_an_empty_script_and_one_of_comments_are_warned_of(
 ) -> None:
     write(tmp_path, a=b"", b=b"// x\n", c=PASSES, d=b"/* one\n */\n\n")
     called = call(programs, "run", ".")
-    assert called.warnings == [f"{name}.pkt: passes, but has no event" for name in "abd"]
+    warned = [f"{name}.pkt: passes, but has no event" for name in "abd"]
+    assert called.warnings == [*warned[:2], "c.pkt: passes, but awaits no packet", warned[2]]
     assert called.status == 0
+    assert call(programs, "run", "--strict", ".").status == 1
+
+
+OPENED = b"""0 socket(..., SOCK_STREAM, 0) = 3
++0 bind(3, ..., ...) = 0
++0 listen(3, 1) = 0
++0.1 < S 0:0(0) win 32792 <mss 1000>
++0 > S. 0:0(0) ack 1 <...>
++0.1 < . 1:1(0) ack 1 win 32792
++0 accept(3, ..., ...) = 4
+"""
+
+
+def test_by_the_program_a_script_that_was_cut_short_is_warned_of(programs: Path, tmp_path: Path, call: Call) -> None:
+    write(tmp_path, a=OPENED + b"+0 write(4, ..., 3000) = 3000\n", b=OPENED)
+    called = call(programs, "run", ".")
+    assert (called.status, called.warnings) == (0, [f"a.pkt: passes, but {UNTAKEN}"])
     assert call(programs, "run", "--strict", ".").status == 1

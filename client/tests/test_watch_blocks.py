@@ -22,8 +22,9 @@ def without_totals(out: str) -> list[str]:
 
 @pytest.fixture
 def counting(stand_in: Path, tmp_path: Path) -> Path:
-    """A folder with a stand-in that notes in `calls` by which words it is started to explain."""
-    return wrapped(tmp_path / "programs", stand_in, explains='printf "%s\\n" "$*" >>calls')
+    """A folder with a stand-in that notes in `calls` by which words it is started to explain why scripts don't pass."""
+    noted = 'case "$*" in *--ends*) ;; *) printf "%s\\n" "$*" >>calls ;; esac'
+    return wrapped(tmp_path / "programs", stand_in, explains=noted)
 
 
 def test_the_first_report_is_that_of_a_run(stand_in: Path, tmp_path: Path, call: Call) -> None:

@@ -64,7 +64,8 @@ class Tree:
         """Gives it tests: rows, and what tells them."""
         for name in ("changed_rules.py", "owed.py", "owed_sections.py"):
             shutil.copy(TOP / "tools" / name, self.top / "tools")
-        shutil.copytree(TOP / "tests/rows", self.top / "tests/rows", ignore=shutil.ignore_patterns("__pycache__"))
+        for name in ("model", "rows"):
+            shutil.copytree(TOP / "tests" / name, self.top / "tests" / name, ignore=shutil.ignore_patterns("__pycache__"))
         cases = self.top / "tests/cases"
         cases.mkdir()
         (cases / "openings.cases").write_text("[none] opening\n< a\n")

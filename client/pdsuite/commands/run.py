@@ -63,6 +63,7 @@ class RunOptions:
     json: Path | None
     tap: Path | None
     form: str | None
+    all_differences: bool
     verbose: bool
     html: Path | None
     plot: str | None
@@ -155,7 +156,8 @@ def _run_unproved(
     if lines := unused_in(suite):
         return _refuse(lines)
     screen.note(f"pdsuite: {first_line()}")
-    plan = plan_of(runs_of(scripts), suite.claims(), options.html is not None or options.by_keys)
+    by_keys = options.html is not None or options.by_keys
+    plan = plan_of(runs_of(scripts), suite.claims(), by_keys, options.all_differences, of_ends=True)
     tried = run_unproved(plan, TOP, stop, screen.note)
     if tried.refused:
         return _refuse(tried.refused)
@@ -186,7 +188,7 @@ def _mapper(
     """The cluster that was asked for, else the processors of this machine."""
     if options.scheduler is None:
         start = start_with(program, threads_of(options.workers), 1, stop)
-        return nullcontext(local_mapper(start, Explainer(program, stop, note, of_known, options.by_keys)))
+        return nullcontext(local_mapper(start, Explainer(program, stop, note, of_known, options.by_keys, of_ends=True)))
     # Only who has a cluster needs what speaks with it.
     need("distributed")
     from pdsuite.run.cluster import cluster
@@ -215,6 +217,8 @@ def _run(
         with closing(mapper(runs_of(scripts))) as steps:
             heard = steps if drawing is None else _kept(steps, texts)
             told = _whole(heard) if options.by_keys else heard
+            if options.all_differences:
+                told = _differing(told, tried, stop, screen.note)
             ended = _take(told, report, checking, screen, options.fail_fast)
         totals = report.close(time.monotonic() - begin)
         if ended is None:
@@ -242,6 +246,21 @@ def _whole(steps: Iterable[Step]) -> Iterator[Step]:
     from pdsuite.run.explanation import whole_steps
 
     return whole_steps(steps)
+
+
+def _differing(
+    steps: Iterable[Step], tried: "UnprovedResults | None", stop: Stop, note: Callable[[str], None]
+) -> Iterator[Step]:
+    """The steps with what each line of a script that fails was met by."""
+    # Only who asks for it pays for what records scripts and reads them.
+    from pdsuite.programs.recorder import Recorder
+    from pdsuite.run.all_differences import differing_steps
+
+    if tried is not None:
+        recordings = tried.recordings
+        return differing_steps(steps, lambda script, _: recordings[script.index])
+    recorder = Recorder(stop, note)
+    return differing_steps(steps, lambda script, text: recorder.record(script.path, text.octets, script.settings))
 
 
 def _take(

@@ -3,7 +3,7 @@
 import select
 import shlex
 import time
-from collections.abc import Iterable, Iterator, Mapping, Sequence
+from collections.abc import Callable, Iterable, Iterator, Mapping, Sequence
 from contextlib import AbstractContextManager, nullcontext
 from dataclasses import dataclass, replace
 from pathlib import Path
@@ -71,8 +71,36 @@ class View:
         self._news = news
         self._of_known = of_known
         self._wanted: Mapping[str, WantedScript] = {}
+        self._ends: dict[str, tuple[WantedScript, str]] = {}
 
-    def show(self, outcomes: Outcomes, wanted: Mapping[str, WantedScript], begin: float) -> None:
+    def show(
+        self,
+        outcomes: Outcomes,
+        wanted: Mapping[str, WantedScript],
+        begin: float,
+        is_strict: Callable[[str], bool] = lambda path: False,
+    ) -> None:
+        """Shows what changed, with what is to be warned of at the ends of scripts that pass."""
+        stopped = None
+        try:
+            self._ask_ends(outcomes, wanted)
+        except Stopped as end:
+            stopped = end
+        warned = {path: end for path, (_, end) in self._ends.items() if end and path in outcomes}
+        put = {path: replace(outcomes[path], at_end=end, is_strict=is_strict(path)) for path, end in warned.items()}
+        self._show({**outcomes, **put}, wanted, begin)
+        if stopped is not None:
+            raise stopped
+
+    def _ask_ends(self, outcomes: Outcomes, wanted: Mapping[str, WantedScript]) -> None:
+        """Asks what scripts that pass leave at their ends, of those alone that aren't as they were."""
+        passing = [it for it in outcomes.values() if it.row.verdict is Verdict.PASS and it.row.number]
+        self._ends = {it.path: known for it in passing if (known := self._ends.get(it.path))}
+        asked = [it for it in passing if it.path not in self._ends or self._ends[it.path][0] != wanted[it.path]]
+        for outcome in self._explained(asked, wanted):
+            self._ends[outcome.path] = wanted[outcome.path], outcome.at_end
+
+    def _show(self, outcomes: Outcomes, wanted: Mapping[str, WantedScript], begin: float) -> None:
         """Shows what changed: the rows at once, what is told of them once it is; at first all in one."""
         rows, moves = StyledText(), self._news.moves(self.outcomes, outcomes, self._wanted, wanted)
         if self.status is not None:
@@ -139,7 +167,7 @@ def watch(options: WatchOptions, screen: Screen) -> int:
         program = locate(REGRESS)
         view = View(
             screen,
-            Explainer(program, stop, screen.note),
+            Explainer(program, stop, screen.note, of_ends=True),
             options.verbose,
             _news(options, screen),
             options.html is not None,
@@ -222,7 +250,7 @@ def step(
             drawing.end()
         wanted, unfit = folders.wanted()
         fleet.follow(wanted)
-        view.show(_outcomes(folders, fleet, unfit), wanted, now)
+        view.show(_outcomes(folders, fleet, unfit), wanted, now, folders.is_strict)
         if drawing is not None:
             drawing.follow(_entries(view.outcomes, wanted))
 

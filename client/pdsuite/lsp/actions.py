@@ -9,7 +9,7 @@ from pdsuite.lsp.documents import text_edit
 from pdsuite.lsp.json_values import Json
 from pdsuite.lsp.packets_sent import Sent, as_lines, sent_in, sent_of, taken
 from pdsuite.lsp.positions import Lines
-from pdsuite.lsp.recorded import Recorded, recorded_in, without_trace
+from pdsuite.packetdrill.recorded import Recorded, recorded_in, without_trace
 from pdsuite.packetdrill.items import SECOND
 from pdsuite.packetdrill.layout import Event, Layout
 from pdsuite.packetdrill.lines import Extent

@@ -12,14 +12,15 @@ from pdsuite.lsp.documents import Document
 from pdsuite.lsp.hover import hover_of
 from pdsuite.lsp.json_values import Json
 from pdsuite.lsp.positions import Position
-from pdsuite.lsp.recorded import Met, Recorded, lines_of_untaken, met_by, recorded_in, tolerance_of
+from pdsuite.packetdrill.recorded import Met, Recorded, lines_of_untaken, met_by, recorded_in, tolerance_of
 from pdsuite.lsp.settings_places import key_at
-from pdsuite.lsp.tools import Tools, tolerance
+from pdsuite.lsp.tools import Tools
 from pdsuite.lsp.workspace import Result, Workspace, settings_path
 from pdsuite.packetdrill.layout import NOTHING, Event, Layout, layout_of
 from pdsuite.packetdrill.lines import Extent
 from pdsuite.programs.protocol import Cause
 from pdsuite.programs.rows import Row, Verdict
+from pdsuite.run.met_lines import passed_before, tolerance
 from pdsuite.run.row_place import failing_event
 
 DRAW = "pdsuite.draw"
@@ -180,12 +181,7 @@ def _counted(number: int, noun: str) -> str:
 
 def _passed(layout: Layout, row: Row, cause: Cause | None) -> int:
     """How many events passed, as far as the row tells."""
-    if row.verdict is Verdict.PASS:
-        return len(layout.events)
-    event = failing_event(row, cause, layout)
-    if event is not None and event in layout.events:
-        return layout.events.index(event)
-    return sum(it.item.line < (row.line or 0) for it in layout.events)
+    return len(layout.events) if row.verdict is Verdict.PASS else passed_before(layout, row, cause)
 
 
 def _recordable(layout: Layout, result: Result) -> Iterator[str]:

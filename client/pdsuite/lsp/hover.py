@@ -4,7 +4,7 @@ import re
 from collections.abc import Iterator, Mapping, Sequence
 
 from pdsuite.lsp import pages
-from pdsuite.lsp.recorded import Met, Recorded, State
+from pdsuite.packetdrill.recorded import Met, Recorded, State
 from pdsuite.packetdrill.items import SECOND, Call, HeaderOption
 from pdsuite.packetdrill.layout import Event
 

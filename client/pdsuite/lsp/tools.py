@@ -2,7 +2,6 @@
 
 from collections.abc import Callable, Sequence
 
-from pdsuite.packetdrill.items import SECOND
 from pdsuite.lsp.completion import PROBE
 from pdsuite.run.explainer import CAUSES, EXPLAIN, JSON, Asker
 from pdsuite.programs.places import RECORD, REGRESS, locate
@@ -13,7 +12,6 @@ from pdsuite.programs.recorder import Recorder, Recording
 from pdsuite.programs.refusals import refusals
 from pdsuite.programs.rows import Row
 from pdsuite.run.runs import RUN
-from pdsuite.scripts.defaults import DEFAULTS
 from pdsuite.scripts.settings import Settings, settings_text
 from pdsuite.scripts.suite import Claim
 from pdsuite.scripts.text import Text, Unfit, text_of
@@ -106,9 +104,3 @@ def _text(text: str) -> Text | None:
         return text_of(text.encode("utf-8", "surrogatepass"))
     except Unfit:
         return None
-
-
-def tolerance(settings: Settings) -> int:
-    """The tolerance that settings give, in microseconds."""
-    value = {**DEFAULTS, **dict(settings)}["tolerance_us"]
-    return value if isinstance(value, int) else SECOND

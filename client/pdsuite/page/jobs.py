@@ -13,7 +13,9 @@ from pdsuite.page.sheets import Entry, Row, sheet_of
 from pdsuite.programs.places import REGRESS, locate
 from pdsuite.programs.protocol import Cause
 from pdsuite.programs.recorder import Recorder
+from pdsuite.programs.rows import Verdict
 from pdsuite.run.explainer import CAUSES, Asker
+from pdsuite.run.met_lines import Differences, differences_of
 from pdsuite.run.runs import Script, runs_of
 from pdsuite.run.settling import SettledPiece
 from pdsuite.signals import Stop
@@ -65,5 +67,15 @@ def _settled(piece: Sequence[Script], entries: Sequence[Entry]) -> SettledPiece:
 def _write_page(job: Job, place: int, cause: Cause | None, recorder: Recorder) -> None:
     entry = job.entries[place]
     diagram = diagram_of(entry.outcome, entry.text, entry.plot, cause, recorder, job.folder)
-    sheet = sheet_of(entry, cause, diagram)
+    sheet = sheet_of(entry, cause, diagram, _met(entry, None if job.is_unproved else recorder))
     write(job.folder / FOLDER / sheet.row.file, script_page(sheet, job.is_unproved))
+
+
+def _met(entry: Entry, recorder: Recorder | None) -> Differences | None:
+    """What each line of a script that fails was met by, where that can be recorded or is known."""
+    outcome, text = entry.outcome, entry.text
+    if recorder is None or text is None or outcome.row.verdict is not Verdict.FAIL or outcome.differences is not None:
+        return outcome.differences
+    written = text.octets.decode("utf-8", "surrogateescape")
+    recording = recorder.record(outcome.path, text.octets, outcome.settings)
+    return differences_of(outcome.row, outcome.told, written, recording, outcome.settings)

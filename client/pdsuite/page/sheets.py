@@ -5,11 +5,12 @@ from dataclasses import dataclass
 
 from pdsuite.page.diagrams import Diagram
 from pdsuite.page.links import file_of
-from pdsuite.page.packets import Mark, Packet, Part, columns
+from pdsuite.packetdrill.columns import Mark, Packet, Part, columns
 from pdsuite.page.plots import Plot
 from pdsuite.programs.protocol import Cause
 from pdsuite.programs.rows import Verdict
 from pdsuite.reports.outcome_text import block, reason, warnings
+from pdsuite.run.met_lines import Differences, MetLine
 from pdsuite.run.outcomes import Outcome, Tally
 from pdsuite.scripts.settings import shown_value
 from pdsuite.scripts.text import Text
@@ -49,6 +50,8 @@ _STATE = {
     "rwnd": ("rwnd", "the peer's window, in octets"),
     "flight_size": ("FlightSize", "top less una, in octets"),
     "pipe": ("pipe", "octets that count as on the way"),
+    "prr_delivered": ("prr_delivered", "octets that reached the peer in this recovery"),
+    "prr_out": ("prr_out", "octets that were sent in it"),
     "dup_acks": ("DupAcks", "duplicates counted; 4 stands for more too"),
     "rto_us": ("RTO", "the retransmission timeout"),
     "expiry_us": ("expiry", "when the timer expires next"),
@@ -128,6 +131,7 @@ class Sheet:
     state: tuple[Fact, ...]
     below: tuple[str, ...]  # what is told in lines, where nothing is told by keys
     diagram: Diagram
+    met: tuple[MetLine, ...]  # what each line was met by, where the script fails
 
     @property
     def marks(self) -> list[Mark]:
@@ -152,8 +156,8 @@ def row_of(outcome: Outcome) -> Row:
     )
 
 
-def sheet_of(entry: Entry, cause: Cause | None, diagram: Diagram) -> Sheet:
-    """The page of a script, with what the program tells of it."""
+def sheet_of(entry: Entry, cause: Cause | None, diagram: Diagram, met: Differences | None = None) -> Sheet:
+    """The page of a script, with what the program tells of it, and what its lines were met by."""
     outcome, told = entry.outcome, cause or {}
     return Sheet(
         row=row_of(outcome),
@@ -169,6 +173,7 @@ def sheet_of(entry: Entry, cause: Cause | None, diagram: Diagram) -> Sheet:
         state=tuple(_state(told)),
         below=() if told else tuple(block(outcome)),
         diagram=diagram,
+        met=() if met is None else met.lines,
     )
 
 

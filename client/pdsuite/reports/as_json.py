@@ -44,7 +44,7 @@ class Json:
 def script_text(outcome: Outcome, path: str, explanation: Mapping[str, object] | None = None) -> str:
     """A script on one line, under this path, which is safe to print; beside what is told of it the explanation."""
     row = outcome.row
-    if row.verdict is not _PASS or not row.number or outcome.expected is not None:
+    if row.verdict is not _PASS or outcome.warnings or outcome.expected is not None:
         script = _script(outcome, path)
         return _encoded(script if explanation is None else {**script, "explanation": explanation})
     # Most scripts pass and have nothing else to tell: their line is put together by hand, in a fifth of the time.
@@ -77,4 +77,9 @@ def _script(outcome: Outcome, path: str) -> dict[str, object]:
         script["expected"] = {"row": expected.row, "reason": expected.reason, "known": outcome.is_known}
     if outcome.warnings:
         script.update(warnings=list(outcome.warnings), strict=outcome.is_strict)
+    if outcome.differences is not None:
+        # Only who asks for it pays for what reads scripts.
+        from pdsuite.reports.met_text import told_by_keys
+
+        script["met"] = told_by_keys(outcome.differences)
     return {**script, "below": block(outcome), "settings": dict(outcome.settings)}

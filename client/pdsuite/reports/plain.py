@@ -40,7 +40,7 @@ class Plain:
         if outcome.warnings or outcome.is_known:
             return self.changed(outcome)
         line = self.row(outcome).append(meaning(outcome))
-        below = "".join(f"  {it}\n" for it in block(outcome))
+        below = "".join(f"  {it}\n" for it in [*block(outcome), *_met(outcome)])
         return line.append("\n").append(below, "dim")
 
     def row(self, outcome: Outcome) -> StyledText:
@@ -63,3 +63,13 @@ class Plain:
 def style_of(totals: Totals) -> str:
     """The style of the totals."""
     return "green" if totals.status() == 0 else "bold red"
+
+
+def _met(outcome: Outcome) -> list[str]:
+    """What each line was met by, where that is asked for."""
+    if outcome.differences is None:
+        return []
+    # Only who asks for it pays for what reads scripts.
+    from pdsuite.reports.met_text import met_text
+
+    return list(met_text(outcome.differences))

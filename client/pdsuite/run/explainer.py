@@ -9,7 +9,7 @@ from typing import Generic, TypeVar
 from pdsuite.programs.program import Ended, Program
 from pdsuite.programs.protocol import LONGEST_BLOCK, LONGEST_CAUSE, Cause, Unexpected
 from pdsuite.programs.protocol import add, blocks_in, causes_in, name_of
-from pdsuite.programs.rows import Row
+from pdsuite.programs.rows import Row, Verdict
 from pdsuite.run.outcomes import Outcome
 from pdsuite.run.runs import Script
 from pdsuite.run.settling import SettledPiece, Step
@@ -18,9 +18,12 @@ from pdsuite.scripts.text import Text
 from pdsuite.show.octets import shown, shown_path
 from pdsuite.signals import Stop, Stopped
 
-# What has it tell why scripts don't pass, and that as JSON.
+# What has it tell why scripts don't pass, that as JSON, and what those that pass leave at their ends.
 EXPLAIN = "--explain"
 JSON = "--json"
+ENDS = "--ends"
+# What the words of a block on a script that passes begin with.
+_PASSES, _IT = "pass: ", "it "
 # What the program has made safe to print already.
 _PLAIN = re.compile(rb"[ -~]*")
 
@@ -32,19 +35,30 @@ T = TypeVar("T")
 
 @dataclass(frozen=True)
 class Speech(Generic[T]):
-    """How the program is to speak: by which words, how much of a script at most, and how that is read."""
+    """How the program is to speak: by which words, how much of a script at most, how that is read, and of what rows."""
 
     words: tuple[str, ...]
     longest: int
     read: Callable[[bytes], Mapping[tuple[bytes, int], T]]
+    is_of: Callable[[Row], bool]
 
 
-BLOCKS: Speech[list[bytes]] = Speech((EXPLAIN,), LONGEST_BLOCK, blocks_in)
-CAUSES: Speech[Cause] = Speech((EXPLAIN, JSON), LONGEST_CAUSE, causes_in)
+def _has_cause(row: Row) -> bool:
+    return row.line is not None
+
+
+def _has_end(row: Row) -> bool:
+    """Whether a script passes, by some event."""
+    return row.verdict is Verdict.PASS and row.number > 0
+
+
+BLOCKS: Speech[list[bytes]] = Speech((EXPLAIN,), LONGEST_BLOCK, blocks_in, _has_cause)
+CAUSES: Speech[Cause] = Speech((EXPLAIN, JSON), LONGEST_CAUSE, causes_in, _has_cause)
+ENDINGS: Speech[list[bytes]] = Speech((EXPLAIN, ENDS), LONGEST_BLOCK, blocks_in, _has_end)
 
 
 class Asker(Generic[T]):
-    """Has the program speak of scripts that don't pass; `note` is told of a script on which it ends."""
+    """Has the program speak of scripts with some rows; `note` is told of a script on which it ends."""
 
     def __init__(self, program: Path, speech: Speech[T], stop: Stop, note: Callable[[str], None]) -> None:
         self._program = program
@@ -54,7 +68,7 @@ class Asker(Generic[T]):
 
     def told(self, step: SettledPiece) -> dict[int, T]:
         """What is told of the scripts of a piece, by their places."""
-        asked = [it for it in step.outcomes if it[1].row.line is not None and it[0].index in step.texts]
+        asked = [it for it in step.outcomes if self._speech.is_of(it[1].row) and it[0].index in step.texts]
         return self._told(asked, step.texts) if asked else {}
 
     def _told(self, asked: Sequence[tuple[Script, Outcome]], texts: Mapping[int, Text]) -> dict[int, T]:
@@ -72,10 +86,11 @@ class Asker(Generic[T]):
         commands = b"".join(add(name, texts[script.index]) for name, (script, _) in zip(names, asked))
         with self._start(asked[0][0].settings) as program:
             told = self._speech.read(program.finish(commands, self._speech.longest * (len(asked) + 1)))
+        places = dict(zip(names, asked))
         return {
-            script.index: told[name, outcome.row.number]
-            for name, (script, outcome) in zip(names, asked)
-            if (name, outcome.row.number) in told
+            places[name][0].index: it
+            for (name, line), it in told.items()
+            if name in places and places[name][1].row.line in (None, line)
         }
 
     def _start(self, settings: Settings) -> Program:
@@ -87,28 +102,37 @@ class Asker(Generic[T]):
 class Explainer:
     """Has the program tell why scripts don't pass, in lines for people.
 
-    And of those that are known not to, and by keys, where these are asked for.
+    And of those that are known not to, by keys, and what those that pass leave at the end, where that is asked for.
     """
 
     def __init__(
-        self, program: Path, stop: Stop, note: Callable[[str], None], of_known: bool = True, by_keys: bool = False
+        self,
+        program: Path,
+        stop: Stop,
+        note: Callable[[str], None],
+        of_known: bool = True,
+        by_keys: bool = False,
+        of_ends: bool = False,
     ) -> None:
         say = _each_once(note)
         self._asker = Asker(program, BLOCKS, stop, say)
         self._by_keys = Asker(program, CAUSES, stop, say) if by_keys else None
+        self._of_ends = Asker(program, ENDINGS, stop, say) if of_ends else None
         self._of_known = of_known
 
     def explain(self, step: SettledPiece) -> list[tuple[Script, Outcome]]:
-        """The outcomes of a piece, each that doesn't pass with what is told of it."""
+        """The outcomes of a piece, each with what is told of it."""
         asked = step if self._of_known else replace(step, outcomes=[it for it in step.outcomes if not it[1].is_known])
         blocks = self._asker.told(asked)
         causes = {} if self._by_keys is None else self._by_keys.told(asked)
-        if not blocks and not causes:
+        ends = {} if self._of_ends is None else self._of_ends.told(step)
+        if not blocks and not causes and not ends:
             return step.outcomes
-        return [
+        told = [
             (it, with_cause(with_block(outcome, blocks.get(it.index)), causes.get(it.index)))
             for it, outcome in step.outcomes
         ]
+        return [(it, with_end(outcome, ends.get(it.index))) for it, outcome in told]
 
 
 def with_block(outcome: Outcome, block: Sequence[bytes] | None) -> Outcome:
@@ -122,6 +146,16 @@ def with_block(outcome: Outcome, block: Sequence[bytes] | None) -> Outcome:
 def with_cause(outcome: Outcome, cause: Cause | None) -> Outcome:
     """The outcome with what is told of it by keys."""
     return outcome if cause is None else replace(outcome, explanation=cause)
+
+
+def with_end(outcome: Outcome, block: Sequence[bytes] | None) -> Outcome:
+    """The outcome with what is to be warned of at its end, as a block tells it."""
+    return replace(outcome, at_end=_at_end(block)) if block else outcome
+
+
+def _at_end(block: Sequence[bytes]) -> str:
+    """What is to be warned of, in the words that follow `passes, but`."""
+    return shown(block[0]).removeprefix(_PASSES).removeprefix(_IT)
 
 
 def _each_once(note: Callable[[str], None]) -> Callable[[str], None]:

@@ -3,10 +3,14 @@
 from collections.abc import Iterable, Mapping
 from dataclasses import dataclass
 from enum import StrEnum
+from typing import TYPE_CHECKING
 
 from pdsuite.programs.rows import Row, Verdict
 from pdsuite.scripts.expectation import Expectation
 from pdsuite.scripts.settings import Settings
+
+if TYPE_CHECKING:
+    from pdsuite.run.met_lines import Differences
 
 # Stands in each report of a sender that isn't proved.
 UNPROVED = "UNPROVED"
@@ -20,7 +24,7 @@ class Tally(StrEnum):
 
 
 class Warned(StrEnum):
-    """Why a script that passes shows nothing, in the words that follow `passes, but`."""
+    """Why a script that passes shows nothing, in the words that follow `passes, but`; the program has more."""
 
     NO_EVENT = "has no event"
 
@@ -30,8 +34,9 @@ class Outcome:
     """A script's path and settings, its row, the line of its text that the row names, and why it is so.
 
     That is what the row means and the lines below it, as they are said by the program that explains, and the same as an
-    object where that is asked for. Whether a warning makes the script fail, and which row is expected of it, is said by
-    whoever runs it.
+    object where that is asked for. Of a script that passes, the program says what is to be warned of at its end, and of
+    one that fails what each line was met by, where that is asked for. Whoever runs it says whether a warning makes the
+    script fail, and which row is expected of it.
     """
 
     path: str
@@ -43,6 +48,8 @@ class Outcome:
     is_strict: bool = False
     expected: Expectation | None = None
     explanation: Mapping[str, object] | None = None
+    at_end: str = ""
+    differences: "Differences | None" = None
 
     @property
     def is_known(self) -> bool:
@@ -64,9 +71,12 @@ class Outcome:
         return self.row.verdict if self.row.verdict is Verdict.ERROR else Tally.UNEXPECTED
 
     @property
-    def warnings(self) -> tuple[Warned, ...]:
-        """What is to be warned of."""
-        return (Warned.NO_EVENT,) if not self.row.number and self.row.verdict is Verdict.PASS else ()
+    def warnings(self) -> tuple[str, ...]:
+        """What is to be warned of, in the words that follow `passes, but`."""
+        if self.row.verdict is not Verdict.PASS:
+            return ()
+        words = self.at_end if self.row.number else Warned.NO_EVENT
+        return (words,) if words else ()
 
     @property
     def passes(self) -> bool:

@@ -2,6 +2,7 @@
 
 import os
 from collections.abc import Callable, Iterator
+from dataclasses import replace
 from itertools import chain, islice
 from pathlib import Path
 
@@ -23,8 +24,9 @@ from pdsuite.signals import Stop
 Parcel = tuple[Settings, list[list[tuple[str, bytes | str]]]]
 # The program: its path on the machine that asks, and its SHA-256.
 WantedProgram = tuple[str, str]
-# A verdict with its number and word, the line that it names, what it means, what stands below it, and all that by keys.
-PlainRow = tuple[str, int, str, bytes | None, str, tuple[str, ...], Cause | None]
+# A verdict with its number and word, the line that it names, what it means, what stands below it, all that by keys, and
+# what is to be warned of at the script's end.
+PlainRow = tuple[str, int, str, bytes | None, str, tuple[str, ...], Cause | None, str]
 # The rows of each piece, and before them what is said on the way; or why nothing was run.
 Answer = list[str | list[PlainRow]] | str
 
@@ -54,7 +56,7 @@ def work(parcel: Parcel, wanted: WantedProgram, by_keys: bool) -> Answer:
     run, texts = _unpacked(parcel)
     answer: list[str | list[PlainRow]] = []
     with Stop(signals=()) as stop:
-        explainer = Explainer(program, stop, answer.append, by_keys=by_keys)
+        explainer = Explainer(program, stop, answer.append, by_keys=by_keys, of_ends=True)
         start = start_with(program, 0, 1, stop)
         for step in explained_steps(settle(run, start, lambda it: texts[it.index]), explainer):
             answer.append(_plain_step(step))
@@ -102,12 +104,13 @@ def _plain_step(step: Step) -> str | list[PlainRow]:
 
 
 def _plain_row(it: Outcome) -> PlainRow:
-    return it.row.verdict.value, it.row.number, it.row.word, it.text, it.why, it.told, it.explanation
+    return it.row.verdict.value, it.row.number, it.row.word, it.text, it.why, it.told, it.explanation, it.at_end
 
 
 def _outcome(script: Script, plain: PlainRow) -> Outcome:
-    verdict, number, word, line, meaning, told, cause = plain
-    return with_cause(outcome_of(script, Row(Verdict(verdict), number, word), line, meaning, told), cause)
+    verdict, number, word, line, meaning, told, cause, at_end = plain
+    outcome = with_cause(outcome_of(script, Row(Verdict(verdict), number, word), line, meaning, told), cause)
+    return replace(outcome, at_end=at_end)
 
 
 def _find(path: str, wanted: str) -> Path:

@@ -16,7 +16,7 @@ from pdsuite.programs.refusals import questions, refusals_at_once
 from pdsuite.programs.rows import Row, Verdict
 from pdsuite.programs.starts import ROOM, Answer, Case
 from pdsuite.programs.tree import Build, try_all
-from pdsuite.run.explainer import EXPLAIN, JSON, with_block, with_cause
+from pdsuite.run.explainer import ENDS, EXPLAIN, JSON, with_block, with_cause, with_end
 from pdsuite.run.outcomes import Outcome
 from pdsuite.run.runs import Run, Script, outcome_of
 from pdsuite.run.settling import SettledPiece, Step, load
@@ -73,12 +73,16 @@ def first_line() -> str:
 
 @dataclass(frozen=True)
 class Plan:
-    """What programs are started on: claims to be asked about, and all pieces, told by keys and recorded if need be."""
+    """What programs are started on: claims to be asked about, and all pieces, told by keys and recorded if need be.
+
+    Where it is of ends, the program also tells what scripts that pass leave.
+    """
 
     claims: Sequence[Claim]
     pieces: Sequence[Sequence[tuple[Script, Text | str]]]
     wants_causes: bool = False
     records: bool = False
+    of_ends: bool = False
 
     @property
     def batches(self) -> list[Batch]:
@@ -93,13 +97,19 @@ class Plan:
         """The starts of a tree's programs: one asks about the claims, the others run the batches and record."""
         asking = Case((), b"".join(set_and_show(*it) for it in questions(self.claims)), is_alone=True)
         runs = cases_of(self.batches, self.wants_causes)
-        return [_explaining(tree, [asking, *runs]), recording(tree, map(_recorded, self.recorded))]
+        return [self.explaining(tree, [asking, *runs]), recording(tree, map(_recorded, self.recorded))]
+
+    def explaining(self, tree: Path, cases: Sequence[Case]) -> Build:
+        """The starts of a tree's program, which explains."""
+        return Build(tree, REGRESS, (EXPLAIN, ENDS) if self.of_ends else (EXPLAIN,), tuple(cases))
 
 
-def plan_of(runs: Iterable[Run], claims: Iterable[Claim], wants_causes: bool, records: bool = False) -> Plan:
+def plan_of(
+    runs: Iterable[Run], claims: Iterable[Claim], wants_causes: bool, records: bool = False, of_ends: bool = False
+) -> Plan:
     """What is to be run of these runs, whose scripts are read."""
     pieces = [[(script, load(script)) for script in piece] for run in runs for piece in run.pieces]
-    return Plan(list(claims), pieces, wants_causes, records)
+    return Plan(list(claims), pieces, wants_causes, records, of_ends)
 
 
 def run_unproved(plan: Plan, tree: Path, stop: Stop, note: Callable[[str], None]) -> UnprovedResults:
@@ -125,7 +135,7 @@ class _Heard:
     """What is heard of a plan's scripts, by their places."""
 
     def __init__(self, plan: Plan, told: Sequence[Answer], recorded: Sequence[Answer]) -> None:
-        self._wants_causes = plan.wants_causes
+        self._plan = plan
         batches = plan.batches
         self.outcomes, self._unheard = read_answers(batches, told)
         self.causes = _causes(batches, told)
@@ -143,18 +153,13 @@ class _Heard:
             note(f"pdsuite: {RECORD}: {why}; {len(scripts):,} scripts are recorded again, each by itself")
         if not (singles or scripts):
             return
-        cases = [replace(it, is_alone=True) for it in cases_of(singles, self._wants_causes)]
-        builds = [_explaining(tree, cases), recording(tree, map(_recorded, scripts), is_alone=True)]
+        cases = [replace(it, is_alone=True) for it in cases_of(singles, self._plan.wants_causes)]
+        builds = [self._plan.explaining(tree, cases), recording(tree, map(_recorded, scripts), is_alone=True)]
         told, recorded = try_all(builds, stop)
         again, lost = read_answers(singles, told)
         self.outcomes |= again | {it.scripts[0][0].index: _error(it.scripts[0][0], why) for it, why in lost}
         self.causes |= _causes(singles, told)
         self.recordings |= {script.index: recording_of(answer) for (script, _), answer in zip(scripts, recorded)}
-
-
-def _explaining(tree: Path, cases: Sequence[Case]) -> Build:
-    """The starts of a tree's program, which explains."""
-    return Build(tree, REGRESS, (EXPLAIN,), tuple(cases))
 
 
 def _recorded(each: tuple[Script, Text]) -> tuple[Settings, bytes]:
@@ -209,8 +214,15 @@ def outcomes_of(batch: Batch, answer: Answer) -> dict[int, Outcome]:
     outcomes = {}
     for name, (script, text), row in zip(names, batch.scripts, rows):
         line = None if row.line is None else text.line(row.line)
-        outcomes[script.index] = with_block(outcome_of(script, row, line), blocks.get((name, row.number)))
+        outcomes[script.index] = _told_of(outcome_of(script, row, line), name, blocks)
     return outcomes
+
+
+def _told_of(outcome: Outcome, name: bytes, blocks: Mapping[tuple[bytes, int], list[bytes]]) -> Outcome:
+    """The outcome of the script of this name with what is told of it, or of its end."""
+    if outcome.row.line is not None:
+        return with_block(outcome, blocks.get((name, outcome.row.line)))
+    return with_end(outcome, next((it for (told, _), it in blocks.items() if told == name), None))
 
 
 def causes_of(batch: Batch, answer: Answer) -> dict[int, Cause]:

@@ -50,6 +50,7 @@ KEYS: dict[str, Number | Word] = {
     "limited_transmit": Word(True),
     "byte_counting": Number(1, 1, 8, "segments"),
     "restart_after_idle": Word(False),
+    "recovery_rate": Word("pipe", ("pipe", "prr", "prr_crb")),
     "tolerance_us": Number(4_000, 0, 1_000_000, "microseconds"),
 }
 # end

@@ -25,14 +25,20 @@ _LONG = (20_000, 20_000, 12_000, 10_000, 8_000, 30_000)
 _SHORT = (1_000, 2_000, 3_000, 4_000, 5_000, 1, 100, 500, 1_500, 2_500, 0)
 _OUTAGES = (500_000, 2 * SECOND, 10 * SECOND, 70 * SECOND, 200 * SECOND)
 _LONG_HANDSHAKES = (1_200_000, 3_500_000, 8 * SECOND)
+_IDLE = (2 * SECOND, 5 * SECOND, 70 * SECOND)
+_RESTART = "restart_after_idle"
 _KEYS: dict[str, tuple[Value, ...]] = {
+    "byte_counting": (2, 3, 8),
     "granularity_us": (1, 100_000, 1_000_000),
     "initial_ssthresh": (128, 2_000, 3_000, 4_000, 5_000, 8_000),
     "initial_window": ("rfc6928",),
+    "limited_transmit": (False,),
     "min_rto_us": (1_000, 200_000, 3_000_000),
     "mss": _SEGMENTS,
     "nagle": (False,),
     "rcv_wnd": (1, 1_000, 100_000, 1_000_000),
+    "recovery_rate": ("prr", "prr_crb"),
+    _RESTART: (True,),
     "sack": (False,),
     "sndbuf": (1_024, 2_000, 4_000, 8_000),
     "wscale": (0, 1, 3, 14),
@@ -181,6 +187,8 @@ class _Maker:
         acts = [Act(0, call("write", 4, "...", first))]
         for _ in range(self._number(5)):
             acts.append(Act(self._after(round_trip), call("write", 4, "...", self._pick(sizes))))
+        if _RESTART in dict(chosen):
+            acts.append(Act(self._after(round_trip) + self._pick(_IDLE), call("write", 4, "...", self._pick(_LONG))))
         if self._one_in(6):
             option = (4, "SOL_TCP", "TCP_NODELAY", f"[{self._number(2)}]", 4)
             acts.append(Act(0 if self._one_in(2) else self._after(round_trip), call("setsockopt", *option)))

@@ -83,9 +83,11 @@ def entries(outcomes: Iterable[Outcome], every: bool) -> StyledText:
 
 
 def _is_other(old: Outcome, new: Outcome) -> bool:
-    """Whether the row changed, the line that it names, or whether it makes the run fail."""
+    """Whether the row changed, the line that it names, what is warned of, or whether it makes the run fail."""
     if old is new:
         return False
+    if old.warnings != new.warnings:
+        return True
     return old.row != new.row or old.text != new.text or old.passes != new.passes or old.expected != new.expected
 
 

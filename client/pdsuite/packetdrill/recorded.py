@@ -52,6 +52,8 @@ class Met:
     event: Event
     recorded: Recorded | None
     after: Recorded | None  # what was recorded last when the event was over
+    first: float = 0  # the first moment of the event's time, and the last
+    last: float = inf
 
 
 def recorded_in(recording: str) -> tuple[Recorded, ...]:
@@ -107,18 +109,19 @@ def met_by(
     base = clock = begin
     after: Recorded | None = None
     for number, event in enumerate(events):
+        first, end = _first(event.item.time, base), _last(event.item.time, base)
         if event.is_input:
             found = inputs.pop(0) if inputs else None
             base = _moment(event.item.time, base)
         else:
             until = inputs[0] if inputs else len(recorded)
-            last = inf if number < passed else max(clock, _last(event.item.time, base) + tolerance)
+            last = inf if number < passed else max(clock, end + tolerance)
             found = outputs.pop(0) if outputs and _is_met(recorded, outputs[0], until, last) else None
             base = _base_after(event.item.time, base, None if found is None else recorded[found].moment)
         if found is not None:
             after = recorded[found]
             clock = max(clock, after.moment)
-        yield Met(event, None if found is None else recorded[found], after)
+        yield Met(event, None if found is None else recorded[found], after, first, end)
 
 
 def _is_met(recorded: Sequence[Recorded], place: int, until: int, last: float) -> bool:
@@ -129,6 +132,10 @@ def _moment(time: Time | None, base: int) -> int:
     if time is None or time.first is None:
         return base
     return base + time.first if time.is_relative else time.first
+
+
+def _first(time: Time | None, base: int) -> float:
+    return 0 if time is None or time.first is None else _moment(time, base)
 
 
 def _last(time: Time | None, base: int) -> float:

@@ -1,0 +1,34 @@
+"""Has scripts that fail recorded, and puts beside each outcome what its lines were met by."""
+
+from collections.abc import Callable, Iterable, Iterator
+from dataclasses import replace
+
+from pdsuite.programs.recorder import Recording
+from pdsuite.programs.rows import Verdict
+from pdsuite.run.met_lines import differences_of
+from pdsuite.run.outcomes import Outcome
+from pdsuite.run.runs import Script
+from pdsuite.run.settling import SettledPiece, Step
+from pdsuite.scripts.text import Text
+
+# Records a script.
+Record = Callable[[Script, Text], Recording]
+
+
+def differing_steps(steps: Iterable[Step], record: Record) -> Iterator[Step]:
+    """The steps, in which each script that fails has what its lines were met by."""
+    for step in steps:
+        if isinstance(step, SettledPiece):
+            outcomes = [
+                (it, _with_differences(it, outcome, step.texts.get(it.index), record)) for it, outcome in step.outcomes
+            ]
+            step = replace(step, outcomes=outcomes)
+        yield step
+
+
+def _with_differences(script: Script, outcome: Outcome, text: Text | None, record: Record) -> Outcome:
+    if outcome.row.verdict is not Verdict.FAIL or outcome.is_known or text is None:
+        return outcome
+    written = text.octets.decode("utf-8", "surrogateescape")
+    found = differences_of(outcome.row, outcome.told, written, record(script, text), outcome.settings)
+    return replace(outcome, differences=found)

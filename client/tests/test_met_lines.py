@@ -1,0 +1,128 @@
+"""What each line of a script that fails was met by: the recording of its inputs beside what it expects."""
+
+from pathlib import Path
+
+from pdsuite.packetdrill.columns import Mark
+from pdsuite.programs.recorder import Recording
+from pdsuite.programs.rows import Row, Verdict
+from pdsuite.reports.met_text import met_text, told_by_keys
+from pdsuite.run.met_lines import Differences, differences_of
+from tests.helpers import Call, write
+
+OPENED = """0 socket(..., SOCK_STREAM, 0) = 3
++0 bind(3, ..., ...) = 0
++0 listen(3, 1) = 0
++0.1 < S 0:0(0) win 32792 <mss 1000>
++0 > S. 0:0(0) ack 1 <...>
++0.1 < . 1:1(0) ack 1 win 32792
++0 accept(3, ..., ...) = 4
+"""
+STATE = "ESTABLISHED una:1"
+OPENED_RECORDED = "".join(
+    f"{line}\n//= at {at} {STATE}\n"
+    for line, at in zip(
+        OPENED.replace("<...>", "win 65535 <mss 1460>").splitlines(),
+        ["0.000000"] * 3 + ["0.100000"] * 2 + ["0.200000"] * 2,
+    )
+)
+SENT = "+0 > P. 1:1001(1000) ack 1 win 65535"
+WRITE = "+0 write(4, ..., 1000) = 1000"
+
+
+def met(script: str, row: Row, *recorded: tuple[str, str], told: tuple[str, ...] = ()) -> Differences:
+    """What the lines of a script after the opening were met by, where these were recorded, each at its moment."""
+    text = OPENED_RECORDED + "".join(f"{line}\n//= at {at} {STATE}\n" for line, at in recorded)
+    return differences_of(row, told, OPENED + script, Recording(text), ())
+
+
+def shown(differences: Differences) -> list[str]:
+    """The lines after the opening."""
+    return list(met_text(differences))[8:]
+
+
+def test_all_that_is_met_as_it_is_written_is_one_line_each() -> None:
+    found = met(
+        f"{WRITE}\n+0 > P. 1:1001(1000) ack 1\n", Row(Verdict.FAIL, 20, "seq"), (WRITE, "0.200000"), (SENT, "0.200000")
+    )
+    assert [it.differs for it in found.lines] == [False] * 9
+    assert shown(found) == [f"    8   {WRITE}", "    9   +0 > P. 1:1001(1000) ack 1"]
+
+
+def test_where_another_came_it_stands_below_and_the_fields_that_differ_are_marked() -> None:
+    found = met(
+        f"{WRITE}\n+0 > . 1:501(500) ack 1\n{WRITE}\n",
+        Row(Verdict.FAIL, 9, "flags"),
+        (WRITE, "0.200000"),
+        (SENT, "0.200000"),
+        (WRITE, "0.200000"),
+    )
+    assert shown(found) == [
+        f"    8   {WRITE}",
+        "    9 - +0 > .  1:501(500)   ack 1",
+        "      + +0 > P. 1:1001(1000) ack 1 win 65535 // 0.200000",
+        "      ?    ^^^^ ^^^^^^^^^^^^",
+        f"   10   {WRITE}",
+    ]
+    assert [it.text for it in found.lines[8].met if it.mark is Mark.DIFFERS] == ["> P.", "1:1001(1000)"]
+
+
+def test_a_packet_for_which_nothing_was_sent_and_one_that_no_line_asks_for_are_named() -> None:
+    script = f"{WRITE}\n+0 > P. 1:1001(1000) ack 1\n+0 > P. 1001:2001(1000) ack 1\n{WRITE}\n"
+    again = "+0 > . 1:1001(1000) ack 1 win 65535"
+    found = met(
+        script,
+        Row(Verdict.FAIL, 10, "missing"),
+        (WRITE, "0.200000"),
+        (SENT, "0.200000"),
+        (WRITE, "0.200000"),
+        (again, "1.200000"),
+    )
+    assert shown(found) == [
+        f"    8   {WRITE}",
+        "    9   +0 > P. 1:1001(1000) ack 1",
+        "   10 - +0 > P. 1001:2001(1000) ack 1",
+        "      + nothing was sent",
+        f"   11   {WRITE}",
+        f"      + {again} // 1.200000 (asked for by no line)",
+    ]
+    assert told_by_keys(found)[-3:] == [
+        {"line": 10, "differs": True, "event": "+0 > P. 1001:2001(1000) ack 1", "met_by": None},
+        {"line": 11, "differs": False, "event": WRITE},
+        {"line": None, "differs": True, "met_by": f"{again} // 1.200000"},
+    ]
+
+
+def test_a_call_with_another_answer_and_a_packet_at_another_time_are_marked() -> None:
+    script = "+0 write(4, ..., 1000) = 500\n+0.5 > P. 1:1001(1000) ack 1\n"
+    found = met(script, Row(Verdict.FAIL, 8, "result"), (WRITE, "0.200000"), (SENT, "0.200000"))
+    assert shown(found) == [
+        "    8 - +0 write(4, ..., 1000) = 500",
+        f"      + {WRITE}",
+        "      ?                          ^^^^",
+        "    9 - +0.5 > P. 1:1001(1000) ack 1",
+        "      + +0   > P. 1:1001(1000) ack 1 win 65535 // 0.200000",
+        "      ? ^^",
+    ]
+
+
+def test_what_is_not_recorded_says_why() -> None:
+    found = differences_of(Row(Verdict.FAIL, 1, "result"), (), OPENED, Recording("", "a.pkt:9: it ends"), ())
+    assert list(met_text(found)) == ["line by line: not known, since it isn't recorded: a.pkt:9: it ends"]
+    assert told_by_keys(found) == "a.pkt:9: it ends"
+
+
+def test_by_the_programs_a_script_is_shown_to_its_end(programs: Path, tmp_path: Path, call: Call) -> None:
+    write(tmp_path, a=f"{OPENED}{WRITE}\n+0 > P. 1:501(500) ack 1\n{WRITE}\n+0 > P. 501:1501(1000) ack 1\n".encode())
+    called = call(programs, "run", "--all-differences", ".")
+    lines = called.out.splitlines()
+    begin = lines.index("  line by line, to the end (- as the script has it, + as it came):")
+    assert lines[begin + 8 : begin + 16] == [
+        f"      8   {WRITE}",
+        "      9 - +0 > P. 1:501(500)   ack 1",
+        "        + +0 > P. 1:1001(1000) ack 1 win 65535 // 0.200000",
+        "        ?         ^^^^^^^^^^^^",
+        f"     10   {WRITE}",
+        "     11 - +0 > P. 501:1501(1000)  ack 1",
+        "        + +0 > P. 1001:2001(1000) ack 1 win 65535 // 0.200000",
+        "        ?         ^^^^^^^^^^^^^^^",
+    ]
